@@ -1,0 +1,22 @@
+-- The text of a `CowStr`: its bytes, wherever they are held.
+use Rattle.std.specs.Prelude.{ℕ, List}
+use Rattle.std.specs.Box.{boxed_str_bytes}
+use Rattle.markdown_base.specs.InlineText.{inline_text}
+use Rattle.markdown_base.specs.declared.cow_str.CowStr.{CowStr}
+use Rattle.markdown_base.specs.declared.cow_str.CowStr.TheVariants.{Boxed, Borrowed, Inlined}
+
+-- the bytes of the text
+abbrev pub text_of : CowStr → List ℕ
+text_of (Boxed boxed) = boxed_str_bytes boxed
+text_of (Borrowed borrowed) = borrowed.now
+text_of (Inlined inlined) = inline_text inlined
+
+-- it is held in place
+abbrev pub IsInlined : CowStr → Type 0
+IsInlined (Inlined inlined) = Unit {0}
+IsInlined text = ⊥
+
+-- it is owned, on the heap
+abbrev pub IsBoxed : CowStr → Type 0
+IsBoxed (Boxed boxed) = Unit {0}
+IsBoxed text = ⊥

@@ -1,0 +1,4 @@
+pub mod Arena
+pub mod CowText
+pub mod Event
+pub mod InlineText

@@ -1,0 +1,17 @@
+//! The types that every layer of the inline engine speaks of: texts, events, items, options and the
+//! tree of items, with the definitions (in `specs/`) that the contracts above cite.
+#![tactic(auto)]
+
+pub mod block_parts;
+pub mod cow_str;
+pub mod event;
+pub mod fault;
+pub mod index;
+pub mod inline_str;
+pub mod item;
+pub mod node;
+pub mod options;
+pub mod tag;
+#[cfg(test)]
+mod tests;
+pub mod tree;

@@ -1,0 +1,9 @@
+//! A node of a tree.
+
+/// An item with the numbers of its first child and its next sibling.
+#[derive(Debug, Drop)]
+pub struct Node<T> {
+    pub item: T,
+    pub child: Option<usize>,
+    pub next: Option<usize>,
+}

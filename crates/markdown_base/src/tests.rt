@@ -1,0 +1,1 @@
+//! Each call once, with ample memory.
