@@ -1,6 +1,5 @@
 -- What contracts see of a `Tree`: its nodes by number, the nodes gone into, and the cursor.
-use Rattle.std.specs.Prelude.{◌≡◌, ℕ, ◌<◌, List, [], ◌∷◌, Option, Some, None, map, length, slice_index_or, IfSome}
-use Rattle.std.specs.List.{All}
+use Rattle.std.specs.Prelude.{ℕ, zero, suc, List, [], ◌∷◌, ◌++◌, Option, Some, None, map, length, slice_index_or}
 use Rattle.markdown_base.specs.declared.node.Node.{Node}
 
 pub record Arena (T : Type 0) : Type 0 where
@@ -36,10 +35,29 @@ innermost [] = 0
 innermost (outer ∷ []) = outer
 innermost (outer ∷ inner ∷ deeper) = innermost (inner ∷ deeper)
 
--- every number that an arena holds is that of a node
-pub record IsWithin {T : Type 0} (arena : Arena T) : Type 0 where
-  pub rooted : 0 < length arena.nodes
-  pub cursor : IfSome arena.cursor (λ ix. ix < length arena.nodes)
-  pub spine : All (λ ix. ix < length arena.nodes) arena.spine
-  pub children : (ix : ℕ) → IfSome (child_of arena.nodes ix) (λ below. below < length arena.nodes)
-  pub siblings : (ix : ℕ) → IfSome (sibling_of arena.nodes ix) (λ next. next < length arena.nodes)
+-- a node that nothing follows and that has no children
+abbrev pub single : {T : Type 0} → T → Node T
+single item = record { item = item; child = None; next = None }
+
+-- the nodes, with that of a number changed
+abbrev pub changed_at : {T : Type 0} → ℕ → (Node T → Node T) → List (Node T) → List (Node T)
+changed_at ix change [] = []
+changed_at zero change (n ∷ nodes) = change n ∷ nodes
+changed_at (suc ix) change (n ∷ nodes) = n ∷ changed_at ix change nodes
+
+-- what stands at the cursor's place: the node after the cursor, or the first under the node gone into
+abbrev pub follower : {T : Type 0} → List (Node T) → List ℕ → Option ℕ → Option ℕ
+follower nodes spine (Some before) = sibling_of nodes before
+follower nodes spine None = child_of nodes (innermost spine)
+
+-- the link at the cursor's place leads to a node
+abbrev pub led_to : {T : Type 0} → ℕ → List ℕ → Option ℕ → List (Node T) → List (Node T)
+led_to ix spine (Some before) nodes = changed_at before (λ n. record n { next = Some ix }) nodes
+led_to ix spine None nodes = changed_at (innermost spine) (λ n. record n { child = Some ix }) nodes
+
+-- with a new node at the cursor's place, before what stood there
+abbrev pub appended : {T : Type 0} → Arena T → T → Arena T
+appended arena item = record arena {
+    nodes = led_to (length arena.nodes) arena.spine arena.cursor
+        (arena.nodes ++ record { item = item; child = None; next = follower arena.nodes arena.spine arena.cursor } ∷ []);
+    cursor = Some (length arena.nodes) }

@@ -1,4 +1,5 @@
 pub mod Arena
+pub mod ArenaBounds
 pub mod CowText
 pub mod Event
 pub mod InlineText

@@ -1,0 +1,118 @@
+-- Laws of an arena's nodes: what a write and a new node leave as it was.
+use Rattle.std.proofs.Common.{◌≡◌, ◌≢◌, ℕ, zero, suc, ◌+◌, ◌<◌, ◌≤◌, List, [], ◌∷◌, ◌++◌, Option, Some, None, map, length, get_or, set, refl, sym, ap, ◌∙◌, subst, arith}
+use Rattle.std.specs.Prelude.{IfSome}
+use Rattle.std.specs.List.{AllByRecursion}
+use Rattle.std.proofs.lemmas.List.{length-append}
+use Rattle.markdown_base.specs.declared.node.Node.{Node}
+use Rattle.markdown_base.specs.Arena.{Arena, items_of, children_of, siblings_of, child_of, sibling_of, innermost, changed_at, led_to}
+use Rattle.markdown_base.specs.ArenaBounds.{LeadsBelow, IsWithin}
+
+-- a node that is read, changed and written back
+pub set-changed_at : {T : Type 0} (nodes : List (Node T)) (ix : ℕ) (n : Node T) (change : Node T → Node T)
+    → ix < length nodes → n ≡ get_or nodes ix n → set nodes ix (change n) ≡ changed_at ix change nodes
+set-changed_at [] ix n change l e = absurd (omega (arith, l))
+set-changed_at (m ∷ nodes) zero n change l e = ap (λ x. change x ∷ nodes) e
+set-changed_at (m ∷ nodes) (suc ix) n change l e = ap (λ x. m ∷ x) (set-changed_at nodes ix n change (omega (arith, l)) e)
+
+-- a change keeps the count
+pub length-changed_at : {T : Type 0} (ix : ℕ) (change : Node T → Node T) (nodes : List (Node T)) → length (changed_at ix change nodes) ≡ length nodes
+length-changed_at ix change [] = refl
+length-changed_at zero change (n ∷ nodes) = refl
+length-changed_at (suc ix) change (n ∷ nodes) = ap suc (length-changed_at ix change nodes)
+
+-- a number below one size is below a larger one
+below_more : (o : Option ℕ) (a b : ℕ) → a ≤ b → IfSome o (λ ix. ix < a) → IfSome o (λ ix. ix < b)
+below_more None a b l h = h
+below_more (Some x) a b l h = omega (arith, l, h)
+
+pub leads_more : {T : Type 0} (a b : ℕ) (n : Node T) → a ≤ b → LeadsBelow a n → LeadsBelow b n
+leads_more a b n l h = record { child = below_more n.child a b l h.child; next = below_more n.next a b l h.next }
+
+links_more : {T : Type 0} (a b : ℕ) (nodes : List (Node T)) → a ≤ b → AllByRecursion (LeadsBelow a) nodes → AllByRecursion (LeadsBelow b) nodes
+links_more a b [] l h = tt
+links_more a b (n ∷ nodes) l h = (leads_more a b n l h.0, links_more a b nodes l h.1)
+
+spine_more : (a b : ℕ) (spine : List ℕ) → a ≤ b → AllByRecursion (λ ix. ix < a) spine → AllByRecursion (λ ix. ix < b) spine
+spine_more a b [] l h = tt
+spine_more a b (x ∷ spine) l h = (omega (arith, h.0, l), spine_more a b spine l h.1)
+
+pub All-snoc : {X : Type 0} (P : X → Type 0) (xs : List X) (x : X) → AllByRecursion P xs → P x → AllByRecursion P (xs ++ x ∷ [])
+All-snoc P [] x h p = (p, tt)
+All-snoc P (y ∷ xs) x h p = (h.0, All-snoc P xs x h.1 p)
+
+pub All-front : {X : Type 0} (P : X → Type 0) (xs : List X) (x : X) → AllByRecursion P (xs ++ x ∷ []) → AllByRecursion P xs
+All-front P [] x h = tt
+All-front P (y ∷ xs) x h = (h.0, All-front P xs x h.1)
+
+pub All-last : {X : Type 0} (P : X → Type 0) (xs : List X) (x : X) → AllByRecursion P (xs ++ x ∷ []) → P x
+All-last P [] x h = h.0
+All-last P (y ∷ xs) x h = All-last P xs x h.1
+
+All-changed : {T : Type 0} (P : Node T → Type 0) (ix : ℕ) (change : Node T → Node T) (nodes : List (Node T))
+    → ((n : Node T) → P n → P (change n)) → AllByRecursion P nodes → AllByRecursion P (changed_at ix change nodes)
+All-changed P ix change [] k h = tt
+All-changed P zero change (n ∷ nodes) k h = (k n h.0, h.1)
+All-changed P (suc ix) change (n ∷ nodes) k h = (h.0, All-changed P ix change nodes k h.1)
+
+-- one more node, whose links lead to nodes that are there
+pub within_more : {T : Type 0} (arena : Arena T) (n : Node T) → IsWithin arena → LeadsBelow (length arena.nodes) n
+    → IsWithin (record arena { nodes = arena.nodes ++ n ∷ [] })
+within_more arena n w h =
+    let s : length (arena.nodes ++ n ∷ []) ≡ length arena.nodes + 1 = length-append arena.nodes (n ∷ []) in
+    let m : length arena.nodes ≤ length (arena.nodes ++ n ∷ []) = omega (arith, s) in
+    record {
+      rooted = omega (arith, s, w.rooted);
+      cursor = below_more arena.cursor _ _ m w.cursor;
+      spine = spine_more _ _ arena.spine m w.spine;
+      links = All-snoc (LeadsBelow (length (arena.nodes ++ n ∷ []))) arena.nodes n (links_more _ _ arena.nodes m w.links) (leads_more _ _ n m h);
+    }
+
+-- a node changed so that its links still lead to nodes
+pub within_changed : {T : Type 0} (arena : Arena T) (ix : ℕ) (change : Node T → Node T) → IsWithin arena
+    → ((n : Node T) → LeadsBelow (length arena.nodes) n → LeadsBelow (length arena.nodes) (change n))
+    → IsWithin (record arena { nodes = changed_at ix change arena.nodes })
+within_changed arena ix change w k =
+    let e : length (changed_at ix change arena.nodes) ≡ length arena.nodes = length-changed_at ix change arena.nodes in
+    let m : length arena.nodes ≤ length (changed_at ix change arena.nodes) = omega (arith, e) in
+    record {
+      rooted = omega (arith, e, w.rooted);
+      cursor = below_more arena.cursor _ _ m w.cursor;
+      spine = spine_more _ _ arena.spine m w.spine;
+      links = links_more _ _ _ m (All-changed (LeadsBelow (length arena.nodes)) ix change arena.nodes k w.links);
+    }
+
+-- the links of a node
+pub child_within : {T : Type 0} (nodes : List (Node T)) (size ix : ℕ) → AllByRecursion (LeadsBelow size) nodes → IfSome (child_of nodes ix) (λ below. below < size)
+child_within [] size ix h = tt
+child_within (n ∷ nodes) size zero h = h.0.child
+child_within (n ∷ nodes) size (suc ix) h = child_within nodes size ix h.1
+
+pub sibling_within : {T : Type 0} (nodes : List (Node T)) (size ix : ℕ) → AllByRecursion (LeadsBelow size) nodes → IfSome (sibling_of nodes ix) (λ after. after < size)
+sibling_within [] size ix h = tt
+sibling_within (n ∷ nodes) size zero h = h.0.next
+sibling_within (n ∷ nodes) size (suc ix) h = sibling_within nodes size ix h.1
+
+-- the last of the nodes gone into
+pub innermost-snoc : (outer : List ℕ) (ix : ℕ) → innermost (outer ++ ix ∷ []) ≡ ix
+innermost-snoc [] ix = refl
+innermost-snoc (x ∷ []) ix = refl
+innermost-snoc (x ∷ y ∷ outer) ix = innermost-snoc (y ∷ outer) ix
+
+-- a link at the cursor's place keeps the count
+pub length-led_to : {T : Type 0} (ix : ℕ) (spine : List ℕ) (cursor : Option ℕ) (nodes : List (Node T)) → length (led_to ix spine cursor nodes) ≡ length nodes
+length-led_to ix spine (Some before) nodes = length-changed_at before (λ n. record n { next = Some ix }) nodes
+length-led_to ix spine None nodes = length-changed_at (innermost spine) (λ n. record n { child = Some ix }) nodes
+
+-- the node gone into last lies in the arena
+pub innermost_within : (size : ℕ) (spine : List ℕ) → 0 < size → AllByRecursion (λ ix. ix < size) spine → innermost spine < size
+innermost_within size [] r h = r
+innermost_within size (x ∷ []) r h = h.0
+innermost_within size (x ∷ y ∷ spine) r h = innermost_within size (y ∷ spine) r h.1
+
+-- the nodes of an arena, where one is read, changed and written back
+pub arena_changed : {T : Type 0} (s : Arena T) (nodes : List (Node T)) (spine : List ℕ) (cursor : Option ℕ) (ix : ℕ) (n : Node T) (change : Node T → Node T)
+    → record { nodes = nodes; spine = spine; cursor = cursor } ≡ s → ix < length s.nodes → n ≡ get_or nodes ix n
+    → record { nodes = set nodes ix (change n); spine = spine; cursor = cursor } ≡ record s { nodes = changed_at ix change s.nodes }
+arena_changed {T} s nodes spine cursor ix n change v l e =
+    let P : Arena T → Type 0 = λ a. ix < length a.nodes → record { nodes = set nodes ix (change n); spine = spine; cursor = cursor } ≡ record a { nodes = changed_at ix change a.nodes } in
+    subst P v (λ m. ap (λ (ns : List (Node T)). record { nodes = ns; spine = spine; cursor = cursor }) (set-changed_at nodes ix n change m e)) l

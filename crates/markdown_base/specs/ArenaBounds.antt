@@ -1,0 +1,17 @@
+-- The numbers that a tree keeps are those of its nodes: a fact of the representation.
+use Rattle.std.specs.Prelude.{ℕ, ◌<◌, List, IfSome, length}
+use Rattle.std.specs.List.{AllByRecursion}
+use Rattle.markdown_base.specs.declared.node.Node.{Node}
+use Rattle.markdown_base.specs.Arena.{Arena}
+
+-- a node's links lead to numbers below a size
+pub record LeadsBelow {T : Type 0} (size : ℕ) (node : Node T) : Type 0 where
+  pub child : IfSome node.child (λ ix. ix < size)
+  pub next : IfSome node.next (λ ix. ix < size)
+
+-- every number that an arena holds is that of a node
+pub record IsWithin {T : Type 0} (arena : Arena T) : Type 0 where
+  pub rooted : 0 < length arena.nodes
+  pub cursor : IfSome arena.cursor (λ ix. ix < length arena.nodes)
+  pub spine : AllByRecursion (λ ix. ix < length arena.nodes) arena.spine
+  pub links : AllByRecursion (LeadsBelow (length arena.nodes)) arena.nodes
