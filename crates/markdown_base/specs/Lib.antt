@@ -1,5 +1,15 @@
-pub mod Arena
-pub mod ArenaBounds
+-- what contracts and other definitions speak of
 pub mod CowText
 pub mod Event
+pub mod Item
+pub mod Arena
+pub mod Forest
+pub mod BlockTree
+pub mod WellFormed
+pub mod Coverage
+pub mod Document
+pub mod Walk
+-- facts of a representation
 pub mod InlineText
+pub mod ArenaBounds
+pub mod ArenaForest

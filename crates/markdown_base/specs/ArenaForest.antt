@@ -1,0 +1,46 @@
+-- The forest that the links of an arena spell: a fact of the representation, by which a tree is read.
+use Rattle.std.specs.Prelude.{◌≡◌, ℕ, zero, suc, ◌<◌, List, Option, Some, None, length}
+use Rattle.std.specs.Coded.{le_prop, Coded-set, coded_option, coded_ℕ}
+use Rattle.markdown_base.specs.declared.node.Node.{Node}
+use Rattle.markdown_base.specs.Arena.{child_of, sibling_of}
+use Rattle.markdown_base.specs.Forest.{Forest, nil, node}
+
+-- how many nodes an arena has, and each one's first child and next sibling
+pub record Links : Type 0 where
+  pub size : ℕ
+  pub child : ℕ → Option ℕ
+  pub next : ℕ → Option ℕ
+
+abbrev pub links_of : {T : Type 0} → List (Node T) → Links
+links_of nodes = record { size = length nodes; child = child_of nodes; next = sibling_of nodes }
+
+-- from the link l on the links lead through the forest f of node numbers
+abbrev pub Spells : Links → Option ℕ → Forest ℕ → Type 0
+Spells k l nil = l ≡ None
+Spells k l (node ix below after) = (l ≡ Some ix) × (ix < k.size) × Spells k (k.child ix) below × Spells k (k.next ix) after
+
+-- what the links lead through from l on, no more than n of them in a row
+abbrev pub followed : ℕ → Links → Option ℕ → Forest ℕ
+followed zero k l = nil
+followed (suc n) k None = nil
+followed (suc n) k (Some ix) = node ix (followed n k (k.child ix)) (followed n k (k.next ix))
+
+-- the forest from l on: where no number stands twice, no more links come in a row than there are nodes
+unfoldable pub forest_at : Links → Option ℕ → Forest ℕ
+forest_at k l = followed k.size k l
+
+-- the forest below the root
+abbrev pub numbers_below : {T : Type 0} → List (Node T) → Forest ℕ
+numbers_below nodes = forest_at (links_of nodes) (child_of nodes 0)
+
+pub link-set : (a b : Option ℕ) → IsProp (a ≡ b)
+link-set a b = Coded-set (coded_option coded_ℕ) a b
+
+pub Spells-prop : (k : Links) (l : Option ℕ) (f : Forest ℕ) → IsProp (Spells k l f)
+Spells-prop k l nil = link-set l None
+Spells-prop k l (node ix below after) =
+    let here = link-set l (Some ix) in
+    let within : IsProp (ix < k.size) = le_prop in
+    let inside = Spells-prop k (k.child ix) below in
+    let behind = Spells-prop k (k.next ix) after in
+    hlevel

@@ -1,0 +1,28 @@
+-- The tree of a block result: its items, each with its number, below the root.
+use Rattle.std.specs.Prelude.{ℕ, List, slice_index_or}
+use Rattle.markdown_base.specs.declared.item.Item.{Item}
+use Rattle.markdown_base.specs.declared.item.ItemBody.TheVariants as body
+use Rattle.markdown_base.specs.declared.node.Node.{Node}
+use Rattle.markdown_base.specs.Arena.{items_of}
+use Rattle.markdown_base.specs.ArenaForest.{numbers_below}
+use Rattle.markdown_base.specs.Forest.{Forest, relabelled}
+
+-- an item with the number of its node
+pub record Numbered : Type 0 where
+  pub number : ℕ
+  pub item : Item
+
+-- what stands for the item of a number that no node has
+abbrev pub no_item : Item
+no_item = record { start = 0; end = 0; body = body.Root }
+
+-- the item of a number
+abbrev pub item_at : List (Node Item) → ℕ → Item
+item_at nodes ix = slice_index_or (items_of nodes) ix no_item
+
+abbrev pub numbered : List (Node Item) → ℕ → Numbered
+numbered nodes ix = record { number = ix; item = item_at nodes ix }
+
+-- the tree below the root
+abbrev pub tree_of : List (Node Item) → Forest Numbered
+tree_of nodes = relabelled (numbered nodes) (numbers_below nodes)

@@ -1,0 +1,25 @@
+-- What it is that a block result covers its text: no byte is lost but white space.
+use Rattle.std.specs.Prelude.{◌≡◌, ℕ, ◌<◌, Bool, false, IsTrue, ◌||◌, ◌&&◌, nat_le, nat_lt, List, length, slice_index}
+use Rattle.std.specs.Char.{is_ascii_whitespace}
+use Rattle.std.specs.List.{AllByRecursion, list_any}
+use Rattle.std.specs.declared.ops.Range.{Range}
+use Rattle.markdown_base.specs.declared.block_parts.BlockParts.{BlockParts}
+use Rattle.markdown_base.specs.declared.item.Item.{Item}
+use Rattle.markdown_base.specs.declared.node.Node.{Node}
+use Rattle.markdown_base.specs.BlockTree.{Numbered, tree_of}
+use Rattle.markdown_base.specs.Forest.{Forest, roots}
+use Rattle.markdown_base.specs.Item.{range_of}
+
+-- a byte lies in a range
+abbrev pub is_inside : ℕ → Range ℕ → Bool
+is_inside at range = nat_le range.start at && nat_lt at range.end
+
+-- it lies in a block directly below the root, or in the span of a definition
+abbrev pub is_covered : Forest Numbered → BlockParts → ℕ → Bool
+is_covered tree parts at =
+    list_any (λ n. is_inside at (range_of n.item)) (roots tree) || list_any (λ d. is_inside at d.1.span) parts.definitions.items
+
+-- each byte that is no ASCII white space is covered, and each definition's span begins with a `[`
+pub record Covers (text : List ℕ) (nodes : List (Node Item)) (parts : BlockParts) : Type 0 where
+  pub bytes : (at : ℕ) → at < length text → is_ascii_whitespace (slice_index text at) ≡ false → IsTrue (is_covered (tree_of nodes) parts at)
+  pub definitions : AllByRecursion (λ d. slice_index text d.1.span.start ≡ 91) parts.definitions.items

@@ -1,0 +1,151 @@
+-- A well-formed block result: the nine rules that every block pass keeps, and every walk relies on. The
+-- root is no item: its own range and body say nothing.
+use Rattle.std.specs.Prelude.{◌≡◌, ℕ, zero, suc, ◌+◌, ◌<◌, ◌≤◌, Bool, true, false, not, IsTrue, ◌==◌, ◌||◌, List, [], ◌∷◌, Option, Some, None, IfSome, nat_eq, codes, length, replicate, slice_index, slice_range}
+use Rattle.std.specs.List.{IsDistinct, filter_map, list_all, list_any}
+use Rattle.markdown_base.specs.declared.block_parts.BlockParts.{BlockParts}
+use Rattle.markdown_base.specs.declared.item.Item.{Item}
+use Rattle.markdown_base.specs.declared.item.ItemBody.{ItemBody}
+use Rattle.markdown_base.specs.declared.item.ItemBody.TheVariants as body
+use Rattle.markdown_base.specs.declared.node.Node.{Node}
+use Rattle.markdown_base.specs.Arena.{child_of}
+use Rattle.markdown_base.specs.ArenaForest.{links_of, Spells, numbers_below}
+use Rattle.markdown_base.specs.BlockTree.{Numbered, tree_of}
+use Rattle.markdown_base.specs.Forest.{Forest, nil, node, Throughout, Each, preorder, roots, first_root}
+use Rattle.markdown_base.specs.Item.{LiesIn, is_open, is_inline, is_childless, is_resolved, is_tight_paragraph, is_unplaced, text_named, alignments_named, attributes_named}
+
+-- 1. The tree is finite, and no node is reached twice, nor the root again.
+pub record IsReachedOnce (nodes : List (Node Item)) : Type 0 where
+  pub finite : Spells (links_of nodes) (child_of nodes 0) (numbers_below nodes)
+  pub once : IsDistinct nat_eq (0 ∷ preorder (numbers_below nodes))
+
+-- 2. Each range lies in the text, between characters.
+abbrev pub RangesLieIn : List ℕ → Forest Numbered → Type 0
+RangesLieIn text tree = Each (λ n. LiesIn text n.item) tree
+
+-- one stands before the other: in the text, and by its number
+pub record Precedes (a b : Numbered) : Type 0 where
+  pub ends : a.item.end ≤ b.item.start
+  pub numbers : a.number < b.number
+
+-- 3. Of two neighbours that are both inline the first stands before the second.
+abbrev pub InlineInOrder : Forest Numbered → Type 0
+InlineInOrder tree =
+    Throughout (λ a below after. IfSome (first_root after) (λ b. IsTrue (is_inline a.item.body) → IsTrue (is_inline b.item.body) → Precedes a b)) tree
+
+-- some item of a chain is open; all of them are inline
+abbrev pub has_open : Forest Numbered → Bool
+has_open chain = list_any (λ n. is_open n.item.body) (roots chain)
+
+abbrev pub all_inline : Forest Numbered → Bool
+all_inline chain = list_all (λ n. is_inline n.item.body) (roots chain)
+
+-- 4. Inline items and thematic breaks have no children. A chain with an open item holds inline items
+-- only, and does not stand directly below the root.
+pub record ChainsAreKept (tree : Forest Numbered) : Type 0 where
+  pub childless : Throughout (λ a below after. IsTrue (is_childless a.item.body) → below ≡ nil) tree
+  pub inline_only : Throughout (λ a below after. IsTrue (has_open below) → IsTrue (all_inline below)) tree
+  pub top : has_open tree ≡ false
+
+-- 5. Nothing is resolved yet.
+abbrev pub NothingResolved : Forest Numbered → Type 0
+NothingResolved tree = Each (λ n. is_resolved n.item.body ≡ false) tree
+
+-- the bytes that an item stands over
+abbrev pub source_of : List ℕ → Item → List ℕ
+source_of text item = slice_range text item.start item.end
+
+-- an open item stands over the markup that it is named for
+abbrev pub StandsOverMarkup : List ℕ → ItemBody → Type 0
+StandsOverMarkup source (body.MaybeMath opens closes context) = source ≡ codes "$"
+StandsOverMarkup source (body.MaybeSmartQuote quote opens closes) = (source ≡ quote ∷ []) × IsTrue ((quote == 34) || (quote == 39))
+StandsOverMarkup source (body.MaybeCode count escaped) = (source ≡ replicate count 96) × (1 ≤ count)
+StandsOverMarkup source body.MaybeHtml = source ≡ codes "<"
+StandsOverMarkup source body.MaybeLinkOpen = source ≡ codes "["
+StandsOverMarkup source (body.MaybeLinkClose reference) = source ≡ codes "]"
+StandsOverMarkup source body.MaybeImage = source ≡ codes "!["
+StandsOverMarkup source other = Unit {0}
+
+-- 6. Brackets, quotes, dollars, backticks and `<` stand over their markup.
+abbrev pub MarkupIsThere : List ℕ → Forest Numbered → Type 0
+MarkupIsThere text tree = Each (λ n. StandsOverMarkup (source_of text n.item) n.item.body) tree
+
+-- a character of a delimiter run: how many characters there are from here to the run's end, and whether
+-- the run can open, and can close
+pub record RunCharacter : Type 0 where
+  pub count : ℕ
+  pub can_open : Bool
+  pub can_close : Bool
+
+abbrev pub run_character : ItemBody → Option RunCharacter
+run_character (body.MaybeEmphasis count opens closes) = Some (record { count = count; can_open = opens; can_close = closes })
+run_character other = None
+
+-- one of the characters of delimiter runs
+abbrev pub is_delimiter : ℕ → Bool
+is_delimiter byte = (byte == 42) || ((byte == 95) || ((byte == 126) || (byte == 94)))
+
+-- the byte that an item begins with
+abbrev pub byte_of : List ℕ → Item → ℕ
+byte_of text item = slice_index text item.start
+
+-- `b` is the character after `a` in one run
+pub record GoesOn (text : List ℕ) (a b : Numbered) (count : ℕ) (opens closes : Bool) : Type 0 where
+  pub body : run_character b.item.body ≡ Some (record { count = count; can_open = opens; can_close = closes })
+  pub same : byte_of text b.item ≡ byte_of text a.item
+  pub touches : b.item.start ≡ a.item.end
+  pub number : b.number ≡ suc a.number
+
+-- a run's last character is not followed by one of the same kind
+abbrev pub EndsRun : List ℕ → Numbered → Option Numbered → Type 0
+EndsRun text a next = IfSome next (λ b. IfSome (run_character b.item.body) (λ c. (byte_of text b.item == byte_of text a.item) ≡ false))
+
+-- what follows a run's character, by how many there are up to the run's end
+abbrev pub RunGoesOn : List ℕ → Numbered → ℕ → Bool → Bool → Option Numbered → Type 0
+RunGoesOn text a zero opens closes next = ⊥
+RunGoesOn text a (suc zero) opens closes next = EndsRun text a next
+RunGoesOn text a (suc (suc count)) opens closes None = ⊥
+RunGoesOn text a (suc (suc count)) opens closes (Some b) = GoesOn text a b (suc count) opens closes
+
+-- one byte of a run, with what follows it there
+pub record StandsInRun (text : List ℕ) (a : Numbered) (next : Option Numbered) (c : RunCharacter) : Type 0 where
+  pub one_byte : a.item.end ≡ suc a.item.start
+  pub delimiter : IsTrue (is_delimiter (byte_of text a.item))
+  pub goes_on : RunGoesOn text a c.count c.can_open c.can_close next
+
+-- 7. A delimiter run of n characters is n neighbours that touch, of consecutive numbers and the same
+-- flags, counted n, n - 1, .., 1. Two runs of one character have another item between them.
+abbrev pub RunsAreWhole : List ℕ → Forest Numbered → Type 0
+RunsAreWhole text tree = Throughout (λ a below after. IfSome (run_character a.item.body) (StandsInRun text a (first_root after))) tree
+
+-- the numbers that the items of a tree name
+abbrev pub all_named : (ItemBody → Option ℕ) → Forest Numbered → List ℕ
+all_named name tree = filter_map (λ n. name n.item.body) (preorder tree)
+
+-- 8. Each number names a part of the block result. No text and no list of alignments is named twice.
+pub record PartsAreNamed (parts : BlockParts) (tree : Forest Numbered) : Type 0 where
+  pub texts : Each (λ n. IfSome (text_named n.item.body) (λ ix. ix < length parts.cows.items)) tree
+  pub alignments : Each (λ n. IfSome (alignments_named n.item.body) (λ ix. ix < length parts.alignments.items)) tree
+  pub attributes : Each (λ n. IfSome (attributes_named n.item.body) (λ ix. (1 ≤ ix) × (ix ≤ length parts.headings.items))) tree
+  pub each_text_once : IsDistinct nat_eq (all_named text_named tree)
+  pub each_alignments_once : IsDistinct nat_eq (all_named alignments_named tree)
+
+-- a tight paragraph stands in a chain
+abbrev pub has_tight_paragraph : Forest Numbered → Bool
+has_tight_paragraph chain = list_any (λ n. is_tight_paragraph n.item.body) (roots chain)
+
+-- 9. No root and no undecided block stands in the tree, and no tight paragraph directly in another.
+pub record BlocksAreSettled (tree : Forest Numbered) : Type 0 where
+  pub placed : Each (λ n. is_unplaced n.item.body ≡ false) tree
+  pub tight : Throughout (λ a below after. IsTrue (is_tight_paragraph a.item.body) → has_tight_paragraph below ≡ false) tree
+
+-- all nine
+pub record IsWellFormed (text : List ℕ) (nodes : List (Node Item)) (parts : BlockParts) : Type 0 where
+  pub reached_once : IsReachedOnce nodes
+  pub ranges_lie_in : RangesLieIn text (tree_of nodes)
+  pub inline_in_order : InlineInOrder (tree_of nodes)
+  pub chains_are_kept : ChainsAreKept (tree_of nodes)
+  pub nothing_resolved : NothingResolved (tree_of nodes)
+  pub markup_is_there : MarkupIsThere text (tree_of nodes)
+  pub runs_are_whole : RunsAreWhole text (tree_of nodes)
+  pub parts_are_named : PartsAreNamed parts (tree_of nodes)
+  pub blocks_are_settled : BlocksAreSettled (tree_of nodes)
