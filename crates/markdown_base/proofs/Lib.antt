@@ -1,1 +1,3 @@
 pub mod ArenaLemmas
+pub mod ArenaForestLemmas
+pub mod ForestLemmas

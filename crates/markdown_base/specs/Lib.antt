@@ -13,3 +13,4 @@ pub mod Walk
 pub mod InlineText
 pub mod ArenaBounds
 pub mod ArenaForest
+pub mod ArenaWalk

@@ -1,0 +1,51 @@
+-- A walk stands in an arena at a cursor below the nodes of a spine: facts of the representation.
+use Rattle.std.specs.Prelude.{ℕ, suc, ◌+◌, ◌<◌, List, [], ◌∷◌, Option, ⊤}
+use Rattle.std.specs.Coded.{Unit-prop, le_prop}
+use Rattle.markdown_base.specs.Forest.{Forest, nil, node, Each, Throughout-prop}
+use Rattle.markdown_base.specs.ArenaForest.{Links, Spells, Spells-prop, forest_at}
+
+-- a link leads to a forest of nodes at which p holds
+pub record Reaches (k : Links) (p : ℕ → Type 0) (l : Option ℕ) : Type 0 where
+  pub spelled : Spells k l (forest_at k l)
+  pub each : Each p (forest_at k l)
+
+-- so does what follows each node that was gone into
+abbrev pub AllReach : Links → (ℕ → Type 0) → List ℕ → Type 0
+AllReach k p [] = ⊤
+AllReach k p (ix ∷ deeper) = (ix < k.size) × Reaches k p (k.next ix) × AllReach k p deeper
+
+-- a walk stands at l, below the nodes of the spine, the outermost first
+pub record IsWalk (k : Links) (p : ℕ → Type 0) (l : Option ℕ) (spine : List ℕ) : Type 0 where
+  pub here : Reaches k p l
+  pub above : AllReach k p spine
+
+-- a bound on the steps over a forest: in and out of each node
+abbrev pub weight : {A : Type 0} → Forest A → ℕ
+weight nil = 0
+weight (node a below after) = suc (suc (weight below + weight after))
+
+-- and on those that are left above the chain at hand
+abbrev pub climb : Links → List ℕ → ℕ
+climb k [] = 0
+climb k (ix ∷ deeper) = climb k deeper + suc (weight (forest_at k (k.next ix)))
+
+-- a bound on the steps of a walk
+unfoldable pub steps_of : Links → Option ℕ → List ℕ → ℕ
+steps_of k l spine = weight (forest_at k l) + climb k spine
+
+pub Reaches-prop : (k : Links) (p : ℕ → Type 0) → ((ix : ℕ) → IsProp (p ix)) → (l : Option ℕ) → IsProp (Reaches k p l)
+Reaches-prop k p h l =
+    let spelled = Spells-prop k l (forest_at k l) in
+    let each = Throughout-prop (λ ix below after. p ix) (λ ix below after. h ix) (forest_at k l) in
+    hlevel
+
+pub AllReach-prop : (k : Links) (p : ℕ → Type 0) → ((ix : ℕ) → IsProp (p ix)) → (spine : List ℕ) → IsProp (AllReach k p spine)
+AllReach-prop k p h [] = Unit-prop
+AllReach-prop k p h (ix ∷ deeper) =
+    let within : IsProp (ix < k.size) = le_prop in
+    let follows = Reaches-prop k p h (k.next ix) in
+    let others = AllReach-prop k p h deeper in
+    hlevel
+
+pub IsWalk-prop : (k : Links) (p : ℕ → Type 0) → ((ix : ℕ) → IsProp (p ix)) → (l : Option ℕ) (spine : List ℕ) → IsProp (IsWalk k p l spine)
+IsWalk-prop k p h l spine = let here = Reaches-prop k p h l in let above = AllReach-prop k p h spine in hlevel
