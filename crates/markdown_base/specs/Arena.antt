@@ -58,6 +58,7 @@ led_to ix spine None nodes = changed_at (innermost spine) (λ n. record n { chil
 -- with a new node at the cursor's place, before what stood there
 abbrev pub appended : {T : Type 0} → Arena T → T → Arena T
 appended arena item = record arena {
-    nodes = led_to (length arena.nodes) arena.spine arena.cursor
-        (arena.nodes ++ record { item = item; child = None; next = follower arena.nodes arena.spine arena.cursor } ∷ []);
-    cursor = Some (length arena.nodes) }
+  nodes = led_to (length arena.nodes) arena.spine arena.cursor
+      (arena.nodes ++ record { item = item; child = None; next = follower arena.nodes arena.spine arena.cursor } ∷ []);
+  cursor = Some (length arena.nodes);
+}

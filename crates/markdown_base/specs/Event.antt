@@ -88,10 +88,11 @@ code_block_view (code_block.Fenced info) = fenced_code (text_of info)
 abbrev pub tag_view : Tag → TagView
 tag_view opens.Paragraph = paragraph
 tag_view (opens.Heading level id classes attrs) = heading (record {
-    level = level;
-    id = option_map text_of id;
-    classes = map text_of classes.items;
-    attributes = map attribute_view attrs.items })
+  level = level;
+  id = option_map text_of id;
+  classes = map text_of classes.items;
+  attributes = map attribute_view attrs.items;
+})
 tag_view (opens.BlockQuote kind) = block_quote kind
 tag_view (opens.CodeBlock kind) = code_block_view kind
 tag_view opens.HtmlBlock = html_block
@@ -111,9 +112,17 @@ tag_view opens.Strikethrough = strikethrough
 tag_view opens.Superscript = superscript
 tag_view opens.Subscript = subscript
 tag_view (opens.Link kind destination title label) = link (record {
-    kind = kind; destination = text_of destination; title = text_of title; label = text_of label })
+  kind = kind;
+  destination = text_of destination;
+  title = text_of title;
+  label = text_of label;
+})
 tag_view (opens.Image kind destination title label) = image (record {
-    kind = kind; destination = text_of destination; title = text_of title; label = text_of label })
+  kind = kind;
+  destination = text_of destination;
+  title = text_of title;
+  label = text_of label;
+})
 tag_view (opens.MetadataBlock kind) = metadata_block kind
 
 abbrev pub event_view : Event → EventView
