@@ -85,3 +85,129 @@ pub struct Item {
     pub end: usize,
     pub body: ItemBody,
 }
+
+impl ItemBody {
+    ghost use Rattle.std.specs.Prelude.{◌≡◌};
+    ghost use Rattle.markdown_base.specs.Item.{is_open, is_inline, is_childless, is_resolved, is_tight_paragraph, is_unplaced, text_named, alignments_named, attributes_named};
+
+    /// Whether its meaning is decided when its chain is resolved: one of the eight `Maybe` bodies from
+    /// `MaybeEmphasis` to `MaybeImage`.
+    pub fn is_open(self) -> bool
+        ensures { result ≡ is_open self }
+    {
+        match self {
+            ItemBody::MaybeEmphasis(_, _, _)
+            | ItemBody::MaybeMath(_, _, _)
+            | ItemBody::MaybeSmartQuote(_, _, _)
+            | ItemBody::MaybeCode(_, _)
+            | ItemBody::MaybeHtml
+            | ItemBody::MaybeLinkOpen
+            | ItemBody::MaybeLinkClose(_)
+            | ItemBody::MaybeImage => true,
+            _ => false,
+        }
+    }
+
+    /// Whether it is inline: open, or settled by the block pass.
+    pub fn is_inline(self) -> bool
+        ensures { result ≡ is_inline self }
+    {
+        match self {
+            ItemBody::TaskListMarker(_)
+            | ItemBody::InlineHtml
+            | ItemBody::OwnedInlineHtml(_)
+            | ItemBody::Html
+            | ItemBody::SynthesizeText(_)
+            | ItemBody::SynthesizeChar(_)
+            | ItemBody::Text { .. }
+            | ItemBody::SoftBreak
+            | ItemBody::HardBreak(_) => true,
+            other => other.is_open(),
+        }
+    }
+
+    /// Whether it has no children.
+    pub fn is_childless(self) -> bool
+        ensures { result ≡ is_childless self }
+    {
+        match self {
+            ItemBody::Rule => true,
+            other => other.is_inline(),
+        }
+    }
+
+    /// Whether it is what an open item becomes.
+    pub fn is_resolved(self) -> bool
+        ensures { result ≡ is_resolved self }
+    {
+        match self {
+            ItemBody::Emphasis
+            | ItemBody::Strong
+            | ItemBody::Strikethrough
+            | ItemBody::Superscript
+            | ItemBody::Subscript
+            | ItemBody::Math(_, _)
+            | ItemBody::Code(_)
+            | ItemBody::Link(_)
+            | ItemBody::Image(_)
+            | ItemBody::FootnoteReference(_) => true,
+            _ => false,
+        }
+    }
+
+    /// Whether it is a paragraph of a tight list.
+    pub fn is_tight_paragraph(self) -> bool
+        ensures { result ≡ is_tight_paragraph self }
+    {
+        match self {
+            ItemBody::TightParagraph => true,
+            _ => false,
+        }
+    }
+
+    /// Whether it stands at the top alone, or for a block that is not decided upon.
+    pub fn is_unplaced(self) -> bool
+        ensures { result ≡ is_unplaced self }
+    {
+        match self {
+            ItemBody::Root | ItemBody::MaybeDefinitionListTitle => true,
+            _ => false,
+        }
+    }
+
+    /// The number of the heading attributes that it names.
+    pub fn attributes_named(self) -> Option<usize>
+        ensures { result ≡ attributes_named self }
+    {
+        match self {
+            ItemBody::Heading(_, Some(ix)) => Some(ix.0),
+            _ => None,
+        }
+    }
+
+    /// The number of the text that it names.
+    pub fn text_named(self) -> Option<usize>
+        ensures { result ≡ text_named self }
+    {
+        match self {
+            ItemBody::Math(CowIndex(ix), _)
+            | ItemBody::Code(CowIndex(ix))
+            | ItemBody::FootnoteReference(CowIndex(ix))
+            | ItemBody::OwnedInlineHtml(CowIndex(ix))
+            | ItemBody::SynthesizeText(CowIndex(ix))
+            | ItemBody::FencedCodeBlock(CowIndex(ix))
+            | ItemBody::FootnoteDefinition(CowIndex(ix)) => Some(ix),
+            _ => None,
+        }
+    }
+
+    /// The number of the alignments that it names.
+    pub fn alignments_named(self) -> Option<usize>
+        ensures { result ≡ alignments_named self }
+    {
+        match self {
+            ItemBody::Table(ix) => Some(ix.0),
+            _ => None,
+        }
+    }
+}

@@ -266,6 +266,28 @@ fn an_append_keeps_what_stood_there(rt: HostRuntime) -> Result<(), Fail> {
 }
 
 #[test]
+fn bodies_are_of_kinds(rt: HostRuntime) -> Result<(), Fail> {
+    assert!(rt; ItemBody::MaybeLinkOpen.is_open());
+    assert!(rt; !ItemBody::SoftBreak.is_open());
+    assert!(rt; ItemBody::SoftBreak.is_inline());
+    assert!(rt; !ItemBody::Rule.is_inline());
+    assert!(rt; ItemBody::Rule.is_childless());
+    assert!(rt; ItemBody::Link(LinkIndex(0)).is_resolved());
+    assert!(rt; ItemBody::TightParagraph.is_tight_paragraph());
+    assert!(rt; ItemBody::Root.is_unplaced());
+    assert_eq!(rt; ItemBody::Code(CowIndex(3)).text_named(), Some(3));
+    assert_eq!(rt;
+        ItemBody::Table(AlignmentIndex(2)).alignments_named(),
+        Some(2)
+    );
+    assert_eq!(rt;
+        ItemBody::Heading(HeadingLevel::H1, Some(HeadingIndex(1))).attributes_named(),
+        Some(1)
+    );
+    Ok(())
+}
+
+#[test]
 fn items_name_parts_by_number(rt: HostRuntime) -> Result<(), Fail> {
     assert!(rt; ItemBody::Code(CowIndex(1)) != ItemBody::Code(CowIndex(2)));
     assert!(rt; ItemBody::Link(LinkIndex(1)) == ItemBody::Link(LinkIndex(1)));

@@ -1,5 +1,5 @@
 //! A tree of items: nodes by number, with a cursor that goes into nodes and out of them.
-ghost use Rattle.std.specs.Prelude.{◌≡◌, ℕ, ◌<◌, ◌++◌, ◌∷◌, [], length, slice_index_or, MatchOption, MatchResult, IfOk, IfSome, OnErr};
+ghost use Rattle.std.specs.Prelude.{◌≡◌, ℕ, ◌<◌, ◌^◌, ◌++◌, ◌∷◌, [], length, slice_index_or, MatchOption, MatchResult, IfOk, IfSome, OnErr};
 ghost use Rattle.markdown_base.specs.Arena.{items_of, child_of, sibling_of, innermost, single, changed_at, follower, led_to, appended};
 ghost use Rattle.markdown_base.specs.declared.item.ItemBody.TheVariants as body;
 
@@ -56,6 +56,7 @@ impl<T: Drop> Tree<T> {
     pub fn len(&self) -> usize
         ensures count { result ≡ length self.now.nodes }
         ensures rooted { 0 < result }
+        ensures small { result < 2 ^ 63 }
     {
         self.nodes.len()
     }
