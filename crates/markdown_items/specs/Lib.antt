@@ -1,0 +1,2 @@
+-- what contracts and other definitions speak of
+pub mod LineItems

@@ -1,0 +1,8 @@
+//! The inline items of one line's content, as the block pass appends them to a paragraph: a Text for now.
+#![tactic(auto)]
+
+mod line;
+#[cfg(test)]
+mod tests;
+
+pub use line::items;

@@ -1,0 +1,144 @@
+-- Where a block pass stands: what it has made so far keeps the rules of a well-formed block result.
+use Rattle.std.specs.Prelude.{◌≡◌, ℕ, suc, ◌<◌, ◌≤◌, false, IsTrue, List, ◌++◌, Option, None, IfSome, ⊤, nat_eq, length, slice_index}
+use Rattle.std.specs.Char.{is_ascii_whitespace}
+use Rattle.std.specs.List.{AllByRecursion, IsDistinct, list_any}
+use Rattle.std.specs.declared.ops.Range.{Range}
+use Rattle.markdown_base.specs.declared.item.Item.{Item}
+use Rattle.markdown_base.specs.BlockTree.{Numbered}
+use Rattle.markdown_base.specs.Coverage.{is_inside}
+use Rattle.markdown_base.specs.Forest.{Forest, nil, node, Throughout, roots, first_root}
+use Rattle.markdown_base.specs.Item.{LiesIn, range_of, is_inline, is_childless, is_resolved, is_tight_paragraph, is_unplaced, text_named, alignments_named, attributes_named}
+use Rattle.markdown_base.specs.WellFormed.{Precedes, has_open, all_inline, source_of, StandsOverMarkup, run_character, StandsInRun, all_named}
+use Rattle.markdown_items.specs.LineItems.{AreLineItems}
+use Rattle.markdown_plain.specs.declared.line.Line.{Line}
+use Rattle.markdown_plain.specs.declared.made.Made.{Made}
+use Rattle.markdown_plain.specs.Layout.{size_of, beside, IsCounted, outside, inside}
+use Rattle.markdown_plain.specs.Lines.{is_blank, AllPass, IsFirstOther}
+use Rattle.markdown_plain.specs.Paragraphs.{paragraph_item, paragraph_behind, IsParagraphEnd, AreBrokenLines, AreParagraphLines, AreParagraphs}
+
+-- what the rules say of one item, with what stands below it and what follows it
+pub record KeepsRules (text : List ℕ) (a : Numbered) (below : Forest Numbered) (next : Option Numbered) : Type 0 where
+  pub range : LiesIn text a.item
+  pub order : IfSome next (λ b. IsTrue (is_inline a.item.body) → IsTrue (is_inline b.item.body) → Precedes a b)
+  pub childless : IsTrue (is_childless a.item.body) → below ≡ nil
+  pub inline_only : IsTrue (has_open below) → IsTrue (all_inline below)
+  pub unresolved : is_resolved a.item.body ≡ false
+  pub markup : StandsOverMarkup (source_of text a.item) a.item.body
+  pub run : IfSome (run_character a.item.body) (StandsInRun text a next)
+  pub alignments : alignments_named a.item.body ≡ None
+  pub attributes : attributes_named a.item.body ≡ None
+  pub placed : is_unplaced a.item.body ≡ false
+  pub loose : is_tight_paragraph a.item.body ≡ false
+
+-- each item of a tree keeps them
+abbrev pub AllKeepRules : List ℕ → Forest Numbered → Type 0
+AllKeepRules text tree = Throughout (λ a below after. KeepsRules text a below (first_root after)) tree
+
+-- the numbers of the texts that the items of a tree name
+abbrev pub texts_in : Forest Numbered → List ℕ
+texts_in tree = all_named text_named tree
+
+-- the texts that items name are there, and none is named twice
+pub record NamesTexts (count : ℕ) (names : List ℕ) : Type 0 where
+  pub there : AllByRecursion (λ ix. ix < count) names
+  pub once : IsDistinct nat_eq names
+
+-- the blocks so far
+pub record AreBlocks (text : List ℕ) (tree : Forest Numbered) : Type 0 where
+  pub counted : IsCounted 1 tree
+  pub rules : AllKeepRules text tree
+  pub blocks : AllByRecursion (λ n. is_inline n.item.body ≡ false) (roots tree)
+
+-- an item lies between two places
+pub record LiesBetween (from to : ℕ) (item : Item) : Type 0 where
+  pub start : from ≤ item.start
+  pub end : item.end ≤ to
+
+-- the inline items so far, numbered from a number on, lie between two places
+pub record AreInline (text : List ℕ) (number from to : ℕ) (chain : Forest Numbered) : Type 0 where
+  pub counted : IsCounted number chain
+  pub rules : AllKeepRules text chain
+  pub inline : IsTrue (all_inline chain)
+  pub between : AllByRecursion (λ n. LiesBetween from to n.item) (roots chain)
+
+-- the last item of a chain is no character of a delimiter run
+abbrev pub EndsNoRun : Forest Numbered → Type 0
+EndsNoRun nil = ⊤
+EndsNoRun (node a below nil) = run_character a.item.body ≡ None
+EndsNoRun (node a below (node b inner later)) = EndsNoRun (node b inner later)
+
+-- each byte before a place that is no white space lies in a block
+abbrev pub CoversUpTo : List ℕ → Forest Numbered → ℕ → Type 0
+CoversUpTo text tree to =
+    (at : ℕ) → at < to → is_ascii_whitespace (slice_index text at) ≡ false
+    → IsTrue (list_any (λ n. is_inside at (range_of n.item)) (roots tree))
+
+-- the pass stands behind the last block, and has read the text up to a place
+pub record StandsOutside (text : List ℕ) (made : Made) (to : ℕ) : Type 0 where
+  pub tree : Forest Numbered
+  pub arena : made.tree ≡ outside tree
+  pub are_blocks : AreBlocks text tree
+  pub names : NamesTexts (length made.cows.items) (texts_in tree)
+  pub covers : CoversUpTo text tree to
+  pub paragraphs : AreParagraphs text to tree
+
+-- it stands so before a paragraph, which begins behind blank lines
+pub record StandsBeforeParagraph (text : List ℕ) (made : Made) (first : ℕ) : Type 0 where
+  pub from : ℕ
+  pub stands : StandsOutside text made from
+  pub begins : IsFirstOther is_blank text from first
+
+-- the pass stands in a paragraph, behind its last item, and has read the paragraph up to a place
+pub record StandsInside (text : List ℕ) (made : Made) (first end to : ℕ) : Type 0 where
+  pub tree : Forest Numbered
+  pub chain : Forest Numbered
+  pub arena : made.tree ≡ inside tree (paragraph_behind tree first end) chain
+  pub range : LiesIn text (paragraph_item first end)
+  pub reached : first ≤ to
+  pub are_blocks : AreBlocks text tree
+  pub are_inline : AreInline text (suc (suc (size_of tree))) first to chain
+  pub names : NamesTexts (length made.cows.items) (texts_in tree ++ texts_in chain)
+  pub covers : CoversUpTo text tree first
+  pub from : ℕ
+  pub paragraphs : AreParagraphs text from tree
+  pub begins : IsFirstOther is_blank text from first
+  pub ends : IsParagraphEnd text first end
+
+-- it stands so before a line, which goes on at a place
+pub record StandsBeforeLine (text : List ℕ) (made : Made) (first end to : ℕ) : Type 0 where
+  pub stands : StandsInside text made first end to
+  pub no_run : EndsNoRun stands.chain
+  pub lines : AreBrokenLines text first end to stands.chain
+
+-- it stands so behind the items of a line's content
+pub record StandsBehindItems (text : List ℕ) (made : Made) (first end : ℕ) (line : Range ℕ) : Type 0 where
+  pub stands : StandsInside text made first end line.end
+  pub broken : Forest Numbered
+  pub lines : AreBrokenLines text first end line.start broken
+  pub known : ℕ
+  pub count : ℕ
+  pub items : Forest Numbered
+  pub are_items : AreLineItems text line known count items
+  pub whole : stands.chain ≡ beside broken items
+
+-- it stands so behind the paragraph's last line
+pub record StandsBehindLines (text : List ℕ) (made : Made) (first end : ℕ) : Type 0 where
+  pub to : ℕ
+  pub stands : StandsInside text made first end to
+  pub lines : AreParagraphLines text first end stands.chain
+
+-- the pass has read the text: behind the last paragraph are blank lines alone
+pub record HasRead (text : List ℕ) (made : Made) : Type 0 where
+  pub to : ℕ
+  pub stands : StandsOutside text made to
+  pub blank : AllPass is_blank text to (length text)
+
+-- the items of a line's content are added, in whatever paragraph the pass stands
+abbrev pub AddsItems : List ℕ → Range ℕ → Made → Made → Type 0
+AddsItems text line old new =
+    (first end : ℕ) → StandsBeforeLine text old first end line.start → StandsBehindItems text new first end line
+
+-- a line and the break behind it are added, in whatever paragraph the pass stands
+abbrev pub AddsBrokenLine : List ℕ → ℕ → Line → ℕ → Made → Made → Type 0
+AddsBrokenLine text from line next old new =
+    (first end : ℕ) → line.next < end → StandsBeforeLine text old first end from → StandsBeforeLine text new first end next
