@@ -1,0 +1,13 @@
+-- what is asked about broken links, and what is answered
+pub mod Callback
+-- a checked block result, and what is checked of it
+pub mod Blocks
+pub mod Checked
+-- what is tested of one node: private
+pub mod NodeRules
+-- the words of the lower crate that the clauses here are written in
+pub use Rattle.markdown_base.specs.Arena
+pub use Rattle.markdown_base.specs.CowText
+pub use Rattle.markdown_base.specs.Coverage
+pub use Rattle.markdown_base.specs.Document
+pub use Rattle.markdown_base.specs.WellFormed

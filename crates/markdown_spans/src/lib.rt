@@ -1,0 +1,7 @@
+//! The check of a block result, and what is asked where a link label is defined nowhere.
+#![tactic(auto)]
+
+pub mod blocks;
+pub mod defs;
+#[cfg(test)]
+mod tests;
