@@ -1,0 +1,5 @@
+pub mod WalkLemmas
+pub mod WalkStepsLemmas
+pub mod ParserLemmas
+pub mod StartLemmas
+pub mod RunLemmas

@@ -1,0 +1,7 @@
+-- what contracts speak of
+pub mod ParserLeft
+pub mod NextGives
+pub mod Slices
+-- what private contracts speak of
+pub mod WalkSteps
+pub mod Placing

@@ -1,0 +1,127 @@
+//! One step of a walk over a tree of items.
+ghost use Rattle.std.specs.Prelude.{◌≡◌, None, Some, MatchResult, slice_range};
+ghost use Rattle.markdown_base.specs.Document.{shape_of};
+ghost use Rattle.markdown_base.specs.Item.{LiesIn, range_of};
+ghost use Rattle.markdown_inline.specs.WalkSteps.{StepGives, TreeWalks, IsRefused, OpensTo, OpensBySlice, ClosesTo};
+
+use markdown_base::cow_str::CowStr;
+use markdown_base::event::Event;
+use markdown_base::item::{Item, ItemBody};
+use markdown_base::tag::{Tag, TagEnd};
+use markdown_base::tree::Tree;
+use std::alloc::AllocError;
+use std::ops::Range;
+
+/// What one step of a walk did.
+#[derive(Drop)]
+pub enum Step<'a> {
+    /// The walk is over.
+    Done,
+    /// It went into a node or out of one that gives no event.
+    Skip,
+    Give(Event<'a>, Range<usize>),
+}
+
+/// How an item begins.
+#[derive(Drop)]
+pub enum Opening<'a> {
+    /// One event, and no children are walked.
+    Leaf(Event<'a>),
+    /// A Start, and then its children.
+    Start(Tag<'a>),
+    /// Its children alone.
+    Plain,
+}
+
+/// The source's text over an item.
+fn slice_of<'a>(text: &'a str, item: Item) -> Event<'a>
+    requires { LiesIn text.now item }
+    ensures { (slice : _) × (result ≡ Event.Text (CowStr.Borrowed slice)) × (slice.now ≡ slice_range text.entry.now item.start item.end) }
+{
+    Event::Text(CowStr::Borrowed(&text[item.start..item.end]))
+}
+
+/// How an item begins, by its body.
+pub fn open_item<'a>(text: &'a str, item: Item) -> Opening<'a>
+    requires { LiesIn text.now item }
+    ensures opens { OpensTo (shape_of (slice_range text.entry.now item.start item.end) item.body) result }
+    ensures slice { OpensBySlice text.entry.now (range_of item) result }
+{
+    match item.body {
+        ItemBody::Paragraph => Opening::Start(Tag::Paragraph),
+        ItemBody::TightParagraph => Opening::Plain,
+        ItemBody::Text { .. } => Opening::Leaf(slice_of(text, item)),
+        ItemBody::SoftBreak => Opening::Leaf(Event::SoftBreak),
+        ItemBody::HardBreak(_) => Opening::Leaf(Event::HardBreak),
+        other => {
+            if other.is_inline() || other.is_resolved() {
+                Opening::Leaf(slice_of(text, item))
+            } else {
+                Opening::Plain
+            }
+        }
+    }
+}
+
+/// How a tree ends, by its root's body.
+pub fn close_item(body: ItemBody) -> Option<TagEnd>
+    ensures { ClosesTo body result }
+{
+    match body {
+        ItemBody::Paragraph => Some(TagEnd::Paragraph),
+        _ => None,
+    }
+}
+
+/// A step out of the node gone into last.
+pub fn step_out<'a>(text: &'a str, tree: &mut Tree<Item>) -> Step<'a>
+    requires walks { TreeWalks text.now tree.old }
+    requires at_end { tree.old.cursor ≡ None }
+    ensures { StepGives text.entry.now tree.old tree.new result }
+{
+    match tree.pop() {
+        None => Step::Done,
+        Some(ix) => {
+            let item = *tree.item(ix);
+            tree.next_sibling(ix);
+            match close_item(item.body) {
+                None => Step::Skip,
+                Some(end) => Step::Give(Event::End(end), item.start..item.end),
+            }
+        }
+    }
+}
+
+/// A step at the node in focus.
+pub fn step_at<'a>(text: &'a str, tree: &mut Tree<Item>, ix: usize) -> Result<Step<'a>, AllocError>
+    requires walks { TreeWalks text.now tree.old }
+    requires at_ix { tree.old.cursor ≡ Some ix }
+    ensures { MatchResult result (StepGives text.entry.now tree.old tree.new) (λ _. IsRefused tree.old tree.new) }
+{
+    let item = *tree.item(ix);
+    match open_item(text, item) {
+        Opening::Leaf(event) => {
+            tree.next_sibling(ix);
+            Ok(Step::Give(event, item.start..item.end))
+        }
+        Opening::Start(tag) => {
+            tree.push()?;
+            Ok(Step::Give(Event::Start(tag), item.start..item.end))
+        }
+        Opening::Plain => {
+            tree.push()?;
+            Ok(Step::Skip)
+        }
+    }
+}
+
+/// One step of the walk over a tree. After a refusal the tree is as before.
+pub fn take_step<'a>(text: &'a str, tree: &mut Tree<Item>) -> Result<Step<'a>, AllocError>
+    requires { TreeWalks text.now tree.old }
+    ensures { MatchResult result (StepGives text.entry.now tree.old tree.new) (λ _. IsRefused tree.old tree.new) }
+{
+    match tree.cur() {
+        None => Ok(step_out(text, tree)),
+        Some(ix) => step_at(text, tree, ix),
+    }
+}

@@ -1,0 +1,200 @@
+//! The walk over a block result that gives its events.
+ghost use Rattle.std.specs.Prelude.{◌≡◌, ◌<◌, IfOk, IfErr, IfSome, None};
+ghost use Rattle.markdown_base.specs.ArenaForest.{links_of};
+ghost use Rattle.markdown_base.specs.ArenaWalk.{IsWalk, IsWalk-prop};
+ghost use Rattle.markdown_inline.specs.Placing.{LiesAt, LiesAt-prop};
+
+use crate::step::{Step, take_step};
+use bitflags::Flags;
+use markdown_base::event::Event;
+use markdown_base::item::Item;
+use markdown_base::options::Options;
+use markdown_base::tree::Tree;
+use markdown_spans::blocks::{Blocks, Fault};
+use markdown_spans::defs::{BrokenLinkCallback, DefaultBrokenLinkCallback};
+use std::alloc::Global;
+use std::iter::FusedIterator;
+use std::ops::Range;
+
+/// The events of a text, as an iterator. Its items are errors where memory is refused; after one nothing
+/// comes.
+#[derive(Drop)]
+pub struct Parser<'input, F = DefaultBrokenLinkCallback> {
+    text: &'input str,
+    tree: Tree<Item>,
+    callback: Option<F>,
+    ghost walks: { IsWalk (links_of tree.nodes) (LiesAt text.now tree.nodes) tree.cursor tree.spine } by { IsWalk-prop (links_of tree.nodes) (LiesAt text.now tree.nodes) (LiesAt-prop text.now tree.nodes) tree.cursor tree.spine },
+}
+
+/// The same events, each with the bytes of the source that it stands over.
+#[derive(Drop)]
+pub struct OffsetIter<'input, F = DefaultBrokenLinkCallback> {
+    inner: Parser<'input, F>,
+}
+
+impl<'input, F: BrokenLinkCallback<'input>> Parser<'input, F> {
+    ghost use Rattle.std.specs.Prelude.{◌≡◌, ◌<◌, IfSome};
+    ghost use Rattle.markdown_inline.specs.NextGives.{NextGives};
+    ghost use Rattle.markdown_inline.specs.ParserLeft.{placed_left, next_questions, placed, parser_callback, parser_steps, IsSliceAt, IsOver};
+
+    /// The next event with its range.
+    fn advance(&mut self) -> Option<Result<(Event<'input>, Range<usize>), Fault>>
+        requires { IfSome self.old.callback F.can_ask }
+        ensures gives { NextGives placed_left next_questions placed parser_callback F.answers IsSliceAt IsOver self.old result self.new }
+        ensures askable { IfSome self.new.callback F.can_ask }
+        ensures falls { IfSome result (λ _. parser_steps self.new < parser_steps self.old) }
+    {
+        'walk: loop {
+            match take_step(self.text, &mut self.tree) {
+                Ok(Step::Done) => return None,
+                Ok(Step::Skip) => {}
+                Ok(Step::Give(event, range)) => return Some(Ok((event, range))),
+                Err(_) => {
+                    self.tree.stop();
+                    return Some(Err(Fault::Memory));
+                }
+            }
+        }
+    }
+}
+
+impl<'input, F: BrokenLinkCallback<'input>> Iterator for Parser<'input, F> {
+    ghost use Rattle.std.specs.Prelude.{IfSome};
+    ghost use Rattle.std.specs.Iterator.{at_most};
+    ghost use Rattle.markdown_base.specs.Event.{event_view};
+    ghost use Rattle.markdown_inline.specs.NextGives.{NextGives};
+    ghost use Rattle.markdown_inline.specs.ParserLeft.{events_left, next_questions, parser_callback, parser_steps, IsSomeSlice, IsOver};
+
+    type Item = Result<Event<'input>, Fault>;
+
+    ghost can_next = { λ p. IfSome (parser_callback p) F.can_ask };
+
+    ghost next_gives = { NextGives events_left next_questions event_view parser_callback F.answers IsSomeSlice IsOver };
+
+    ghost remaining = { λ p. at_most (parser_steps p) };
+
+    fn size_hint(&self) -> (usize, Option<usize>) {
+        (0, None)
+    }
+
+    /// The next event; an error where memory is refused, after which nothing comes.
+    fn next(&mut self) -> Option<Result<Event<'input>, Fault>> {
+        match self.advance() {
+            None => None,
+            Some(Ok((event, _))) => Some(Ok(event)),
+            Some(Err(fault)) => Some(Err(fault)),
+        }
+    }
+}
+
+impl<'input, F: BrokenLinkCallback<'input>> FusedIterator for Parser<'input, F> {}
+
+impl<'input, F: BrokenLinkCallback<'input>> Iterator for OffsetIter<'input, F> {
+    ghost use Rattle.std.specs.Prelude.{IfSome};
+    ghost use Rattle.std.specs.Iterator.{at_most};
+    ghost use Rattle.markdown_inline.specs.NextGives.{NextGives};
+    ghost use Rattle.markdown_inline.specs.ParserLeft.{offset_left, offset_questions, placed, offset_callback, offset_steps, IsSliceAt, IsOver};
+
+    type Item = Result<(Event<'input>, Range<usize>), Fault>;
+
+    ghost can_next = { λ o. IfSome (offset_callback o) F.can_ask };
+
+    ghost next_gives = { NextGives offset_left offset_questions placed offset_callback F.answers (λ o. IsSliceAt o.inner) (λ o. IsOver o.inner) };
+
+    ghost remaining = { λ o. at_most (offset_steps o) };
+
+    fn size_hint(&self) -> (usize, Option<usize>) {
+        (0, None)
+    }
+
+    /// The next event with its range; an error where memory is refused, after which nothing comes.
+    fn next(&mut self) -> Option<Result<(Event<'input>, Range<usize>), Fault>> {
+        self.inner.advance()
+    }
+}
+
+impl<'input, F: BrokenLinkCallback<'input>> FusedIterator for OffsetIter<'input, F> {}
+
+impl<'input> Parser<'input, DefaultBrokenLinkCallback> {
+    ghost use Rattle.std.specs.Prelude.{◌≡◌, ◌<◌, ◌^◌, IfOk, IfErr};
+    ghost use Rattle.markdown_base.specs.Document.{Answers};
+    ghost use Rattle.markdown_spans.specs.Blocks.{IsOfText};
+    ghost use Rattle.markdown_inline.specs.ParserLeft.{elements, reading_of, parser_callback, parser_steps, no_options};
+
+    /// A parser of a text, with no extension.
+    pub fn new(alloc: Global, text: &'input str) -> Result<Self, Fault>
+        ensures left { IfOk result (λ p. (blocks : _) × IsOfText text.entry.now no_options blocks × ((answers : Answers) → elements p answers ≡ reading_of blocks answers)) }
+        ensures callback { IfOk result (λ p. parser_callback p ≡ None) }
+        ensures countable { IfOk result (λ p. parser_steps p < 2 ^ 64) }
+        ensures refused { IfErr result (λ fault. fault ≡ Fault.Memory) }
+    {
+        Parser::new_ext(alloc, text, Options::empty())
+    }
+
+    /// A parser of a text.
+    pub fn new_ext(alloc: Global, text: &'input str, options: Options) -> Result<Self, Fault>
+        ensures left { IfOk result (λ p. (blocks : _) × IsOfText text.entry.now options blocks × ((answers : Answers) → elements p answers ≡ reading_of blocks answers)) }
+        ensures callback { IfOk result (λ p. parser_callback p ≡ None) }
+        ensures countable { IfOk result (λ p. parser_steps p < 2 ^ 64) }
+        ensures refused { IfErr result (λ fault. fault ≡ Fault.Memory) }
+    {
+        Parser::new_with_broken_link_callback(alloc, text, options, None)
+    }
+}
+
+impl<'input, F: BrokenLinkCallback<'input>> Parser<'input, F> {
+    ghost use Rattle.std.specs.Prelude.{◌≡◌, ◌<◌, ◌^◌, IfOk, IfErr, IfSome};
+    ghost use Rattle.markdown_base.specs.Document.{Answers};
+    ghost use Rattle.markdown_spans.specs.Blocks.{IsOfText};
+    ghost use Rattle.markdown_inline.specs.ParserLeft.{elements, reading_of, parser_callback, parser_steps, offset_elements, offset_callback, offset_steps};
+
+    /// A parser of a text, which asks `callback`, where there is one, about each link label that is
+    /// defined nowhere.
+    pub fn new_with_broken_link_callback(
+        alloc: Global,
+        text: &'input str,
+        options: Options,
+        callback: Option<F>,
+    ) -> Result<Self, Fault>
+        ensures left { IfOk result (λ p. (blocks : _) × IsOfText text.entry.now options blocks × ((answers : Answers) → elements p answers ≡ reading_of blocks answers)) }
+        ensures callback { IfOk result (λ p. parser_callback p ≡ callback) }
+        ensures countable { IfOk result (λ p. parser_steps p < 2 ^ 64) }
+        ensures refused { IfErr result (λ fault. fault ≡ Fault.Memory) }
+    {
+        let blocks = Blocks::of_text(alloc, text, options)?;
+        Parser::from_blocks(alloc, blocks, callback)
+    }
+
+    /// A parser of a block result.
+    pub fn from_blocks(
+        alloc: Global,
+        blocks: Blocks<'input>,
+        callback: Option<F>,
+    ) -> Result<Self, Fault>
+        ensures left { IfOk result (λ p. (answers : Answers) → elements p answers ≡ reading_of blocks.entry answers) }
+        ensures callback { IfOk result (λ p. parser_callback p ≡ callback) }
+        ensures countable { IfOk result (λ p. parser_steps p < 2 ^ 64) }
+        ensures refused { IfErr result (λ fault. fault ≡ Fault.Memory) }
+    {
+        let _ = alloc;
+        let (text, _, tree, _) = blocks.into_parts();
+        let mut tree = tree;
+        tree.reset();
+        // bounds the steps to come
+        let _nodes = tree.len();
+        Ok(Parser {
+            text,
+            tree,
+            callback,
+        })
+    }
+
+    /// The same walk from where it stands, with the range of each event. Takes no memory.
+    pub fn into_offset_iter(self) -> OffsetIter<'input, F>
+        ensures left { (answers : Answers) → offset_elements result answers ≡ elements self.entry answers }
+        ensures callback { offset_callback result ≡ parser_callback self.entry }
+        ensures steps { offset_steps result ≡ parser_steps self.entry }
+    {
+        OffsetIter { inner: self }
+    }
+}
