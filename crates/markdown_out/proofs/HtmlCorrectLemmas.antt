@@ -1,0 +1,193 @@
+-- What the loop over the events keeps, and what follows from it where the loop is left.
+use Rattle.std.proofs.Common.{◌≡◌, ◌≤◌, ◌^◌, ◌++◌, List, ℕ, [], ◌∷◌, length, map, reverse}
+use Rattle.std.proofs.Common.{sym, ap, subst, ◌∙◌, append_assoc, append-nil}
+use Rattle.std.proofs.Common.{Result, Ok, Err, Option, Some, None}
+use Rattle.std.proofs.lemmas.List.{map-append, reverse-append}
+use Rattle.std.proofs.iter.Next.{Yields-more}
+use Rattle.std.specs.Iterator.{Yields}
+use Rattle.std.specs.Option.{IsSomeAnd}
+use Rattle.markdown_base.specs.Event.{EventView, event_view}
+use Rattle.markdown_base.specs.declared.event.Event.{Event}
+use Rattle.markdown_base.specs.declared.fault.Fault.{Fault}
+use Rattle.markdown_base.specs.declared.fault.Fault.TheVariants.{Memory, Blocks, Depth}
+use Rattle.markdown_out.specs.ByteLists.{AppendsFront}
+use Rattle.markdown_out.specs.EventHtml.{past_of, event_bytes, bytes_before, closing, html_of}
+use Rattle.markdown_out.specs.HtmlCorrect.{items, IsRendered, StopsAtError}
+use Rattle.markdown_out.specs.HtmlCorrect.{IsOwnFault}
+use Rattle.markdown_out.specs.LookBacks.{Past, image_before, IsTooDeep}
+use Rattle.markdown_out.specs.Writer.{view_after, MayRefuse, IsFull}
+use Rattle.markdown_out.proofs.ByteListsLemmas.{front-after}
+use Rattle.markdown_out.proofs.WriterLemmas.{capped, highest, event_bytes-capped, view_after-capped}
+use Rattle.markdown_out.proofs.WriterLemmas.{full_deep}
+
+-- these events were read and their bytes appended, and the writer remembers what they tell
+pub record Wrote (told : Past) (old new : List ℕ) (yielded : List (Result Event Fault)) : Type 0
+  where
+    pub events : List Event
+    pub read : yielded ≡ items events
+    pub tells : told ≡ capped (past_of (reverse (map event_view events)))
+    pub stands : new ≡ old ++ bytes_before (reverse (map event_view events))
+
+-- no event was read yet
+pub Wrote-none : (told : Past) (old : List ℕ) (yielded : List (Result Event Fault))
+    → told ≡ past_of [] → yielded ≡ [] → Wrote told old old yielded
+Wrote-none told old yielded t y = record {
+  events = [];
+  read = y;
+  tells = t;
+  stands = sym
+      (append-nil old);
+}
+
+-- the last event is the first of those before
+past-more : (es : List Event) (e : Event)
+    → reverse (map event_view (es ++ e ∷ [])) ≡ event_view e ∷ reverse (map event_view es)
+past-more es e = ap reverse (map-append event_view es (e ∷ []))
+    ∙ reverse-append (map event_view es) (event_view e ∷ [])
+
+items-more : (es : List Event) (e : Event) (yielded : List (Result Event Fault))
+    (item : Result Event Fault)
+    → yielded ≡ items es → item ≡ Ok e → yielded ++ item ∷ [] ≡ items (es ++ e ∷ [])
+items-more es e yielded item y i =
+    ap (λ ys. ys ++ item ∷ []) y ∙ (ap (λ x. items es ++ x ∷ []) i
+    ∙ sym (map-append (λ (e : Event). Ok e) es (e ∷ [])))
+
+-- the bytes that the writer gives an event are those that the events before it tell
+told_bytes : {told : Past} {old new : List ℕ} {yielded : List (Result Event Fault)} (e : EventView)
+    (w : Wrote told old new yielded)
+    → length told.alignments ≤ highest
+    → event_bytes told e ≡ event_bytes (past_of (reverse (map event_view w.events))) e
+told_bytes {told} e w h =
+    let past = past_of (reverse (map event_view w.events)) in
+    ap (λ t. event_bytes t e) w.tells
+    ∙ event_bytes-capped past e (subst (λ t. length t.alignments ≤ highest) w.tells h)
+
+-- one more event was written
+pub Wrote-more : {told told' : Past} {old new new' : List ℕ} {yielded : List (Result Event Fault)}
+    {item : Result Event Fault} (e : Event)
+    → length told.alignments ≤ highest → Wrote told old new yielded → item ≡ Ok e
+    → new' ≡ new ++ event_bytes told (event_view e) → told' ≡ view_after told (event_view e)
+    → Wrote told' old new' (yielded ++ item ∷ [])
+Wrote-more {told} {told'} {old} {new} {new'} {yielded} {item} e h w i n t =
+    let before = reverse (map event_view w.events) in
+    record {
+      events = w.events ++ e ∷ [];
+      read = items-more w.events e yielded item w.read i;
+      tells = t ∙ (ap (λ p. view_after p (event_view e)) w.tells
+          ∙ (view_after-capped before (event_view e) (subst (λ p. length p.alignments ≤ highest)
+          w.tells h)
+          ∙ ap (λ b. capped (past_of b)) (sym (past-more w.events e))));
+      stands = n ∙ (ap (λ x. x ++ event_bytes told (event_view e)) w.stands
+          ∙ (ap (λ x. (old ++ bytes_before before) ++ x) (told_bytes (event_view e) w h)
+          ∙ (append_assoc old (bytes_before before) (event_bytes (past_of before) (event_view e))
+          ∙ ap (λ b. old ++ bytes_before b) (sym (past-more w.events e)))));
+    }
+
+-- a front of one more event
+front-event : {told : Past} {old new out : List ℕ} {yielded : List (Result Event Fault)} (e : Event)
+    (w : Wrote told old new yielded)
+    → length told.alignments ≤ highest → AppendsFront new out (event_bytes told (event_view e))
+    → AppendsFront old out (html_of (map event_view (w.events ++ e ∷ [])))
+front-event {told} {old} {new} {out} e w h f =
+    let before = reverse (map event_view w.events) in
+    let after = reverse (map event_view (w.events ++ e ∷ [])) in
+    let g = subst (AppendsFront new out) (told_bytes (event_view e) w h) f in
+    front-after old new out (bytes_before before) (event_bytes (past_of before) (event_view e))
+    (html_of (map event_view (w.events ++ e ∷ []))) (closing (image_before after)) w.stands g
+    (sym (append_assoc (bytes_before before) (event_bytes (past_of before) (event_view e))
+    (closing (image_before after)))
+    ∙ ap (λ b. bytes_before b ++ closing (image_before after)) (sym (past-more w.events e)))
+
+-- a front of what closes an image
+front-closing : {told : Past} {old new out : List ℕ} {yielded : List (Result Event Fault)}
+    (w : Wrote told old new yielded)
+    → AppendsFront new out (closing told.open_image)
+    → AppendsFront old out (html_of (map event_view w.events))
+front-closing {told} {old} {new} {out} w f =
+    let before = reverse (map event_view w.events) in
+    let g = subst (λ p. AppendsFront new out (closing p.open_image)) w.tells f in
+    front-after old new out (bytes_before before) (closing (image_before before))
+    (html_of (map event_view w.events)) [] w.stands g
+    (ap (λ x. bytes_before before ++ x) (append-nil (closing (image_before before))))
+
+module _ {S : Type 0} (steps : S → Option (Result Event Fault) → S → Type 0) where
+  pub StopsAtError-from : (it t u : S) {told : Past} {old new : List ℕ} {yielded : List
+      (Result Event Fault)} {item : Result Event Fault} (fault : Fault)
+      → Yields steps it yielded t → steps t (Some item) u → item ≡ Err fault
+      → Wrote told old new yielded → StopsAtError steps it old new fault
+  StopsAtError-from it t u {told} {old} {new} {yielded} {item} fault y p i w =
+      record {
+        events = w.events;
+        left = u;
+        stands = w.stands;
+        read = subst (λ ys. Yields steps it ys u) (ap (λ ys. ys ++ item ∷ []) w.read
+            ∙ ap (λ x. items w.events ++ x ∷ []) i) (Yields-more steps it yielded t item u y p);
+      }
+
+  -- the writer refused an event
+  pub IsOwnFault-event : (it t u : S) {told : Past} {old new out : List ℕ} {yielded : List
+      (Result Event Fault)} {item : Result Event Fault} (fault : Fault) (e : Event)
+      → length told.alignments ≤ highest → Yields steps it yielded t → steps t (Some item) u
+      → item ≡ Ok e → Wrote told old new yielded → MayRefuse told (event_view e) fault
+      → AppendsFront new out (event_bytes told (event_view e)) → IsOwnFault steps it old out fault
+  IsOwnFault-event it t u {told} {old} {new} {out} {yielded} {item} fault e h y p i w m f = by_fault
+      fault m
+    where
+      read : Yields steps it (items (w.events ++ e ∷ [])) u
+      read = subst (λ ys. Yields steps it ys u) (items-more w.events e yielded item w.read i)
+          (Yields-more steps it yielded t item u y p)
+
+      deep : IsFull told.open_image (event_view e) → IsTooDeep (map event_view (w.events ++ e ∷ []))
+      deep full =
+          let before = reverse (map event_view w.events) in
+          let full' = subst (λ p. IsFull p.open_image (event_view e)) w.tells full in
+          subst (λ b. IsSomeAnd (image_before b) (λ i. 2 ^ 64 ≤ i.starts))
+          (sym (past-more w.events e)) (full_deep (image_before before) (event_view e) full')
+
+      by_fault : (fault : Fault) → MayRefuse told (event_view e) fault
+          → IsOwnFault steps it old out fault
+      by_fault Memory m = record {
+        events = w.events
+            ++ e ∷ [];
+        left = u;
+        read = read;
+        stands = front-event e w h f;
+      }
+      by_fault Depth m = record {
+        events = w.events
+            ++ e ∷ [];
+        left = u;
+        read = read;
+        stands = front-event e w h f;
+        deep = deep m;
+      }
+      by_fault Blocks m = absurd m
+
+  -- memory ran out at the end
+  pub IsOwnFault-end : (it t : S) {told : Past} {old new out : List ℕ} {yielded : List
+      (Result Event Fault)} (fault : Fault)
+      → Yields steps it yielded t → Wrote told old new yielded → fault ≡ Memory
+      → AppendsFront new out (closing told.open_image) → IsOwnFault steps it old out fault
+  IsOwnFault-end it t {told} {old} {new} {out} {yielded} fault y w m f =
+      subst (IsOwnFault steps it old out) (sym m)
+      (record {
+        events = w.events;
+        left = t;
+        read = subst (λ ys. Yields steps it ys t) w.read y;
+        stands = front-closing w f;
+      })
+
+  -- all events were written
+  pub IsRendered-from : (it t u : S) {told : Past} {old new out : List ℕ} {yielded : List
+      (Result Event Fault)}
+      → Yields steps it yielded t → steps t None u → Wrote told old new yielded
+      → out ≡ new ++ closing told.open_image → IsRendered steps it old out
+  IsRendered-from it t u {told} {old} {new} {out} {yielded} y p w e =
+      let before = reverse (map event_view w.events) in
+      record {
+        events = w.events;
+        read = (u, (t, subst (λ ys. Yields steps it ys t) w.read y, p));
+        stands = e ∙ (ap (λ x. x ++ closing told.open_image) w.stands
+            ∙ (ap (λ (p : Past). (old ++ bytes_before before) ++ closing p.open_image) w.tells
+            ∙ append_assoc old (bytes_before before) (closing (image_before before))));
+      }

@@ -1,0 +1,59 @@
+use Rattle.std.proofs.Common.{◌≡◌, ◌++◌, ◌<◌, ◌+◌, ◌∷◌, [], length, arith}
+use Rattle.std.proofs.Common.{ap, ◌∙◌, get_or}
+use Rattle.std.specs.String.{string_bytes}
+use Rattle.std.proofs.lemmas.Result.{err_from_is_err_and}
+use Rattle.markdown_out.specs.Escapes.{destination_byte}
+use Rattle.markdown_out.proofs.EscapesLemmas.{Copied-keep, Copied-write, Cuts-none, Cuts-keep}
+use Rattle.markdown_out.proofs.EscapesLemmas.{front-waiting, front-written, slice}
+use Rattle.markdown_out.proofs.escape.push_destination.Goals as goal
+use Rattle.markdown_out.proofs.escape.push_destination.Goals.{
+  in-Some+in_ok-push_str+in_ok-push_str-2,
+}
+use Rattle.markdown_out.proofs.escape.push_destination.Goals.{in_default}
+
+pub returns-in_err-push_str-clause-err : goal.returns-in_err-push_str-clause-err
+returns-in_err-push_str-clause-err c =
+    let p = err_from_is_err_and c.from_residual.result c.from_residual.ensures.1 in
+    rw p.1 (front-waiting destination_byte _ _ _ _ _ _ c.in_err-push_str.ensures.bytes
+    c.loop-i.invariant.copied)
+
+pub returns-in_err-push_str-2-clause-err : goal.returns-in_err-push_str-2-clause-err
+returns-in_err-push_str-2-clause-err c =
+    let p = err_from_is_err_and c.from_residual-in_err-push_str-2.result
+    c.from_residual-in_err-push_str-2.ensures.1 in
+    rw p.1 (front-written destination_byte _ _ _ _ _ _ (c.in_err-push_str-2.ensures.bytes
+    ∙ (c.in_ok-push_str.ensures.bytes ∙ ap (λ x. string_bytes c.loop-i.out
+    ++ x) c.between.ensures)) c.loop-i.invariant.copied)
+
+pub loop-i-preserved : goal.loop-i-preserved
+loop-i-preserved c =
+    let a = c.as_bytes-bytes.ensures.value in
+    let url = c.args.destination.now in
+    let here : c.loop-i.i < length c.args.destination.now = rw a at c.loop-i-test.true in
+    elim c.match-destination_replacement.branch [
+      | in-Some+in_ok-push_str+in_ok-push_str-2 w ↦
+          let r : w.in-Some.replacement.now ≡ destination_byte
+          (get_or c.args.destination.now c.loop-i.i 0) = rw a at w.in-Some.ensures in
+          rw (w.from-is, w.out-is) (record {
+            order = omega arith;
+            cuts = Cuts-none url (c.loop-i.i + 1);
+            copied = Copied-write destination_byte _ _ _ _ _ _ here
+                (w.in_ok-push_str-2.ensures.bytes
+                ∙ (ap (λ x. x ++ w.in-Some.replacement.now) (w.in_ok-push_str.ensures.bytes
+                ∙ ap (λ x. string_bytes c.loop-i.out ++ x) w.between.ensures)
+                ∙ ap (λ x. (string_bytes c.loop-i.out
+                ++ slice c.loop-i.from c.loop-i.i c.args.destination.now)
+                ++ x) r)) c.loop-i.invariant.copied;
+          })
+      | in_default w ↦
+          let r : (destination_byte (get_or c.args.destination.now c.loop-i.i 0) ≡ get_or
+          c.args.destination.now c.loop-i.i 0 ∷ []) × (get_or c.args.destination.now c.loop-i.i
+          0 < 128) = rw a at w.in_default.ensures in
+          rw (w.from-is, w.out-is) (record {
+            order = omega arith;
+            cuts = Cuts-keep url c.loop-i.from c.loop-i.i c.utf8.destination
+                c.loop-i.invariant.order here r.1 c.loop-i.invariant.cuts;
+            copied = Copied-keep destination_byte _ _ _ _ _ c.loop-i.invariant.order here r.0
+                c.loop-i.invariant.copied;
+          })
+    ]

@@ -1,0 +1,9 @@
+-- The items so far are events, and their bytes stand behind the old text.
+use Rattle.std.specs.String.{string_bytes}
+use Rattle.markdown_out.specs.Writer.{view}
+use Rattle.markdown_out.proofs.HtmlCorrectLemmas.{Wrote}
+use Rattle.markdown_out.proofs.html.push.push_html.Given as goal
+
+abbrev pub invariant-loop-item : goal.invariant-loop-item
+invariant-loop-item g l = Wrote (view l.writer) (string_bytes l.initial.s) (string_bytes l.s)
+    l.yielded

@@ -1,0 +1,113 @@
+-- The HTML of a list of events: the bytes of each event by what the events before it tell, and
+-- these
+-- one after another.
+use Rattle.std.specs.Prelude.{ℕ, zero, suc, Bool, true, false, List, [], ◌∷◌, ◌++◌, codes}
+use Rattle.std.specs.Prelude.{if◌then◌else◌, reverse, Option, Some, None}
+use Rattle.markdown_base.specs.Event.{EventView, start, end, text, code, inline_math, display_math}
+use Rattle.markdown_base.specs.Event.{html, inline_html, footnote_reference, soft_break, hard_break}
+use Rattle.markdown_base.specs.Event.{rule, task_list_marker}
+use Rattle.markdown_out.specs.AltText.{alt_parts}
+use Rattle.markdown_out.specs.ByteLists.{joined, ends_line}
+use Rattle.markdown_out.specs.Escapes.{text_escaped, attribute_escaped}
+use Rattle.markdown_out.specs.LookBacks.{Past, OpenImageView, footnote_number, image_before}
+use Rattle.markdown_out.specs.LookBacks.{metadata_before, head_before, column_before}
+use Rattle.markdown_out.specs.LookBacks.{alignments_before, names_before}
+use Rattle.markdown_out.specs.TagHtml.{new_line, start_parts, end_parts, image_end}
+
+-- a footnote's reference, by its name and its number
+abbrev pub reference_parts : List ℕ → List ℕ → List (List ℕ)
+reference_parts name number =
+    codes "<sup class=\"footnote-reference\"><a href=\"#" ∷ attribute_escaped name
+    ∷ codes "\">" ∷ number ∷ codes "</a></sup>" ∷ []
+
+-- what an event writes outside images
+abbrev pub outside_parts : Past → EventView → List (List ℕ)
+outside_parts past (start tag) = start_parts past tag
+outside_parts past (end tag) = end_parts past tag
+outside_parts past (text t) = if past.in_metadata then [] else text_escaped t ∷ []
+outside_parts past (code t) = codes "<code>" ∷ text_escaped t ∷ codes "</code>" ∷ []
+outside_parts past (inline_math t) =
+    codes "<span class=\"math math-inline\">" ∷ attribute_escaped t ∷ codes "</span>" ∷ []
+outside_parts past (display_math t) =
+    codes "<span class=\"math math-display\">" ∷ attribute_escaped t ∷ codes "</span>" ∷ []
+outside_parts past (html t) = t ∷ []
+outside_parts past (inline_html t) = t ∷ []
+outside_parts past (footnote_reference name) = reference_parts name (footnote_number past name)
+outside_parts past soft_break = codes "\n" ∷ []
+outside_parts past hard_break = codes "<br />\n" ∷ []
+outside_parts past rule = new_line past.fresh ∷ codes "<hr />\n" ∷ []
+outside_parts past (task_list_marker true) =
+    codes "<input disabled=\"\" type=\"checkbox\" checked=\"\"/>\n" ∷ []
+outside_parts past (task_list_marker false) =
+    codes "<input disabled=\"\" type=\"checkbox\"/>\n" ∷ []
+
+-- what an event writes inside an image: its part of the alt text; the End that matches the image's
+-- Start closes it
+abbrev pub inside_bytes : Past → ℕ → List ℕ → EventView → List ℕ
+inside_bytes past starts title (start tag) = []
+inside_bytes past zero title (end tag) = image_end title
+inside_bytes past (suc starts) title (end tag) = []
+inside_bytes past starts title e = joined (alt_parts past e)
+
+-- the bytes of an event, inside an image or outside
+abbrev pub bytes_by_image : Option OpenImageView → Past → EventView → List ℕ
+bytes_by_image None past e = joined (outside_parts past e)
+bytes_by_image (Some i) past e = inside_bytes past i.starts i.title e
+
+-- the bytes of an event
+abbrev pub event_bytes : Past → EventView → List ℕ
+event_bytes past e = bytes_by_image past.open_image past e
+
+-- whether a line begins after an empty Text
+abbrev pub fresh_after_empty : Option OpenImageView → Past → Bool
+fresh_after_empty None past = if past.in_metadata then past.fresh else false
+fresh_after_empty (Some i) past = past.fresh
+
+-- whether a line begins after an event: where the last byte written is a newline, but not after an
+-- empty Text outside metadata and images
+abbrev pub fresh_after : Past → EventView → Bool
+fresh_after past (text []) = fresh_after_empty past.open_image past
+fresh_after past e = ends_line past.fresh (event_bytes past e)
+
+-- whether a line begins after these events
+abbrev pub fresh_before : List EventView → Bool
+fresh_before [] = true
+fresh_before (e ∷ before) = fresh_after (record {
+  fresh = fresh_before before;
+  in_metadata = metadata_before before;
+  in_head = head_before before;
+  column = column_before before;
+  alignments = alignments_before before;
+  names = names_before before;
+  open_image = image_before before;
+}) e
+
+-- what these events tell
+abbrev pub past_of : List EventView → Past
+past_of before = record {
+  fresh = fresh_before before;
+  in_metadata = metadata_before before;
+  in_head = head_before before;
+  column = column_before before;
+  alignments = alignments_before before;
+  names = names_before before;
+  open_image = image_before before;
+}
+
+-- the bytes of these events
+abbrev pub bytes_before : List EventView → List ℕ
+bytes_before [] = []
+bytes_before (e ∷ before) = bytes_before before ++ event_bytes (past_of before) e
+
+-- what closes an image that is open
+abbrev pub closing : Option OpenImageView → List ℕ
+closing None = []
+closing (Some i) = image_end i.title
+
+-- the HTML of a list of events, without the closing bytes of an image whose End is not in it
+abbrev pub open_html : List EventView → List ℕ
+open_html events = bytes_before (reverse events)
+
+-- the HTML of a list of events
+abbrev pub html_of : List EventView → List ℕ
+html_of events = open_html events ++ closing (image_before (reverse events))

@@ -1,0 +1,52 @@
+-- What `push_html` read of an iterator and what it left in the string: at its end, at an error
+-- among
+-- the items, and at a fault of its own.
+use Rattle.std.specs.Prelude.{◌≡◌, ℕ, List, [], ◌∷◌, ◌++◌, map, Ok, Err, Result, Option}
+use Rattle.std.specs.Iterator.{Yields, Drains}
+use Rattle.markdown_base.specs.Event.{event_view}
+use Rattle.markdown_base.specs.declared.event.Event.{Event}
+use Rattle.markdown_base.specs.declared.fault.Fault.{Fault}
+use Rattle.markdown_base.specs.declared.fault.Fault.TheVariants.{Memory, Blocks, Depth}
+use Rattle.markdown_out.specs.ByteLists.{AppendsFront}
+use Rattle.markdown_out.specs.EventHtml.{html_of, open_html}
+use Rattle.markdown_out.specs.LookBacks.{IsTooDeep}
+
+-- events, as items of an iterator
+abbrev pub items : List Event → List (Result Event Fault)
+items events = map (λ e. Ok e) events
+
+module _ {S : Type 0} (steps : S → Option (Result Event Fault) → S → Type 0)
+    (it : S) (old new : List ℕ) where
+  -- these are all events up to the first None, and their HTML stands behind the old text
+  pub record IsRendered : Type 0 where
+    pub events : List Event
+    pub read : Drains steps it (items events)
+    pub stands : new ≡ old ++ html_of (map event_view events)
+
+  -- the item after these events is this error, and their open HTML stands behind the old text
+  pub record StopsAtError (fault : Fault) : Type 0 where
+    pub events : List Event
+    pub left : S
+    pub read : Yields steps it (items events ++ Err fault ∷ []) left
+    pub stands : new ≡ old ++ open_html (map event_view events)
+
+  -- these events were read, and a front of their HTML stands behind the old text
+  pub record IsCutShort : Type 0 where
+    pub events : List Event
+    pub left : S
+    pub read : Yields steps it (items events) left
+    pub stands : AppendsFront old new (html_of (map event_view events))
+
+  -- the same, and more Starts are open in an image than can be counted
+  pub record GoesTooDeep : Type 0 where
+    pub events : List Event
+    pub left : S
+    pub read : Yields steps it (items events) left
+    pub stands : AppendsFront old new (html_of (map event_view events))
+    pub deep : IsTooDeep (map event_view events)
+
+  -- a fault of the call's own
+  abbrev pub IsOwnFault : Fault → Type 0
+  IsOwnFault Memory = IsCutShort
+  IsOwnFault Depth = GoesTooDeep
+  IsOwnFault Blocks = ⊥

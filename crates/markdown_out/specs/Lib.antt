@@ -1,0 +1,14 @@
+-- What the HTML of events is, and what `push_html` leaves.
+pub mod Escapes
+pub mod LookBacks
+pub mod AltText
+pub mod TagHtml
+pub mod EventHtml
+pub mod HtmlCorrect
+pub mod ByteLists
+-- For private clauses.
+pub mod Escaped
+pub mod Writer
+-- Words of other crates that the clauses stand on.
+pub use Rattle.markdown_base.specs.Event
+pub use Rattle.percent_encoding.specs.Percent

@@ -1,0 +1,198 @@
+-- The HTML of tags: what the Start and the End of a block or of inline markup write outside images,
+-- in
+-- parts, as `joined` puts them together.
+use Rattle.std.specs.Prelude.{ℕ, Bool, true, false, List, [], ◌∷◌, ◌++◌, ◌==◌, codes}
+use Rattle.std.specs.Prelude.{if◌then◌else◌, slice_get, Option, Some, None}
+use Rattle.std.specs.Option.{option_map_or}
+use Rattle.std.specs.List.{flat_map, before_first}
+use Rattle.std.specs.Fmt.{decimal}
+use Rattle.markdown_base.specs.Event.{TagView, HeadingView, paragraph, heading, block_quote}
+use Rattle.markdown_base.specs.Event.{indented_code, fenced_code, html_block, list, list_item}
+use Rattle.markdown_base.specs.Event.{footnote_definition, definition_list, definition_list_title}
+use Rattle.markdown_base.specs.Event.{definition_list_definition, table, table_head, table_row}
+use Rattle.markdown_base.specs.Event.{table_cell, emphasis, strong, strikethrough, superscript}
+use Rattle.markdown_base.specs.Event.{subscript, link, image, metadata_block}
+use Rattle.markdown_base.specs.declared.tag.Alignment.{Alignment}
+use Rattle.markdown_base.specs.declared.tag.Alignment.TheVariants as align
+use Rattle.markdown_base.specs.declared.tag.BlockQuoteKind.{BlockQuoteKind}
+use Rattle.markdown_base.specs.declared.tag.BlockQuoteKind.TheVariants as quote
+use Rattle.markdown_base.specs.declared.tag.HeadingLevel.{HeadingLevel}
+use Rattle.markdown_base.specs.declared.tag.HeadingLevel.TheVariants as level
+use Rattle.markdown_base.specs.declared.tag.LinkType.{LinkType}
+use Rattle.markdown_base.specs.declared.tag.LinkType.TheVariants as written
+use Rattle.markdown_base.specs.declared.tag.TagEnd.{TagEnd}
+use Rattle.markdown_base.specs.declared.tag.TagEnd.TheVariants as closes
+use Rattle.markdown_out.specs.ByteLists.{joined}
+use Rattle.markdown_out.specs.Escapes.{attribute_escaped, destination_escaped}
+use Rattle.markdown_out.specs.LookBacks.{Past, footnote_number}
+
+-- a newline where the line is not fresh
+abbrev pub new_line : Bool → List ℕ
+new_line fresh = if fresh then [] else codes "\n"
+
+-- the digit of a heading's level
+abbrev pub level_digit : HeadingLevel → List ℕ
+level_digit level.H1 = codes "1"
+level_digit level.H2 = codes "2"
+level_digit level.H3 = codes "3"
+level_digit level.H4 = codes "4"
+level_digit level.H5 = codes "5"
+level_digit level.H6 = codes "6"
+
+-- an attribute in a tag, from the blank before it on
+abbrev pub attribute : List ℕ → List ℕ → List ℕ
+attribute lead value = joined (lead ∷ attribute_escaped value ∷ codes "\"" ∷ [])
+
+-- a heading's id
+abbrev pub id_attribute : Option (List ℕ) → List ℕ
+id_attribute None = []
+id_attribute (Some id) = attribute (codes " id=\"") id
+
+-- a class behind another
+abbrev pub further_class : List ℕ → List ℕ
+further_class class = codes " " ++ attribute_escaped class
+
+-- a heading's classes
+abbrev pub class_attribute : List (List ℕ) → List ℕ
+class_attribute [] = []
+class_attribute (first ∷ others) =
+    joined (codes " class=\"" ∷ attribute_escaped first
+    ∷ flat_map further_class others ∷ codes "\"" ∷ [])
+
+-- another attribute of a heading; one without a value has an empty one
+abbrev pub other_attribute : List ℕ × Option (List ℕ) → List ℕ
+other_attribute a = joined (codes " " ∷ attribute_escaped a.0 ∷ codes "=\""
+    ∷ option_map_or attribute_escaped a.1 [] ∷ codes "\"" ∷ [])
+
+-- a heading's Start
+abbrev pub heading_parts : Bool → HeadingView → List (List ℕ)
+heading_parts fresh h = new_line fresh ∷ codes "<h" ∷ level_digit h.level ∷ id_attribute h.id
+    ∷ class_attribute h.classes ∷ flat_map other_attribute h.attributes ∷ codes ">" ∷ []
+
+-- the class of a block quote
+abbrev pub quote_class : Option BlockQuoteKind → List ℕ
+quote_class None = []
+quote_class (Some quote.Note) = codes " class=\"markdown-alert-note\""
+quote_class (Some quote.Tip) = codes " class=\"markdown-alert-tip\""
+quote_class (Some quote.Important) = codes " class=\"markdown-alert-important\""
+quote_class (Some quote.Warning) = codes " class=\"markdown-alert-warning\""
+quote_class (Some quote.Caution) = codes " class=\"markdown-alert-caution\""
+
+-- the language that an info string names: what stands before its first space (32)
+abbrev pub language : List ℕ → List ℕ
+language info = before_first (λ b. b == 32) info
+
+-- a code block's Start, by its language
+abbrev pub code_block_parts : Bool → List ℕ → List (List ℕ)
+code_block_parts fresh [] = new_line fresh ∷ codes "<pre><code>" ∷ []
+code_block_parts fresh (b ∷ name) = new_line fresh ∷ codes "<pre><code class=\"language-"
+    ∷ attribute_escaped (b ∷ name) ∷ codes "\">" ∷ []
+
+-- the Start of a list that begins with another number than 1
+abbrev pub numbered_list_parts : Bool → List ℕ → List (List ℕ)
+numbered_list_parts fresh number =
+    new_line fresh ∷ codes "<ol start=\"" ∷ number ∷ codes "\">\n" ∷ []
+
+-- a list's Start, by its first number
+abbrev pub list_parts : Bool → Option ℕ → List (List ℕ)
+list_parts fresh None = new_line fresh ∷ codes "<ul>\n" ∷ []
+list_parts fresh (Some first) =
+    if first == 1 then new_line fresh ∷ codes "<ol>\n" ∷ []
+    else numbered_list_parts fresh (decimal first)
+
+-- how a cell is aligned, to the end of its tag
+abbrev pub cell_style : Option Alignment → List ℕ
+cell_style None = codes ">"
+cell_style (Some align.None) = codes ">"
+cell_style (Some align.Left) = codes " style=\"text-align: left\">"
+cell_style (Some align.Center) = codes " style=\"text-align: center\">"
+cell_style (Some align.Right) = codes " style=\"text-align: right\">"
+
+-- what stands before a link's destination
+abbrev pub link_scheme : LinkType → List ℕ
+link_scheme written.Email = codes "mailto:"
+link_scheme kind = []
+
+-- the title of a link or an image, where it is not empty
+abbrev pub title_parts : List ℕ → List (List ℕ)
+title_parts [] = []
+title_parts (b ∷ title) = codes " title=\"" ∷ attribute_escaped (b ∷ title) ∷ codes "\"" ∷ []
+
+-- a link's Start
+abbrev pub link_parts : LinkType → List ℕ → List ℕ → List (List ℕ)
+link_parts kind destination title =
+    (codes "<a href=\"" ∷ link_scheme kind ∷ destination_escaped destination ∷ codes "\"" ∷ [])
+    ++ (title_parts title ++ codes ">" ∷ [])
+
+-- an image's Start, up to its alt text
+abbrev pub image_parts : List ℕ → List (List ℕ)
+image_parts destination =
+    codes "<img src=\"" ∷ destination_escaped destination ∷ codes "\" alt=\"" ∷ []
+
+-- what closes an image
+abbrev pub image_end : List ℕ → List ℕ
+image_end title = joined (codes "\"" ∷ (title_parts title ++ codes " />" ∷ []))
+
+-- a footnote's Start, by its name and its number
+abbrev pub definition_parts : Bool → List ℕ → List ℕ → List (List ℕ)
+definition_parts fresh name number =
+    new_line fresh ∷ codes "<div class=\"footnote-definition\" id=\"" ∷ attribute_escaped name
+    ∷ codes "\"><sup class=\"footnote-definition-label\">" ∷ number ∷ codes "</sup>" ∷ []
+
+-- what a Start writes outside images
+abbrev pub start_parts : Past → TagView → List (List ℕ)
+start_parts past paragraph = new_line past.fresh ∷ codes "<p>" ∷ []
+start_parts past (heading h) = heading_parts past.fresh h
+start_parts past (block_quote kind) =
+    new_line past.fresh ∷ codes "<blockquote" ∷ quote_class kind ∷ codes ">\n" ∷ []
+start_parts past indented_code = code_block_parts past.fresh []
+start_parts past (fenced_code info) = code_block_parts past.fresh (language info)
+start_parts past html_block = []
+start_parts past (list first) = list_parts past.fresh first
+start_parts past list_item = new_line past.fresh ∷ codes "<li>" ∷ []
+start_parts past (footnote_definition name) =
+    definition_parts past.fresh name (footnote_number past name)
+start_parts past definition_list = new_line past.fresh ∷ codes "<dl>\n" ∷ []
+start_parts past definition_list_title = new_line past.fresh ∷ codes "<dt>" ∷ []
+start_parts past definition_list_definition = new_line past.fresh ∷ codes "<dd>" ∷ []
+start_parts past (table alignments) = codes "<table>" ∷ []
+start_parts past table_head = codes "<thead><tr>" ∷ []
+start_parts past table_row = codes "<tr>" ∷ []
+start_parts past table_cell =
+    (if past.in_head then codes "<th" else codes "<td")
+    ∷ cell_style (slice_get past.alignments past.column) ∷ []
+start_parts past emphasis = codes "<em>" ∷ []
+start_parts past strong = codes "<strong>" ∷ []
+start_parts past strikethrough = codes "<del>" ∷ []
+start_parts past superscript = codes "<sup>" ∷ []
+start_parts past subscript = codes "<sub>" ∷ []
+start_parts past (link l) = link_parts l.kind l.destination l.title
+start_parts past (image i) = image_parts i.destination
+start_parts past (metadata_block kind) = []
+
+-- what an End writes outside images
+abbrev pub end_parts : Past → TagEnd → List (List ℕ)
+end_parts past closes.Paragraph = codes "</p>\n" ∷ []
+end_parts past (closes.Heading level) = codes "</h" ∷ level_digit level ∷ codes ">\n" ∷ []
+end_parts past (closes.BlockQuote kind) = codes "</blockquote>\n" ∷ []
+end_parts past closes.CodeBlock = codes "</code></pre>\n" ∷ []
+end_parts past closes.HtmlBlock = []
+end_parts past (closes.List true) = codes "</ol>\n" ∷ []
+end_parts past (closes.List false) = codes "</ul>\n" ∷ []
+end_parts past closes.Item = codes "</li>\n" ∷ []
+end_parts past closes.FootnoteDefinition = codes "</div>\n" ∷ []
+end_parts past closes.DefinitionList = codes "</dl>\n" ∷ []
+end_parts past closes.DefinitionListTitle = codes "</dt>\n" ∷ []
+end_parts past closes.DefinitionListDefinition = codes "</dd>\n" ∷ []
+end_parts past closes.Table = codes "</tbody></table>\n" ∷ []
+end_parts past closes.TableHead = codes "</tr></thead><tbody>\n" ∷ []
+end_parts past closes.TableRow = codes "</tr>\n" ∷ []
+end_parts past closes.TableCell = (if past.in_head then codes "</th>" else codes "</td>") ∷ []
+end_parts past closes.Emphasis = codes "</em>" ∷ []
+end_parts past closes.Strong = codes "</strong>" ∷ []
+end_parts past closes.Strikethrough = codes "</del>" ∷ []
+end_parts past closes.Superscript = codes "</sup>" ∷ []
+end_parts past closes.Subscript = codes "</sub>" ∷ []
+end_parts past closes.Link = codes "</a>" ∷ []
+end_parts past closes.Image = []
+end_parts past (closes.MetadataBlock kind) = []

@@ -1,0 +1,109 @@
+-- What the writer of HTML holds, as its own calls speak of it. Only private clauses cite this.
+use Rattle.std.specs.Prelude.{◌≤◌, ℕ, ◌+◌, ◌-◌, ◌^◌, List, Option, Some}
+use Rattle.std.specs.Prelude.{map, min}
+use Rattle.std.specs.Option.{option_map}
+use Rattle.markdown_base.specs.CowText.{text_of}
+use Rattle.markdown_base.specs.Event.{EventView, HeadingView, start, end, table_head, table_row}
+use Rattle.markdown_base.specs.Event.{attribute_view, footnote_reference}
+use Rattle.markdown_base.specs.declared.cow_str.CowStr.{CowStr}
+use Rattle.markdown_base.specs.declared.tag.HeadingLevel.{HeadingLevel}
+use Rattle.markdown_base.specs.declared.fault.Fault.{Fault}
+use Rattle.markdown_base.specs.declared.fault.Fault.TheVariants.{Memory, Blocks, Depth}
+use Rattle.markdown_base.specs.declared.tag.TagEnd.TheVariants as closes
+use Rattle.markdown_out.specs.AltText.{alt_parts}
+use Rattle.markdown_out.specs.ByteLists.{joined, ends_line}
+use Rattle.markdown_out.specs.Escapes.{text_escaped, attribute_escaped, destination_escaped}
+use Rattle.markdown_out.specs.EventHtml.{fresh_after}
+use Rattle.markdown_out.specs.LookBacks.{Past, OpenImageView, unless_inside, metadata_after}
+use Rattle.markdown_out.specs.LookBacks.{head_after, alignments_after, names_after, image_after}
+use Rattle.markdown_out.specs.LookBacks.{with_name}
+use Rattle.markdown_out.specs.declared.html.OpenImage.{OpenImage}
+use Rattle.markdown_out.specs.declared.html.Piece.{Piece}
+use Rattle.markdown_out.specs.declared.html.Piece.TheVariants as piece
+use Rattle.markdown_out.specs.declared.html.Writer.{Writer}
+
+-- the bytes of a piece
+abbrev pub piece_bytes : Piece → List ℕ
+piece_bytes (piece.Raw s) = s.now
+piece_bytes (piece.Text s) = text_escaped s.now
+piece_bytes (piece.Attribute s) = attribute_escaped s.now
+piece_bytes (piece.Destination s) = destination_escaped s.now
+
+-- the bytes of pieces, one after another
+abbrev pub spelled : List Piece → List ℕ
+spelled pieces = joined (map piece_bytes pieces)
+
+-- the image that is open
+abbrev pub image_view : OpenImage → OpenImageView
+image_view i = record { starts = i.starts; title = text_of i.title }
+
+-- what the writer remembers of the events so far
+abbrev pub view : Writer → Past
+view w = record {
+  fresh = w.fresh;
+  in_metadata = w.in_metadata;
+  in_head = w.in_head;
+  column = w.column;
+  alignments = w.alignments.items;
+  names = map text_of w.names.keys;
+  open_image = option_map image_view w.image;
+}
+
+-- what the writer remembers, with this image open
+abbrev pub view_in : Writer → OpenImage → Past
+view_in w i = record (view w) { open_image = Some (image_view i) }
+
+-- the writer after these bytes were appended
+abbrev pub after_bytes : Writer → List ℕ → Writer
+after_bytes w bytes = record w { fresh = ends_line w.fresh bytes }
+
+-- the writer, with this image open
+abbrev pub with_image : Writer → OpenImage → Writer
+with_image w i = record w { image = Some i }
+
+-- a column as the writer counts it: it stops at the highest number
+abbrev pub counted_after : ℕ → EventView → ℕ
+counted_after column (start table_head) = 0
+counted_after column (start table_row) = 0
+counted_after column (end closes.TableCell) = min (column + 1) (2 ^ 64 - 1)
+counted_after column e = column
+
+-- what the writer remembers after one more event
+abbrev pub view_after : Past → EventView → Past
+view_after past e = record {
+  fresh = fresh_after past e;
+  in_metadata = unless_inside metadata_after past.open_image past.in_metadata e;
+  in_head = unless_inside head_after past.open_image past.in_head e;
+  column = unless_inside counted_after past.open_image past.column e;
+  alignments = unless_inside alignments_after past.open_image past.alignments e;
+  names = names_after past.open_image past.names e;
+  open_image = image_after past.open_image e;
+}
+
+-- what the writer remembers after a footnote's reference in an image
+abbrev pub after_alt_reference : Past → List ℕ → Past
+after_alt_reference past name = record past {
+  fresh = ends_line past.fresh (joined (alt_parts past (footnote_reference name)));
+  names = with_name name past.names;
+}
+
+-- more Starts than can be counted would be open in the image
+abbrev pub IsFull : Option OpenImageView → EventView → Type 0
+IsFull (Some i) (start tag) = 2 ^ 64 ≤ i.starts + 1
+IsFull within e = ⊥
+
+-- why the writer may refuse an event
+abbrev pub MayRefuse : Past → EventView → Fault → Type 0
+MayRefuse past e Memory = Unit {0}
+MayRefuse past e Depth = IsFull past.open_image e
+MayRefuse past e Blocks = ⊥
+
+-- a heading, from what its Start holds
+abbrev pub heading_view : HeadingLevel
+    → Option CowStr → List CowStr → List (CowStr × Option CowStr) → HeadingView
+heading_view level id classes attributes = record {
+  level = level;
+  id = option_map text_of id;
+  classes = map text_of classes;
+  attributes = map attribute_view attributes;
+}

@@ -1,0 +1,103 @@
+//! The escapes of HTML. Each copies the longest slices that need none.
+ghost use Rattle.std.specs.Prelude.{◌≡◌, ◌++◌, ◌<◌, ◌≤◌, ◌-◌, OnOk, OnErr, MatchOption, [], ◌∷◌};
+ghost use Rattle.std.specs.Prelude.{take, drop, length};
+ghost use Rattle.std.specs.List.{flat_map};
+ghost use Rattle.std.specs.Str.{IsCharBoundary};
+ghost use Rattle.std.specs.String.{string_bytes};
+ghost use Rattle.markdown_out.specs.ByteLists.{Appends, AppendsPart};
+ghost use Rattle.markdown_out.specs.Escaped.{escaped_byte};
+ghost use Rattle.markdown_out.specs.Escapes.{destination_byte, destination_escaped, is_kept_byte};
+
+use percent_encoding::percent_encode_byte;
+use std::alloc::AllocError;
+
+/// Where a text stands, which decides the bytes that are replaced.
+#[derive(Clone, Copy, Drop)]
+pub(crate) enum Escape {
+    /// Between tags.
+    Text,
+    /// Between the quotes of an attribute.
+    Attribute,
+}
+
+/// What stands for a byte, where it is not the byte itself.
+fn replacement(escape: Escape, byte: u8) -> Option<&'static str>
+    ensures { MatchOption result (escaped_byte escape byte ≡ byte ∷ [])
+        (λ by. (by.now ≡ escaped_byte escape byte) × (byte < 128)) }
+{
+    match (byte, escape) {
+        (b'&', _) => Some("&amp;"),
+        (b'<', _) => Some("&lt;"),
+        (b'>', _) => Some("&gt;"),
+        (b'"', Escape::Attribute) => Some("&quot;"),
+        _ => None,
+    }
+}
+
+/// Appends a text, escaped. Where memory runs out, a front of it was appended.
+pub(crate) fn push_escaped(out: &mut String, escape: Escape, text: &str) -> Result<(), AllocError>
+    ensures ok { OnOk result (Appends out.old out.new (flat_map (escaped_byte escape) text.now)) }
+    ensures err { OnErr result (AppendsPart out.old out.new (flat_map (escaped_byte escape)
+        text.now)) }
+{
+    let bytes = text.as_bytes();
+    let mut from = 0;
+    for (i, byte) in bytes.iter().enumerate() {
+        if let Some(replacement) = replacement(escape, *byte) {
+            out.push_str(&text[from..i])?;
+            out.push_str(replacement)?;
+            from = i + 1;
+        }
+    }
+    out.push_str(&text[from..])?;
+    Ok(())
+}
+
+/// Whether a destination keeps the byte.
+fn is_kept(byte: u8) -> bool
+    ensures { result ≡ is_kept_byte byte }
+{
+    byte.is_ascii_alphanumeric() || b"!#$%()*+,-./:;=?@_~".contains(&byte)
+}
+
+/// What stands for a byte of a destination, where it is not the byte itself.
+fn destination_replacement(byte: u8) -> Option<&'static str>
+    ensures { MatchOption result ((destination_byte byte ≡ byte ∷ []) × (byte < 128))
+        (λ by. by.now ≡ destination_byte byte) }
+{
+    match byte {
+        b'&' => Some("&amp;"),
+        b'\'' => Some("&#x27;"),
+        _ if is_kept(byte) => None,
+        _ => Some(percent_encode_byte(byte)),
+    }
+}
+
+/// The text between two places, which are only looked at where there is any.
+fn between(text: &str, from: usize, to: usize) -> &str
+    requires order { from ≤ to }
+    requires within { to ≤ length text.now }
+    requires start { from < to → IsCharBoundary text.now from }
+    requires end { from < to → IsCharBoundary text.now to }
+    ensures { result.now ≡ take (to - from) (drop from text.now) }
+{
+    if from < to { &text[from..to] } else { "" }
+}
+
+/// Appends a link's destination, escaped. Where memory runs out, a front of it was appended.
+pub(crate) fn push_destination(out: &mut String, destination: &str) -> Result<(), AllocError>
+    ensures ok { OnOk result (Appends out.old out.new (destination_escaped destination.now)) }
+    ensures err { OnErr result (AppendsPart out.old out.new (destination_escaped destination.now)) }
+{
+    let bytes = destination.as_bytes();
+    let mut from = 0;
+    for (i, byte) in bytes.iter().enumerate() {
+        if let Some(replacement) = destination_replacement(*byte) {
+            out.push_str(between(destination, from, i))?;
+            out.push_str(replacement)?;
+            from = i + 1;
+        }
+    }
+    out.push_str(between(destination, from, bytes.len()))?;
+    Ok(())
+}

@@ -1,0 +1,197 @@
+//! The Starts of blocks: headings, block quotes, code blocks and lists.
+ghost use Rattle.std.specs.Prelude.{◌≡◌, ◌++◌, [], ◌∷◌, OnOk, OnErr, map, IfOk};
+ghost use Rattle.std.specs.String.{string_bytes};
+ghost use Rattle.markdown_base.specs.Event.{code_block_view, block_quote, list};
+ghost use Rattle.markdown_out.specs.ByteLists.{Appends, AppendsPart, ends_line, joined};
+ghost use Rattle.markdown_out.specs.TagHtml.{new_line, heading_parts, start_parts, quote_class};
+ghost use Rattle.markdown_out.specs.TagHtml.{language, code_block_parts, numbered_list_parts};
+
+use super::heading::put_heading;
+use super::pieces::{line_break, put};
+use super::{Piece, Writer};
+use markdown_base::cow_str::CowStr;
+use markdown_base::tag::{BlockQuoteKind, CodeBlockKind, HeadingLevel};
+use std::alloc::{AllocError, Global};
+
+/// The class of a block quote.
+fn class_of(kind: Option<BlockQuoteKind>) -> &'static str
+    ensures { result.now ≡ quote_class kind }
+{
+    match kind {
+        None => "",
+        Some(BlockQuoteKind::Note) => " class=\"markdown-alert-note\"",
+        Some(BlockQuoteKind::Tip) => " class=\"markdown-alert-tip\"",
+        Some(BlockQuoteKind::Important) => " class=\"markdown-alert-important\"",
+        Some(BlockQuoteKind::Warning) => " class=\"markdown-alert-warning\"",
+        Some(BlockQuoteKind::Caution) => " class=\"markdown-alert-caution\"",
+    }
+}
+
+/// The language that an info string names: what stands before its first space.
+fn language_of(info: &str) -> &str
+    ensures { result.now ≡ language info.now }
+{
+    match info.split_once(' ') {
+        Some((name, _)) => name,
+        None => info,
+    }
+}
+
+/// Appends a code block's Start.
+fn put_code_block(s: &mut String, fresh: &mut bool, name: &str) -> Result<(), AllocError>
+    ensures ok { OnOk result (Appends s.old s.new (joined (code_block_parts fresh.old name.now))) }
+    ensures fresh { OnOk result (fresh.new ≡ ends_line fresh.old
+        (joined (code_block_parts fresh.old name.now))) }
+    ensures err { OnErr result (AppendsPart s.old s.new
+        (joined (code_block_parts fresh.old name.now))) }
+{
+    let first = line_break(*fresh);
+    if name.is_empty() {
+        return put(s, fresh, &[Piece::Raw(first), Piece::Raw("<pre><code>")]);
+    }
+    put(
+        s,
+        fresh,
+        &[
+            Piece::Raw(first),
+            Piece::Raw("<pre><code class=\"language-"),
+            Piece::Attribute(name),
+            Piece::Raw("\">"),
+        ],
+    )
+}
+
+/// Appends the Start of a list that begins with another number than 1.
+fn put_numbered_list(s: &mut String, fresh: &mut bool, digits: &str) -> Result<(), AllocError>
+    ensures ok { OnOk result (Appends s.old s.new
+        (joined (numbered_list_parts fresh.old digits.now))) }
+    ensures fresh { OnOk result (fresh.new ≡ ends_line fresh.old
+        (joined (numbered_list_parts fresh.old digits.now))) }
+    ensures err { OnErr result (AppendsPart s.old s.new
+        (joined (numbered_list_parts fresh.old digits.now))) }
+{
+    let first = line_break(*fresh);
+    put(
+        s,
+        fresh,
+        &[
+            Piece::Raw(first),
+            Piece::Raw("<ol start=\""),
+            Piece::Raw(digits),
+            Piece::Raw("\">\n"),
+        ],
+    )
+}
+
+impl<'a> Writer<'a> {
+    ghost use Rattle.markdown_out.specs.Writer.{view, after_bytes, heading_view};
+
+    /// A heading.
+    pub(super) fn heading(
+        &mut self,
+        s: &mut String,
+        level: HeadingLevel,
+        id: Option<CowStr<'a>>,
+        classes: Vec<CowStr<'a>>,
+        attrs: Vec<(CowStr<'a>, Option<CowStr<'a>>)>,
+    ) -> Result<(), AllocError>
+        ensures ok { OnOk result (Appends s.old s.new (joined (heading_parts self.old.fresh
+            (heading_view level id.entry classes.entry.items attrs.entry.items)))) }
+        ensures state { OnOk result (self.new ≡ after_bytes self.old
+            (joined (heading_parts self.old.fresh (heading_view level id.entry classes.entry.items
+            attrs.entry.items)))) }
+        ensures err { OnErr result (AppendsPart s.old s.new (joined (heading_parts self.old.fresh
+            (heading_view level id.entry classes.entry.items attrs.entry.items)))) }
+    {
+        put_heading(
+            s,
+            &mut self.fresh,
+            level,
+            &id,
+            classes.as_slice(),
+            attrs.as_slice(),
+        )
+    }
+
+    /// A block quote.
+    pub(super) fn block_quote(
+        &mut self,
+        s: &mut String,
+        kind: Option<BlockQuoteKind>,
+    ) -> Result<(), AllocError>
+        ensures ok { OnOk result (Appends s.old s.new (joined (start_parts (view self.old)
+            (block_quote kind)))) }
+        ensures state { OnOk result (self.new ≡ after_bytes self.old
+            (joined (start_parts (view self.old) (block_quote kind)))) }
+        ensures err { OnErr result (AppendsPart s.old s.new (joined (start_parts (view self.old)
+            (block_quote kind)))) }
+    {
+        let first = line_break(self.fresh);
+        let class = class_of(kind);
+        put(
+            s,
+            &mut self.fresh,
+            &[
+                Piece::Raw(first),
+                Piece::Raw("<blockquote"),
+                Piece::Raw(class),
+                Piece::Raw(">\n"),
+            ],
+        )
+    }
+
+    /// A code block.
+    pub(super) fn code_block(
+        &mut self,
+        s: &mut String,
+        kind: CodeBlockKind<'a>,
+    ) -> Result<(), AllocError>
+        ensures ok { OnOk result (Appends s.old s.new (joined (start_parts (view self.old)
+            (code_block_view kind.entry)))) }
+        ensures state { OnOk result (self.new ≡ after_bytes self.old
+            (joined (start_parts (view self.old) (code_block_view kind.entry)))) }
+        ensures err { OnErr result (AppendsPart s.old s.new (joined (start_parts (view self.old)
+            (code_block_view kind.entry)))) }
+    {
+        match kind {
+            CodeBlockKind::Indented => put_code_block(s, &mut self.fresh, ""),
+            CodeBlockKind::Fenced(info) => {
+                let name = language_of(info.as_str());
+                put_code_block(s, &mut self.fresh, name)
+            }
+        }
+    }
+
+    /// A list.
+    pub(super) fn list(
+        &mut self,
+        alloc: Global,
+        s: &mut String,
+        first: Option<u64>,
+    ) -> Result<(), AllocError>
+        ensures ok { OnOk result (Appends s.old s.new (joined (start_parts (view self.old)
+            (list first)))) }
+        ensures state { OnOk result (self.new ≡ after_bytes self.old
+            (joined (start_parts (view self.old) (list first)))) }
+        ensures err { OnErr result (AppendsPart s.old s.new (joined (start_parts (view self.old)
+            (list first)))) }
+    {
+        let line = line_break(self.fresh);
+        let Some(number) = first else {
+            return put(
+                s,
+                &mut self.fresh,
+                &[Piece::Raw(line), Piece::Raw("<ul>\n")],
+            );
+        };
+        if number == 1 {
+            return put(
+                s,
+                &mut self.fresh,
+                &[Piece::Raw(line), Piece::Raw("<ol>\n")],
+            );
+        }
+        let digits = number.to_string(alloc)?;
+        put_numbered_list(s, &mut self.fresh, digits.as_str())
+    }
+}

@@ -1,0 +1,109 @@
+//! Links, and the Start and the end of an image.
+ghost use Rattle.std.specs.Prelude.{◌≡◌, ◌++◌, OnOk, OnErr};
+ghost use Rattle.std.specs.String.{string_bytes};
+ghost use Rattle.markdown_out.specs.ByteLists.{Appends, AppendsPart, ends_line, joined};
+ghost use Rattle.markdown_out.specs.TagHtml.{link_scheme, link_parts, image_parts, image_end};
+
+use super::Piece;
+use super::pieces::put;
+use markdown_base::tag::LinkType;
+use std::alloc::AllocError;
+
+/// What stands before a link's destination.
+fn scheme_of(kind: LinkType) -> &'static str
+    ensures { result.now ≡ link_scheme kind }
+{
+    match kind {
+        LinkType::Email => "mailto:",
+        _ => "",
+    }
+}
+
+/// Appends a link's Start.
+pub(super) fn put_link<'x>(
+    s: &mut String,
+    fresh: &mut bool,
+    kind: LinkType,
+    destination: &'x str,
+    title: &'x str,
+) -> Result<(), AllocError>
+    ensures ok { OnOk result (Appends s.old s.new
+        (joined (link_parts kind destination.now title.now))) }
+    ensures fresh { OnOk result (fresh.new ≡ ends_line fresh.old
+        (joined (link_parts kind destination.now title.now))) }
+    ensures err { OnErr result (AppendsPart s.old s.new
+        (joined (link_parts kind destination.now title.now))) }
+{
+    let scheme = scheme_of(kind);
+    if title.is_empty() {
+        return put(
+            s,
+            fresh,
+            &[
+                Piece::Raw("<a href=\""),
+                Piece::Raw(scheme),
+                Piece::Destination(destination),
+                Piece::Raw("\""),
+                Piece::Raw(">"),
+            ],
+        );
+    }
+    put(
+        s,
+        fresh,
+        &[
+            Piece::Raw("<a href=\""),
+            Piece::Raw(scheme),
+            Piece::Destination(destination),
+            Piece::Raw("\""),
+            Piece::Raw(" title=\""),
+            Piece::Attribute(title),
+            Piece::Raw("\""),
+            Piece::Raw(">"),
+        ],
+    )
+}
+
+/// Appends an image's Start, up to its alt text.
+pub(super) fn put_image(
+    s: &mut String,
+    fresh: &mut bool,
+    destination: &str,
+) -> Result<(), AllocError>
+    ensures ok { OnOk result (Appends s.old s.new (joined (image_parts destination.now))) }
+    ensures fresh { OnOk result (fresh.new ≡ ends_line fresh.old
+        (joined (image_parts destination.now))) }
+    ensures err { OnErr result (AppendsPart s.old s.new (joined (image_parts destination.now))) }
+{
+    put(
+        s,
+        fresh,
+        &[
+            Piece::Raw("<img src=\""),
+            Piece::Destination(destination),
+            Piece::Raw("\" alt=\""),
+        ],
+    )
+}
+
+/// Appends what closes an image.
+pub(super) fn put_image_end(s: &mut String, fresh: &mut bool, title: &str) -> Result<(), AllocError>
+    ensures ok { OnOk result (Appends s.old s.new (image_end title.now)) }
+    ensures fresh { OnOk result (fresh.new ≡ ends_line fresh.old (image_end title.now)) }
+    ensures err { OnErr result (AppendsPart s.old s.new (image_end title.now)) }
+{
+    if title.is_empty() {
+        return put(s, fresh, &[Piece::Raw("\""), Piece::Raw(" />")]);
+    }
+    put(
+        s,
+        fresh,
+        &[
+            Piece::Raw("\""),
+            Piece::Raw(" title=\""),
+            Piece::Attribute(title),
+            Piece::Raw("\""),
+            Piece::Raw(" />"),
+        ],
+    )
+}

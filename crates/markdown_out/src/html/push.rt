@@ -1,0 +1,98 @@
+//! The whole: events up to the first `None`, written one after another.
+ghost use Rattle.std.specs.Prelude.{◌≡◌, ◌⊎◌, ◌++◌, [], OnOk, IfErr};
+ghost use Rattle.std.specs.Iterator.{IsFinite};
+ghost use Rattle.std.specs.String.{string_bytes};
+ghost use Rattle.markdown_base.specs.Event.{event_view};
+ghost use Rattle.markdown_base.specs.declared.fault.Fault.TheVariants.{Memory};
+ghost use Rattle.markdown_out.specs.ByteLists.{Appends, AppendsPart};
+ghost use Rattle.markdown_out.specs.EventHtml.{closing, event_bytes, past_of};
+ghost use Rattle.markdown_out.specs.HtmlCorrect.{IsRendered, StopsAtError, IsOwnFault};
+
+use super::Writer;
+use indexmap::IndexSet;
+use markdown_base::event::Event;
+use markdown_base::fault::Fault;
+use std::alloc::Global;
+
+impl<'a> Writer<'a> {
+    ghost use Rattle.markdown_out.specs.Writer.{view, view_after, MayRefuse};
+
+    /// A writer that no event was given yet.
+    fn new(alloc: Global) -> Self
+        ensures { view result ≡ past_of [] }
+    {
+        Writer {
+            fresh: true,
+            in_metadata: false,
+            in_head: true,
+            column: 0,
+            alignments: Vec::new(alloc),
+            names: IndexSet::new(alloc),
+            image: None,
+        }
+    }
+
+    /// Appends what stands for an event.
+    fn event(&mut self, alloc: Global, s: &mut String, event: Event<'a>) -> Result<(), Fault>
+        ensures ok { OnOk result
+            (Appends s.old s.new (event_bytes (view self.old) (event_view event.entry))) }
+        ensures told { OnOk result
+            (view self.new ≡ view_after (view self.old) (event_view event.entry)) }
+        ensures err { IfErr result (λ fault.
+            MayRefuse (view self.old) (event_view event.entry) fault
+            × AppendsPart s.old s.new (event_bytes (view self.old) (event_view event.entry))) }
+    {
+        match self.image.take() {
+            Some(image) => self.inside(alloc, s, image, event),
+            None => match self.outside(alloc, s, event) {
+                Ok(()) => Ok(()),
+                Err(_) => Err(Fault::Memory),
+            },
+        }
+    }
+
+    /// Closes an image that is open at the end of the events.
+    fn finish(self, s: &mut String) -> Result<(), Fault>
+        ensures ok { OnOk result (Appends s.old s.new (closing (view self.entry).open_image)) }
+        ensures err { IfErr result (λ fault. (fault ≡ Memory) × AppendsPart s.old s.new
+            (closing (view self.entry).open_image)) }
+    {
+        let mut writer = self;
+        match writer.image.take() {
+            None => Ok(()),
+            Some(image) => writer.finish_image(s, image.title.as_str()),
+        }
+    }
+}
+
+/// Appends the HTML of the events up to the first `None`. The line counts as fresh at the
+/// beginning, whatever the string holds. Nothing is appended but this HTML.
+///
+/// # Errors
+///
+/// - The fault of an item that is one: the HTML of the events before it stands appended, without
+///   what closes an image whose End did not come.
+/// - `Memory`, where an allocation is refused: a front of the HTML of the events read stands
+///   appended.
+/// - `Depth`, where more than 2^64 - 1 Starts in one image have no End yet: the same.
+pub fn push_html<'a, I>(alloc: Global, s: &mut String, iter: I) -> Result<(), Fault>
+where
+    I: Iterator<Item = Result<Event<'a>, Fault>>,
+    requires can { I.can_next iter }
+    requires ends { IsFinite (I.remaining iter) }
+    // The old text, and then the HTML of all events.
+    ensures ok { OnOk result
+        (IsRendered I.next_gives iter (string_bytes s.old) (string_bytes s.new)) }
+
+    // The first item that is an error, or a fault of the call's own.
+    ensures err { IfErr result (λ fault.
+        StopsAtError I.next_gives iter (string_bytes s.old) (string_bytes s.new) fault
+        ⊎ IsOwnFault I.next_gives iter (string_bytes s.old) (string_bytes s.new) fault) }
+{
+    let mut writer = Writer::new(alloc);
+    for item in iter {
+        let event = item?;
+        writer.event(alloc, s, event)?;
+    }
+    writer.finish(s)
+}

@@ -1,0 +1,7 @@
+//! Events written as HTML: the escapes of text, attributes and destinations, and `push_html`.
+#![tactic(auto)]
+
+mod escape;
+pub mod html;
+#[cfg(test)]
+mod tests;
