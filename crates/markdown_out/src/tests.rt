@@ -131,14 +131,14 @@ fn destinations_are_escaped(rt: HostRuntime) -> Result<(), Fail> {
     let events = vec![in rt.alloc();
         start(link(LinkType::Email, "a@b.c", "")),
         end(TagEnd::Link),
-        start(link(LinkType::Inline, "/é \"<&'[%2f]~", "t\"")),
+        start(link(LinkType::Inline, "/日 \"<&'[%2f]~", "t\"")),
         end(TagEnd::Link),
     ]?;
     let (s, _) = appended(rt.alloc(), events)?;
     assert_eq!(rt;
         s.as_str(),
         "old <a href=\"mailto:a@b.c\"></a>\
-        <a href=\"/%C3%A9%20%22%3C&amp;&#x27;%5B%2f%5D~\" title=\"t&quot;\"></a>"
+        <a href=\"/%E6%97%A5%20%22%3C&amp;&#x27;%5B%2f%5D~\" title=\"t&quot;\"></a>"
     );
     Ok(())
 }

@@ -1,0 +1,24 @@
+//! What stands after a refused allocation: run with each one refused in turn, it says for each call
+//! whether what stands is what is promised. It ends with status 1 where something else does.
+#![tactic(auto)]
+
+mod calls;
+mod rows;
+
+use std::process::ExitCode;
+
+fn main(rt: HostRuntime) -> ExitCode {
+    let mut kept = true;
+    for (name, holds) in rows::all(rt.alloc()) {
+        if !holds {
+            kept = false;
+            let _ = rt.println(name);
+        }
+    }
+    if kept {
+        let _ = rt.println("all that is promised stands");
+        ExitCode::SUCCESS
+    } else {
+        ExitCode::FAILURE
+    }
+}

@@ -1,0 +1,32 @@
+//! Each call, by the promise that is tried of it.
+use crate::calls;
+use std::alloc::Global;
+
+/// Each promise with whether it holds.
+pub fn all(alloc: Global) -> [(&'static str, bool); 8] {
+    [
+        ("a text is copied whole or not at all", calls::copies(alloc)),
+        ("a refused append leaves the tree", calls::appends(alloc)),
+        ("a refused push leaves the tree", calls::pushes(alloc)),
+        (
+            "a text's blocks are made or memory is refused",
+            calls::makes_blocks(alloc),
+        ),
+        (
+            "a good tree is never refused for its rules",
+            calls::checks(alloc),
+        ),
+        (
+            "the events are a beginning, and then an error ends them",
+            calls::walks(alloc),
+        ),
+        (
+            "the ranges are a beginning, and then an error ends them",
+            calls::walks_with_ranges(alloc),
+        ),
+        (
+            "the old text stands, and then a beginning of the HTML",
+            calls::renders(alloc),
+        ),
+    ]
+}
