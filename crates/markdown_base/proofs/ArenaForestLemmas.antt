@@ -1,5 +1,5 @@
 -- Laws of the forest that an arena spells: it is found, there is one at most, and it opens node by node.
-use Rattle.std.proofs.Common.{◌≡◌, ℕ, ◌+◌, ◌<◌, ◌≤◌, max, List, [], ◌∷◌, ◌++◌, Option, Some, None, suc, zero, refl, sym, ap, ◌∙◌, subst, arith, append_assoc}
+use Rattle.std.proofs.Common.{◌≡◌, ℕ, ◌<◌, ◌≤◌, max, Option, Some, None, suc, zero, refl, sym, ◌∙◌, arith}
 use Rattle.markdown_base.specs.Forest.{Forest, nil, node, Each}
 use Rattle.markdown_base.specs.ArenaForest.{Links, Spells, followed, forest_at}
 use Rattle.markdown_base.specs.ArenaWalk.{Reaches}

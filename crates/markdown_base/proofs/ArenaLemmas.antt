@@ -1,10 +1,10 @@
 -- Laws of an arena's nodes: what a write and a new node leave as it was.
-use Rattle.std.proofs.Common.{◌≡◌, ◌≢◌, ℕ, zero, suc, ◌+◌, ◌<◌, ◌≤◌, List, [], ◌∷◌, ◌++◌, Option, Some, None, map, length, get_or, set, refl, sym, ap, ◌∙◌, subst, arith}
+use Rattle.std.proofs.Common.{◌≡◌, ℕ, zero, suc, ◌+◌, ◌<◌, ◌≤◌, List, [], ◌∷◌, ◌++◌, Option, Some, None, length, get_or, set, refl, ap, subst, arith}
 use Rattle.std.specs.Prelude.{IfSome}
 use Rattle.std.specs.List.{AllByRecursion}
 use Rattle.std.proofs.lemmas.List.{length-append}
 use Rattle.markdown_base.specs.declared.node.Node.{Node}
-use Rattle.markdown_base.specs.Arena.{Arena, items_of, children_of, siblings_of, child_of, sibling_of, innermost, changed_at, led_to}
+use Rattle.markdown_base.specs.Arena.{Arena, child_of, sibling_of, innermost, changed_at, led_to}
 use Rattle.markdown_base.specs.ArenaBounds.{LeadsBelow, IsWithin}
 
 -- a node that is read, changed and written back

@@ -1,7 +1,7 @@
 -- Laws of forests and of facts that hold throughout them.
-use Rattle.std.proofs.Common.{◌≡◌, ℕ, List, [], ◌∷◌, ◌++◌, Option, Some, None, map, refl, sym, ap, ◌∙◌}
+use Rattle.std.proofs.Common.{◌≡◌, ◌∷◌, ◌++◌, map, refl, sym, ap, ◌∙◌}
 use Rattle.std.proofs.lemmas.List.{map-append}
-use Rattle.markdown_base.specs.Forest.{Forest, nil, node, Throughout, Each, preorder, roots, first_root, relabelled}
+use Rattle.markdown_base.specs.Forest.{Forest, nil, node, Throughout, preorder, roots, relabelled}
 
 -- what follows from a fact holds where the fact does
 pub Throughout-weaker : {A : Type 0} (p q : A → Forest A → Forest A → Type 0) → ((a : A) (below after : Forest A) → p a below after → q a below after)

@@ -1,5 +1,5 @@
 -- The numbers that a tree keeps are those of its nodes: a fact of the representation.
-use Rattle.std.specs.Prelude.{ℕ, ◌<◌, List, IfSome, length}
+use Rattle.std.specs.Prelude.{ℕ, ◌<◌, IfSome, length}
 use Rattle.std.specs.List.{AllByRecursion}
 use Rattle.markdown_base.specs.declared.node.Node.{Node}
 use Rattle.markdown_base.specs.Arena.{Arena}

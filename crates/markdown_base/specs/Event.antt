@@ -1,5 +1,5 @@
 -- Events and tags without the memory that holds their texts: what two events are compared by.
-use Rattle.std.specs.Prelude.{ℕ, List, [], ◌∷◌, Bool, Option, Some, None, map, is_some}
+use Rattle.std.specs.Prelude.{ℕ, List, Bool, Option, map, is_some}
 use Rattle.std.specs.Option.{option_map}
 use Rattle.markdown_base.specs.CowText.{text_of}
 use Rattle.markdown_base.specs.declared.cow_str.CowStr.{CowStr}

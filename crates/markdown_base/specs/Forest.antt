@@ -1,5 +1,5 @@
 -- Forests: nothing, or a first tree, which is a label with the forest below it, and the trees after it.
-use Rattle.std.specs.Prelude.{ℕ, List, [], ◌∷◌, ◌++◌, Option, Some, None, ⊤}
+use Rattle.std.specs.Prelude.{List, [], ◌∷◌, ◌++◌, Option, Some, None, ⊤}
 use Rattle.std.specs.Coded.{Unit-prop}
 
 pub data Forest (A : Type 0) : Type 0 where

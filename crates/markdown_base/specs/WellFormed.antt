@@ -1,6 +1,6 @@
 -- A well-formed block result: the nine rules that every block pass keeps, and every walk relies on. The
 -- root is no item: its own range and body say nothing.
-use Rattle.std.specs.Prelude.{◌≡◌, ℕ, zero, suc, ◌+◌, ◌<◌, ◌≤◌, Bool, true, false, not, IsTrue, ◌==◌, ◌||◌, List, [], ◌∷◌, Option, Some, None, IfSome, nat_eq, codes, length, replicate, slice_index, slice_range}
+use Rattle.std.specs.Prelude.{◌≡◌, ℕ, zero, suc, ◌<◌, ◌≤◌, Bool, false, IsTrue, ◌==◌, ◌||◌, List, [], ◌∷◌, Option, Some, None, IfSome, nat_eq, codes, length, replicate, slice_index, slice_range}
 use Rattle.std.specs.List.{IsDistinct, filter_map, list_all, list_any}
 use Rattle.markdown_base.specs.declared.block_parts.BlockParts.{BlockParts}
 use Rattle.markdown_base.specs.declared.item.Item.{Item}
@@ -10,7 +10,7 @@ use Rattle.markdown_base.specs.declared.node.Node.{Node}
 use Rattle.markdown_base.specs.Arena.{child_of}
 use Rattle.markdown_base.specs.ArenaForest.{links_of, Spells, numbers_below}
 use Rattle.markdown_base.specs.BlockTree.{Numbered, tree_of}
-use Rattle.markdown_base.specs.Forest.{Forest, nil, node, Throughout, Each, preorder, roots, first_root}
+use Rattle.markdown_base.specs.Forest.{Forest, nil, Throughout, Each, preorder, roots, first_root}
 use Rattle.markdown_base.specs.Item.{LiesIn, is_open, is_inline, is_childless, is_resolved, is_tight_paragraph, is_unplaced, text_named, alignments_named, attributes_named}
 
 -- 1. The tree is finite, and no node is reached twice, nor the root again.

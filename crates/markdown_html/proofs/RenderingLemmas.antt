@@ -1,7 +1,7 @@
 -- What a parser of a text gives, written as HTML, is the rendering of the text.
-use Rattle.std.proofs.Common.{◌≡◌, ℕ, List, [], ◌++◌, map, None, Some, Option, Result, refl, sym, ap, ◌∙◌}
+use Rattle.std.proofs.Common.{◌≡◌, ℕ, List, [], None, Option}
 use Rattle.std.specs.Str.{IsUtf8}
-use Rattle.markdown_base.specs.Document.{Question, Answer, Answers, events_of}
+use Rattle.markdown_base.specs.Document.{Question, Answer, Answers}
 use Rattle.markdown_base.specs.Event.{event_view}
 use Rattle.markdown_spans.specs.Blocks.{IsOfText}
 use Rattle.markdown_spans.specs.declared.blocks.Blocks.{Blocks}
@@ -9,7 +9,6 @@ use Rattle.markdown_inline.specs.NextGives.{NextGives}
 use Rattle.markdown_inline.specs.ParserLeft.{elements, reading_of, no_options, events_left, next_questions, parser_callback, IsSomeSlice, IsOver}
 use Rattle.markdown_inline.specs.declared.walk.Parser.{Parser}
 use Rattle.markdown_inline.proofs.RunLemmas.{drained_unasked}
-use Rattle.markdown_out.specs.EventHtml.{html_of}
 use Rattle.markdown_out.specs.HtmlCorrect.{IsRendered}
 use Rattle.markdown_html.specs.Rendering.{IsRenderingOf}
 

@@ -1,14 +1,14 @@
 -- The steps of a parser, and what they give of what was left.
-use Rattle.std.proofs.Common.{◌≡◌, ℕ, ◌+◌, ◌<◌, ◌≤◌, List, [], ◌∷◌, ◌++◌, map, Option, Some, None, Result, Ok, Err, refl, sym, ap, ◌∙◌, arith}
+use Rattle.std.proofs.Common.{◌≡◌, ℕ, ◌<◌, ◌≤◌, List, [], ◌∷◌, ◌++◌, map, Option, Some, None, Result, Ok, Err, refl, sym, ap, ◌∙◌, arith}
 use Rattle.std.specs.declared.ops.Range.{Range}
 use Rattle.markdown_base.specs.Arena.{Arena}
-use Rattle.markdown_base.specs.Document.{Question, Answer, Answers, Element, event, Placed, events_of, first_questions}
+use Rattle.markdown_base.specs.Document.{Question, Answer, Answers, event, Placed, events_of}
 use Rattle.markdown_base.specs.Event.{event_view}
 use Rattle.markdown_base.specs.declared.event.Event.{Event}
 use Rattle.markdown_base.specs.declared.item.Item.{Item}
 use Rattle.markdown_base.specs.declared.fault.Fault.{Fault}
 use Rattle.markdown_base.specs.declared.fault.Fault.TheVariants.{Memory}
-use Rattle.markdown_inline.specs.NextGives.{NextGives, GivesNext}
+use Rattle.markdown_inline.specs.NextGives.{NextGives}
 use Rattle.markdown_inline.specs.ParserLeft.{elements, known_at_start, placed_left, next_questions, placed, parser_callback, parser_steps, IsSliceAt, IsOver}
 use Rattle.markdown_inline.specs.Slices.{IsSlice}
 use Rattle.markdown_inline.specs.WalkSteps.{HasEnded, Went, IsRefused, tree_left, tree_steps}

@@ -1,5 +1,5 @@
 -- A walk at the start of a whole block result.
-use Rattle.std.proofs.Common.{◌≡◌, ℕ, ◌+◌, ◌*◌, ◌^◌, ◌<◌, ◌≤◌, Bool, true, false, ◌||◌, eqb, List, [], ◌∷◌, ◌++◌, length, Option, None, Result, Ok, Err, ◌⊎◌, inl, inr, ⊎_elim, refl, sym, ap, ◌∙◌, arith}
+use Rattle.std.proofs.Common.{◌≡◌, ℕ, ◌*◌, ◌^◌, ◌<◌, ◌≤◌, Bool, true, false, ◌||◌, eqb, List, [], ◌++◌, length, Option, Result, Ok, Err, ◌⊎◌, inl, inr, ⊎_elim, refl, sym, ap, ◌∙◌, arith}
 use Rattle.std.specs.Prelude.{IfOk}
 use Rattle.std.specs.List.{IsDistinct, list_any}
 use Rattle.std.proofs.lemmas.Bool.{eqb-true}
@@ -13,7 +13,7 @@ use Rattle.markdown_base.specs.BlockTree.{numbered, tree_of}
 use Rattle.markdown_base.specs.Document.{Answers, Known, Part, part_of, document, reading, nothing}
 use Rattle.markdown_base.specs.Forest.{Forest, nil, node, preorder}
 use Rattle.markdown_base.specs.Item.{LiesIn}
-use Rattle.markdown_base.specs.Walk.{part_at, trees_from, left_of}
+use Rattle.markdown_base.specs.Walk.{trees_from, left_of}
 use Rattle.markdown_base.specs.WellFormed.{IsReachedOnce, RangesLieIn}
 use Rattle.markdown_base.specs.declared.fault.Fault.{Fault}
 use Rattle.markdown_base.specs.declared.item.Item.{Item}

@@ -1,9 +1,9 @@
 -- What is left of a walk, before and after a move over, into or out of a node.
-use Rattle.std.proofs.Common.{◌≡◌, ℕ, suc, ◌+◌, ◌<◌, List, [], ◌∷◌, ◌++◌, map, Option, Some, None, refl, sym, ap, ◌∙◌, arith}
+use Rattle.std.proofs.Common.{◌≡◌, ℕ, suc, ◌+◌, ◌<◌, List, [], ◌∷◌, ◌++◌, map, Option, Some, None, refl, arith}
 use Rattle.markdown_base.specs.Arena.{child_of, sibling_of}
 use Rattle.markdown_base.specs.ArenaForest.{Links, links_of, forest_at}
 use Rattle.markdown_base.specs.ArenaWalk.{Reaches, AllReach, IsWalk, weight, climb, steps_of}
-use Rattle.markdown_base.specs.Document.{Part, leaf, enclosed, plain, Placed, Known, Reading, event, reading, nothing}
+use Rattle.markdown_base.specs.Document.{leaf, enclosed, plain, Placed, Known, Reading, event, reading, nothing}
 use Rattle.markdown_base.specs.Event.{EventView, TagView, start}
 use Rattle.markdown_base.specs.Walk.{part_at, trees_from, closed, around, left_of}
 use Rattle.markdown_base.specs.declared.item.Item.{Item}

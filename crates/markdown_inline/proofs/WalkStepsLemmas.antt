@@ -1,17 +1,15 @@
 -- The moves of a walk, over the tree of a program.
-use Rattle.std.proofs.Common.{◌≡◌, ℕ, ◌+◌, ◌<◌, List, [], ◌∷◌, ◌++◌, map, Option, Some, None, length, refl, sym, ap, ◌∙◌, arith}
+use Rattle.std.proofs.Common.{◌≡◌, ℕ, ◌<◌, List, [], ◌∷◌, ◌++◌, map, Option, Some, None, length, refl, ap, arith}
 use Rattle.std.specs.Prelude.{slice_range}
-use Rattle.std.specs.declared.ops.Range.{Range}
 use Rattle.markdown_base.specs.Arena.{Arena, child_of, sibling_of}
 use Rattle.markdown_base.specs.ArenaForest.{links_of}
 use Rattle.markdown_base.specs.ArenaWalk.{IsWalk, steps_of}
 use Rattle.markdown_base.specs.BlockTree.{item_at}
-use Rattle.markdown_base.specs.Document.{leaf, enclosed, plain, shape_of, Placed, Known, Reading, event, then_reads}
+use Rattle.markdown_base.specs.Document.{leaf, enclosed, plain, shape_of, Placed, Known, Reading, event}
 use Rattle.markdown_base.specs.Event.{EventView, TagView, start, end}
 use Rattle.markdown_base.specs.Item.{LiesIn, range_of}
 use Rattle.markdown_base.specs.Walk.{part_at, closed}
 use Rattle.markdown_base.specs.declared.item.Item.{Item}
-use Rattle.markdown_base.specs.declared.node.Node.{Node}
 use Rattle.markdown_base.specs.declared.tag.TagEnd.{TagEnd}
 use Rattle.markdown_base.proofs.ArenaForestLemmas.{opens, forest_at-none}
 use Rattle.markdown_inline.specs.Placing.{LiesAt}

@@ -2,7 +2,7 @@
 -- its callback will give.
 use Rattle.std.specs.Prelude.{ℕ, max, List, map, length, Option}
 use Rattle.std.specs.declared.ops.Range.{Range}
-use Rattle.markdown_base.specs.Document.{Question, Answer, Answers, Known, Element, Placed, events_of, first_questions, document, reading, nothing}
+use Rattle.markdown_base.specs.Document.{Question, Answers, Known, Element, Placed, events_of, first_questions, document, reading, nothing}
 use Rattle.markdown_base.specs.Event.{EventView, event_view}
 use Rattle.markdown_base.specs.declared.event.Event.{Event}
 use Rattle.markdown_base.specs.declared.options.Options.{Options}

@@ -5,9 +5,8 @@ use Rattle.markdown_base.specs.Arena.{Arena}
 use Rattle.markdown_base.specs.ArenaForest.{links_of}
 use Rattle.markdown_base.specs.ArenaWalk.{IsWalk, steps_of}
 use Rattle.markdown_base.specs.Document.{Shape, leaf, enclosed, plain, shape_of, Placed, Known, Reading, event, then_reads}
-use Rattle.markdown_base.specs.Event.{TagView, event_view, tag_view, end, end_of}
+use Rattle.markdown_base.specs.Event.{event_view, tag_view, end}
 use Rattle.markdown_base.specs.Walk.{left_of, closed}
-use Rattle.markdown_base.specs.declared.event.Event.{Event}
 use Rattle.markdown_base.specs.declared.item.Item.{Item}
 use Rattle.markdown_base.specs.declared.item.ItemBody.{ItemBody}
 use Rattle.markdown_base.specs.declared.tag.TagEnd.{TagEnd}

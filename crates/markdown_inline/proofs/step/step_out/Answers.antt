@@ -1,5 +1,4 @@
 -- The node gone into last ends, and the walk goes on after it.
-use Rattle.std.proofs.Common.{◌≡◌, sym, ap, ◌∙◌, refl}
 use Rattle.markdown_base.specs.BlockTree.{no_item}
 use Rattle.markdown_inline.proofs.WalkStepsLemmas.{went_out_end, went_out_plain}
 use Rattle.markdown_inline.proofs.step.step_out.Goals as goal

@@ -1,5 +1,4 @@
 -- The bytes in use are text, by the invariant.
-use Rattle.std.proofs.Common.{take}
 use Rattle.std.proofs.lemmas.Str.{IsUtf8-had}
 use Rattle.markdown_base.proofs.inline_str.InlineStr.as_str.Goals as goal
 

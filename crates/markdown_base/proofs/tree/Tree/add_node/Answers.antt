@@ -1,5 +1,4 @@
 -- The new node's link leads to a node.
-use Rattle.std.proofs.Common.{◌≡◌}
 use Rattle.markdown_base.proofs.ArenaLemmas.{within_more}
 use Rattle.markdown_base.proofs.tree.Tree.add_node.Goals as goal
 

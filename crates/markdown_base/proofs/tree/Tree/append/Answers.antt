@@ -1,5 +1,5 @@
 -- The link leads to the new node, which is in the arena.
-use Rattle.std.proofs.Common.{◌≡◌, ◌+◌, ap, arith, length, ◌∷◌, [], ◌++◌}
+use Rattle.std.proofs.Common.{arith}
 use Rattle.std.proofs.lemmas.List.{length-append}
 use Rattle.markdown_base.proofs.ArenaLemmas.{length-led_to}
 use Rattle.markdown_base.proofs.tree.Tree.append.Goals as goal

@@ -1,5 +1,5 @@
 -- The last of the nodes gone into is the innermost.
-use Rattle.std.proofs.Common.{◌≡◌, sym, ap, ◌∙◌}
+use Rattle.std.proofs.Common.{sym, ap, ◌∙◌}
 use Rattle.markdown_base.specs.Arena.{innermost}
 use Rattle.markdown_base.proofs.ArenaLemmas.{innermost-snoc}
 use Rattle.markdown_base.proofs.tree.Tree.parent.Goals as goal

@@ -1,5 +1,4 @@
 -- The node is read, changed and written back.
-use Rattle.std.proofs.Common.{◌≡◌}
 use Rattle.markdown_base.proofs.ArenaLemmas.{arena_changed}
 use Rattle.markdown_base.proofs.tree.Tree.set_next.Goals as goal
 

@@ -1,6 +1,5 @@
 -- Each step of the tree is one of the parser.
-use Rattle.std.proofs.Common.{◌≡◌, ◌<◌, refl, arith}
-use Rattle.markdown_inline.specs.WalkSteps.{HasEnded}
+use Rattle.std.proofs.Common.{refl}
 use Rattle.markdown_inline.proofs.ParserLemmas.{went_nowhere, went_skip, advances_none, advances_fault, advances_event, steps_refused}
 use Rattle.markdown_inline.proofs.WalkStepsLemmas.{walks_ended, stopped}
 use Rattle.markdown_inline.proofs.walk.Parser.advance.Goals as goal

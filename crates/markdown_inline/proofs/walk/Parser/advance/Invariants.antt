@@ -1,5 +1,4 @@
 -- The walk has gone on from where it stood, and has given nothing.
-use Rattle.std.specs.Prelude.{IfSome}
 use Rattle.markdown_inline.specs.ParserLeft.{parser_steps}
 use Rattle.markdown_inline.proofs.ParserLemmas.{WentOn}
 use Rattle.markdown_inline.proofs.walk.Parser.advance.Given as goal

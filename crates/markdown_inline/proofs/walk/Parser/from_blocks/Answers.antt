@@ -1,5 +1,4 @@
 -- A parser of a block result stands before its first block, and all of its reading is left.
-use Rattle.std.proofs.Common.{◌≡◌}
 use Rattle.markdown_inline.proofs.StartLemmas.{starts_walk, starts_left, starts_small}
 use Rattle.markdown_inline.proofs.walk.Parser.from_blocks.Goals as goal
 
