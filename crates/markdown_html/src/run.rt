@@ -1,5 +1,7 @@
 //! The program, over any reader and two writers.
-ghost use Rattle.std.specs.Prelude.{◌≡◌, ◌≤◌, ◌<◌, ℕ, List, length, IfOk, IfSome, OnOk, string_bytes, vec_len};
+ghost use Rattle.std.specs.Prelude.{◌≡◌, ◌≢◌, ◌≤◌, ◌<◌, ◌⊎◌, ℕ, List, length, IfOk, IfErr, IfSome, OnOk, string_bytes, vec_len};
+ghost use Rattle.std.specs.Str.{IsUtf8};
+ghost use Rattle.std.specs.IoError.{error_kind};
 ghost use Rattle.std.specs.Io.KnownBytes.{Appends, Keeps};
 ghost use Rattle.markdown_html.specs.Rendering.{IsRenderingOf};
 
@@ -33,13 +35,20 @@ impl Failure {
 }
 
 impl From<Fault> for Failure {
+    ghost use Rattle.markdown_html.specs.declared.run.Failure.{Failure};
+
+    ghost from_gives = { λ fault failure. failure ≡ Failure.Fault fault };
+
     fn from(fault: Fault) -> Failure {
         Failure::Fault(fault)
     }
 }
 
 /// A failed call of the reader or the writer, unless memory was refused in it.
-fn failure_of(error: io::Error, attempted: Failure) -> Failure {
+fn failure_of(error: io::Error, attempted: Failure) -> Failure
+    ensures memory { error_kind error ≡ ErrorKind.OutOfMemory → result ≡ Failure.Fault Fault.Memory }
+    ensures other { error_kind error ≢ ErrorKind.OutOfMemory → result ≡ attempted }
+{
     if error.kind() == ErrorKind::OutOfMemory {
         Failure::Fault(Fault::Memory)
     } else {
@@ -49,7 +58,10 @@ fn failure_of(error: io::Error, attempted: Failure) -> Failure {
 
 /// All of the input, as text.
 fn read_text<R: Read>(alloc: Global, input: &mut R) -> Result<String, Failure>
-    ensures { IfOk result (λ text. IfSome (R.remaining input.old) (λ bytes. string_bytes text ≡ bytes)) }
+    ensures text { IfOk result (λ text. IfSome (R.remaining input.old) (λ bytes. string_bytes text ≡ bytes)) }
+    ensures not_text { IfErr result (λ failure. failure ≡ Failure.NotText
+        → IfSome (R.remaining input.old) (λ bytes. IsUtf8 bytes → ⊥)) }
+    ensures failed { IfErr result (λ failure. failure ≢ Failure.WriteFailed) }
 {
     let mut bytes = Vec::new(alloc);
     match input.read_to_end(&mut bytes) {
@@ -60,7 +72,8 @@ fn read_text<R: Read>(alloc: Global, input: &mut R) -> Result<String, Failure>
 
 /// The HTML of a text, with no extension.
 fn rendered(alloc: Global, text: &str) -> Result<String, Failure>
-    ensures { IfOk result (λ html. IsRenderingOf text.now (string_bytes html)) }
+    ensures html { IfOk result (λ html. IsRenderingOf text.now (string_bytes html)) }
+    ensures failed { IfErr result (λ failure. (fault : Fault) × (failure ≡ Failure.Fault fault)) }
 {
     let mut html = String::new(alloc);
     let parser = Parser::new(alloc, text)?;
@@ -70,7 +83,9 @@ fn rendered(alloc: Global, text: &str) -> Result<String, Failure>
 
 /// Writes all of it at once.
 fn print<W: Write>(out: &mut W, html: &str) -> Result<(), Failure>
-    ensures { OnOk result (Appends (W.contents out.old) (W.contents out.new) html.now) }
+    ensures written { OnOk result (Appends (W.contents out.old) (W.contents out.new) html.now) }
+    ensures failed { IfErr result (λ failure.
+        (failure ≡ Failure.WriteFailed) ⊎ (failure ≡ Failure.Fault Fault.Memory)) }
 {
     out.write_all(html.as_bytes())
         .map_err(|error| failure_of(error, Failure::WriteFailed))?;
@@ -80,8 +95,9 @@ fn print<W: Write>(out: &mut W, html: &str) -> Result<(), Failure>
 
 /// Reads, renders and writes.
 fn convert<R: Read, W: Write>(alloc: Global, input: &mut R, out: &mut W) -> Result<(), Failure>
-    ensures { OnOk result (IfSome (R.remaining input.old) (λ bytes.
+    ensures printed { OnOk result (IfSome (R.remaining input.old) (λ bytes.
         (html : List ℕ) × IsRenderingOf bytes html × Appends (W.contents out.old) (W.contents out.new) html)) }
+    ensures not_text { IfSome (R.remaining input.old) (λ bytes. (IsUtf8 bytes → ⊥) → out.new ≡ out.old) }
 {
     let text = read_text(alloc, input)?;
     let html = rendered(alloc, text.as_str())?;
@@ -102,6 +118,9 @@ pub fn run<R: Read, W: Write, E: Write>(
     ensures words { 0 < length words.now → (result ≡ 2) × (out.new ≡ out.old) × (input.new ≡ input.old) }
     ensures printed { result ≡ 0 → IfSome (R.remaining input.old) (λ bytes.
         (html : List ℕ) × IsRenderingOf bytes html × Appends (W.contents out.old) (W.contents out.new) html) }
+    ensures not_text { length words.now ≡ 0 → IfSome (R.remaining input.old) (λ bytes.
+        (IsUtf8 bytes → ⊥) → (result ≡ 1) × (out.new ≡ out.old)) }
+    ensures quiet { result ≡ 0 → err.new ≡ err.old }
     ensures status { result ≤ 2 }
 {
     if let Some(word) = words.first() {
