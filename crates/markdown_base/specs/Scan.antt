@@ -1,0 +1,2 @@
+-- What stands at a byte, by CommonMark: a file for each family of scanners.
+pub mod LineEnd

@@ -1,0 +1,3 @@
+//! What stands at a byte, by CommonMark: a module for each family of scanners.
+pub mod line_end;
+pub mod line_rule;
