@@ -1,2 +1,7 @@
 -- What stands at a byte, by CommonMark: a file for each family of scanners.
+pub mod AsciiKinds
+pub mod Autolink
+pub mod Backslash
+pub mod Destination
 pub mod LineEnd
+pub mod WikilinkPipe

@@ -1,3 +1,8 @@
 //! What stands at a byte, by CommonMark: a module for each family of scanners.
+pub mod ascii_kinds;
+pub mod autolink;
+pub mod backslash;
+pub mod destination;
 pub mod line_end;
 pub mod line_rule;
+pub mod wikilink_pipe;

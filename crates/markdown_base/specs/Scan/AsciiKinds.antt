@@ -1,0 +1,23 @@
+-- Kinds of ASCII characters (CommonMark 2.1).
+use Rattle.std.specs.Prelude.{ℕ, Bool, ◌==◌, ◌||◌, ◌&&◌, nat_le, nat_lt}
+
+-- an ASCII letter
+abbrev pub is_letter : ℕ → Bool
+is_letter b = (nat_le 65 b && nat_le b 90) || (nat_le 97 b && nat_le b 122)
+
+-- an ASCII digit
+abbrev pub is_digit : ℕ → Bool
+is_digit b = nat_le 48 b && nat_le b 57
+
+-- an ASCII control character: U+0000 to U+001F, and U+007F
+abbrev pub is_control : ℕ → Bool
+is_control b = nat_lt b 32 || (b == 127)
+
+-- an ASCII control character or a space
+abbrev pub is_control_or_space : ℕ → Bool
+is_control_or_space b = is_control b || (b == 32)
+
+-- an ASCII punctuation character: ! to /, : to @, [ to `, { to ~
+abbrev pub is_punctuation : ℕ → Bool
+is_punctuation b =
+    (nat_le 33 b && nat_le b 47) || (nat_le 58 b && nat_le b 64) || (nat_le 91 b && nat_le b 96) || (nat_le 123 b && nat_le b 126)

@@ -1,0 +1,17 @@
+//! Kinds of ASCII characters (CommonMark 2.1).
+ghost use Rattle.std.specs.Prelude.{◌≡◌};
+ghost use Rattle.markdown_base.specs.Scan.AsciiKinds as kinds;
+
+/// An ASCII control character (U+0000 to U+001F, U+007F) or a space.
+pub fn is_control_or_space(byte: u8) -> bool
+    ensures { result ≡ kinds.is_control_or_space byte }
+{
+    byte <= b' ' || byte == 127
+}
+
+/// An ASCII punctuation character.
+pub fn is_punctuation(byte: u8) -> bool
+    ensures { result ≡ kinds.is_punctuation byte }
+{
+    matches!(byte, b'!'..=b'/' | b':'..=b'@' | b'['..=b'`' | b'{'..=b'~')
+}
