@@ -3,3 +3,4 @@ pub mod ArenaForestLemmas
 pub mod ForestLemmas
 pub mod BoundaryLemmas
 pub mod DestinationLemmas
+pub mod LabelLemmas

@@ -3,5 +3,7 @@ pub mod AsciiKinds
 pub mod Autolink
 pub mod Backslash
 pub mod Destination
+pub mod Label
+pub mod LabelScan
 pub mod LineEnd
 pub mod WikilinkPipe

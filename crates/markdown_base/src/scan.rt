@@ -3,6 +3,7 @@ pub mod ascii_kinds;
 pub mod autolink;
 pub mod backslash;
 pub mod destination;
+pub mod label_end;
 pub mod line_end;
 pub mod line_rule;
 pub mod wikilink_pipe;

@@ -15,3 +15,10 @@ pub fn is_punctuation(byte: u8) -> bool
 {
     matches!(byte, b'!'..=b'/' | b':'..=b'@' | b'['..=b'`' | b'{'..=b'~')
 }
+
+/// A space, tab, line feed, line tabulation, form feed or carriage return.
+pub fn is_white_space(byte: u8) -> bool
+    ensures { result ≡ kinds.is_white_space byte }
+{
+    matches!(byte, b' ' | b'\t'..=b'\r')
+}

@@ -1,0 +1,89 @@
+//! Where a link label ends (CommonMark 6.3): the scan that takes no memory.
+ghost use Rattle.std.specs.Prelude.{◌≡◌, ◌≤◌, ◌<◌, ◌||◌, ◌∷◌, [], false, IfSome, length, slice_index, count_by};
+ghost use Rattle.std.specs.List.{list_any};
+ghost use Rattle.markdown_base.specs.Scan.Label as label;
+ghost use Rattle.markdown_base.specs.Scan.LabelScan.{end_after};
+
+use crate::scan::ascii_kinds::is_white_space;
+use crate::scan::backslash::is_bare;
+use crate::scan::line_rule::LineRule;
+
+/// The most characters of a label.
+pub const MAX_LABEL_CHARACTERS: usize = 999;
+
+// Whether the byte, before the rest, is the last one of a line ending.
+fn ends_line(byte: u8, rest: &[u8]) -> bool
+    ensures { result ≡ label.ends_line byte rest.now }
+{
+    byte == b'\n' || (byte == b'\r' && rest.first() != Some(&b'\n'))
+}
+
+/// How many bytes of the rest are a line's prefix, where the byte before it ends a line; None where
+/// the line may not end there.
+pub fn prefix_after<R: LineRule>(rule: &R, byte: u8, rest: &[u8]) -> Option<usize>
+    ensures value { result ≡ label.prefix_after (R.skipped rule.now) byte rest.now }
+    ensures within { IfSome result (λ n. n ≤ length rest.now) }
+{
+    if ends_line(byte, rest) { rule.skip(rest) } else { Some(0) }
+}
+
+// Whether a character begins with this byte, as a number.
+fn begun_by(byte: u8) -> usize
+    ensures { result ≡ count_by label.begins_character (byte ∷ []) }
+{
+    usize::from(byte < 128 || 192 <= byte)
+}
+
+// How many characters the byte adds to the text.
+fn characters_shown(in_table: bool, escaped: bool, byte: u8) -> usize
+    ensures value { result ≡ count_by label.begins_character (label.shown in_table escaped byte) }
+    ensures few { result ≤ 2 }
+{
+    if !escaped {
+        if byte == b'\\' { 0 } else { begun_by(byte) }
+    } else if in_table && byte == b'|' {
+        begun_by(byte)
+    } else {
+        1 + begun_by(byte)
+    }
+}
+
+// Whether the text has a character that is no white space, once the byte is added.
+fn solid_after(solid: bool, in_table: bool, escaped: bool, byte: u8) -> bool
+    ensures { result ≡ (solid || list_any label.is_no_white_space (label.shown in_table escaped byte)) }
+{
+    solid || escaped || (byte != b'\\' && !is_white_space(byte))
+}
+
+/// The place of the bracket that closes a label, of which the bytes stand after its opening one.
+pub fn label_end<R: LineRule>(bytes: &[u8], rule: &R, in_table: bool) -> Option<usize>
+    ensures value { result ≡ end_after 0 0 false (label.body in_table false (label.label_bytes (R.skipped rule.now) 0 bytes.now)) }
+    ensures here { IfSome result (λ n. (n < length bytes.now) × (slice_index bytes.now n ≡ 93)) }
+{
+    let mut rest = bytes;
+    let mut at = 0;
+    let mut escaped = false;
+    let mut characters = 0;
+    let mut solid = false;
+    while let Some((first, tail)) = rest.split_first() {
+        let byte = *first;
+        if is_bare(escaped, byte, b']') {
+            return if solid { Some(at) } else { None };
+        }
+        if is_bare(escaped, byte, b'[') {
+            return None;
+        }
+        let Some(skipped) = prefix_after(rule, byte, tail) else {
+            return None;
+        };
+        characters += characters_shown(in_table, escaped, byte);
+        if characters > MAX_LABEL_CHARACTERS {
+            return None;
+        }
+        solid = solid_after(solid, in_table, escaped, byte);
+        escaped = is_bare(escaped, byte, b'\\');
+        rest = &tail[skipped..];
+        at = at + 1 + skipped;
+    }
+    None
+}
