@@ -1,13 +1,12 @@
 -- Steps of the scans of a label.
 use Rattle.std.proofs.Common.{◌≡◌, ℕ, suc, zero, ◌+◌, ◌≤◌, ◌<◌, List, [], ◌∷◌, ◌++◌, Bool, true, false, ◌&&◌, ◌||◌, Option, Some, None, if◌then◌else◌, length, drop, refl, sym, ◌∙◌, ap, arith, append_assoc, count_by, nat_le}
 use Rattle.std.specs.List.{list_any}
-use Rattle.std.specs.Option.{option_map}
 use Rattle.std.proofs.lemmas.List.{append-nil}
 use Rattle.std.proofs.lemmas.List.Sums.{sum_by-append}
 use Rattle.std.proofs.lemmas.List.Folds.{list_any-append}
 use Rattle.std.proofs.lemmas.Bool.Decides.{nat_tests}
 use Rattle.markdown_base.specs.Scan.Backslash.{backslash, is_bare}
-use Rattle.markdown_base.specs.Scan.Label.{LabelByte, kept, dropped, refused, label_bytes, body, put_before, shown, prefix_after, begins_character, is_no_white_space}
+use Rattle.markdown_base.specs.Scan.Label.{label_bytes, body, put_before, shown, prefix_after, begins_character, is_no_white_space}
 use Rattle.markdown_base.specs.Scan.LabelScan.{end_after}
 
 -- what stands before what stands before
@@ -50,7 +49,7 @@ or_assoc false b c = refl
 -- the end after what is found after a text
 pub end_of_put : (at characters n : ℕ) (solid : Bool) (text : List ℕ) (o : Option (ℕ × List ℕ))
     → end_after at characters solid (put_before n text o)
-        ≡ end_after (at + n) (characters + count_by begins_character text) (solid || list_any is_no_white_space text) o
+    ≡ end_after (at + n) (characters + count_by begins_character text) (solid || list_any is_no_white_space text) o
 end_of_put at characters n solid text None = refl
 end_of_put at characters n solid text (Some f) =
     let place : at + (n + f.0) ≡ at + n + f.0 = omega arith in
@@ -64,7 +63,7 @@ pub end_step : (whole : Option ℕ) (skipped : List ℕ → Option ℕ) (in_tabl
     → whole ≡ end_after at characters solid (body in_table escaped (label_bytes skipped 0 (b ∷ tail)))
     → is_bare escaped b 93 ≡ false → is_bare escaped b 91 ≡ false → prefix_after skipped b tail ≡ Some n → n ≤ length tail
     → whole ≡ end_after (at + 1 + n) (characters + count_by begins_character (shown in_table escaped b)) (solid || list_any is_no_white_space (shown in_table escaped b))
-        (body in_table (is_bare escaped b backslash) (label_bytes skipped 0 (drop n tail)))
+    (body in_table (is_bare escaped b backslash) (label_bytes skipped 0 (drop n tail)))
 end_step whole skipped in_table escaped solid at characters b tail n was no_end no_start after within =
     let later = body in_table (is_bare escaped b backslash) (label_bytes skipped 0 (drop n tail)) in
     let sum : at + (1 + n) ≡ at + 1 + n = omega arith in

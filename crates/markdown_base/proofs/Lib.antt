@@ -4,3 +4,5 @@ pub mod ForestLemmas
 pub mod BoundaryLemmas
 pub mod DestinationLemmas
 pub mod LabelLemmas
+pub mod LabelCharacterLemmas
+pub mod LabelTextLemmas

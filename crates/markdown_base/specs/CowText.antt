@@ -20,3 +20,8 @@ IsInlined text = ⊥
 abbrev pub IsBoxed : CowStr → Type 0
 IsBoxed (Boxed boxed) = Unit {0}
 IsBoxed text = ⊥
+
+-- it is a slice of the source
+abbrev pub IsBorrowed : CowStr → Type 0
+IsBorrowed (Borrowed borrowed) = Unit {0}
+IsBorrowed text = ⊥

@@ -5,5 +5,6 @@ pub mod Backslash
 pub mod Destination
 pub mod Label
 pub mod LabelScan
+pub mod LabelText
 pub mod LineEnd
 pub mod WikilinkPipe

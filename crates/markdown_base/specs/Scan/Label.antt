@@ -49,6 +49,10 @@ body in_table escaped (kept b ∷ rest) =
     else if is_bare escaped b 91 then None
     else put_before 1 (shown in_table escaped b) (body in_table (is_bare escaped b backslash) rest)
 
+-- a bracket that is not escaped
+abbrev pub is_bracket : Bool → ℕ → Bool
+is_bracket escaped b = is_bare escaped b 93 || is_bare escaped b 91
+
 -- a space before a byte that is no white space, if white space stands between it and an earlier one
 abbrev pub gap : Bool → Bool → List ℕ
 gap begun waiting = if begun && waiting then 32 ∷ [] else []

@@ -1,6 +1,7 @@
 //! Where a link label ends (CommonMark 6.3): the scan that takes no memory.
-ghost use Rattle.std.specs.Prelude.{◌≡◌, ◌≤◌, ◌<◌, ◌||◌, ◌∷◌, [], false, IfSome, length, slice_index, count_by};
-ghost use Rattle.std.specs.List.{list_any};
+ghost use Rattle.std.specs.Prelude.{◌≡◌, ◌≤◌, ◌<◌, ◌||◌, ◌∷◌, [], false, IfSome, IsTrue, take, length, slice_index, count_by};
+ghost use Rattle.std.specs.List.{list_any, list_all};
+ghost use Rattle.std.specs.Char.{is_ascii};
 ghost use Rattle.markdown_base.specs.Scan.Label as label;
 ghost use Rattle.markdown_base.specs.Scan.LabelScan.{end_after};
 
@@ -23,8 +24,13 @@ fn ends_line(byte: u8, rest: &[u8]) -> bool
 pub fn prefix_after<R: LineRule>(rule: &R, byte: u8, rest: &[u8]) -> Option<usize>
     ensures value { result ≡ label.prefix_after (R.skipped rule.now) byte rest.now }
     ensures within { IfSome result (λ n. n ≤ length rest.now) }
+    ensures ascii { IfSome result (λ n. IsTrue (list_all is_ascii (take n rest.now))) }
 {
-    if ends_line(byte, rest) { rule.skip(rest) } else { Some(0) }
+    if ends_line(byte, rest) {
+        rule.skip(rest)
+    } else {
+        Some(0)
+    }
 }
 
 // Whether a character begins with this byte, as a number.

@@ -10,7 +10,7 @@ invariant-loop-first g l = record {
   here : l.rest ≡ drop l.at l.bytes;
   few : l.characters ≤ 999;
   value : end_after 0 0 false (body l.in_table false (label_bytes (g.R.LineRule.skipped l.rule) 0 l.bytes))
-      ≡ end_after l.at l.characters l.solid (body l.in_table l.escaped (label_bytes (g.R.LineRule.skipped l.rule) 0 l.rest))
+      ≡ end_after l.at l.characters l.solid (body l.in_table l.escaped (label_bytes (g.R.LineRule.skipped l.rule) 0 l.rest));
 }
 
 abbrev pub decreases-loop-first : goal.decreases-loop-first
