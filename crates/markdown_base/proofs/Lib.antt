@@ -6,3 +6,4 @@ pub mod DestinationLemmas
 pub mod LabelLemmas
 pub mod LabelCharacterLemmas
 pub mod LabelTextLemmas
+pub mod LineStartLemmas

@@ -7,4 +7,6 @@ pub mod Label
 pub mod LabelScan
 pub mod LabelText
 pub mod LineEnd
+pub mod LineStart
+pub mod LineView
 pub mod WikilinkPipe

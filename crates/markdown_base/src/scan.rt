@@ -8,4 +8,5 @@ mod label_end;
 mod label_text;
 pub mod line_end;
 pub mod line_rule;
+pub mod line_start;
 pub mod wikilink_pipe;
