@@ -9,4 +9,8 @@ mod label_text;
 pub mod line_end;
 pub mod line_rule;
 pub mod line_start;
+#[cfg(test)]
+mod line_start_tests;
+#[cfg(test)]
+mod link_tests;
 pub mod wikilink_pipe;
