@@ -1,3 +1,4 @@
 pub mod ArenaLemmas
 pub mod ArenaForestLemmas
 pub mod ForestLemmas
+pub mod EntityLemmas

@@ -1,2 +1,3 @@
 -- What stands at a byte, by CommonMark: a file for each family of scanners.
 pub mod LineEnd
+pub mod Entity

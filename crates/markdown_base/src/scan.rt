@@ -1,3 +1,6 @@
 //! What stands at a byte, by CommonMark: a module for each family of scanners.
+pub mod entity;
+#[cfg(test)]
+mod entity_tests;
 pub mod line_end;
 pub mod line_rule;
