@@ -1,4 +1,6 @@
 pub mod ArenaLemmas
 pub mod ArenaForestLemmas
 pub mod ForestLemmas
+pub mod BeginsWithLemmas
 pub mod EntityLemmas
+pub mod UnescapeLemmas

@@ -1,3 +1,4 @@
 -- What stands at a byte, by CommonMark: a file for each family of scanners.
 pub mod LineEnd
 pub mod Entity
+pub mod Unescape

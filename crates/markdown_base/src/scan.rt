@@ -4,3 +4,6 @@ pub mod entity;
 mod entity_tests;
 pub mod line_end;
 pub mod line_rule;
+pub mod unescape;
+#[cfg(test)]
+mod unescape_tests;
