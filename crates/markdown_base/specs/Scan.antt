@@ -1,4 +1,5 @@
 -- What stands at a byte, by CommonMark: a file for each family of scanners.
 pub mod LineEnd
+pub mod RawHtml
 pub mod Entity
 pub mod Unescape
