@@ -3,5 +3,7 @@ pub mod ArenaForestLemmas
 pub mod ForestLemmas
 pub mod BeginsWithLemmas
 pub mod EntityLemmas
+pub mod HtmlTagLemmas
 pub mod RawHtmlLemmas
+pub mod TagTextLemmas
 pub mod UnescapeLemmas

@@ -1,4 +1,5 @@
 //! What stands at a byte, by CommonMark: a module for each family of scanners.
+mod byte_kind;
 mod closing;
 pub mod entity;
 #[cfg(test)]
@@ -8,6 +9,9 @@ pub mod line_rule;
 pub mod raw_html;
 #[cfg(test)]
 mod raw_html_tests;
+mod tag_grammar;
+mod tag_parts;
+mod tag_text;
 pub mod unescape;
 #[cfg(test)]
 mod unescape_tests;
