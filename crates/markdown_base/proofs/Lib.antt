@@ -5,5 +5,6 @@ pub mod BeginsWithLemmas
 pub mod EntityLemmas
 pub mod HtmlTagLemmas
 pub mod RawHtmlLemmas
+pub mod TagSourceLemmas
 pub mod TagTextLemmas
 pub mod UnescapeLemmas

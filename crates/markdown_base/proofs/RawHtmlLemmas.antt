@@ -81,7 +81,7 @@ EndsWith-text mark text bytes e is = record {
 }
 
 -- n bytes further on
-EndsWith-after : (mark n : ℕ) (bytes : List ℕ) (found : Option ℕ)
+pub EndsWith-after : (mark n : ℕ) (bytes : List ℕ) (found : Option ℕ)
     → IfSome found (EndsWith mark (drop n bytes))
     → IfSome (option_map (λ m. n + m) found) (EndsWith mark bytes)
 EndsWith-after mark n bytes None is = tt

@@ -4,6 +4,9 @@ mod closing;
 pub mod entity;
 #[cfg(test)]
 mod entity_tests;
+pub mod html_tag;
+#[cfg(test)]
+mod html_tag_tests;
 pub mod line_end;
 pub mod line_rule;
 pub mod raw_html;

@@ -14,15 +14,21 @@ unfoldable pub after_part : (List ℕ → Option ℕ) → Part → List ℕ → 
 after_part skipped part source =
     option_map (λ n. source_after skipped n source) (part (text_in skipped source))
 
--- the tag of n bytes that begins a source of which `before` bytes came before: the place just after
--- it, and its bytes where prefixes stand between them
-abbrev pub tag_of : (List ℕ → Option ℕ) → ℕ → List ℕ → ℕ → ℕ × Option (List ℕ)
-tag_of skipped before source n =
-    let read = length source - length (source_after skipped n source) in
-    (before + read, if read == n then None else Some (take n (text_in skipped source)))
+-- how many bytes a tag of n bytes takes, with its prefixes and without them
+abbrev pub tag_lengths : (List ℕ → Option ℕ) → List ℕ → ℕ → ℕ × ℕ
+tag_lengths skipped source n = (length source - length (source_after skipped n source), n)
+
+-- the tag of these lengths that begins a source of which `before` bytes came before: the place just
+-- after it, and its bytes where prefixes stand between them
+abbrev pub tag_of : (List ℕ → Option ℕ) → ℕ → List ℕ → ℕ × ℕ → ℕ × Option (List ℕ)
+tag_of skipped before source lengths = (
+  before + lengths.0,
+  if lengths.1 == lengths.0 then None else Some (take lengths.1 (text_in skipped source)),
+)
 
 -- the tag that begins at a place of the source
 abbrev pub tag_at : (List ℕ → Option ℕ) → List ℕ → ℕ → Option (ℕ × Option (List ℕ))
 tag_at skipped source place =
-    option_map (λ n. tag_of skipped place (drop place source) n)
+    option_map (λ n. tag_of skipped place (drop place source)
+    (tag_lengths skipped (drop place source) n))
     (html_tag (text_in skipped (drop place source)))
