@@ -7,7 +7,8 @@ use Rattle.std.proofs.lemmas.Option.{same_Some}
 use Rattle.std.proofs.lemmas.Bool.Decides.{nat_tests, leb_tells}
 use Rattle.markdown_base.specs.Scan.AsciiKinds.{is_white_space}
 use Rattle.markdown_base.specs.Scan.Backslash.{backslash, is_bare}
-use Rattle.markdown_base.specs.Scan.Label.{label_bytes, body, put_before, shown, prefix_after, squeeze, gap}
+use Rattle.markdown_base.specs.Scan.Label.{label_bytes, body, put_before, shown, squeeze, gap}
+use Rattle.markdown_base.specs.Scan.LinePrefix.{prefix_after}
 use Rattle.markdown_base.specs.Scan.LabelScan.{character_shown}
 use Rattle.markdown_base.proofs.LabelLemmas.{body_step, put_before_twice, put_before_none}
 

@@ -6,7 +6,8 @@ use Rattle.std.proofs.lemmas.List.Sums.{sum_by-append}
 use Rattle.std.proofs.lemmas.List.Folds.{list_any-append}
 use Rattle.std.proofs.lemmas.Bool.Decides.{nat_tests}
 use Rattle.markdown_base.specs.Scan.Backslash.{backslash, is_bare}
-use Rattle.markdown_base.specs.Scan.Label.{label_bytes, body, put_before, shown, prefix_after, begins_character, is_no_white_space}
+use Rattle.markdown_base.specs.Scan.Label.{label_bytes, body, put_before, shown, begins_character, is_no_white_space}
+use Rattle.markdown_base.specs.Scan.LinePrefix.{prefix_after}
 use Rattle.markdown_base.specs.Scan.LabelScan.{end_after}
 
 -- what stands before what stands before

@@ -7,3 +7,10 @@ pub mod LabelLemmas
 pub mod LabelCharacterLemmas
 pub mod LabelTextLemmas
 pub mod LineStartLemmas
+pub mod BeginsWithLemmas
+pub mod EntityLemmas
+pub mod HtmlTagLemmas
+pub mod RawHtmlLemmas
+pub mod TagSourceLemmas
+pub mod TagTextLemmas
+pub mod UnescapeLemmas

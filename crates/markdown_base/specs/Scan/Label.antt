@@ -5,21 +5,13 @@ use Rattle.std.specs.List.{list_any}
 use Rattle.std.specs.Option.{option_map}
 use Rattle.markdown_base.specs.Scan.AsciiKinds.{is_white_space}
 use Rattle.markdown_base.specs.Scan.Backslash.{backslash, is_bare}
-use Rattle.markdown_base.specs.Scan.LineEnd.{line_feed, carriage_return, begins_line_feed}
+use Rattle.markdown_base.specs.Scan.LinePrefix.{prefix_after}
 
 -- a byte of the label, a byte of a line's prefix, or a line ending that may not stand there
 pub data LabelByte : Type 0 where
   kept : ℕ → LabelByte
   dropped : LabelByte
   refused : LabelByte
-
--- the byte, before these bytes, is the last one of a line ending
-abbrev pub ends_line : ℕ → List ℕ → Bool
-ends_line b bytes = (b == line_feed) || ((b == carriage_return) && not (begins_line_feed bytes))
-
--- how many bytes of prefix stand after this byte, if it may stand there
-abbrev pub prefix_after : (List ℕ → Option ℕ) → ℕ → List ℕ → Option ℕ
-prefix_after skipped b bytes = if ends_line b bytes then skipped bytes else Some 0
 
 -- the bytes, of which the first n are prefix
 abbrev pub label_bytes : (List ℕ → Option ℕ) → ℕ → List ℕ → List LabelByte

@@ -5,17 +5,19 @@ ghost use Rattle.std.specs.Str.{IsUtf8, IsCharBoundary};
 ghost use Rattle.markdown_base.specs.CowText.{text_of, IsBorrowed};
 ghost use Rattle.markdown_base.specs.Scan.Label as label;
 ghost use Rattle.markdown_base.specs.Scan.Label.{link_label};
+ghost use Rattle.markdown_base.specs.Scan.LinePrefix.{prefix_after};
 ghost use Rattle.markdown_base.specs.Scan.LabelScan.{EndsHere, GoesOn};
 
 use crate::cow_str::CowStr;
-use crate::scan::label_end::{label_end, prefix_after};
+use crate::scan::label_end::label_end;
 use crate::scan::label_text::{LabelText, is_bare, split_first};
+use crate::scan::line_prefix::prefix_after;
 use crate::scan::line_rule::LineRule;
 use std::alloc::{AllocError, Global};
 
 // How many bytes of the rest are a line's prefix, where the character before it ends a line.
 fn prefix_after_character<R: LineRule>(rule: &R, c: char, rest: &str) -> Option<usize>
-    ensures value { result ≡ label.prefix_after (R.skipped rule.now) c rest.now }
+    ensures value { result ≡ prefix_after (R.skipped rule.now) c rest.now }
     ensures within { IfSome result (λ n. n ≤ length rest.now) }
     ensures boundary { IfSome result (λ n. IsCharBoundary rest.now n) }
 {

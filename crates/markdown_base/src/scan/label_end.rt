@@ -7,31 +7,11 @@ ghost use Rattle.markdown_base.specs.Scan.LabelScan.{end_after};
 
 use crate::scan::ascii_kinds::is_white_space;
 use crate::scan::backslash::is_bare;
+use crate::scan::line_prefix::prefix_after;
 use crate::scan::line_rule::LineRule;
 
 /// The most characters of a label.
 pub const MAX_LABEL_CHARACTERS: usize = 999;
-
-// Whether the byte, before the rest, is the last one of a line ending.
-fn ends_line(byte: u8, rest: &[u8]) -> bool
-    ensures { result ≡ label.ends_line byte rest.now }
-{
-    byte == b'\n' || (byte == b'\r' && rest.first() != Some(&b'\n'))
-}
-
-/// How many bytes of the rest are a line's prefix, where the byte before it ends a line; None where
-/// the line may not end there.
-pub fn prefix_after<R: LineRule>(rule: &R, byte: u8, rest: &[u8]) -> Option<usize>
-    ensures value { result ≡ label.prefix_after (R.skipped rule.now) byte rest.now }
-    ensures within { IfSome result (λ n. n ≤ length rest.now) }
-    ensures ascii { IfSome result (λ n. IsTrue (list_all is_ascii (take n rest.now))) }
-{
-    if ends_line(byte, rest) {
-        rule.skip(rest)
-    } else {
-        Some(0)
-    }
-}
 
 // Whether a character begins with this byte, as a number.
 fn begun_by(byte: u8) -> usize
