@@ -1,6 +1,10 @@
 -- lemmas
 pub mod CheckedLemmas
+pub mod DefinitionsLemmas
+pub mod FoldingLemmas
+pub mod IndexLemmas
 pub mod MarkLemmas
 pub mod NameLemmas
 pub mod NodeLemmas
+pub mod PlaceLemmas
 pub mod ReachLemmas
