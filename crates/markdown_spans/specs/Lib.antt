@@ -3,6 +3,8 @@ pub mod Folding
 pub mod Definitions
 pub mod DefinitionsLeft
 pub mod DefinitionsIndex
+pub mod Footnotes
+pub mod FootnoteLending
 -- what is asked about broken links, and what is answered
 pub mod Callback
 -- a checked block result, and what is checked of it

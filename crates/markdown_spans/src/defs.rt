@@ -3,9 +3,11 @@
 mod callback;
 mod definitions;
 mod folding;
+mod footnotes;
 
 pub use callback::{
     BoxedCallback, BrokenLink, BrokenLinkCallback, Closure, DefaultBrokenLinkCallback,
 };
 pub use definitions::{RefDefs, RefDefsIter};
+pub use footnotes::{FootnoteDef, FootnoteDefs};
 pub use markdown_base::block_parts::{HeadingAttributes, LinkDef};
