@@ -5,6 +5,8 @@ pub mod DefinitionsLeft
 pub mod DefinitionsIndex
 pub mod Footnotes
 pub mod FootnoteLending
+-- what items name by number
+pub mod Allocations
 -- what is asked about broken links, and what is answered
 pub mod Callback
 -- a checked block result, and what is checked of it

@@ -1,10 +1,12 @@
-//! What a block result defines, found by its names; and what is asked where a link label is defined
-//! nowhere.
+//! What the items of a block result name by number, what it defines, found by names, and what is asked
+//! where a link label is defined nowhere.
+mod allocations;
 mod callback;
 mod definitions;
 mod folding;
 mod footnotes;
 
+pub use allocations::Allocations;
 pub use callback::{
     BoxedCallback, BrokenLink, BrokenLinkCallback, Closure, DefaultBrokenLinkCallback,
 };
