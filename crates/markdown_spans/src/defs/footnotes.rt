@@ -4,10 +4,11 @@ ghost use Rattle.std.specs.Borrow.{sem};
 ghost use Rattle.std.specs.Cmp.Lexicographic.{pointwise};
 ghost use Rattle.std.specs.HashMap.{get_by_text};
 ghost use Rattle.std.specs.Option.{option_copied_mut, option_map};
+ghost use Rattle.markdown_base.specs.CowText.{text_of};
 ghost use Rattle.markdown_base.specs.declared.fault.Fault.{Fault};
 ghost use Rattle.markdown_spans.specs.Folding.{case_folding, is_match};
 ghost use Rattle.markdown_spans.specs.Footnotes.{footnote_at, unused, unused_at, used_once_more};
-ghost use Rattle.markdown_spans.specs.FootnoteLending.{LendsFolded};
+ghost use Rattle.markdown_spans.specs.FootnoteLending.{LendsFolded, LendsFootnote};
 
 use super::folding::fold;
 use markdown_base::cow_str::CowStr;
@@ -20,6 +21,25 @@ use std::collections::HashMap;
 pub struct FootnoteDef {
     /// How often it is referred to; stays at `usize::MAX`.
     pub use_count: usize,
+}
+
+/// Why no footnote was found.
+#[derive(Clone, Copy, Debug, PartialEq, Eq, Drop)]
+pub enum Absence {
+    /// No footnote of this name is defined.
+    Undefined,
+    /// An allocation was refused.
+    Refused,
+}
+
+impl From<Fault> for Absence {
+    ghost use Rattle.markdown_spans.specs.declared.defs.footnotes.Absence.{Absence};
+
+    ghost from_gives = { λ _ why. why ≡ Absence.Refused };
+
+    fn from(_fault: Fault) -> Absence {
+        Absence::Refused
+    }
 }
 
 /// The footnotes of a text, found by the case folding of their names.
@@ -70,6 +90,35 @@ impl FootnoteDefs {
                 footnote.use_count = footnote.use_count.saturating_add(1);
                 Ok(true)
             }
+        }
+    }
+
+    /// The footnote of this name, to be changed in place; none is made. The only error is
+    /// `Fault::Memory`. After an error, and where the name is not defined, nothing has changed.
+    pub fn get_mut(&mut self, key: CowStr<'_>) -> Result<Option<&mut FootnoteDef>, Fault>
+        ensures found { IfOk result (λ found.
+            option_copied_mut found ≡ footnote_at self.old (text_of key.entry)) }
+        ensures refused { IfErr result (λ fault. fault ≡ Fault.Memory) }
+    {
+        match self.find_mut(key) {
+            Ok(footnote) => Ok(Some(footnote)),
+            Err(Absence::Undefined) => Ok(None),
+            Err(Absence::Refused) => Err(Fault::Memory),
+        }
+    }
+
+    /// The footnote of this name, to be changed in place; none is made. After an error nothing has
+    /// changed.
+    pub fn find_mut(&mut self, key: CowStr<'_>) -> Result<&mut FootnoteDef, Absence>
+        ensures* writes_back { sem 𝓛 (LendsFootnote self.entry (text_of key.entry) result) }
+        ensures found { IfOk result (λ found. Some found.now ≡ footnote_at self.old (text_of key.entry)) }
+        ensures undefined { IfErr result (λ why.
+            why ≡ Absence.Undefined → footnote_at self.old (text_of key.entry) ≡ None) }
+    {
+        let folded = fold(self.alloc, key.as_str())?;
+        match self.lend(folded.as_str()) {
+            Some(footnote) => Ok(footnote),
+            None => Err(Absence::Undefined),
         }
     }
 
