@@ -3,6 +3,7 @@ pub mod CheckedLemmas
 pub mod DefinitionsLemmas
 pub mod FoldingLemmas
 pub mod IndexLemmas
+pub mod LookUpLawsLemmas
 pub mod MarkLemmas
 pub mod NameLemmas
 pub mod NodeLemmas

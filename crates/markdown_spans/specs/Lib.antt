@@ -1,6 +1,7 @@
 -- definitions and footnotes, found by case folding
 pub mod Folding
 pub mod Definitions
+pub mod LookUpLaws
 pub mod DefinitionsLeft
 pub mod DefinitionsIndex
 pub mod Footnotes
