@@ -5,6 +5,8 @@ mod callback;
 mod definitions;
 mod folding;
 mod footnotes;
+#[cfg(test)]
+mod tests;
 
 pub use allocations::Allocations;
 pub use callback::{
