@@ -2,6 +2,7 @@
 pub mod CowText
 pub mod Event
 pub mod Item
+pub mod BlockParts
 pub mod Arena
 pub mod Forest
 pub mod BlockTree

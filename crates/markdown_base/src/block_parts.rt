@@ -1,6 +1,14 @@
 //! What a block result holds beside its tree.
+ghost use Rattle.std.specs.Prelude.{◌≡◌, ◌≤◌, length, IfOk, IfErr, IfSome, IsOk};
+ghost use Rattle.std.specs.Option.{option_map};
+ghost use Rattle.markdown_base.specs.CowText.{text_of};
+ghost use Rattle.markdown_base.specs.BlockParts.{definition_view, HasShortTexts};
+ghost use Rattle.markdown_base.specs.declared.fault.Fault.{Fault};
+
 use crate::cow_str::CowStr;
+use crate::fault::Fault;
 use crate::tag::Alignment;
+use std::alloc::Global;
 use std::ops::Range;
 
 /// A link reference definition (CommonMark 4.7).
@@ -10,6 +18,64 @@ pub struct LinkDef<'a> {
     pub title: Option<CowStr<'a>>,
     /// The bytes of the source from its `[` to its end.
     pub span: Range<usize>,
+}
+
+impl<'a> LinkDef<'a> {
+    /// The same definition once more: slices of the source stay such, and only boxed texts of more
+    /// than 22 bytes take memory. The only error is `Fault::Memory`.
+    pub fn try_clone(&self, alloc: Global) -> Result<LinkDef<'a>, Fault>
+        ensures same { IfOk result (λ copy. definition_view copy ≡ definition_view self.now) }
+        ensures short { HasShortTexts self.now → IsOk result }
+        ensures refused { IfErr result (λ fault. fault ≡ Fault.Memory) }
+    {
+        let dest = self.dest.try_clone(alloc)?;
+        let title = clone_title(&self.title, alloc)?;
+        Ok(LinkDef {
+            dest,
+            title,
+            span: self.span.start..self.span.end,
+        })
+    }
+
+    /// The same definition, borrowed from nothing. Only slices of more than 22 bytes take memory. The
+    /// only error is `Fault::Memory`; then the definition is gone.
+    pub fn into_static(self, alloc: Global) -> Result<LinkDef<'static>, Fault>
+        ensures same { IfOk result (λ made. definition_view made ≡ definition_view self.entry) }
+        ensures short { HasShortTexts self.entry → IsOk result }
+        ensures refused { IfErr result (λ fault. fault ≡ Fault.Memory) }
+    {
+        let dest = self.dest.into_static(alloc)?;
+        let title = static_title(self.title, alloc)?;
+        Ok(LinkDef {
+            dest,
+            title,
+            span: self.span,
+        })
+    }
+}
+
+/// The same title once more, where there is one.
+fn clone_title<'a>(title: &Option<CowStr<'a>>, alloc: Global) -> Result<Option<CowStr<'a>>, Fault>
+    ensures same { IfOk result (λ copy. option_map text_of copy ≡ option_map text_of title.now) }
+    ensures short { IfSome title.now (λ text. length (text_of text) ≤ 22) → IsOk result }
+    ensures refused { IfErr result (λ fault. fault ≡ Fault.Memory) }
+{
+    match title {
+        None => Ok(None),
+        Some(text) => Ok(Some(text.try_clone(alloc)?)),
+    }
+}
+
+/// The same title, borrowed from nothing, where there is one.
+fn static_title(title: Option<CowStr<'_>>, alloc: Global) -> Result<Option<CowStr<'static>>, Fault>
+    ensures same { IfOk result (λ made. option_map text_of made ≡ option_map text_of title.entry) }
+    ensures short { IfSome title.entry (λ text. length (text_of text) ≤ 22) → IsOk result }
+    ensures refused { IfErr result (λ fault. fault ≡ Fault.Memory) }
+{
+    match title {
+        None => Ok(None),
+        Some(text) => Ok(Some(text.into_static(alloc)?)),
+    }
 }
 
 /// What stands in braces behind a heading.

@@ -64,6 +64,35 @@ fn texts_are_copied(rt: HostRuntime) -> Result<(), Fail> {
     Ok(())
 }
 
+#[test]
+fn definitions_are_copied(rt: HostRuntime) -> Result<(), Fail> {
+    let alloc = rt.alloc();
+    let long = "http://example.com/a/long/destination";
+    let definition = LinkDef {
+        dest: CowStr::from(long),
+        title: Some(CowStr::from(String::from_str(alloc, "a title")?)),
+        span: 3..60,
+    };
+    let copy = definition.try_clone(alloc)?;
+    assert!(rt; matches!(&copy.dest, CowStr::Borrowed(_)));
+    assert_eq!(rt; copy.dest.as_str(), long);
+    assert!(rt; copy.title == Some(CowStr::from("a title")));
+    assert!(rt; copy.span == (3..60));
+    let owned = definition.into_static(alloc)?;
+    assert!(rt; matches!(&owned.dest, CowStr::Boxed(_)));
+    assert_eq!(rt; owned.dest.as_str(), long);
+    assert!(rt; owned.title == Some(CowStr::from("a title")));
+    assert!(rt; owned.span == (3..60));
+    let untitled = LinkDef {
+        dest: CowStr::from(""),
+        title: None,
+        span: 0..4,
+    };
+    assert!(rt; untitled.try_clone(alloc)?.title.is_none());
+    assert!(rt; untitled.into_static(alloc)?.title.is_none());
+    Ok(())
+}
+
 fn ends_match<'a>(pairs: Vec<(Tag<'a>, TagEnd)>) -> bool {
     for (tag, end) in pairs {
         let matches = tag.to_end() == end;

@@ -1,3 +1,13 @@
+-- definitions and footnotes, found by case folding
+pub mod Folding
+pub mod Definitions
+pub mod LookUpLaws
+pub mod DefinitionsLeft
+pub mod DefinitionsIndex
+pub mod Footnotes
+pub mod FootnoteLending
+-- what items name by number
+pub mod Allocations
 -- what is asked about broken links, and what is answered
 pub mod Callback
 -- a checked block result, and what is checked of it
@@ -5,7 +15,8 @@ pub mod Blocks
 pub mod Checked
 -- what is tested of one node: private
 pub mod NodeRules
--- the words of the lower crate that the clauses here are written in
+-- the words of the lower crates that the clauses here are written in
+pub use Rattle.caseless.specs.Caseless
 pub use Rattle.markdown_base.specs.Arena
 pub use Rattle.markdown_base.specs.CowText
 pub use Rattle.markdown_base.specs.Coverage

@@ -1,137 +1,17 @@
-//! What is asked where a link label is defined nowhere, and who answers.
-ghost use Rattle.std.specs.Prelude.{◌≡◌, Option};
-ghost use Rattle.markdown_base.specs.Document.{Question, Answer};
-ghost use Rattle.markdown_spans.specs.Callback.{question_of, answer_of};
+//! What the items of a block result name by number, what it defines, found by names, and what is asked
+//! where a link label is defined nowhere.
+mod allocations;
+mod callback;
+mod definitions;
+mod folding;
+mod footnotes;
+#[cfg(test)]
+mod tests;
 
-use markdown_base::cow_str::CowStr;
-use markdown_base::tag::LinkType;
-use std::ops::Range;
-
-/// A reference whose label no definition has.
-#[derive(Debug, Drop)]
-pub struct BrokenLink<'a> {
-    /// The bytes of the source that the reference stands over.
-    pub span: Range<usize>,
-    pub link_type: LinkType,
-    /// The link label.
-    pub reference: CowStr<'a>,
-}
-
-/// Who is asked about a broken link, by the relation of old state, question, answer and new state.
-pub trait BrokenLinkCallback<'input>: Drop {
-    /// The states in which it may be asked.
-    ghost can_ask: { Self → Type 0 };
-
-    /// In the first state it may give this answer to this question, and then be in the second.
-    ghost answers: { Self → Question → Option Answer → Self → Type 0 };
-
-    /// The destination and the title of a broken link, or None, which leaves it no link.
-    fn handle_broken_link(
-        &mut self,
-        link: BrokenLink<'input>,
-    ) -> Option<(CowStr<'input>, CowStr<'input>)>
-        requires { can_ask self.old }
-        ensures again { can_ask self.new }
-        ensures answered { answers self.old (question_of link.entry) (answer_of result) self.new };
-}
-
-/// Answers None, and keeps its state.
-#[derive(Debug, Drop)]
-pub struct DefaultBrokenLinkCallback;
-
-impl<'input> BrokenLinkCallback<'input> for DefaultBrokenLinkCallback {
-    ghost use Rattle.std.specs.Prelude.{◌≡◌, None};
-
-    ghost can_ask = { λ _. Unit {0} };
-
-    ghost answers = { λ old question answer new. (answer ≡ None) × (old ≡ new) };
-
-    fn handle_broken_link(
-        &mut self,
-        link: BrokenLink<'input>,
-    ) -> Option<(CowStr<'input>, CowStr<'input>)> {
-        let _ = link;
-        None
-    }
-}
-
-/// A closure as a callback. It has to be callable with every question, in each state that it
-/// reaches.
-#[derive(Drop)]
-pub struct Closure<F> {
-    pub f: F,
-}
-
-impl<F> Closure<F> {
-    /// The closure itself; takes no memory.
-    pub fn new(f: F) -> Self
-        ensures { result.f ≡ f }
-    {
-        Closure { f }
-    }
-}
-
-impl<
-    'input,
-    F: FnMut(BrokenLink<'input>) -> Option<(CowStr<'input>, CowStr<'input>)> + Drop,
-> BrokenLinkCallback<'input> for Closure<F> {
-    ghost use Rattle.std.specs.Prelude.{◌≡◌};
-    ghost use Rattle.markdown_spans.specs.Callback.{question_of, answer_of};
-
-    ghost can_ask = { λ s. F.IsAlwaysCallable s.f };
-
-    ghost answers = { λ old question answer new. (link : _) × (given : _)
-        × (question_of link ≡ question) × (answer_of given ≡ answer)
-        × F.step old.f link given new.f };
-
-    fn handle_broken_link(
-        &mut self,
-        link: BrokenLink<'input>,
-    ) -> Option<(CowStr<'input>, CowStr<'input>)> {
-        (self.f)(link)
-    }
-}
-
-/// An object that answers about broken links, and keeps nothing of the source.
-pub trait BoxedCallback: Drop {
-    /// In the first state it may give this answer to this question, and then be in the second.
-    /// An object that does not say may give any.
-    ghost gives: { Self → Question → Option Answer → Self → Type 0 } = { λ old question answer new. Unit {0} };
-
-    /// The destination and the title of a broken link, or None, which leaves it no link.
-    fn answer(
-        &mut self,
-        span: Range<usize>,
-        link_type: LinkType,
-        reference: &str,
-    ) -> Option<(CowStr<'static>, CowStr<'static>)>
-        ensures { gives self.old
-            (record { span = span; link_type = link_type; reference = reference.now })
-            (answer_of result) self.new };
-}
-
-/// A boxed object as a callback, which may always be asked.
-impl<'input> BrokenLinkCallback<'input> for Box<dyn BoxedCallback> {
-    ghost use Rattle.std.specs.Prelude.{◌≡◌};
-
-    ghost can_ask = { λ _. Unit {0} };
-
-    // the object in the box gives the answer, and the box stays
-    ghost answers = { λ old question answer new. (value : _)
-        × (BoxedCallback-box old).gives old.value question answer value
-        × (new ≡ record old { value = value }) };
-
-    fn handle_broken_link(
-        &mut self,
-        link: BrokenLink<'input>,
-    ) -> Option<(CowStr<'input>, CowStr<'input>)> {
-        let BrokenLink {
-            span,
-            link_type,
-            reference,
-        } = link;
-        let given = self.answer(span, link_type, reference.as_str());
-        drop(reference);
-        given
-    }
-}
+pub use allocations::Allocations;
+pub use callback::{
+    BoxedCallback, BrokenLink, BrokenLinkCallback, Closure, DefaultBrokenLinkCallback,
+};
+pub use definitions::{RefDefs, RefDefsIter};
+pub use footnotes::{FootnoteDef, FootnoteDefs};
+pub use markdown_base::block_parts::{HeadingAttributes, LinkDef};

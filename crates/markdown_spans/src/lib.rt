@@ -3,5 +3,6 @@
 
 pub mod blocks;
 pub mod defs;
+pub mod laws;
 #[cfg(test)]
 mod tests;

@@ -1,7 +1,7 @@
 -- What the object in a box answered is what the box answers.
 use Rattle.std.proofs.Common.{◌≡◌, refl, subst}
 use Rattle.markdown_spans.specs.Callback.{question_of, answer_of}
-use Rattle.markdown_spans.proofs.defs.BoxDynBoxedCallbackBrokenLinkCallback.handle_broken_link.Goals as goal
+use Rattle.markdown_spans.proofs.defs.callback.BoxDynBoxedCallbackBrokenLinkCallback.handle_broken_link.Goals as goal
 
 -- what a step left behind a box, in the box as it was before
 left_behind : {I D : Type 0} (X : I → Type 0) (made : (i : I) → X i → D) (G : (i : I) → X i → X i → Type 0) (p : (i : I) × X i) (i : I) (x : X i) → p ≡ (i, x)
