@@ -4,3 +4,6 @@ pub mod EventHtmlLemmas
 pub mod HtmlCorrectLemmas
 pub mod LookBacksLemmas
 pub mod WriterLemmas
+pub mod MergeLemmas
+pub mod HeldItemsLemmas
+pub mod MergeNextLemmas

@@ -3,5 +3,6 @@
 
 mod escape;
 pub mod html;
+pub mod merge;
 #[cfg(test)]
 mod tests;
