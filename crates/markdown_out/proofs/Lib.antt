@@ -7,3 +7,6 @@ pub mod WriterLemmas
 pub mod MergeLemmas
 pub mod HeldItemsLemmas
 pub mod MergeNextLemmas
+pub mod MergeLawsLemmas
+pub mod MergedHtmlLemmas
+pub mod RenderedMergeLemmas

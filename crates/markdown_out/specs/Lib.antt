@@ -10,6 +10,7 @@ pub mod Merge
 pub mod MergeNext
 pub mod Places
 pub mod MergeState
+pub mod OutLaws
 -- For private clauses.
 pub mod Escaped
 pub mod Writer

@@ -3,6 +3,9 @@
 
 mod escape;
 pub mod html;
+pub mod laws;
 pub mod merge;
+#[cfg(test)]
+mod merge_tests;
 #[cfg(test)]
 mod tests;
