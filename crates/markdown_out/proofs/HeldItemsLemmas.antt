@@ -1,5 +1,5 @@
 -- What an answer makes of the items that a merge holds.
-use Rattle.std.proofs.Common.{◌≡◌, ℕ, List, [], ◌∷◌, ◌++◌, map, Result, Option, Some, None, refl, sym, ap, ◌∙◌}
+use Rattle.std.proofs.Common.{◌≡◌, List, [], ◌∷◌, ◌++◌, map, Result, Option, Some, None, refl, ap}
 use Rattle.std.specs.Option.{option_map}
 use Rattle.markdown_base.specs.declared.event.Event.{Event}
 use Rattle.markdown_base.specs.declared.fault.Fault.{Fault}

@@ -1,7 +1,7 @@
 -- The laws of the merge: runs are maximal, so that no two merged Texts are neighbours.
-use Rattle.std.proofs.Common.{◌≡◌, ◌⊎◌, ℕ, List, [], ◌∷◌, ◌++◌, Ok, Err, Option, Some, None, refl, sym, ap, subst, ◌∙◌, inl, inr}
+use Rattle.std.proofs.Common.{◌≡◌, ◌⊎◌, ℕ, List, [], ◌∷◌, ◌++◌, Ok, Err, Some, None, refl, sym, ap, subst, ◌∙◌, inl, inr}
 use Rattle.std.specs.List.{flat_map}
-use Rattle.markdown_base.specs.Event.{EventView, text, start, end, code, inline_math, display_math, html, inline_html, footnote_reference, soft_break, hard_break, rule, task_list_marker}
+use Rattle.markdown_base.specs.Event.{text, start, end, code, inline_math, display_math, html, inline_html, footnote_reference, soft_break, hard_break, rule, task_list_marker}
 use Rattle.markdown_out.specs.Merge.{Item, PlacedText, text_item, text_in, Run, alone, texts, before_runs, runs, last_text, unless_empty, run_items, merged}
 use Rattle.markdown_out.specs.OutLaws.{AreApart, HasNoNeighbours}
 use Rattle.markdown_out.proofs.MergeLemmas.{merged-alone, merged-one, merged-lone_text}

@@ -1,8 +1,8 @@
 -- Laws of the merge: what an item or a run at the front gives.
-use Rattle.std.proofs.Common.{◌≡◌, ℕ, List, [], ◌∷◌, ◌++◌, map, Ok, Err, Result, Option, Some, None, refl, sym, ap, ◌∙◌, append_assoc, append-nil}
+use Rattle.std.proofs.Common.{◌≡◌, ℕ, List, [], ◌∷◌, ◌++◌, map, Ok, Err, Option, Some, None, refl, sym, ap, ◌∙◌, append_assoc, append-nil}
 use Rattle.std.specs.List.{flat_map}
 use Rattle.std.proofs.lemmas.List.{map-append}
-use Rattle.markdown_base.specs.Event.{EventView, text, start, end, code, inline_math, display_math, html, inline_html, footnote_reference, soft_break, hard_break, rule, task_list_marker}
+use Rattle.markdown_base.specs.Event.{text, start, end, code, inline_math, display_math, html, inline_html, footnote_reference, soft_break, hard_break, rule, task_list_marker}
 use Rattle.markdown_out.specs.Merge.{Item, PlacedText, text_item, text_in, Run, alone, texts, before_runs, runs, last_text, unless_empty, run_items, merged, merge_answers}
 
 -- the runs of a list that begins with no Text

@@ -1,18 +1,17 @@
 -- Merging changes no byte of the HTML: the HTML of a list of events read forwards, and that of runs.
-use Rattle.std.proofs.Common.{◌≡◌, ◌⊎◌, ◌<◌, ℕ, Bool, true, false, List, [], ◌∷◌, ◌++◌, map, Ok, Err, Result, Option, Some, None, length, reverse, refl, sym, ap, subst, ◌∙◌, append_assoc, append-nil, arith, inl, inr}
+use Rattle.std.proofs.Common.{◌≡◌, ◌<◌, ℕ, Bool, true, false, List, [], ◌∷◌, ◌++◌, map, Ok, Err, Option, Some, None, length, reverse, refl, sym, ap, subst, ◌∙◌, append_assoc, append-nil, arith}
 use mathlib.Core.List.{reverse_aux}
 use Rattle.std.specs.List.{flat_map, AllByRecursion}
 use Rattle.std.proofs.lemmas.List.Concat.{flat_map-append}
 use Rattle.markdown_base.specs.Event.{EventView, text, start, end, code, inline_math, display_math, html, inline_html, footnote_reference, soft_break, hard_break, rule, task_list_marker}
-use Rattle.markdown_out.specs.ByteLists.{joined, ends_line}
+use Rattle.markdown_out.specs.ByteLists.{ends_line}
 use Rattle.markdown_out.specs.Escapes.{text_escaped, text_byte, attribute_escaped, attribute_byte}
 use Rattle.markdown_out.specs.LookBacks.{Past, OpenImageView, unless_inside, metadata_after, head_after, column_after, alignments_after, names_after, image_after, image_before}
 use Rattle.markdown_out.specs.EventHtml.{event_bytes, bytes_by_image, fresh_after, past_of, bytes_before, closing, html_of}
-use Rattle.markdown_out.specs.Merge.{Item, PlacedText, text_item, text_in, Run, alone, texts, before_runs, runs, last_text, unless_empty, run_items, merged}
+use Rattle.markdown_out.specs.Merge.{PlacedText, text_item, Run, alone, texts, before_runs, runs, last_text, unless_empty, run_items}
 use Rattle.markdown_out.specs.OutLaws.{event_item, item_events, merged_events, IsNoEmptyText}
 use Rattle.markdown_out.specs.Places.{nowhere}
 use Rattle.markdown_out.proofs.ByteListsLemmas.{ends_line-append}
-use Rattle.markdown_out.proofs.MergeLawsLemmas.{IsText, text_or_none}
 
 -- what is told after one more event
 abbrev pub past_after : Past → EventView → Past

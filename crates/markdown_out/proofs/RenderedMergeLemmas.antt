@@ -1,10 +1,9 @@
 -- What `push_html` makes of a merge: the HTML of the merge of the events.
-use Rattle.std.proofs.Common.{◌≡◌, ◌⊎◌, ℕ, Bool, true, false, List, [], ◌∷◌, ◌++◌, map, Ok, Err, Result, Option, Some, None, refl, sym, ap, subst, ◌∙◌, append_assoc, append-nil, inl, inr}
-use mathlib.Core.Bool.{true≢false}
+use Rattle.std.proofs.Common.{◌≡◌, ◌⊎◌, ℕ, true, false, List, [], ◌∷◌, ◌++◌, map, Ok, Err, Result, Option, Some, None, refl, sym, ap, subst, ◌∙◌, append_assoc, append-nil, inl, inr}
 use Rattle.std.specs.Bool.{MatchBool}
 use Rattle.std.specs.Option.{option_map}
 use Rattle.std.specs.List.{flat_map}
-use Rattle.std.specs.Iterator.{Yields, Drains}
+use Rattle.std.specs.Iterator.{Count, Yields, Drains}
 use Rattle.std.proofs.lemmas.List.{map-append}
 use Rattle.markdown_base.specs.Event.{EventView, event_view}
 use Rattle.markdown_base.specs.declared.event.Event.{Event}
@@ -196,7 +195,7 @@ module _ {S : Type 0} (steps : S → Option Raw → S → Type 0) where
   abbrev IsRefusal : Option Raw → Type 0
   IsRefusal r = r ≡ Some (Err Memory)
 
-  passes : (s : MergeState S U) (r : Option Raw) (t : MergeState S U) → s.over ≡ false → (IsRefusal r → ⊥) → MergeSteps steps s r t → PassesOn nowhere view steps s r t
+  passes : (s : MergeState S U) (r : Option Raw) (t : MergeState S U) → s.over ≡ false → (IsRefusal r → ⊥) → MergesNext nowhere view steps s r t → PassesOn nowhere view steps s r t
   passes s r t e n m = by_kind (subst (λ b. MatchBool b ((r ≡ None) × (t.over ≡ true)) (PassesOn nowhere view steps s r t ⊎ ((r ≡ Some (Err Memory)) × (t.over ≡ true)))) e m)
     where
       by_kind : PassesOn nowhere view steps s r t ⊎ ((r ≡ Some (Err Memory)) × (t.over ≡ true)) → PassesOn nowhere view steps s r t
@@ -270,9 +269,9 @@ module _ {S : Type 0} (steps : S → Option Raw → S → Type 0) where
               merges = ap (λ xs. flat_map item_events (merged nowhere xs)) (sym (views-items read.events) ∙ ap (map view) (sym read.are))
                   ∙ (ap (flat_map item_events) given ∙ events-items views) }
 
-  module _ {M : Type 0} (state : M → MergeState S U) where
+  module _ {M : Type 0} (can : S → Type 0) (rest : S → Count) (state : M → MergeState S U) where
     abbrev merge_steps : M → Option Raw → M → Type 0
-    merge_steps m r t = MergeSteps steps (state m) r (state t)
+    merge_steps m r t = MergeSteps steps can rest (state m) r (state t)
 
     ok-no_refusal : (e : Event) → IsRefusal (Some (Ok e)) → ⊥
     ok-no_refusal e h = cc
@@ -283,10 +282,10 @@ module _ {S : Type 0} (steps : S → Option Raw → S → Type 0) where
     run-of : (m : M) (es : List Event) (t u : M) → (state m).over ≡ false → Yields merge_steps m (items es) t → merge_steps t None u
         → IsRun (state m) (map (λ i. Some i) (map event_item (map event_view es)) ++ (None ∷ [])) (state u)
     run-of m [] t u o y p =
-        let q = passes (state m) None (state u) o none-no_refusal (subst (λ k. merge_steps k None u) (sym y) p) in
+        let q = passes (state m) None (state u) o none-no_refusal (subst (λ k. merge_steps k None u) (sym y) p).gives in
         record { answers = q.answers; read = q.read; leaves = q.leaves; goes_on = q.goes_on }
     run-of m (e ∷ es) t u o y p =
-        let q = passes (state m) (Some (Ok e)) (state y.0) o (ok-no_refusal e) y.1 in
+        let q = passes (state m) (Some (Ok e)) (state y.0) o (ok-no_refusal e) y.1.gives in
         run-more (state m) (state y.0) (state u) (Some (Ok e)) (map (λ i. Some i) (map event_item (map event_view es)) ++ (None ∷ [])) q (run-of y.0 es t u q.goes_on y.2 p)
 
     -- the HTML of a merge is that of the merge of the events

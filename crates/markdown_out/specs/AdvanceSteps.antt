@@ -1,5 +1,5 @@
 -- What the loop of a merge did. Only private clauses cite this.
-use Rattle.std.specs.Prelude.{◌≡◌, ℕ, List, ◌∷◌, ◌++◌, map, Option}
+use Rattle.std.specs.Prelude.{◌≡◌, List, ◌++◌, map, Option}
 use Rattle.std.specs.Option.{option_map}
 use Rattle.markdown_out.specs.Merge.{Item, merge_answers}
 use Rattle.markdown_out.specs.MergeNext.{Gave}

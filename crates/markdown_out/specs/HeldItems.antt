@@ -1,12 +1,12 @@
 -- What a merge holds, as items that were read and not given yet. Only private clauses cite this.
-use Rattle.std.specs.Prelude.{◌≡◌, ◌+◌, ℕ, List, [], ◌∷◌, ◌++◌, map, Result, Option, Some, None, string_bytes}
+use Rattle.std.specs.Prelude.{◌≡◌, ℕ, List, [], ◌∷◌, ◌++◌, Result, Option, Some, None, string_bytes}
 use Rattle.std.specs.Option.{option_map}
 use Rattle.markdown_base.specs.CowText.{text_of}
 use Rattle.markdown_base.specs.declared.cow_str.CowStr.{CowStr}
 use Rattle.markdown_base.specs.declared.event.Event.{Event}
 use Rattle.markdown_base.specs.declared.fault.Fault.{Fault}
 use Rattle.markdown_out.specs.Merge.{Item, PlacedText, text_item, text_in, merge_answers}
-use Rattle.markdown_out.specs.MergeNext.{item_view}
+use Rattle.markdown_out.specs.MergeNext.{item_view, some_count}
 use Rattle.markdown_out.specs.declared.merge.held.Held.{Held}
 use Rattle.markdown_out.specs.declared.merge.held.Held.TheVariants as held
 use Rattle.markdown_out.specs.declared.merge.held.Step.{Step}
@@ -57,8 +57,7 @@ answer_count (Some x) = 1
 
 -- one where anything is held
 abbrev pub held_count : {P : Type 0} → Held P → ℕ
-held_count held.Nothing = 0
-held_count held = 1
+held_count held = some_count (held_items held)
 
 -- one where an item is given
 abbrev pub given_count : {P : Type 0} → Step P → ℕ

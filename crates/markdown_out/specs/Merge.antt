@@ -1,5 +1,5 @@
 -- The merge of neighbouring Texts: of a list of events and errors, and of what an iterator answers.
-use Rattle.std.specs.Prelude.{ℕ, List, [], ◌∷◌, ◌++◌, map, Ok, Err, Result, Option, Some, None}
+use Rattle.std.specs.Prelude.{ℕ, List, [], ◌∷◌, ◌++◌, map, Ok, Result, Option, Some, None}
 use Rattle.std.specs.List.{flat_map}
 use Rattle.markdown_base.specs.Event.{EventView, text}
 use Rattle.markdown_base.specs.declared.fault.Fault.{Fault}

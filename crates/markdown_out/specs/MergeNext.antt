@@ -1,5 +1,5 @@
 -- What a call of `next` of a merge gives, over any iterator.
-use Rattle.std.specs.Prelude.{◌≡◌, ◌⊎◌, ◌≤◌, ℕ, Bool, true, false, List, [], ◌∷◌, ◌++◌, map, Ok, Err, Result, Option, Some, None}
+use Rattle.std.specs.Prelude.{◌≡◌, ◌⊎◌, ◌+◌, ◌≤◌, ℕ, Bool, true, false, cond, List, [], ◌∷◌, ◌++◌, map, Ok, Err, Result, Option, Some, None}
 use Rattle.std.specs.Bool.{MatchBool}
 use Rattle.std.specs.Option.{option_map}
 use Rattle.std.specs.Iterator.{Count, IsFinite, size}
@@ -34,6 +34,15 @@ pub record MergeState (S P : Type 0) : Type 0 where
   pub held : List (Item P)
   pub over : Bool
 
+-- one where there are any
+abbrev pub some_count : {A : Type 0} → List A → ℕ
+some_count [] = 0
+some_count (x ∷ xs) = 1
+
+-- how many items a merge has left at most, where its iterator has so many
+abbrev pub left_count : {S P : Type 0} → (S → Count) → MergeState S P → ℕ
+left_count rest s = cond s.over 0 (some_count s.held + size (rest s.iter))
+
 module _ {S T P : Type 0} (through : P → P → P) (view : T → Item P) (steps : S → Option T → S → Type 0) where
   -- answers were read, and, whatever answers follow, what was left is the answer given and then what
   -- is left now
@@ -51,3 +60,11 @@ abbrev pub MergesNext : {S T P : Type 0} → (P → P → P) → (Result T Fault
 MergesNext through view steps s r t = MatchBool s.over
     ((r ≡ None) × (t.over ≡ true))
     (PassesOn through view steps s r t ⊎ ((r ≡ Some (Err Memory)) × (t.over ≡ true)))
+
+-- a call of `next`: beside what it gives, the merge may be called again, after None too, and has no
+-- more items left than before
+pub record CallsMerge {S T P : Type 0} (through : P → P → P) (view : Result T Fault → Item P) (steps : S → Option (Result T Fault) → S → Type 0)
+    (can : S → Type 0) (rest : S → Count) (s : MergeState S P) (r : Option (Result T Fault)) (t : MergeState S P) : Type 0 where
+  pub gives : MergesNext through view steps s r t
+  pub again : CanMerge steps can rest t.iter
+  pub fewer : left_count rest t ≤ left_count rest s

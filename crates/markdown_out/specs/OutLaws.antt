@@ -1,14 +1,14 @@
 -- Laws of the merge, and of the HTML of merged events.
-use Rattle.std.specs.Prelude.{◌≡◌, ◌⊎◌, ℕ, List, [], ◌∷◌, ◌++◌, map, Ok, Err, Result, Option, Some, None}
+use Rattle.std.specs.Prelude.{◌≡◌, ◌⊎◌, ℕ, List, [], ◌∷◌, ◌++◌, map, Ok, Err, Result, Option, None}
 use Rattle.std.specs.List.{flat_map, AllByRecursion}
-use Rattle.std.specs.Iterator.{Drains}
+use Rattle.std.specs.Iterator.{Count, Drains}
 use Rattle.markdown_base.specs.Event.{EventView, text, event_view}
 use Rattle.markdown_base.specs.declared.event.Event.{Event}
 use Rattle.markdown_base.specs.declared.fault.Fault.{Fault}
 use Rattle.markdown_out.specs.EventHtml.{html_of}
-use Rattle.markdown_out.specs.HtmlCorrect.{items, IsRendered}
+use Rattle.markdown_out.specs.HtmlCorrect.{items}
 use Rattle.markdown_out.specs.Merge.{Item, text_in, merged}
-use Rattle.markdown_out.specs.MergeNext.{MergeState, MergesNext, item_view}
+use Rattle.markdown_out.specs.MergeNext.{MergeState, CallsMerge, item_view}
 use Rattle.markdown_out.specs.Places.{bare, nowhere}
 
 -- not both are Texts
@@ -49,12 +49,13 @@ module _ {S : Type 0} (steps : S → Option (Result Event Fault) → S → Type 
   abbrev pub StaysEnded : Type 0
   StaysEnded = (s t u : S) (r : Option (Result Event Fault)) → steps s None t → steps t r u → r ≡ None
 
-  -- the calls of a merge of events
-  abbrev pub MergeSteps : MergeState S (Unit {0}) → Option (Result Event Fault) → MergeState S (Unit {0}) → Type 0
-  MergeSteps = MergesNext nowhere (item_view bare) steps
-
   -- these are all events up to the first None, and the HTML of their merge stands behind the old text
   pub record IsRenderedMerged (it : S) (old new : List ℕ) : Type 0 where
     pub events : List Event
     pub read : Drains steps it (items events)
     pub stands : new ≡ old ++ html_of (merged_events (map event_view events))
+
+-- the calls of a merge of events
+abbrev pub MergeSteps : {S : Type 0} → (S → Option (Result Event Fault) → S → Type 0) → (S → Type 0) → (S → Count)
+    → MergeState S (Unit {0}) → Option (Result Event Fault) → MergeState S (Unit {0}) → Type 0
+MergeSteps = CallsMerge nowhere (item_view bare)

@@ -43,7 +43,7 @@ pub fn html_of_a_merge_is_that_of_the_merged_events<
     merge: &TextMergeStream<'a, I>,
 )
     ensures { StaysEnded I.next_gives → (stream_state merge.now).held ≡ [] → (stream_state merge.now).over ≡ false
-        → (old new : List ℕ) → IsRendered (λ m r t. MergeSteps I.next_gives (stream_state m) r (stream_state t)) merge.now old new
+        → (old new : List ℕ) → IsRendered (λ m r t. MergeSteps I.next_gives I.can_next I.remaining (stream_state m) r (stream_state t)) merge.now old new
         → IsRenderedMerged I.next_gives (stream_state merge.now).iter old new }
 {
 }

@@ -39,15 +39,16 @@ impl<'a, I: Iterator<Item = Result<Event<'a>, Fault>>> Iterator for TextMergeStr
     type Item = Result<Event<'a>, Fault>;
 
     ghost use Rattle.std.specs.Iterator.{at_most};
-    ghost use Rattle.markdown_out.specs.MergeNext.{CanMerge, MergesNext, item_view};
-    ghost use Rattle.markdown_out.specs.MergeState.{stream_state, stream_count};
+    ghost use Rattle.markdown_out.specs.MergeNext.{CanMerge, CallsMerge, item_view, left_count};
+    ghost use Rattle.markdown_out.specs.MergeState.{stream_state};
     ghost use Rattle.markdown_out.specs.Places.{bare, nowhere};
 
     ghost can_next = { λ m. CanMerge I.next_gives I.can_next I.remaining (stream_state m).iter };
 
-    ghost next_gives = { λ m r t. MergesNext nowhere (item_view bare) I.next_gives (stream_state m) r (stream_state t) };
+    ghost next_gives = { λ m r t. CallsMerge nowhere (item_view bare) I.next_gives I.can_next I.remaining
+        (stream_state m) r (stream_state t) };
 
-    ghost remaining = { λ m. at_most (stream_count I.remaining m) };
+    ghost remaining = { λ m. at_most (left_count I.remaining (stream_state m)) };
 
     fn size_hint(&self) -> (usize, Option<usize>) {
         (0, None)
@@ -83,15 +84,16 @@ impl<'a, I: Iterator<Item = Result<(Event<'a>, Range<usize>), Fault>>> Iterator
     type Item = Result<(Event<'a>, Range<usize>), Fault>;
 
     ghost use Rattle.std.specs.Iterator.{at_most};
-    ghost use Rattle.markdown_out.specs.MergeNext.{CanMerge, MergesNext, item_view};
-    ghost use Rattle.markdown_out.specs.MergeState.{offset_state, offset_count};
+    ghost use Rattle.markdown_out.specs.MergeNext.{CanMerge, CallsMerge, item_view, left_count};
+    ghost use Rattle.markdown_out.specs.MergeState.{offset_state};
     ghost use Rattle.markdown_out.specs.Places.{ranged, through_ranges};
 
     ghost can_next = { λ m. CanMerge I.next_gives I.can_next I.remaining (offset_state m).iter };
 
-    ghost next_gives = { λ m r t. MergesNext through_ranges (item_view ranged) I.next_gives (offset_state m) r (offset_state t) };
+    ghost next_gives = { λ m r t. CallsMerge through_ranges (item_view ranged) I.next_gives I.can_next I.remaining
+        (offset_state m) r (offset_state t) };
 
-    ghost remaining = { λ m. at_most (offset_count I.remaining m) };
+    ghost remaining = { λ m. at_most (left_count I.remaining (offset_state m)) };
 
     fn size_hint(&self) -> (usize, Option<usize>) {
         (0, None)

@@ -2,10 +2,10 @@
 ghost use Rattle.std.specs.Prelude.{◌≡◌, ◌+◌, ◌≤◌, ◌∷◌, [], IfOk, IfErr};
 ghost use Rattle.std.specs.Option.{option_map};
 ghost use Rattle.std.specs.Iterator.{size};
-ghost use Rattle.markdown_out.specs.MergeNext.{CanMerge, MergesNext, item_view};
+ghost use Rattle.markdown_out.specs.MergeNext.{CanMerge, MergesNext, item_view, left_count};
 ghost use Rattle.markdown_out.specs.HeldItems.{placed_view, answer_count, held_count, held_items};
 ghost use Rattle.markdown_out.specs.AdvanceSteps.{IsMerged};
-ghost use Rattle.markdown_out.specs.MergeState.{merging_state, merging_count};
+ghost use Rattle.markdown_out.specs.MergeState.{merging_state};
 
 use super::held::{Held, Placed, Step, take_in};
 use super::place::{MergeItem, Place};
@@ -99,7 +99,8 @@ pub fn next_item<'a, T: MergeItem<'a>, I: Iterator<Item = Result<T, Fault>>>(
     ensures gives { MergesNext T.At.through (item_view T.parts) I.next_gives
         (merging_state merging.old) result (merging_state merging.new) }
     ensures again { CanMerge I.next_gives I.can_next I.remaining merging.new.iter }
-    ensures less { answer_count result + merging_count I.remaining merging.new ≤ merging_count I.remaining merging.old }
+    ensures less { answer_count result + left_count I.remaining (merging_state merging.new)
+        ≤ left_count I.remaining (merging_state merging.old) }
 {
     if merging.over {
         return None;

@@ -1,4 +1,4 @@
-use Rattle.std.proofs.Common.{◌≡◌, ◌∙◌}
+use Rattle.std.proofs.Common.{◌≡◌}
 use Rattle.markdown_out.specs.HeldItems.{placed_view, placed_text, held_items, answer_items}
 use Rattle.markdown_out.proofs.HeldItemsLemmas.{gives-alone, gives-lone_text, joins-two}
 use Rattle.markdown_out.proofs.merge.held.after_item.Goals as goal

@@ -1,4 +1,4 @@
-use Rattle.std.proofs.Common.{◌≡◌, ◌∙◌, [], Some, refl, map, string_bytes}
+use Rattle.std.proofs.Common.{◌≡◌, [], Some, refl, map, string_bytes}
 use Rattle.markdown_out.specs.Merge.{unless_empty}
 use Rattle.markdown_out.specs.HeldItems.{placed_text, held_items, answer_items, given_answers}
 use Rattle.markdown_out.proofs.HeldItemsLemmas.{gives-run, joins-more}

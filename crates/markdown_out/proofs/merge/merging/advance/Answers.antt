@@ -1,7 +1,7 @@
-use Rattle.std.proofs.Common.{◌≡◌, ◌≤◌, ◌+◌, ◌∷◌, [], sym, ap, subst, ◌∙◌, arith}
+use Rattle.std.proofs.Common.{◌≡◌, ◌∷◌, [], sym, ap, subst, ◌∙◌, arith}
 use Rattle.std.specs.Option.{option_map}
 use Rattle.markdown_out.specs.MergeNext.{item_view}
-use Rattle.markdown_out.specs.HeldItems.{given_answers, held_items, answer_count}
+use Rattle.markdown_out.specs.HeldItems.{given_answers, held_items}
 use Rattle.markdown_out.specs.AdvanceSteps.{IsMerged}
 use Rattle.markdown_out.proofs.MergeNextLemmas.{merged-more, can_merge-after, fewer-after}
 use Rattle.markdown_out.proofs.merge.merging.advance.Goals as goal

@@ -1,4 +1,4 @@
-use Rattle.std.proofs.Common.{ℕ, ◌+◌, ◌*◌}
+use Rattle.std.proofs.Common.{◌+◌, ◌*◌}
 use Rattle.std.specs.Iterator.{size}
 use Rattle.markdown_out.specs.MergeNext.{item_view}
 use Rattle.markdown_out.specs.HeldItems.{held_count}
