@@ -2,6 +2,8 @@
 #![tactic(auto)]
 
 mod escape;
+#[cfg(test)]
+mod escape_tests;
 pub mod html;
 pub mod laws;
 pub mod merge;
