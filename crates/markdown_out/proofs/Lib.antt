@@ -4,3 +4,9 @@ pub mod EventHtmlLemmas
 pub mod HtmlCorrectLemmas
 pub mod LookBacksLemmas
 pub mod WriterLemmas
+pub mod MergeLemmas
+pub mod HeldItemsLemmas
+pub mod MergeNextLemmas
+pub mod MergeLawsLemmas
+pub mod MergedHtmlLemmas
+pub mod RenderedMergeLemmas

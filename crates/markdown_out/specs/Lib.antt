@@ -6,9 +6,16 @@ pub mod TagHtml
 pub mod EventHtml
 pub mod HtmlCorrect
 pub mod ByteLists
+pub mod Merge
+pub mod MergeNext
+pub mod Places
+pub mod MergeState
+pub mod OutLaws
 -- For private clauses.
 pub mod Escaped
 pub mod Writer
+pub mod HeldItems
+pub mod AdvanceSteps
 -- Words of other crates that the clauses stand on.
 pub use Rattle.markdown_base.specs.Event
 pub use Rattle.percent_encoding.specs.Percent

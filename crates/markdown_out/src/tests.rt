@@ -4,7 +4,7 @@ use markdown_base::cow_str::CowStr;
 use markdown_base::event::Event;
 use markdown_base::fault::Fault;
 use markdown_base::tag::{
-    Alignment, CodeBlockKind, HeadingLevel, LinkType, MetadataBlockKind, Tag, TagEnd,
+    Alignment, BlockQuoteKind, CodeBlockKind, HeadingLevel, LinkType, MetadataBlockKind, Tag, TagEnd,
 };
 use std::alloc::Global;
 use std::test::Fail;
@@ -286,5 +286,162 @@ fn metadata_drops_its_text(rt: HostRuntime) -> Result<(), Fail> {
         "old <i>b<br />\n<span class=\"math math-display\">x</span>\
         <input disabled=\"\" type=\"checkbox\"/>\n"
     );
+    Ok(())
+}
+
+#[test]
+fn each_start_writes_its_tag(rt: HostRuntime) -> Result<(), Fail> {
+    let alloc = rt.alloc();
+    let heading = |level| Tag::Heading {
+        level,
+        id: None,
+        classes: Vec::new(alloc),
+        attrs: Vec::new(alloc),
+    };
+    let rust = CodeBlockKind::Fenced(CowStr::Borrowed("rs x"));
+    let left = vec![in alloc; Alignment::Left, Alignment::Center, Alignment::Right, Alignment::None]?;
+    let events = vec![in alloc;
+        start(Tag::Paragraph),
+        start(heading(HeadingLevel::H1)),
+        start(heading(HeadingLevel::H6)),
+        start(Tag::BlockQuote(None)),
+        start(Tag::BlockQuote(Some(BlockQuoteKind::Note))),
+        start(Tag::BlockQuote(Some(BlockQuoteKind::Tip))),
+        start(Tag::BlockQuote(Some(BlockQuoteKind::Important))),
+        start(Tag::BlockQuote(Some(BlockQuoteKind::Warning))),
+        start(Tag::BlockQuote(Some(BlockQuoteKind::Caution))),
+        start(Tag::CodeBlock(CodeBlockKind::Indented)),
+        start(Tag::CodeBlock(rust)),
+        start(Tag::List(None)),
+        start(Tag::List(Some(1))),
+        start(Tag::List(Some(0))),
+        start(Tag::List(Some(18446744073709551615))),
+        start(Tag::Item),
+        start(Tag::DefinitionList),
+        start(Tag::DefinitionListTitle),
+        start(Tag::DefinitionListDefinition),
+        start(Tag::Table(left)),
+        start(Tag::TableHead),
+        start(Tag::TableRow),
+        start(Tag::TableCell),
+        start(Tag::Emphasis),
+        start(Tag::Strong),
+        start(Tag::Strikethrough),
+        start(Tag::Subscript),
+        start(Tag::Superscript),
+        start(link(LinkType::Inline, "/a b", "t")),
+        start(link(LinkType::Email, "a@b.c", "")),
+        start(Tag::FootnoteDefinition(CowStr::Borrowed("n"))),
+        start(Tag::HtmlBlock),
+        start(image("u", "t")),
+    ]?;
+    let (s, _) = appended(alloc, events)?;
+    assert_eq!(rt;
+        s.as_str(),
+        "old <p>\n<h1>\n<h6>\n<blockquote>\n\
+        <blockquote class=\"markdown-alert-note\">\n\
+        <blockquote class=\"markdown-alert-tip\">\n\
+        <blockquote class=\"markdown-alert-important\">\n\
+        <blockquote class=\"markdown-alert-warning\">\n\
+        <blockquote class=\"markdown-alert-caution\">\n\
+        <pre><code>\n<pre><code class=\"language-rs\">\n\
+        <ul>\n<ol>\n<ol start=\"0\">\n<ol start=\"18446744073709551615\">\n\
+        <li>\n<dl>\n<dt>\n<dd>\
+        <table><thead><tr><tr><th style=\"text-align: left\">\
+        <em><strong><del><sub><sup>\
+        <a href=\"/a%20b\" title=\"t\"><a href=\"mailto:a@b.c\">\n\
+        <div class=\"footnote-definition\" id=\"n\">\
+        <sup class=\"footnote-definition-label\">1</sup>\
+        <img src=\"u\" alt=\"\" title=\"t\" />"
+    );
+    Ok(())
+}
+
+#[test]
+fn each_end_writes_its_tag(rt: HostRuntime) -> Result<(), Fail> {
+    let kind = MetadataBlockKind::PlusesStyle;
+    let events = vec![in rt.alloc();
+        end(TagEnd::Paragraph),
+        end(TagEnd::Heading(HeadingLevel::H4)),
+        end(TagEnd::BlockQuote(Some(BlockQuoteKind::Tip))),
+        end(TagEnd::CodeBlock),
+        end(TagEnd::List(true)),
+        end(TagEnd::List(false)),
+        end(TagEnd::Item),
+        end(TagEnd::DefinitionList),
+        end(TagEnd::DefinitionListTitle),
+        end(TagEnd::DefinitionListDefinition),
+        end(TagEnd::TableCell),
+        end(TagEnd::TableHead),
+        end(TagEnd::TableCell),
+        end(TagEnd::TableRow),
+        end(TagEnd::Table),
+        end(TagEnd::Emphasis),
+        end(TagEnd::Strong),
+        end(TagEnd::Strikethrough),
+        end(TagEnd::Subscript),
+        end(TagEnd::Superscript),
+        end(TagEnd::Link),
+        end(TagEnd::FootnoteDefinition),
+        end(TagEnd::Image),
+        end(TagEnd::HtmlBlock),
+        end(TagEnd::MetadataBlock(kind)),
+    ]?;
+    let (s, _) = appended(rt.alloc(), events)?;
+    assert_eq!(rt;
+        s.as_str(),
+        "old </p>\n</h4>\n</blockquote>\n</code></pre>\n</ol>\n</ul>\n</li>\n\
+        </dl>\n</dt>\n</dd>\n</th></tr></thead><tbody>\n</td></tr>\n</tbody></table>\n\
+        </em></strong></del></sub></sup></a></div>\n"
+    );
+    Ok(())
+}
+
+#[test]
+fn each_other_event_writes_its_bytes(rt: HostRuntime) -> Result<(), Fail> {
+    let events = vec![in rt.alloc();
+        Ok(Event::Code(CowStr::Borrowed("a<\""))),
+        Ok(Event::InlineMath(CowStr::Borrowed("b<\""))),
+        Ok(Event::DisplayMath(CowStr::Borrowed("c"))),
+        Ok(Event::Html(CowStr::Borrowed("<d>"))),
+        Ok(Event::InlineHtml(CowStr::Borrowed("<e>"))),
+        Ok(Event::SoftBreak),
+        Ok(Event::HardBreak),
+        Ok(Event::Rule),
+        Ok(Event::FootnoteReference(CowStr::Borrowed("f\""))),
+        Ok(Event::TaskListMarker(true)),
+        Ok(Event::TaskListMarker(false)),
+    ]?;
+    let (s, _) = appended(rt.alloc(), events)?;
+    assert_eq!(rt;
+        s.as_str(),
+        "old <code>a&lt;\"</code><span class=\"math math-inline\">b&lt;&quot;</span>\
+        <span class=\"math math-display\">c</span><d><e>\n<br />\n<hr />\n\
+        <sup class=\"footnote-reference\"><a href=\"#f&quot;\">1</a></sup>\
+        <input disabled=\"\" type=\"checkbox\" checked=\"\"/>\n\
+        <input disabled=\"\" type=\"checkbox\"/>\n"
+    );
+    Ok(())
+}
+
+#[test]
+fn events_out_of_order_are_written(rt: HostRuntime) -> Result<(), Fail> {
+    let alloc = rt.alloc();
+    let left = vec![in alloc; Alignment::Left]?;
+    let cells = vec![in alloc;
+        end(TagEnd::Paragraph),
+        start(Tag::Table(left)),
+        start(Tag::TableCell),
+        end(TagEnd::TableCell),
+        start(Tag::TableCell),
+    ]?;
+    let (s, _) = appended(alloc, cells)?;
+    assert_eq!(rt;
+        s.as_str(),
+        "old </p>\n<table><th style=\"text-align: left\"></th><th>"
+    );
+    let image_end = vec![in alloc; text("a"), end(TagEnd::Image), Ok(Event::Rule)]?;
+    let (s, _) = appended(alloc, image_end)?;
+    assert_eq!(rt; s.as_str(), "old a\n<hr />\n");
     Ok(())
 }

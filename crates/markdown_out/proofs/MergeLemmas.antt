@@ -1,0 +1,116 @@
+-- Laws of the merge: what an item or a run at the front gives.
+use Rattle.std.proofs.Common.{◌≡◌, ℕ, List, [], ◌∷◌, ◌++◌, map, Ok, Err, Option, Some, None, refl, sym, ap, ◌∙◌, append_assoc, append-nil}
+use Rattle.std.specs.List.{flat_map}
+use Rattle.std.proofs.lemmas.List.{map-append}
+use Rattle.markdown_base.specs.Event.{text, start, end, code, inline_math, display_math, html, inline_html, footnote_reference, soft_break, hard_break, rule, task_list_marker}
+use Rattle.markdown_out.specs.Merge.{Item, PlacedText, text_item, text_in, Run, alone, texts, before_runs, runs, last_text, unless_empty, run_items, merged, merge_answers}
+
+-- the runs of a list that begins with no Text
+pub runs-alone : {P : Type 0} (x : Item P) (xs : List (Item P)) → text_in x ≡ None → runs (x ∷ xs) ≡ alone x ∷ runs xs
+runs-alone x xs h = ap (λ t. before_runs x t (runs xs)) h
+
+module _ {P : Type 0} (through : P → P → P) where
+  -- an item that is no Text stays, and what follows is merged by itself
+  pub merged-alone : (x : Item P) (xs : List (Item P)) → text_in x ≡ None → merged through (x ∷ xs) ≡ x ∷ merged through xs
+  merged-alone x xs h = ap (flat_map (run_items through)) (runs-alone x xs h)
+
+  -- one item stays as it is
+  pub merged-one : (x : Item P) → merged through (x ∷ []) ≡ x ∷ []
+  merged-one (Ok (text t, p)) = refl
+  merged-one (Ok (start o, p)) = refl
+  merged-one (Ok (end c, p)) = refl
+  merged-one (Ok (code t, p)) = refl
+  merged-one (Ok (inline_math t, p)) = refl
+  merged-one (Ok (display_math t, p)) = refl
+  merged-one (Ok (html t, p)) = refl
+  merged-one (Ok (inline_html t, p)) = refl
+  merged-one (Ok (footnote_reference n, p)) = refl
+  merged-one (Ok (soft_break, p)) = refl
+  merged-one (Ok (hard_break, p)) = refl
+  merged-one (Ok (rule, p)) = refl
+  merged-one (Ok (task_list_marker b, p)) = refl
+  merged-one (Err fault) = refl
+
+  -- a lone Text stays where no Text follows it
+  pub merged-lone_text : (t : PlacedText P) (y : Item P) (ys : List (Item P)) → text_in y ≡ None → merged through (text_item t ∷ y ∷ ys) ≡ text_item t ∷ merged through (y ∷ ys)
+  merged-lone_text t y ys h =
+      ap (λ rs. flat_map (run_items through) (before_runs (text_item t) (Some t) rs)) (runs-alone y ys h)
+      ∙ ap (λ rs. text_item t ∷ flat_map (run_items through) rs) (sym (runs-alone y ys h))
+
+  -- two Texts at the front count as one of both at the first place and an empty one at the last
+  pub merged-two_texts : (t u : PlacedText P) (rest : List (Item P))
+      → merged through (text_item t ∷ text_item u ∷ rest)
+      ≡ merged through (text_item (record { bytes = t.bytes ++ u.bytes; place = t.place }) ∷ text_item (record { bytes = []; place = u.place }) ∷ rest)
+  merged-two_texts t u rest = by_runs (runs rest)
+    where
+      both : PlacedText P
+      both = record { bytes = t.bytes ++ u.bytes; place = t.place }
+      none : PlacedText P
+      none = record { bytes = []; place = u.place }
+      front : List (Run P) → PlacedText P → PlacedText P → List (Item P)
+      front rs a b = flat_map (run_items through) (before_runs (text_item a) (Some a) (before_runs (text_item b) (Some b) rs))
+      by_runs : (rs : List (Run P)) → front rs t u ≡ front rs both none
+      by_runs [] = ap (λ bytes. unless_empty bytes (through t.place u.place) ++ []) (sym (append_assoc t.bytes u.bytes []))
+      by_runs (alone x ∷ rs) = ap (λ bytes. unless_empty bytes (through t.place u.place) ++ flat_map (run_items through) (alone x ∷ rs)) (sym (append_assoc t.bytes u.bytes []))
+      by_runs (texts v vs ∷ rs) =
+          ap (λ bytes. unless_empty bytes (through t.place (last_text v vs).place) ++ flat_map (run_items through) rs) (sym (append_assoc t.bytes u.bytes (flat_map (λ x. x.bytes) (v ∷ vs))))
+
+  -- a third Text behind two whose last is empty
+  pub merged-three_texts : (t l u : PlacedText P) (rest : List (Item P)) → l.bytes ≡ []
+      → merged through (text_item t ∷ text_item l ∷ text_item u ∷ rest)
+      ≡ merged through (text_item (record { bytes = t.bytes ++ u.bytes; place = t.place }) ∷ text_item (record { bytes = []; place = u.place }) ∷ rest)
+  merged-three_texts t l u rest e = by_runs (runs rest)
+    where
+      both : PlacedText P
+      both = record { bytes = t.bytes ++ u.bytes; place = t.place }
+      none : PlacedText P
+      none = record { bytes = []; place = u.place }
+      joined : (more : List ℕ) → t.bytes ++ (l.bytes ++ (u.bytes ++ more)) ≡ (t.bytes ++ u.bytes) ++ more
+      joined more = ap (λ bytes. t.bytes ++ (bytes ++ (u.bytes ++ more))) e ∙ sym (append_assoc t.bytes u.bytes more)
+      by_runs : (rs : List (Run P))
+          → flat_map (run_items through) (before_runs (text_item t) (Some t) (before_runs (text_item l) (Some l) (before_runs (text_item u) (Some u) rs)))
+          ≡ flat_map (run_items through) (before_runs (text_item both) (Some both) (before_runs (text_item none) (Some none) rs))
+      by_runs [] = ap (λ bytes. unless_empty bytes (through t.place u.place) ++ []) (joined [])
+      by_runs (alone x ∷ rs) = ap (λ bytes. unless_empty bytes (through t.place u.place) ++ flat_map (run_items through) (alone x ∷ rs)) (joined [])
+      by_runs (texts v vs ∷ rs) =
+          ap (λ bytes. unless_empty bytes (through t.place (last_text v vs).place) ++ flat_map (run_items through) rs) (joined (flat_map (λ x. x.bytes) (v ∷ vs)))
+
+  -- two Texts, the last of them empty, where no Text follows
+  pub merged-run_end : (t l : PlacedText P) (y : Item P) (ys : List (Item P)) → l.bytes ≡ [] → text_in y ≡ None
+      → merged through (text_item t ∷ text_item l ∷ y ∷ ys) ≡ unless_empty t.bytes (through t.place l.place) ++ merged through (y ∷ ys)
+  merged-run_end t l y ys e h =
+      ap (λ rs. flat_map (run_items through) (before_runs (text_item t) (Some t) (before_runs (text_item l) (Some l) rs))) (runs-alone y ys h)
+      ∙ (ap (λ bytes. unless_empty bytes (through t.place l.place) ++ flat_map (run_items through) (alone y ∷ runs ys)) (ap (λ bytes. t.bytes ++ (bytes ++ [])) e ∙ append-nil t.bytes)
+      ∙ ap (λ rs. unless_empty t.bytes (through t.place l.place) ++ flat_map (run_items through) rs) (sym (runs-alone y ys h)))
+
+  -- the same where nothing follows
+  pub merged-run_last : (t l : PlacedText P) → l.bytes ≡ [] → merged through (text_item t ∷ text_item l ∷ []) ≡ unless_empty t.bytes (through t.place l.place)
+  merged-run_last t l e =
+      ap (λ bytes. unless_empty bytes (through t.place l.place) ++ []) (ap (λ bytes. t.bytes ++ (bytes ++ [])) e ∙ append-nil t.bytes)
+      ∙ append-nil (unless_empty t.bytes (through t.place l.place))
+
+  -- items at the front whose merge does not depend on what comes after the next item
+  pub answers-front : (x : Item P) (xs front : List (Item P)) (y : Item P) (ys : List (Item P)) (later : List (Option (Item P)))
+      → ((rest : List (Item P)) → merged through (x ∷ xs ++ y ∷ rest) ≡ front ++ merged through (y ∷ rest))
+      → merge_answers through (x ∷ xs ++ y ∷ ys) later ≡ map (λ i. Some i) front ++ merge_answers through (y ∷ ys) later
+  answers-front x xs front y ys [] h =
+      ap (map (λ i. Some i)) (h ys) ∙ map-append (λ i. Some i) front (merged through (y ∷ ys))
+  answers-front x xs front y ys (Some z ∷ later) h =
+      ap (λ items. merge_answers through (x ∷ items) later) (append_assoc xs (y ∷ ys) (z ∷ []))
+      ∙ answers-front x xs front y (ys ++ z ∷ []) later h
+  answers-front x xs front y ys (None ∷ later) h =
+      ap (λ items. map (λ i. Some i) items ++ merge_answers through [] later) (h ys)
+      ∙ (ap (λ items. items ++ merge_answers through [] later) (map-append (λ i. Some i) front (merged through (y ∷ ys)))
+      ∙ append_assoc (map (λ i. Some i) front) (map (λ i. Some i) (merged through (y ∷ ys))) (merge_answers through [] later))
+
+  -- items at the front that are merged alike, whatever comes after them
+  pub answers-alike : (x : Item P) (xs : List (Item P)) (y : Item P) (ys rest : List (Item P)) (later : List (Option (Item P)))
+      → ((more : List (Item P)) → merged through (x ∷ xs ++ more) ≡ merged through (y ∷ ys ++ more))
+      → merge_answers through (x ∷ xs ++ rest) later ≡ merge_answers through (y ∷ ys ++ rest) later
+  answers-alike x xs y ys rest [] h = ap (map (λ i. Some i)) (h rest)
+  answers-alike x xs y ys rest (Some z ∷ later) h =
+      ap (λ items. merge_answers through (x ∷ items) later) (append_assoc xs rest (z ∷ []))
+      ∙ (answers-alike x xs y ys (rest ++ z ∷ []) later h
+      ∙ ap (λ items. merge_answers through (y ∷ items) later) (sym (append_assoc ys rest (z ∷ []))))
+  answers-alike x xs y ys rest (None ∷ later) h =
+      ap (λ items. map (λ i. Some i) items ++ merge_answers through [] later) (h rest)

@@ -1,0 +1,70 @@
+-- What a call of `next` of a merge gives, over any iterator.
+use Rattle.std.specs.Prelude.{◌≡◌, ◌⊎◌, ◌+◌, ◌≤◌, ℕ, Bool, true, false, cond, List, [], ◌∷◌, ◌++◌, map, Ok, Err, Result, Option, Some, None}
+use Rattle.std.specs.Bool.{MatchBool}
+use Rattle.std.specs.Option.{option_map}
+use Rattle.std.specs.Iterator.{Count, IsFinite, size}
+use Rattle.markdown_base.specs.Event.{event_view}
+use Rattle.markdown_base.specs.declared.event.Event.{Event}
+use Rattle.markdown_base.specs.declared.fault.Fault.{Fault}
+use Rattle.markdown_base.specs.declared.fault.Fault.TheVariants.{Memory}
+use Rattle.markdown_out.specs.Merge.{Item, merge_answers}
+
+-- an item, as the merge of it is defined; `parts` tells its event and its place
+abbrev pub item_view : {T P : Type 0} → (T → Event × P) → Result T Fault → Item P
+item_view parts (Ok x) = Ok (event_view (parts x).0, (parts x).1)
+item_view parts (Err fault) = Err fault
+
+module _ {S A : Type 0} (steps : S → Option A → S → Type 0) where
+  -- calls from s to t gave these answers
+  abbrev pub Gave : S → List (Option A) → S → Type 0
+  Gave s [] t = s ≡ t
+  Gave s (r ∷ answers) t = (j : S) × steps s r j × Gave j answers t
+
+  -- the iterator may be called and ends; where it gave None it may be called again, and no more
+  -- items are left than before
+  pub record CanMerge (can : S → Type 0) (rest : S → Count) (s : S) : Type 0 where
+    pub callable : can s
+    pub ends : IsFinite (rest s)
+    pub goes_on : (t u : S) → can t → IsFinite (rest t) → steps t None u → can u × (size (rest u) ≤ size (rest t))
+
+-- a merge between calls: its iterator, the items that were read and not given yet, and whether a
+-- growth was refused
+pub record MergeState (S P : Type 0) : Type 0 where
+  pub iter : S
+  pub held : List (Item P)
+  pub over : Bool
+
+-- one where there are any
+abbrev pub some_count : {A : Type 0} → List A → ℕ
+some_count [] = 0
+some_count (x ∷ xs) = 1
+
+-- how many items a merge has left at most, where its iterator has so many
+abbrev pub left_count : {S P : Type 0} → (S → Count) → MergeState S P → ℕ
+left_count rest s = cond s.over 0 (some_count s.held + size (rest s.iter))
+
+module _ {S T P : Type 0} (through : P → P → P) (view : T → Item P) (steps : S → Option T → S → Type 0) where
+  -- answers were read, and, whatever answers follow, what was left is the answer given and then what
+  -- is left now
+  pub record PassesOn (s : MergeState S P) (r : Option T) (t : MergeState S P) : Type 0 where
+    pub answers : List (Option T)
+    pub read : Gave steps s.iter answers t.iter
+    pub leaves : (later : List (Option (Item P))) → merge_answers through s.held (map (option_map view) answers ++ later)
+        ≡ option_map view r ∷ merge_answers through t.held later
+    pub goes_on : t.over ≡ false
+
+-- one call: the merge passes on what it is to give, or a growth is refused, which is an error item
+-- and the end
+abbrev pub MergesNext : {S T P : Type 0} → (P → P → P) → (Result T Fault → Item P) → (S → Option (Result T Fault) → S → Type 0)
+    → MergeState S P → Option (Result T Fault) → MergeState S P → Type 0
+MergesNext through view steps s r t = MatchBool s.over
+    ((r ≡ None) × (t.over ≡ true))
+    (PassesOn through view steps s r t ⊎ ((r ≡ Some (Err Memory)) × (t.over ≡ true)))
+
+-- a call of `next`: beside what it gives, the merge may be called again, after None too, and has no
+-- more items left than before
+pub record CallsMerge {S T P : Type 0} (through : P → P → P) (view : Result T Fault → Item P) (steps : S → Option (Result T Fault) → S → Type 0)
+    (can : S → Type 0) (rest : S → Count) (s : MergeState S P) (r : Option (Result T Fault)) (t : MergeState S P) : Type 0 where
+  pub gives : MergesNext through view steps s r t
+  pub again : CanMerge steps can rest t.iter
+  pub fewer : left_count rest t ≤ left_count rest s

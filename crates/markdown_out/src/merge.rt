@@ -1,0 +1,107 @@
+//! Neighbouring texts as one: the merges of events, and of events with their ranges.
+//!
+//! A maximal run of two or more texts becomes one owned text, from the first start to the last end,
+//! and nothing where it is empty; all else stays as it is, a single text too, also an empty one. An
+//! error item passes and ends a run. If the iterator gives items after a `None`, each stretch
+//! between its `None`s is merged by itself, and a `None` is passed on only where no item came
+//! before it in its stretch.
+ghost use Rattle.std.specs.Prelude.{◌≡◌, [], false};
+ghost use Rattle.markdown_out.specs.MergeState.{stream_state, offset_state};
+
+mod held;
+mod merging;
+mod place;
+
+use markdown_base::event::Event;
+use markdown_base::fault::Fault;
+use merging::{Merging, next_item};
+use std::alloc::Global;
+use std::ops::Range;
+
+/// The events of an iterator, with neighbouring texts as one.
+#[derive(Drop)]
+pub struct TextMergeStream<'a, I> {
+    merging: Merging<'a, I, ()>,
+}
+
+impl<'a, I> TextMergeStream<'a, I> {
+    /// A merge of what the iterator gives from here on. Takes no memory.
+    pub fn new(alloc: Global, iter: I) -> Self
+        ensures { stream_state result ≡ record { iter = iter; held = []; over = false } }
+    {
+        TextMergeStream {
+            merging: Merging::new(alloc, iter),
+        }
+    }
+}
+
+impl<'a, I: Iterator<Item = Result<Event<'a>, Fault>>> Iterator for TextMergeStream<'a, I> {
+    type Item = Result<Event<'a>, Fault>;
+
+    ghost use Rattle.std.specs.Iterator.{at_most};
+    ghost use Rattle.markdown_out.specs.MergeNext.{CanMerge, CallsMerge, item_view, left_count};
+    ghost use Rattle.markdown_out.specs.MergeState.{stream_state};
+    ghost use Rattle.markdown_out.specs.Places.{bare, nowhere};
+
+    ghost can_next = { λ m. CanMerge I.next_gives I.can_next I.remaining (stream_state m).iter };
+
+    ghost next_gives = { λ m r t. CallsMerge nowhere (item_view bare) I.next_gives I.can_next I.remaining
+        (stream_state m) r (stream_state t) };
+
+    ghost remaining = { λ m. at_most (left_count I.remaining (stream_state m)) };
+
+    fn size_hint(&self) -> (usize, Option<usize>) {
+        (0, None)
+    }
+
+    /// The next event; an error where the iterator gives one, or where memory is refused, after
+    /// which nothing comes.
+    fn next(&mut self) -> Option<Result<Event<'a>, Fault>> {
+        next_item(&mut self.merging)
+    }
+}
+
+/// The events of an iterator with their ranges, with neighbouring texts as one.
+#[derive(Drop)]
+pub struct TextMergeWithOffset<'a, I> {
+    merging: Merging<'a, I, Range<usize>>,
+}
+
+impl<'a, I> TextMergeWithOffset<'a, I> {
+    /// A merge of what the iterator gives from here on. Takes no memory.
+    pub fn new(alloc: Global, iter: I) -> Self
+        ensures { offset_state result ≡ record { iter = iter; held = []; over = false } }
+    {
+        TextMergeWithOffset {
+            merging: Merging::new(alloc, iter),
+        }
+    }
+}
+
+impl<'a, I: Iterator<Item = Result<(Event<'a>, Range<usize>), Fault>>> Iterator
+    for TextMergeWithOffset<'a, I>
+{
+    type Item = Result<(Event<'a>, Range<usize>), Fault>;
+
+    ghost use Rattle.std.specs.Iterator.{at_most};
+    ghost use Rattle.markdown_out.specs.MergeNext.{CanMerge, CallsMerge, item_view, left_count};
+    ghost use Rattle.markdown_out.specs.MergeState.{offset_state};
+    ghost use Rattle.markdown_out.specs.Places.{ranged, through_ranges};
+
+    ghost can_next = { λ m. CanMerge I.next_gives I.can_next I.remaining (offset_state m).iter };
+
+    ghost next_gives = { λ m r t. CallsMerge through_ranges (item_view ranged) I.next_gives I.can_next I.remaining
+        (offset_state m) r (offset_state t) };
+
+    ghost remaining = { λ m. at_most (left_count I.remaining (offset_state m)) };
+
+    fn size_hint(&self) -> (usize, Option<usize>) {
+        (0, None)
+    }
+
+    /// The next event with its range; an error where the iterator gives one, or where memory is
+    /// refused, after which nothing comes.
+    fn next(&mut self) -> Option<Result<(Event<'a>, Range<usize>), Fault>> {
+        next_item(&mut self.merging)
+    }
+}

@@ -1,0 +1,191 @@
+//! What a merge holds between two answers of its iterator, and what it does at an answer.
+ghost use Rattle.std.specs.Prelude.{◌≡◌, ◌++◌, ◌+◌, ◌≤◌, Some, None, IfOk, IfErr, MatchResult, map, string_bytes};
+ghost use Rattle.std.specs.Option.{option_map};
+ghost use Rattle.markdown_base.specs.CowText.{text_of};
+ghost use Rattle.markdown_out.specs.Merge.{text_item, text_in, unless_empty};
+ghost use Rattle.markdown_out.specs.HeldItems.{placed_view, placed_text, held_items, answer_items, given_answers, IsNoText, TakesIn};
+ghost use Rattle.markdown_out.specs.HeldItems.{answer_count, held_count, given_count, again_count};
+
+use super::place::Place;
+use markdown_base::cow_str::CowStr;
+use markdown_base::event::Event;
+use markdown_base::fault::Fault;
+use std::alloc::{AllocError, Global};
+
+/// An event with its place, or an error.
+pub type Placed<'a, P> = Result<(Event<'a>, P), Fault>;
+
+/// Two or more texts that were joined.
+#[derive(Drop)]
+pub struct JoinedTexts<P> {
+    pub bytes: String,
+    pub first: P,
+    pub last: P,
+}
+
+/// What was read and not given yet.
+#[derive(Drop)]
+pub enum Held<'a, P> {
+    Nothing,
+    Item(Placed<'a, P>),
+    Texts(JoinedTexts<P>),
+}
+
+/// What comes after an answer was taken in: the next one is needed, or this one is given.
+#[derive(Drop)]
+pub enum Step<'a, P> {
+    Again,
+    Give(Option<Placed<'a, P>>),
+}
+
+/// The text of an event, or the event that is no text.
+fn into_text<'a, P: Place>(item: Placed<'a, P>) -> Result<(CowStr<'a>, P), Placed<'a, P>>
+    ensures { MatchResult result (λ t. placed_view item.entry ≡ text_item (placed_text t))
+        (λ x. (x ≡ item.entry) × (text_in (placed_view item.entry) ≡ None)) }
+{
+    match item {
+        Err(fault) => Err(Err(fault)),
+        Ok((event, place)) => match event {
+            Event::Text(text) => Ok((text, place)),
+            other => Err(Ok((other, place))),
+        },
+    }
+}
+
+/// The text of an answer, or the answer that is none.
+fn text_or<'a, P: Place>(
+    answer: Option<Placed<'a, P>>,
+) -> Result<(CowStr<'a>, P), Option<Placed<'a, P>>>
+    ensures { MatchResult result (λ t. option_map placed_view answer.entry ≡ Some (text_item (placed_text t)))
+        (λ r. (r ≡ answer.entry) × IsNoText answer.entry) }
+{
+    match answer {
+        None => Err(None),
+        Some(item) => match into_text(item) {
+            Ok(text) => Ok(text),
+            Err(item) => Err(Some(item)),
+        },
+    }
+}
+
+/// An answer is held until the next one is read.
+fn hold<'a, P: Place>(answer: Option<Placed<'a, P>>) -> Held<'a, P>
+    ensures items { held_items result ≡ answer_items answer.entry }
+    ensures count { held_count result ≡ answer_count answer.entry }
+{
+    match answer {
+        None => Held::Nothing,
+        Some(item) => Held::Item(item),
+    }
+}
+
+/// Two texts as one.
+fn join<'a, P: Place>(
+    alloc: Global,
+    first: (CowStr<'a>, P),
+    last: (CowStr<'a>, P),
+) -> Result<JoinedTexts<P>, AllocError>
+    ensures bytes { IfOk result (λ t. string_bytes t.bytes ≡ text_of first.entry.0 ++ text_of last.entry.0) }
+    ensures first { IfOk result (λ t. t.first ≡ first.entry.1) }
+    ensures last { IfOk result (λ t. t.last ≡ last.entry.1) }
+{
+    let mut bytes = String::from_str(alloc, first.0.as_str())?;
+    bytes.push_str(last.0.as_str())?;
+    Ok(JoinedTexts {
+        bytes,
+        first: first.1,
+        last: last.1,
+    })
+}
+
+/// One more text behind those that were joined.
+fn append<'a, P: Place>(
+    texts: JoinedTexts<P>,
+    last: (CowStr<'a>, P),
+) -> Result<JoinedTexts<P>, AllocError>
+    ensures bytes { IfOk result (λ t. string_bytes t.bytes ≡ string_bytes texts.bytes ++ text_of last.entry.0) }
+    ensures first { IfOk result (λ t. t.first ≡ texts.first) }
+    ensures last { IfOk result (λ t. t.last ≡ last.entry.1) }
+{
+    let mut bytes = texts.bytes;
+    bytes.push_str(last.0.as_str())?;
+    Ok(JoinedTexts {
+        bytes,
+        first: texts.first,
+        last: last.1,
+    })
+}
+
+/// Joined texts at their end: one text, or none where it is empty.
+fn close<'a, P: Place>(texts: JoinedTexts<P>) -> Step<'a, P>
+    ensures count { given_count result ≤ 1 }
+    ensures given { given_answers result
+        ≡ map (λ x. Some x) (unless_empty (string_bytes texts.bytes) (P.through texts.first texts.last)) }
+{
+    if texts.bytes.is_empty() {
+        return Step::Again;
+    }
+    let place = texts.first.through(texts.last);
+    Step::Give(Some(Ok((Event::Text(CowStr::from(texts.bytes)), place))))
+}
+
+/// An answer after an item.
+fn after_item<'a, P: Place>(
+    alloc: Global,
+    item: Placed<'a, P>,
+    answer: Option<Placed<'a, P>>,
+) -> Result<(Step<'a, P>, Held<'a, P>), AllocError>
+    ensures takes { IfOk result (λ p. TakesIn P.through (held_items (Held.Item item.entry)) answer.entry p.0 p.1) }
+    ensures counts { IfOk result (λ p. held_count p.1 + given_count p.0 ≤ 1 + answer_count answer.entry) }
+    ensures held { IfOk result (λ p. held_count p.1 ≤ answer_count answer.entry) }
+    ensures refused { IfErr result (λ _. 1 ≤ answer_count answer.entry) }
+{
+    match into_text(item) {
+        Err(item) => Ok((Step::Give(Some(item)), hold(answer))),
+        Ok(first) => match text_or(answer) {
+            Err(answer) => {
+                let given = Ok((Event::Text(first.0), first.1));
+                Ok((Step::Give(Some(given)), hold(answer)))
+            }
+            Ok(last) => Ok((Step::Again, Held::Texts(join(alloc, first, last)?))),
+        },
+    }
+}
+
+/// An answer after joined texts.
+fn after_texts<'a, P: Place>(
+    texts: JoinedTexts<P>,
+    answer: Option<Placed<'a, P>>,
+) -> Result<(Step<'a, P>, Held<'a, P>), AllocError>
+    ensures takes { IfOk result (λ p. TakesIn P.through (held_items (Held.Texts texts)) answer.entry p.0 p.1) }
+    ensures counts { IfOk result (λ p. held_count p.1 + given_count p.0 ≤ 1 + answer_count answer.entry) }
+    ensures held { IfOk result (λ p. held_count p.1 ≤ answer_count answer.entry) }
+    ensures refused { IfErr result (λ _. 1 ≤ answer_count answer.entry) }
+{
+    match text_or(answer) {
+        Err(answer) => Ok((close(texts), hold(answer))),
+        Ok(last) => Ok((Step::Again, Held::Texts(append(texts, last)?))),
+    }
+}
+
+/// What an answer of the iterator makes of what is held: what is given, and what is held then.
+pub fn take_in<'a, P: Place>(
+    alloc: Global,
+    held: Held<'a, P>,
+    answer: Option<Placed<'a, P>>,
+) -> Result<(Step<'a, P>, Held<'a, P>), AllocError>
+    ensures takes { IfOk result (λ p. TakesIn P.through (held_items held.entry) answer.entry p.0 p.1) }
+    ensures counts { IfOk result (λ p. held_count p.1 + given_count p.0 ≤ held_count held.entry + answer_count answer.entry) }
+    ensures held { IfOk result (λ p. held_count p.1 ≤ answer_count answer.entry) }
+    ensures again { IfOk result (λ p. again_count p.0 ≤ held_count held.entry + answer_count answer.entry) }
+    ensures refused { IfErr result (λ _. 1 ≤ answer_count answer.entry) }
+{
+    match held {
+        Held::Item(item) => after_item(alloc, item, answer),
+        Held::Texts(texts) => after_texts(texts, answer),
+        Held::Nothing => match answer {
+            None => Ok((Step::Give(None), Held::Nothing)),
+            Some(item) => Ok((Step::Again, Held::Item(item))),
+        },
+    }
+}
