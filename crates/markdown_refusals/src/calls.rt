@@ -23,7 +23,7 @@ fn item(start: usize, end: usize, body: ItemBody) -> Item {
     Item { start, end, body }
 }
 
-/// A copy has the text, or memory was refused.
+/// A copy has the text, or memory was refused; that of a slice takes no memory.
 pub fn copies(alloc: Global) -> bool {
     let borrowed = CowStr::Borrowed(LONG);
     let copied = match borrowed.try_clone(alloc) {
@@ -35,6 +35,19 @@ pub fn copies(alloc: Global) -> bool {
         Err(_) => true,
     };
     copied && owned
+}
+
+/// A copy of a text on the heap has the text, or memory was refused and the text is as before.
+pub fn copies_a_boxed_text(alloc: Global) -> bool {
+    let Ok(made) = String::from_str(alloc, LONG) else {
+        return true;
+    };
+    let boxed = CowStr::from(made);
+    let copied = match boxed.try_clone(alloc) {
+        Ok(copy) => copy.as_str() == LONG,
+        Err(_) => true,
+    };
+    copied && boxed.as_str() == LONG
 }
 
 /// A tree with a paragraph in focus, and how many nodes it has.

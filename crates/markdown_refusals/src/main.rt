@@ -3,6 +3,7 @@
 #![tactic(auto)]
 
 mod calls;
+mod merges;
 mod rows;
 
 use std::process::ExitCode;

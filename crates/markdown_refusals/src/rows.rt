@@ -1,11 +1,15 @@
 //! Each call, by the promise that is tried of it.
-use crate::calls;
+use crate::{calls, merges};
 use std::alloc::Global;
 
 /// Each promise with whether it holds.
-pub fn all(alloc: Global) -> [(&'static str, bool); 8] {
+pub fn all(alloc: Global) -> [(&'static str, bool); 12] {
     [
         ("a text is copied whole or not at all", calls::copies(alloc)),
+        (
+            "a text on the heap is copied whole or stays",
+            calls::copies_a_boxed_text(alloc),
+        ),
         ("a refused append leaves the tree", calls::appends(alloc)),
         ("a refused push leaves the tree", calls::pushes(alloc)),
         (
@@ -27,6 +31,18 @@ pub fn all(alloc: Global) -> [(&'static str, bool); 8] {
         (
             "the old text stands, and then a beginning of the HTML",
             calls::renders(alloc),
+        ),
+        (
+            "the merged events are a beginning, and then an error ends them",
+            merges::merges(alloc),
+        ),
+        (
+            "the merged ranges are a beginning, and then an error ends them",
+            merges::merges_with_ranges(alloc),
+        ),
+        (
+            "the old text stands, and then a beginning of the HTML of any events",
+            merges::renders_mixed_events(alloc),
         ),
     ]
 }
