@@ -7,3 +7,4 @@ pub mod LabelLemmas
 pub mod LabelCharacterLemmas
 pub mod LabelTextLemmas
 pub mod LineStartLemmas
+pub mod ScanLawLemmas

@@ -6,6 +6,7 @@ pub mod Destination
 pub mod Label
 pub mod LabelScan
 pub mod LabelText
+pub mod Laws
 pub mod LineEnd
 pub mod LineStart
 pub mod LineView

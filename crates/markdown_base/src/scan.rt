@@ -6,6 +6,7 @@ pub mod destination;
 pub mod label;
 mod label_end;
 mod label_text;
+pub mod laws;
 pub mod line_end;
 pub mod line_rule;
 pub mod line_start;
