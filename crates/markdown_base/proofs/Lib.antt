@@ -14,3 +14,4 @@ pub mod RawHtmlLemmas
 pub mod TagSourceLemmas
 pub mod TagTextLemmas
 pub mod UnescapeLemmas
+pub mod ScanLawLemmas

@@ -13,6 +13,7 @@ pub mod Unescape
 pub mod RawHtml
 pub mod TagText
 pub mod HtmlTag
+pub mod Laws
 -- for private clauses
 pub mod ByteKinds
 pub mod LabelScan

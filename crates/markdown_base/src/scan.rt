@@ -14,6 +14,7 @@ mod html_tag_tests;
 pub mod label;
 mod label_end;
 mod label_text;
+pub mod laws;
 pub mod line_end;
 mod line_prefix;
 pub mod line_rule;
