@@ -62,11 +62,12 @@ fn a_text_that_stays_is_a_slice(rt: HostRuntime) -> Result<(), Fail> {
         "a | b",
     ];
     for text in rows {
-        for in_table in [false, true] {
-            let made = unescape(rt.alloc(), text, in_table)?;
-            assert!(rt; matches!(&made, CowStr::Borrowed(_)), "{text}");
-            assert_eq!(rt; made.as_str(), text);
-        }
+        let outside = unescape(rt.alloc(), text, false)?;
+        assert!(rt; matches!(&outside, CowStr::Borrowed(_)), "{text}");
+        assert_eq!(rt; outside.as_str(), text);
+        let inside = unescape(rt.alloc(), text, true)?;
+        assert!(rt; matches!(&inside, CowStr::Borrowed(_)), "{text}");
+        assert_eq!(rt; inside.as_str(), text);
     }
     Ok(())
 }
