@@ -10,4 +10,5 @@ place_of folded definitions = position_from (has_folding folded) 0 definitions
 
 -- the index has the place of each folding, by its bytes in UTF-8
 abbrev pub IsIndex : {A S : Type 0} → HashMap (String A) ℕ S → List Labelled → Type 0
-IsIndex index definitions = (folded : List ℕ) → get_by_text index (encode_utf8_all folded) ≡ place_of folded definitions
+IsIndex index definitions = (folded : List ℕ)
+    → get_by_text index (encode_utf8_all folded) ≡ place_of folded definitions

@@ -16,13 +16,16 @@ use Rattle.markdown_spans.specs.declared.defs.footnotes.FootnoteDefs.{FootnoteDe
 abbrev pub LendsFolded : MutBor FootnoteDefs → List ℕ → Option (MutBor FootnoteDef) → Fml
 LendsFolded lender folded lent =
     LendsSo footnotes.the_row footnote.the_row lender lent
-    (λ after last. OnSome lent ((bytes : List ℕ) → get_by_text after.by_folding bytes ≡ cond (bytes_eq folded bytes) (Some last) (get_by_text lender.now.by_folding bytes)))
-    (λ after. (bytes : List ℕ) → get_by_text after.by_folding bytes ≡ get_by_text lender.now.by_folding bytes)
+    (λ after last. OnSome lent ((bytes : List ℕ) → get_by_text after.by_folding bytes
+    ≡ cond (bytes_eq folded bytes) (Some last) (get_by_text lender.now.by_folding bytes)))
+    (λ after. (bytes : List ℕ) → get_by_text after.by_folding bytes
+    ≡ get_by_text lender.now.by_folding bytes)
 
 -- each name that matches the key finds the last value behind the reference that was lent, and all others
 -- find what they found; where none was lent all do
 abbrev pub LendsFootnote : MutBor FootnoteDefs → List ℕ → Result (MutBor FootnoteDef) Absence → Fml
 LendsFootnote lender key lent =
     LendsSoOk footnotes.the_row footnote.the_row lender lent
-    (λ after last. (name : List ℕ) → footnote_at after name ≡ (if is_match key name then Some last else footnote_at lender.now name))
+    (λ after last. (name : List ℕ) → footnote_at after name
+    ≡ (if is_match key name then Some last else footnote_at lender.now name))
     (λ after. (name : List ℕ) → footnote_at after name ≡ footnote_at lender.now name)

@@ -306,12 +306,14 @@ fn callbacks_answer(rt: HostRuntime) -> Result<(), Fail> {
             Some((CowStr::Borrowed("url"), CowStr::Borrowed("title")))
         },
     );
-    assert_eq!(rt;
-        destination(&mut closure, broken_link()),
-        Some(CowStr::Borrowed("url"))
-    );
+    for _ in 0..2 {
+        assert_eq!(rt;
+            destination(&mut closure, broken_link()),
+            Some(CowStr::Borrowed("url"))
+        );
+    }
     drop(closure);
-    assert_eq!(rt; asked, 1);
+    assert_eq!(rt; asked, 2);
 
     let mut boxed: Box<dyn BoxedCallback> = Box::new(rt.alloc(), Second { asked: 0 })?;
     assert_eq!(rt; destination(&mut boxed, broken_link()), None);

@@ -62,19 +62,23 @@ fn labels_are_found_by_folding(rt: HostRuntime) -> Result<(), Fail> {
     Ok(())
 }
 
-#[test]
-fn the_first_of_equal_labels_wins(rt: HostRuntime) -> Result<(), Fail> {
-    let alloc = rt.alloc();
-    let allocations = defining(alloc, &[("a", "/1"), ("A", "/2")])?;
+/// The labels and destinations that can be found, in order.
+fn listed(alloc: Global, definitions: &[(&str, &str)]) -> Result<String, Fault> {
+    let allocations = defining(alloc, definitions)?;
     let mut seen = String::new(alloc);
     for (label, definition) in allocations.refdefs.iter() {
         seen.push_str(label)?;
         seen.push_str(definition.dest.as_str())?;
     }
-    assert_eq!(rt; seen.as_str(), "a/1");
-    assert!(rt; finds(&allocations, "A", Some("/1"))?);
+    Ok(seen)
+}
 
-    // in the order of the source, with labels as written
+#[test]
+fn the_first_of_equal_labels_wins(rt: HostRuntime) -> Result<(), Fail> {
+    let alloc = rt.alloc();
+    let allocations = defining(alloc, &[("a", "/1"), ("A", "/2")])?;
+    assert!(rt; finds(&allocations, "A", Some("/1"))?);
+    assert_eq!(rt; listed(alloc, &[("a", "/1"), ("A", "/2")])?.as_str(), "a/1");
     let definitions = [
         ("Z", "1"),
         ("b", "2"),
@@ -83,15 +87,15 @@ fn the_first_of_equal_labels_wins(rt: HostRuntime) -> Result<(), Fail> {
         ("B", "5"),
         ("C", "6"),
     ];
-    let allocations = defining(alloc, &definitions)?;
-    let mut seen = String::new(alloc);
-    for (label, definition) in allocations.refdefs.iter() {
-        seen.push_str(label)?;
-        seen.push_str(definition.dest.as_str())?;
-    }
-    assert_eq!(rt; seen.as_str(), "Z1b2A4C6");
-    assert!(rt; defining(alloc, &[])?.refdefs.iter().next().is_none());
+    assert_eq!(rt; listed(alloc, &definitions)?.as_str(), "Z1b2A4C6");
+    assert_eq!(rt; listed(alloc, &[])?.as_str(), "");
     Ok(())
+}
+
+/// Whether a key finds the one definition that there is.
+fn is_found(alloc: Global, label: &str, key: &str) -> Result<bool, Fault> {
+    let allocations = defining(alloc, &[(label, "/u")])?;
+    finds(&allocations, key, Some("/u"))
 }
 
 #[test]
@@ -123,10 +127,8 @@ fn foldings_are_unicodes(rt: HostRuntime) -> Result<(), Fail> {
         ("[", "{", false),
     ];
     for (label, key, is_match) in rows {
-        let allocations = defining(rt.alloc(), &[(label, "/u")])?;
-        assert_eq!(rt; allocations.refdefs.get(key)?.is_some(), is_match);
-        let allocations = defining(rt.alloc(), &[(key, "/u")])?;
-        assert_eq!(rt; allocations.refdefs.get(label)?.is_some(), is_match);
+        assert_eq!(rt; is_found(rt.alloc(), label, key)?, is_match);
+        assert_eq!(rt; is_found(rt.alloc(), key, label)?, is_match);
     }
     Ok(())
 }
@@ -147,29 +149,42 @@ fn uses(allocations: &mut Allocations<'_>, name: &str) -> Result<Option<usize>, 
 }
 
 #[test]
+fn footnotes_are_found_by_folding(rt: HostRuntime) -> Result<(), Fail> {
+    let allocations = footnotes(rt.alloc())?;
+    for (name, is_defined) in [("A", true), ("STRASSE", true), ("b", false), ("a ", false)] {
+        assert_eq!(rt; allocations.footdefs.contains(name)?, is_defined);
+    }
+    Ok(())
+}
+
+#[test]
 fn uses_are_counted(rt: HostRuntime) -> Result<(), Fail> {
     let mut allocations = footnotes(rt.alloc())?;
-    assert!(rt; allocations.footdefs.contains("A")?);
-    assert!(rt; allocations.footdefs.contains("STRASSE")?);
-    assert!(rt; !allocations.footdefs.contains("b")?);
     assert_eq!(rt; uses(&mut allocations, "a")?, Some(0));
-    assert_eq!(rt; uses(&mut allocations, "b")?, None);
-
-    assert!(rt; allocations.footdefs.count_use("A")?);
-    assert!(rt; allocations.footdefs.count_use("a")?);
-    assert!(rt; !allocations.footdefs.count_use("b")?);
-    assert!(rt; !allocations.footdefs.contains("b")?);
+    for (name, is_defined) in [("A", true), ("b", false), ("a", true)] {
+        assert_eq!(rt; allocations.footdefs.count_use(name)?, is_defined);
+    }
     assert_eq!(rt; uses(&mut allocations, "a")?, Some(2));
     assert_eq!(rt; uses(&mut allocations, "straße")?, Some(0));
+    assert_eq!(rt; uses(&mut allocations, "b")?, None);
+    Ok(())
+}
 
-    // a count stays at its greatest value
+#[test]
+fn a_count_stays_at_its_greatest(rt: HostRuntime) -> Result<(), Fail> {
+    let mut allocations = footnotes(rt.alloc())?;
     if let Some(footnote) = allocations.footdefs.get_mut(CowStr::from("STRASSE"))? {
         footnote.use_count = usize::MAX;
     }
     assert!(rt; allocations.footdefs.count_use("straße")?);
     assert_eq!(rt; uses(&mut allocations, "Straße")?, Some(usize::MAX));
-    let copy = FootnoteDef { use_count: 3 }.clone()?;
-    assert_eq!(rt; copy.use_count, 3);
+    Ok(())
+}
+
+#[test]
+fn footnotes_are_copied(rt: HostRuntime) -> Result<(), Fail> {
+    let footnote = FootnoteDef { use_count: 3 };
+    assert_eq!(rt; footnote.clone()?.use_count, 3);
     Ok(())
 }
 
