@@ -5,7 +5,7 @@ use markdown_base::fault::Fault;
 use markdown_base::tag::{LinkType, Tag, TagEnd};
 use markdown_out::html::push_html;
 use markdown_out::merge::{TextMergeStream, TextMergeWithOffset};
-use std::alloc::{AllocError, Global};
+use std::alloc::Global;
 use std::ops::Range;
 use std::vec::IntoIter;
 
@@ -16,7 +16,7 @@ fn text(words: &'static str) -> Event<'static> {
 }
 
 /// Two runs of two texts, with a rule between them.
-fn events(alloc: Global) -> Result<Vec<Item>, AllocError> {
+fn events(alloc: Global) -> Option<Vec<Item>> {
     vec![in alloc;
         Ok(text("a first text ")),
         Ok(text("and a second")),
@@ -24,13 +24,14 @@ fn events(alloc: Global) -> Result<Vec<Item>, AllocError> {
         Ok(text("a third ")),
         Ok(text("and a fourth")),
     ]
+    .ok()
 }
 
 /// An event with its range.
 type Ranged = Result<(Event<'static>, Range<usize>), Fault>;
 
 /// The same, with ranges.
-fn ranged_events(alloc: Global) -> Result<Vec<Ranged>, AllocError> {
+fn ranged_events(alloc: Global) -> Option<Vec<Ranged>> {
     vec![in alloc;
         Ok((text("a first text "), 0..13)),
         Ok((text("and a second"), 13..25)),
@@ -38,6 +39,7 @@ fn ranged_events(alloc: Global) -> Result<Vec<Ranged>, AllocError> {
         Ok((text("a third "), 29..37)),
         Ok((text("and a fourth"), 37..49)),
     ]
+    .ok()
 }
 
 /// The event of the merge at a place, which has three.
@@ -80,7 +82,7 @@ fn is_over_with_ranges(merge: &mut TextMergeWithOffset<'static, IntoIter<Ranged>
 /// The merged events in order, and then None ever after; or a beginning of them, `Memory`, and then
 /// None ever after.
 pub fn merges(alloc: Global) -> bool {
-    let Ok(events) = events(alloc) else {
+    let Some(events) = events(alloc) else {
         return true;
     };
     let mut merge = TextMergeStream::new(alloc, events.into_iter());
@@ -100,7 +102,7 @@ pub fn merges(alloc: Global) -> bool {
 
 /// The same with ranges.
 pub fn merges_with_ranges(alloc: Global) -> bool {
-    let Ok(events) = ranged_events(alloc) else {
+    let Some(events) = ranged_events(alloc) else {
         return true;
     };
     let mut merge = TextMergeWithOffset::new(alloc, events.into_iter());
@@ -119,7 +121,7 @@ pub fn merges_with_ranges(alloc: Global) -> bool {
 }
 
 /// An image with alt text, footnotes, a link and a list.
-fn mixed_events(alloc: Global) -> Result<Vec<Item>, AllocError> {
+fn mixed_events(alloc: Global) -> Option<Vec<Item>> {
     let image = Tag::Image {
         link_type: LinkType::Inline,
         dest_url: CowStr::Borrowed("u"),
@@ -136,6 +138,7 @@ fn mixed_events(alloc: Global) -> Result<Vec<Item>, AllocError> {
         Ok(Event::InlineMath(CowStr::Borrowed("x"))),
         Ok(Event::End(TagEnd::List(true))),
     ]
+    .ok()
 }
 
 const MIXED: &str =
@@ -146,7 +149,7 @@ pub fn renders_mixed_events(alloc: Global) -> bool {
     let Ok(mut html) = String::from_str(alloc, "old") else {
         return true;
     };
-    let Ok(events) = mixed_events(alloc) else {
+    let Some(events) = mixed_events(alloc) else {
         return true;
     };
     match push_html(alloc, &mut html, events.into_iter()) {
