@@ -5,6 +5,7 @@
 mod calls;
 mod merges;
 mod rows;
+mod tables;
 
 use std::process::ExitCode;
 
