@@ -1,0 +1,31 @@
+//! The tasks by their names.
+use crate::scans::{self, Beginning};
+use crate::{events, look_ups};
+use std::alloc::Global;
+
+/// The task that a line names, and its size.
+pub fn task_and_size(line: &str) -> Option<(&str, usize)> {
+    let (task, size) = line.split_once(' ')?;
+    match size.parse::<usize>() {
+        Ok(size) => Some((task, size)),
+        Err(_) => None,
+    }
+}
+
+/// What a task of this size came to; None where there is no such task, or memory was refused.
+pub fn run(alloc: Global, task: &str, size: usize) -> Option<usize> {
+    match task {
+        "render" => events::rendered_bytes(alloc, size),
+        "footnotes" => events::footnote_bytes(alloc, size),
+        "merge" => events::merged_bytes(alloc, size),
+        "look-ups" => look_ups::found(alloc, size),
+        "comments" => scans::found(alloc, Beginning::Comment, size),
+        "cdata-sections" => scans::found(alloc, Beginning::CdataSection, size),
+        "declarations" => scans::found(alloc, Beginning::Declaration, size),
+        "instructions" => scans::found(alloc, Beginning::Instruction, size),
+        "tags" => scans::found(alloc, Beginning::Tag, size),
+        "labels" => scans::found(alloc, Beginning::Label, size),
+        "entities" => scans::found(alloc, Beginning::Entity, size),
+        _ => None,
+    }
+}
