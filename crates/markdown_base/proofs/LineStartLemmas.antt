@@ -25,7 +25,7 @@ wider_twice a b s = let sum : a + (b + s.columns) ≡ a + b + s.columns = omega 
 pub wider_none : (s : Space) → wider 0 s ≡ s
 wider_none s = let sum : 0 + s.columns ≡ s.columns = omega arith in ap (λ (n : ℕ). record { columns = n; after = s.after }) sum
 
-no_space_from : (scanned column : ℕ) (bytes : List ℕ) → space_from 0 scanned column bytes ≡ no_space (record { scanned = scanned; owed = 0; column = column; bytes = bytes })
+pub no_space_from : (scanned column : ℕ) (bytes : List ℕ) → space_from 0 scanned column bytes ≡ no_space (record { scanned = scanned; owed = 0; column = column; bytes = bytes })
 no_space_from scanned column [] = refl
 no_space_from scanned column (b ∷ bytes) = refl
 

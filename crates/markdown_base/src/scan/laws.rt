@@ -1,5 +1,5 @@
 //! Laws of what is scanned, in a reader's words: functions without code.
-ghost use Rattle.markdown_base.specs.Scan.Laws.{AutolinkIsPlain, TagStandsInAngleBrackets, UnescapingLeavesPlainText, WikilinkNameHoldsNoPipe};
+ghost use Rattle.markdown_base.specs.Scan.Laws.{AutolinkIsPlain, BareDestinationHoldsNoSpace, EndsAtFirstClose, EntityBeginsAndEnds, LabelHoldsNoBareBracket, TabGoesToTheNextStop, TagStandsInAngleBrackets, UnescapingLeavesPlainText, WikilinkNameHoldsNoPipe};
 
 /// An autolink's text holds no space, no control character and no angle bracket.
 pub fn autolink_is_plain(text: &[u8], at: usize)
@@ -19,4 +19,30 @@ pub fn wikilink_name_holds_no_pipe(text: &[u8], start: usize, size: usize)
 /// The first byte of an HTML tag is `<`, its last is `>`.
 pub fn tag_stands_in_angle_brackets(bytes: &[u8])
     ensures { TagStandsInAngleBrackets bytes.now }
+{}
+
+/// Raw HTML that ends with closing bytes ends where these stand first: they are its last bytes, and
+/// stand at no place before.
+pub fn raw_html_ends_at_its_first_close(closing: &[u8], bytes: &[u8])
+    ensures { EndsAtFirstClose closing.now bytes.now }
+{}
+
+/// The first byte of an entity is `&`, its last is `;`.
+pub fn entity_begins_and_ends(bytes: &[u8])
+    ensures { EntityBeginsAndEnds bytes.now }
+{}
+
+/// A link destination in no angle brackets holds no space and no control character.
+pub fn bare_destination_holds_no_space(bytes: &[u8], max_nesting: usize)
+    ensures { BareDestinationHoldsNoSpace max_nesting bytes.now }
+{}
+
+/// No bracket stands in a link label unless a backslash escapes it, whatever prefixes its lines have.
+pub fn label_holds_no_bare_bracket(bytes: &[u8], in_table: bool)
+    ensures { LabelHoldsNoBareBracket in_table bytes.now }
+{}
+
+/// At most three spaces and then a tab are four columns of space, and nothing of the tab is left.
+pub fn tab_goes_to_the_next_stop(spaces: usize, bytes: &[u8])
+    ensures { TabGoesToTheNextStop spaces bytes.now }
 {}
