@@ -8,7 +8,7 @@ use Rattle.markdown_base.specs.Scan.Destination.{bare_destination}
 use Rattle.markdown_base.specs.Scan.Entity.{begins_with, entity}
 use Rattle.markdown_base.specs.Scan.HtmlTag.{html_tag}
 use Rattle.markdown_base.specs.Scan.Label.{LabelByte, dropped, is_bracket, kept, label_body, label_bytes, refused}
-use Rattle.markdown_base.specs.Scan.LineStart.{LineLeft, space}
+use Rattle.markdown_base.specs.Scan.LineStart.{LineLeft, space, wider}
 use Rattle.markdown_base.specs.Scan.RawHtml.{through_first}
 use Rattle.markdown_base.specs.Scan.Unescape.{unescaped}
 use Rattle.markdown_base.specs.Scan.WikilinkPipe.{pipe, wikilink_pipe}
@@ -97,3 +97,9 @@ abbrev pub TabGoesToTheNextStop : ℕ → List ℕ → Type 0
 TabGoesToTheNextStop spaces bytes =
     spaces ≤ 3 → space 4 (line_of (spaces_and_tab spaces bytes))
     ≡ record { columns = 4; after = record { scanned = spaces + 1; owed = 0; column = 0; bytes = bytes } }
+
+-- n and then m columns of space, of what is left of any line, are n + m columns
+abbrev pub LineSpaceIsCountedByColumns : ℕ → ℕ → Type 0
+LineSpaceIsCountedByColumns n m =
+    (left : LineLeft) → space (n + m) left
+    ≡ wider (space n left).columns (space m (space n left).after)

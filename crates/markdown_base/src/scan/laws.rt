@@ -1,5 +1,10 @@
 //! Laws of what is scanned, in a reader's words: functions without code.
-ghost use Rattle.markdown_base.specs.Scan.Laws.{AutolinkIsPlain, BareDestinationHoldsNoSpace, EndsAtFirstClose, EntityBeginsAndEnds, LabelHoldsNoBareBracket, TabGoesToTheNextStop, TagStandsInAngleBrackets, UnescapingLeavesPlainText, WikilinkNameHoldsNoPipe};
+ghost use Rattle.markdown_base.specs.Scan.Laws.{AutolinkIsPlain, BareDestinationHoldsNoSpace};
+ghost use Rattle.markdown_base.specs.Scan.Laws.{EndsAtFirstClose, EntityBeginsAndEnds};
+ghost use Rattle.markdown_base.specs.Scan.Laws.{LabelHoldsNoBareBracket};
+ghost use Rattle.markdown_base.specs.Scan.Laws.{LineSpaceIsCountedByColumns, TabGoesToTheNextStop};
+ghost use Rattle.markdown_base.specs.Scan.Laws.{TagStandsInAngleBrackets};
+ghost use Rattle.markdown_base.specs.Scan.Laws.{UnescapingLeavesPlainText, WikilinkNameHoldsNoPipe};
 
 /// An autolink's text holds no space, no control character and no angle bracket.
 pub fn autolink_is_plain(text: &[u8], at: usize)
@@ -45,4 +50,9 @@ pub fn label_holds_no_bare_bracket(bytes: &[u8], in_table: bool)
 /// At most three spaces and then a tab are four columns of space, and nothing of the tab is left.
 pub fn tab_goes_to_the_next_stop(spaces: usize, bytes: &[u8])
     ensures { TabGoesToTheNextStop spaces bytes.now }
+{}
+
+/// Taking n and then m columns of a line's space is taking n + m columns.
+pub fn line_space_is_counted_by_columns(n: usize, m: usize)
+    ensures { LineSpaceIsCountedByColumns n m }
 {}
