@@ -1,7 +1,9 @@
 -- Lemmas of the laws of what is scanned.
-use Rattle.std.proofs.Common.{zero, ◌-◌, ◌&&◌, ◌≤◌, ◌<◌, ◌||◌, ◌⊎◌, inl, inr, nat_le, codes, lit<, lit≤, sym, ◌≡◌, suc, arith, ℕ, ◌+◌, ◌==◌, not, List, [], ◌∷◌, Bool, true, false, Option, Some, None, if◌then◌else◌, take, drop, length, get_or, refl, ap, ◌∙◌, option_and_then}
+use Rattle.std.proofs.Common.{◌++◌, zero, ◌-◌, ◌&&◌, ◌≤◌, ◌<◌, ◌||◌, ◌⊎◌, inl, inr, nat_le, codes, lit<, lit≤, sym, ◌≡◌, suc, arith, ℕ, ◌+◌, ◌==◌, not, List, [], ◌∷◌, Bool, true, false, Option, Some, None, if◌then◌else◌, take, drop, length, get_or, refl, ap, ◌∙◌, option_and_then}
 use Rattle.std.proofs.lemmas.Bool.{and_parts, cond_both, eqb-true}
 use Rattle.std.proofs.lemmas.Bool.Decides.{nat_tests}
+use Rattle.std.proofs.lemmas.Str.{encode_ascii}
+use Rattle.std.specs.Char.{is_ascii_punctuation}
 use Rattle.std.specs.Prelude.{IfSome, IsTrue, take_while}
 use Rattle.std.specs.List.{list_all, position_or_len, prefix_len}
 use Rattle.std.proofs.lemmas.List.Folds.{length-prefix_len}
@@ -21,7 +23,7 @@ use Rattle.markdown_base.specs.Scan.Laws.{holds_bare_bracket, is_in_bare, is_pla
 use Rattle.markdown_base.specs.Scan.Unescape.{reference, unescaped}
 use Rattle.markdown_base.proofs.RawHtmlLemmas.{EndsWith}
 use Rattle.markdown_base.proofs.TagSourceLemmas.{Closes-html_tag}
-use Rattle.markdown_base.proofs.UnescapeLemmas.{step_byte}
+use Rattle.markdown_base.proofs.UnescapeLemmas.{step_byte, step_reference}
 
 -- as many elements as pass a test from the front on pass it
 passing_first : (p : ℕ → Bool) (x : ℕ) (xs : List ℕ) (b : Bool) → p x ≡ b → list_all p (take (prefix_len p xs) xs) ≡ true → list_all p (take (prefix_len p (x ∷ xs)) (x ∷ xs)) ≡ true
@@ -72,6 +74,17 @@ plain_stands in_table (b ∷ text) h =
 
     no_entity_of : (c : ℕ) → is_plain c ≡ true → (38 == c) ≡ false
     no_entity_of c e = grind (arith, nat_tests)
+
+-- a backslash and punctuation stand for the punctuation
+pub escape_stands : (mark : ℕ) (text : List ℕ) → is_ascii_punctuation mark ≡ true
+    → unescaped false (92 ∷ mark ∷ text) ≡ mark ∷ unescaped false text
+escape_stands mark text e =
+    let found : reference false (92 ∷ mark ∷ text) ≡ Some (2, mark) = rw e refl in
+    step_reference false (92 ∷ mark ∷ text) 2 mark found
+    ∙ ap (λ bytes. bytes ++ unescaped false text) (encode_ascii mark (ascii mark e))
+  where
+    ascii : (c : ℕ) → is_ascii_punctuation c ≡ true → c < 128
+    ascii c h = grind (arith, nat_tests)
 
 -- before the first element that passes a test none passes it
 before_first_step : (p : ℕ → Bool) (x : ℕ) (xs : List ℕ) (b : Bool) → p x ≡ b

@@ -1,5 +1,6 @@
 -- Laws of what is scanned, in a reader's words.
 use Rattle.std.specs.Prelude.{◌+◌, ◌||◌, [], ◌∷◌, suc, zero, take, Option, ◌≤◌, ◌<◌, drop, length, false, ℕ, Bool, not, ◌&&◌, ◌==◌, ◌-◌, ◌≡◌, List, slice_index, IfSome, IsTrue}
+use Rattle.std.specs.Char.{is_ascii_punctuation}
 use Rattle.std.specs.List.{list_all}
 use Rattle.markdown_base.specs.Scan.Autolink.{web_autolink, is_uri_byte}
 use Rattle.markdown_base.specs.Scan.AsciiKinds.{is_control_or_space}
@@ -24,6 +25,12 @@ is_plain b = not (b == 92) && not (b == 38)
 -- a text without backslashes and `&` stands for itself
 abbrev pub UnescapingLeavesPlainText : Bool → List ℕ → Type 0
 UnescapingLeavesPlainText in_table text = IsTrue (list_all is_plain text) → unescaped in_table text ≡ text
+
+-- a backslash (92) and punctuation stand for the punctuation, and what follows for what it stands for
+abbrev pub EscapedPunctuationStandsForItself : ℕ → List ℕ → Type 0
+EscapedPunctuationStandsForItself mark text =
+    IsTrue (is_ascii_punctuation mark)
+    → unescaped false (92 ∷ mark ∷ text) ≡ mark ∷ unescaped false text
 
 -- no pipe
 abbrev pub is_no_pipe : ℕ → Bool

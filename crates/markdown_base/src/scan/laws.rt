@@ -1,6 +1,7 @@
 //! Laws of what is scanned, in a reader's words: functions without code.
 ghost use Rattle.markdown_base.specs.Scan.Laws.{AutolinkIsPlain, BareDestinationHoldsNoSpace};
 ghost use Rattle.markdown_base.specs.Scan.Laws.{EndsAtFirstClose, EntityBeginsAndEnds};
+ghost use Rattle.markdown_base.specs.Scan.Laws.{EscapedPunctuationStandsForItself};
 ghost use Rattle.markdown_base.specs.Scan.Laws.{LabelHoldsNoBareBracket};
 ghost use Rattle.markdown_base.specs.Scan.Laws.{LineSpaceIsCountedByColumns, TabGoesToTheNextStop};
 ghost use Rattle.markdown_base.specs.Scan.Laws.{TagStandsInAngleBrackets};
@@ -14,6 +15,11 @@ pub fn autolink_is_plain(text: &[u8], at: usize)
 /// A text that holds no backslash and no `&` stands for itself.
 pub fn unescaping_leaves_plain_text(in_table: bool, text: &[u8])
     ensures { UnescapingLeavesPlainText in_table text.now }
+{}
+
+/// A backslash before ASCII punctuation stands, outside of tables, for that punctuation.
+pub fn escaped_punctuation_stands_for_itself(mark: u8, text: &[u8])
+    ensures { EscapedPunctuationStandsForItself mark text.now }
 {}
 
 /// The name that stands before a wikilink's pipe holds no pipe.
