@@ -178,7 +178,8 @@ first_close closing (b ∷ bytes) =
     (λ e.
     let none : length closing - length closing ≡ 0 = omega arith in
     (omega arith, rw none e, λ k less. absurd (omega (arith, less))))
-    (λ e. first_close_later closing b bytes (through_first closing bytes) e (first_close closing bytes))
+    (λ e. first_close_later closing b bytes (through_first closing bytes) e
+    (first_close closing bytes))
 
 -- a text that begins and ends so
 between_text : (first last : ℕ) (text bytes : List ℕ) → begins_with text bytes ≡ true
@@ -297,7 +298,8 @@ no_bare_bracket : (in_table escaped : Bool) (bytes : List LabelByte)
 no_bare_bracket in_table escaped [] = tt
 no_bare_bracket in_table escaped (refused ∷ rest) = tt
 no_bare_bracket in_table escaped (dropped ∷ rest) =
-    bracket_dropped escaped rest (body in_table escaped rest) (no_bare_bracket in_table escaped rest)
+    bracket_dropped escaped rest (body in_table escaped rest)
+    (no_bare_bracket in_table escaped rest)
 no_bare_bracket in_table escaped (kept b ∷ rest) =
     let P = λ (o : Option (ℕ × List ℕ)).
     IfSome o (λ f. holds_bare_bracket escaped (take f.0 (kept b ∷ rest)) ≡ false) in

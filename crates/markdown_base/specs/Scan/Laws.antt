@@ -24,9 +24,10 @@ is_plain b = not (b == 92) && not (b == 38)
 
 -- a text without backslashes and `&` stands for itself
 abbrev pub UnescapingLeavesPlainText : Bool → List ℕ → Type 0
-UnescapingLeavesPlainText in_table text = IsTrue (list_all is_plain text) → unescaped in_table text ≡ text
+UnescapingLeavesPlainText in_table text =
+    IsTrue (list_all is_plain text) → unescaped in_table text ≡ text
 
--- a backslash (92) and punctuation stand for the punctuation, and what follows for what it stands for
+-- a backslash (92) and punctuation stand for the punctuation
 abbrev pub EscapedPunctuationStandsForItself : ℕ → List ℕ → Type 0
 EscapedPunctuationStandsForItself mark text =
     IsTrue (is_ascii_punctuation mark)
@@ -43,7 +44,8 @@ WikilinkNameHoldsNoPipe text start size =
 
 -- of the first n bytes the first is this one, and the last that one
 abbrev pub StandsBetween : ℕ → ℕ → List ℕ → ℕ → Type 0
-StandsBetween first last bytes n = (slice_index bytes 0 ≡ first) × (slice_index bytes (n - 1) ≡ last)
+StandsBetween first last bytes n =
+    (slice_index bytes 0 ≡ first) × (slice_index bytes (n - 1) ≡ last)
 
 -- a tag begins with `<` (60) and ends with `>` (62)
 abbrev pub TagStandsInAngleBrackets : List ℕ → Type 0
@@ -76,7 +78,7 @@ abbrev pub BareDestinationHoldsNoSpace : ℕ → List ℕ → Type 0
 BareDestinationHoldsNoSpace max_nesting bytes =
     IfSome (bare_destination max_nesting bytes) (λ d. IsTrue (list_all is_in_bare d.1))
 
--- a bracket stands among the bytes that no backslash escapes; `escaped` where one stands before them
+-- a bracket stands there that no backslash escapes; `escaped` where a backslash stands before
 abbrev pub holds_bare_bracket : Bool → List LabelByte → Bool
 holds_bare_bracket escaped [] = false
 holds_bare_bracket escaped (refused ∷ rest) = holds_bare_bracket escaped rest
@@ -103,7 +105,10 @@ spaces_and_tab (suc spaces) bytes = 32 ∷ spaces_and_tab spaces bytes
 abbrev pub TabGoesToTheNextStop : ℕ → List ℕ → Type 0
 TabGoesToTheNextStop spaces bytes =
     spaces ≤ 3 → space 4 (line_of (spaces_and_tab spaces bytes))
-    ≡ record { columns = 4; after = record { scanned = spaces + 1; owed = 0; column = 0; bytes = bytes } }
+    ≡ record {
+      columns = 4;
+      after = record { scanned = spaces + 1; owed = 0; column = 0; bytes = bytes };
+    }
 
 -- n and then m columns of space, of what is left of any line, are n + m columns
 abbrev pub LineSpaceIsCountedByColumns : ℕ → ℕ → Type 0

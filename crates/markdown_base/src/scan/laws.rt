@@ -48,7 +48,7 @@ pub fn bare_destination_holds_no_space(bytes: &[u8], max_nesting: usize)
     ensures { BareDestinationHoldsNoSpace max_nesting bytes.now }
 {}
 
-/// No bracket stands in a link label unless a backslash escapes it, whatever prefixes its lines have.
+/// No bracket stands in a link label unless a backslash escapes it, by any rule for its lines.
 pub fn label_holds_no_bare_bracket(bytes: &[u8], in_table: bool)
     ensures { LabelHoldsNoBareBracket in_table bytes.now }
 {}
