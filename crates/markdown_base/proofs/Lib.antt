@@ -7,6 +7,7 @@ pub mod LabelLemmas
 pub mod LabelCharacterLemmas
 pub mod LabelTextLemmas
 pub mod LineStartLemmas
+pub mod LineSpaceLemmas
 pub mod BeginsWithLemmas
 pub mod EntityLemmas
 pub mod HtmlTagLemmas

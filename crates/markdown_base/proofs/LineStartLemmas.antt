@@ -4,19 +4,19 @@ use Rattle.std.proofs.lemmas.Bool.Decides.{nat_tests, leb_tells, eqb_tells}
 use Rattle.markdown_base.specs.Scan.LineStart.{LineLeft, Space, space_width, column_after, wider, no_space, space_from, space}
 use Rattle.markdown_base.specs.Scan.LineView.{width_of, width_next, past_first, past_white}
 
-eq_test_false : (m : ℕ) → 0 < m → (m == 0) ≡ false
+pub eq_test_false : (m : ℕ) → 0 < m → (m == 0) ≡ false
 eq_test_false m some = grind (arith, nat_tests)
 
-le_test_false : (m n : ℕ) → n < m → nat_le m n ≡ false
+pub le_test_false : (m n : ℕ) → n < m → nat_le m n ≡ false
 le_test_false m n less = grind (arith, nat_tests)
 
-le_test_true : (m n : ℕ) → m ≤ n → nat_le m n ≡ true
+pub le_test_true : (m n : ℕ) → m ≤ n → nat_le m n ≡ true
 le_test_true m n less = grind (arith, nat_tests)
 
-lt_test_true : (m n : ℕ) → m < n → nat_lt m n ≡ true
+pub lt_test_true : (m n : ℕ) → m < n → nat_lt m n ≡ true
 lt_test_true m n less = grind (arith, nat_tests)
 
-lt_test_false : (m n : ℕ) → n ≤ m → nat_lt m n ≡ false
+pub lt_test_false : (m n : ℕ) → n ≤ m → nat_lt m n ≡ false
 lt_test_false m n less = grind (arith, nat_tests)
 
 pub wider_twice : (a b : ℕ) (s : Space) → wider a (wider b s) ≡ wider (a + b) s
@@ -25,7 +25,7 @@ wider_twice a b s = let sum : a + (b + s.columns) ≡ a + b + s.columns = omega 
 pub wider_none : (s : Space) → wider 0 s ≡ s
 wider_none s = let sum : 0 + s.columns ≡ s.columns = omega arith in ap (λ (n : ℕ). record { columns = n; after = s.after }) sum
 
-no_space_from : (scanned column : ℕ) (bytes : List ℕ) → space_from 0 scanned column bytes ≡ no_space (record { scanned = scanned; owed = 0; column = column; bytes = bytes })
+pub no_space_from : (scanned column : ℕ) (bytes : List ℕ) → space_from 0 scanned column bytes ≡ no_space (record { scanned = scanned; owed = 0; column = column; bytes = bytes })
 no_space_from scanned column [] = refl
 no_space_from scanned column (b ∷ bytes) = refl
 

@@ -128,8 +128,8 @@ none_left skipped source [] count is e =
 none_left skipped source (b ∷ left) count is e = cc
 
 -- a part that ends with `>`
-record Closes (part : Part) : Type 0 where
-  is : (bytes : List ℕ) → IfSome (part bytes) (EndsWith 62 bytes)
+pub record Closes (part : Part) : Type 0 where
+  pub is : (bytes : List ℕ) → IfSome (part bytes) (EndsWith 62 bytes)
 
 Closes-both : (first second : Part) → Closes second → Closes (both first second)
 unfolding both
@@ -164,7 +164,7 @@ Closes-byte = record { is = λ bytes. cases bytes }
         (λ e. record { some = omega arith; within = omega arith; last = eqb-true b 62 e })
         (λ e. tt)
 
-Closes-html_tag : Closes html_tag
+pub Closes-html_tag : Closes html_tag
 Closes-html_tag =
     Closes-either open_tag closing_tag
     (Closes-both _ _ (Closes-both _ _ (Closes-both _ _ (Closes-both _ _ (Closes-both _ _

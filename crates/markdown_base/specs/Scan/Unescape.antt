@@ -3,8 +3,6 @@ use Rattle.std.specs.Prelude.{ℕ, suc, zero, ◌-◌, Bool, ◌&&◌, ◌==◌,
 use Rattle.std.specs.Option.{option_map_or, option_or}
 use Rattle.std.specs.Char.{is_ascii_punctuation}
 use Rattle.markdown_base.specs.Scan.Entity.{begins_with, entity}
-use Rattle.markdown_base.specs.declared.cow_str.CowStr.{CowStr}
-use Rattle.markdown_base.specs.declared.cow_str.CowStr.TheVariants.{Borrowed}
 
 -- `\`
 abbrev pub backslash : ℕ
@@ -40,8 +38,3 @@ unescaped_past in_table zero (b ∷ bytes) =
 -- what a text stands for
 abbrev pub unescaped : Bool → List ℕ → List ℕ
 unescaped in_table text = unescaped_past in_table 0 text
-
--- it is a slice of the source
-abbrev pub IsBorrowed : CowStr → Type 0
-IsBorrowed (Borrowed text) = Unit {0}
-IsBorrowed text = ⊥

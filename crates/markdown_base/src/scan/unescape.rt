@@ -1,7 +1,7 @@
 //! Backslash escapes (CommonMark 2.4) and entities (2.5) in a text, replaced by what they stand for.
 ghost use Rattle.std.specs.Prelude.{◌≡◌, ◌≢◌, ◌<◌, ◌≤◌, ◌++◌, IfNone, IfOk, IfSome, IsOk, encode_utf8, length, string_bytes};
-ghost use Rattle.markdown_base.specs.CowText.{text_of};
-ghost use Rattle.markdown_base.specs.Scan.Unescape.{IsBorrowed, reference, unescaped};
+ghost use Rattle.markdown_base.specs.CowText.{text_of, IsBorrowed};
+ghost use Rattle.markdown_base.specs.Scan.Unescape.{reference, unescaped};
 
 use crate::cow_str::CowStr;
 use crate::scan::entity::scan_entity;
