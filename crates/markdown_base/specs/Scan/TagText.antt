@@ -1,6 +1,6 @@
 -- The text that a tag over several lines is read from: after a line ending a line rule says how many
 -- bytes are a prefix, and no part of the text, or that the text ends there.
-use Rattle.std.specs.Prelude.{ℕ, suc, zero, Bool, not, ◌&&◌, ◌||◌, ◌==◌, List, [], ◌∷◌, Option, Some, if◌then◌else◌, drop}
+use Rattle.std.specs.Prelude.{ℕ, suc, zero, List, [], ◌∷◌, Option, drop}
 use Rattle.std.specs.Option.{option_map_or}
 use Rattle.markdown_base.specs.Scan.LinePrefix.{prefix_after}
 
