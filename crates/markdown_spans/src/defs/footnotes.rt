@@ -26,7 +26,7 @@ pub struct FootnoteDef {
 
 /// Why no footnote was found.
 #[derive(Clone, Copy, Debug, PartialEq, Eq, Drop)]
-enum Absence {
+pub enum Absence {
     /// No footnote of this name is defined.
     Undefined,
     /// An allocation was refused.
@@ -106,8 +106,9 @@ impl FootnoteDefs {
         none_if_undefined(self.find_mut(key))
     }
 
-    /// The footnote of this name, if it is defined.
-    fn find_mut(&mut self, key: CowStr<'_>) -> Result<&mut FootnoteDef, Absence>
+    /// As `get_mut`, where a footnote that is not defined is an error: a proof about a caller learns
+    /// what a write leaves behind from this form alone. After an error nothing has changed.
+    pub fn find_mut(&mut self, key: CowStr<'_>) -> Result<&mut FootnoteDef, Absence>
         ensures* writes_back { sem 𝓛 (LendsDefined self.entry (text_of key.entry) result) }
         ensures found { IfOk result (λ found. Some found.now ≡ footnote_at self.old (text_of key.entry)) }
         ensures undefined { IfErr result (λ why.
