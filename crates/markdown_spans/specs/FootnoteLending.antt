@@ -1,6 +1,9 @@
 -- What the footnotes are once a `&mut` to one of them ends.
-use Rattle.std.specs.Prelude.{◌≡◌, ℕ, List, Option, Some, Result, cond, if◌then◌else◌, OnSome}
-use Rattle.std.specs.Borrow.{LendsSo, LendsSoOk, MutBor, Fml}
+use mathlib.Core.Option as maybe
+use Rattle.std.specs.Prelude.{◌≡◌, ℕ, List, Option, None, Some, Result, Ok, Err, cond, if◌then◌else◌, OnSome, IfNone, ⊤}
+use Rattle.std.specs.Option.{ghost_name_of}
+use Rattle.std.specs.Borrow.{LendsSo, LendsSoOk, MutBor, Fml, GName, follows_so}
+use Rattle.markdown_base.specs.declared.fault.Fault.{Fault}
 use Rattle.std.specs.HashMap.{get_by_text}
 use Rattle.std.specs.Str.{bytes_eq}
 use Rattle.markdown_spans.specs.Folding.{is_match}
@@ -23,9 +26,37 @@ LendsFolded lender folded lent =
 
 -- each name that matches the key finds the last value behind the reference that was lent, and all others
 -- find what they found; where none was lent all do
-abbrev pub LendsFootnote : MutBor FootnoteDefs → List ℕ → Result (MutBor FootnoteDef) Absence → Fml
-LendsFootnote lender key lent =
+abbrev pub LendsDefined : MutBor FootnoteDefs → List ℕ → Result (MutBor FootnoteDef) Absence → Fml
+LendsDefined lender key lent =
     LendsSoOk footnotes.the_row footnote.the_row lender lent
     (λ after last. (name : List ℕ) → footnote_at after name
     ≡ (if is_match key name then Some last else footnote_at lender.now name))
     (λ after. (name : List ℕ) → footnote_at after name ≡ footnote_at lender.now name)
+
+-- the name of the reference that was lent, if one was
+abbrev pub name_if_lent : Result (Option (MutBor FootnoteDef)) Fault → maybe.Option GName
+name_if_lent (Ok found) = ghost_name_of found
+name_if_lent (Err fault) = maybe.none
+
+-- P, where a reference was lent, and where none was
+abbrev pub OnLent : Result (Option (MutBor FootnoteDef)) Fault → Type 0 → Type 0
+OnLent (Ok found) P = OnSome found P
+OnLent (Err fault) P = ⊤
+
+abbrev pub OnNoneLent : Result (Option (MutBor FootnoteDef)) Fault → Type 0 → Type 0
+OnNoneLent (Ok found) P = IfNone found P
+OnNoneLent (Err fault) P = P
+
+-- the same, where a footnote that is not defined is no error
+abbrev pub LendsFootnote : MutBor FootnoteDefs → List ℕ → Result (Option (MutBor FootnoteDef)) Fault → Fml
+LendsFootnote lender key lent =
+    follows_so footnotes.the_row footnote.the_row lender.ghost_name (name_if_lent lent)
+    (λ last after. OnLent lent ((name : List ℕ) → footnote_at after name
+    ≡ (if is_match key name then Some last else footnote_at lender.now name)))
+    (λ after. OnNoneLent lent ((name : List ℕ) → footnote_at after name ≡ footnote_at lender.now name))
+
+-- what was found, where a footnote that is not defined is no error
+abbrev pub none_if_undefined : Result (MutBor FootnoteDef) Absence → Result (Option (MutBor FootnoteDef)) Fault
+none_if_undefined (Ok footnote) = Ok (Some footnote)
+none_if_undefined (Err Absence.Undefined) = Ok None
+none_if_undefined (Err Absence.Refused) = Err Fault.Memory

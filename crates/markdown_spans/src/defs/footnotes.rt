@@ -8,7 +8,8 @@ ghost use Rattle.markdown_base.specs.CowText.{text_of};
 ghost use Rattle.markdown_base.specs.declared.fault.Fault.{Fault};
 ghost use Rattle.markdown_spans.specs.Folding.{case_folding, is_match};
 ghost use Rattle.markdown_spans.specs.Footnotes.{footnote_at, unused, unused_at, used_once_more};
-ghost use Rattle.markdown_spans.specs.FootnoteLending.{LendsFolded, LendsFootnote};
+ghost use Rattle.markdown_spans.specs.FootnoteLending.{LendsDefined, LendsFolded, LendsFootnote};
+ghost use Rattle.markdown_spans.specs.FootnoteLending.{none_if_undefined};
 
 use super::folding::fold;
 use markdown_base::cow_str::CowStr;
@@ -93,24 +94,22 @@ impl FootnoteDefs {
         }
     }
 
-    /// The footnote of this name, to be changed in place; none is made. The only error is
-    /// `Fault::Memory`. After an error, and where the name is not defined, nothing has changed.
+    /// The footnote of this name, to be changed in place; none is made. Once the reference ends, each
+    /// name that matches finds what was written behind it, and all others what they found. The only
+    /// error is `Fault::Memory`. After an error, and where the name is not defined, nothing has changed.
     pub fn get_mut(&mut self, key: CowStr<'_>) -> Result<Option<&mut FootnoteDef>, Fault>
+        ensures* writes_back { sem 𝓛 (LendsFootnote self.entry (text_of key.entry) result) }
         ensures found { IfOk result (λ found.
             option_copied_mut found ≡ footnote_at self.old (text_of key.entry)) }
         ensures refused { IfErr result (λ fault. fault ≡ Fault.Memory) }
     {
-        match self.find_mut(key) {
-            Ok(footnote) => Ok(Some(footnote)),
-            Err(Absence::Undefined) => Ok(None),
-            Err(Absence::Refused) => Err(Fault::Memory),
-        }
+        none_if_undefined(self.find_mut(key))
     }
 
-    /// The footnote of this name, to be changed in place; none is made. After an error nothing has
-    /// changed.
+    /// As `get_mut`, where a footnote that is not defined is an error: a proof about a caller learns
+    /// what a write leaves behind from this form alone. After an error nothing has changed.
     pub fn find_mut(&mut self, key: CowStr<'_>) -> Result<&mut FootnoteDef, Absence>
-        ensures* writes_back { sem 𝓛 (LendsFootnote self.entry (text_of key.entry) result) }
+        ensures* writes_back { sem 𝓛 (LendsDefined self.entry (text_of key.entry) result) }
         ensures found { IfOk result (λ found. Some found.now ≡ footnote_at self.old (text_of key.entry)) }
         ensures undefined { IfErr result (λ why.
             why ≡ Absence.Undefined → footnote_at self.old (text_of key.entry) ≡ None) }
@@ -128,6 +127,19 @@ impl FootnoteDefs {
         ensures found { option_copied_mut result ≡ get_by_text self.old.by_folding folded.now }
     {
         self.by_folding.get_mut(folded)
+    }
+}
+
+/// What was found, where a footnote that is not defined is no error.
+fn none_if_undefined<'a>(
+    found: Result<&'a mut FootnoteDef, Absence>,
+) -> Result<Option<&'a mut FootnoteDef>, Fault>
+    ensures same { result ≡ none_if_undefined found.entry }
+{
+    match found {
+        Ok(footnote) => Ok(Some(footnote)),
+        Err(Absence::Undefined) => Ok(None),
+        Err(Absence::Refused) => Err(Fault::Memory),
     }
 }
 
