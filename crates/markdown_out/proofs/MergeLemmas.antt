@@ -45,10 +45,13 @@ module _ {P : Type 0} (through : P → P → P) where
     where
       both : PlacedText P
       both = record { bytes = t.bytes ++ u.bytes; place = t.place }
+
       none : PlacedText P
       none = record { bytes = []; place = u.place }
+
       front : List (Run P) → PlacedText P → PlacedText P → List (Item P)
       front rs a b = flat_map (run_items through) (before_runs (text_item a) (Some a) (before_runs (text_item b) (Some b) rs))
+
       by_runs : (rs : List (Run P)) → front rs t u ≡ front rs both none
       by_runs [] = ap (λ bytes. unless_empty bytes (through t.place u.place) ++ []) (sym (append_assoc t.bytes u.bytes []))
       by_runs (alone x ∷ rs) = ap (λ bytes. unless_empty bytes (through t.place u.place) ++ flat_map (run_items through) (alone x ∷ rs)) (sym (append_assoc t.bytes u.bytes []))
@@ -63,10 +66,13 @@ module _ {P : Type 0} (through : P → P → P) where
     where
       both : PlacedText P
       both = record { bytes = t.bytes ++ u.bytes; place = t.place }
+
       none : PlacedText P
       none = record { bytes = []; place = u.place }
+
       joined : (more : List ℕ) → t.bytes ++ (l.bytes ++ (u.bytes ++ more)) ≡ (t.bytes ++ u.bytes) ++ more
       joined more = ap (λ bytes. t.bytes ++ (bytes ++ (u.bytes ++ more))) e ∙ sym (append_assoc t.bytes u.bytes more)
+
       by_runs : (rs : List (Run P))
           → flat_map (run_items through) (before_runs (text_item t) (Some t) (before_runs (text_item l) (Some l) (before_runs (text_item u) (Some u) rs)))
           ≡ flat_map (run_items through) (before_runs (text_item both) (Some both) (before_runs (text_item none) (Some none) rs))

@@ -26,9 +26,15 @@ module _ {S A : Type 0} (steps : S → Option A → S → Type 0) where
     -- after a call an iterator can be merged still
     pub can_merge-after : {s t : S} (r : Option A) → CanMerge steps can rest s → steps s r t → MakesProgress can rest s r t → CanMerge steps can rest t
     can_merge-after {s} {t} None c p m = record {
-        callable = (c.goes_on s t c.callable c.ends p).0; ends = m.rests c.ends; goes_on = c.goes_on }
+      callable = (c.goes_on s t c.callable c.ends p).0;
+      ends = m.rests c.ends;
+      goes_on = c.goes_on;
+    }
     can_merge-after {s} {t} (Some x) c p m = record {
-        callable = m.keeps; ends = (m.on c.ends).1; goes_on = c.goes_on }
+      callable = m.keeps;
+      ends = (m.on c.ends).1;
+      goes_on = c.goes_on;
+    }
 
     -- an item takes one of those that are left, and None leaves no more
     pub fewer-after : {s t : S} (r : Option A) → CanMerge steps can rest s → steps s r t → MakesProgress can rest s r t → answer_count r + size (rest t) ≤ size (rest s)
@@ -46,12 +52,13 @@ module _ {S T P : Type 0} (through : P → P → P) (view : T → Item P) (steps
       → IsMerged through view steps items s [] (held_items now) t → steps t r u → option_map placed_view answer ≡ option_map view r
       → TakesIn through (held_items now) answer step after → IsMerged through view steps items s (given_answers step) (held_items after) u
   merged-more {items} {s} {t} {u} now step after r answer m p e takes = record {
-      answers = m.answers ++ r ∷ [];
-      read = gave-more steps s t u m.answers r m.read p;
-      leaves = λ later.
-          ap (merge_answers through items) (viewed-more view m.answers r later)
-          ∙ (m.leaves (option_map view r ∷ later)
-          ∙ (ap (λ x. merge_answers through (held_items now) (x ∷ later)) (sym e) ∙ takes later)) }
+    answers = m.answers ++ r ∷ [];
+    read = gave-more steps s t u m.answers r m.read p;
+    leaves = λ later.
+        ap (merge_answers through items) (viewed-more view m.answers r later)
+        ∙ (m.leaves (option_map view r ∷ later)
+        ∙ (ap (λ x. merge_answers through (held_items now) (x ∷ later)) (sym e) ∙ takes later));
+  }
 
   module _ (can : S → Type 0) (rest : S → Count) where
     -- nothing was given yet, and no more is left than at first
@@ -63,6 +70,7 @@ module _ {S T P : Type 0} (through : P → P → P) (view : T → Item P) (steps
     -- before the first answer
     pub reading-begins : (first : Held P) (s : S) → CanMerge steps can rest s → IsReading first s first s
     reading-begins first s c = record {
-        merged = record { answers = []; read = refl; leaves = λ later. refl };
-        can_merge = c;
-        fewer = omega arith }
+      merged = record { answers = []; read = refl; leaves = λ later. refl };
+      can_merge = c;
+      fewer = omega arith;
+    }

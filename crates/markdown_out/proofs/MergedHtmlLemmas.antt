@@ -108,20 +108,26 @@ same-cons past e xs ys a = record { bytes = ap (λ b. event_bytes past e ++ b) a
 same-two : (past : Past) (t u : List ℕ) (rest : List EventView) → 0 < length t → 0 < length u → 0 < length (t ++ u)
     → IsSameHtml past (text t ∷ text u ∷ rest) (text (t ++ u) ∷ rest)
 same-two past t u rest h k l = record {
-    bytes = sym (append_assoc (event_bytes past (text t)) (event_bytes mid (text u)) (bytes_from (past_after mid (text u)) rest))
-        ∙ (ap (λ b. b ++ bytes_from (past_after mid (text u)) rest) bytes ∙ ap (λ p. event_bytes past (text (t ++ u)) ++ bytes_from p rest) told);
-    told = ap (λ p. past_through p rest) told }
+  bytes = sym (append_assoc (event_bytes past (text t)) (event_bytes mid (text u)) (bytes_from (past_after mid (text u)) rest))
+      ∙ (ap (λ b. b ++ bytes_from (past_after mid (text u)) rest) bytes ∙ ap (λ p. event_bytes past (text (t ++ u)) ++ bytes_from p rest) told);
+  told = ap (λ p. past_through p rest) told;
+}
   where
     o : Option OpenImageView
     o = past.open_image
+
     m : Bool
     m = past.in_metadata
+
     mid : Past
     mid = past_after past (text t)
+
     second : event_bytes mid (text u) ≡ written o m u
     second = ap (λ p. event_bytes p (text u)) (told-text past t h) ∙ text-written (record past { fresh = ends_line past.fresh (written o m t) }) u
+
     bytes : event_bytes past (text t) ++ event_bytes mid (text u) ≡ event_bytes past (text (t ++ u))
     bytes = ap (λ b. b ++ event_bytes mid (text u)) (text-written past t) ∙ (ap (λ b. written o m t ++ b) second ∙ (written-append o m t u ∙ sym (text-written past (t ++ u))))
+
     told : past_after mid (text u) ≡ past_after past (text (t ++ u))
     told = ap (λ p. past_after p (text u)) (told-text past t h)
         ∙ (told-text (record past { fresh = ends_line past.fresh (written o m t) }) u k
@@ -176,8 +182,8 @@ same-runs (texts t (u ∷ us) ∷ rs) past a =
     let all = same-texts past t.bytes (u ∷ us) rest a.0.0 a.0.1 in
     let item : unless_empty whole (nowhere t.place (last_text u us).place) ≡ Ok (text whole, nowhere t.place (last_text u us).place) ∷ [] = given-text whole (nowhere t.place (last_text u us).place) (longer t.bytes (flat_map (λ x. x.bytes) (u ∷ us)) a.0.0) in
     subst (λ items. IsSameHtml past (flat_map item_events (items ++ flat_map (run_items nowhere) rs)) (text t.bytes ∷ (map (λ x. text x.bytes) (u ∷ us) ++ rest))) (sym item)
-        (same-trans past (text whole ∷ given) (text whole ∷ rest) (text t.bytes ∷ (map (λ x. text x.bytes) (u ∷ us) ++ rest)) one
-            (same-sym past (text t.bytes ∷ (map (λ x. text x.bytes) (u ∷ us) ++ rest)) (text whole ∷ rest) all))
+    (same-trans past (text whole ∷ given) (text whole ∷ rest) (text t.bytes ∷ (map (λ x. text x.bytes) (u ∷ us) ++ rest)) one
+    (same-sym past (text t.bytes ∷ (map (λ x. text x.bytes) (u ∷ us) ++ rest)) (text whole ∷ rest) all))
 
 -- a Text before runs
 full-text : (t : PlacedText U) (rs : List (Run U)) → 0 < length t.bytes → AllByRecursion IsFullRun rs → AllByRecursion IsFullRun (before_runs (text_item t) (Some t) rs)

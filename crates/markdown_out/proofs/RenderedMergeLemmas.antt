@@ -68,7 +68,7 @@ no_error-runs (alone (Err fault) ∷ rs) h = absurd h
 no_error-runs (texts t [] ∷ rs) h = no_error-runs rs h
 no_error-runs (texts t (u ∷ us) ∷ rs) h =
     no_error-texts (t ∷ u ∷ us) (flat_map run_source rs)
-        (no_error-runs rs (no_error-rest (flat_map (λ x. x.bytes) (t ∷ u ∷ us)) (nowhere t.place (last_text u us).place) (flat_map (run_items nowhere) rs) h))
+    (no_error-runs rs (no_error-rest (flat_map (λ x. x.bytes) (t ∷ u ∷ us)) (nowhere t.place (last_text u us).place) (flat_map (run_items nowhere) rs) h))
 
 no_error-views : (es : List EventView) → HasNoError (map event_item es)
 no_error-views [] = tt
@@ -204,13 +204,14 @@ module _ {S : Type 0} (steps : S → Option Raw → S → Type 0) where
 
   run-more : (s t u : MergeState S U) (r : Option Raw) (given : List (Option (Item U))) → PassesOn nowhere view steps s r t → IsRun t given u → IsRun s (option_map view r ∷ given) u
   run-more s t u r given p run = record {
-      answers = p.answers ++ run.answers;
-      read = gave-append steps s.iter t.iter u.iter p.answers run.answers p.read run.read;
-      leaves = λ later.
-          ap (λ rs. merge_answers nowhere s.held (rs ++ later)) (map-append (option_map view) p.answers run.answers)
-          ∙ (ap (merge_answers nowhere s.held) (append_assoc (map (option_map view) p.answers) (map (option_map view) run.answers) later)
-          ∙ (p.leaves (map (option_map view) run.answers ++ later) ∙ ap (λ rs. option_map view r ∷ rs) (run.leaves later)));
-      goes_on = run.goes_on }
+    answers = p.answers ++ run.answers;
+    read = gave-append steps s.iter t.iter u.iter p.answers run.answers p.read run.read;
+    leaves = λ later.
+        ap (λ rs. merge_answers nowhere s.held (rs ++ later)) (map-append (option_map view) p.answers run.answers)
+        ∙ (ap (merge_answers nowhere s.held) (append_assoc (map (option_map view) p.answers) (map (option_map view) run.answers) later)
+        ∙ (p.leaves (map (option_map view) run.answers ++ later) ∙ ap (λ rs. option_map view r ∷ rs) (run.leaves later)));
+    goes_on = run.goes_on;
+  }
 
   -- an iterator that stays ended gives None and nothing else
   ended-nones : StaysEnded steps → (s t u : S) (rs : List (Option Raw)) → steps s None t → Gave steps t rs u → AreNone (map (option_map view) rs)
@@ -246,10 +247,12 @@ module _ {S : Type 0} (steps : S → Option Raw → S → Type 0) where
     where
       its : List (Item U)
       its = map event_item views
+
       all : merge_answers nowhere [] (map (option_map view) run.answers) ≡ map (λ i. Some i) its ++ (None ∷ merge_answers nowhere u.held [])
       all = ap (λ h. merge_answers nowhere h (map (option_map view) run.answers)) (sym empty)
           ∙ (ap (merge_answers nowhere s.held) (sym (append-nil (map (option_map view) run.answers)))
           ∙ (run.leaves [] ∙ append_assoc (map (λ i. Some i) its) (None ∷ []) (merge_answers nowhere u.held [])))
+
       by_cut : IsCut run.answers ⊎ HasNoNone run.answers → IsMergeOf s.iter views
       by_cut (inr n) = absurd (none-missing (merged nowhere (map view n.all)) its (merge_answers nowhere u.held [])
           (sym (answers-last [] (map view n.all)) ∙ (ap (merge_answers nowhere []) (sym (ap (map (option_map view)) n.is ∙ views-some n.all)) ∙ all)))
@@ -257,17 +260,18 @@ module _ {S : Type 0} (steps : S → Option Raw → S → Type 0) where
           let e = ended s.iter u.iter c.before c.after (subst (λ rs. Gave steps s.iter rs u.iter) c.is run.read) in
           let later = map (option_map view) c.after in
           let seen : map (option_map view) run.answers ≡ map (λ i. Some i) (map view c.before) ++ (None ∷ later) =
-              ap (map (option_map view)) c.is ∙ (map-append (option_map view) (map (λ x. Some x) c.before) (None ∷ c.after) ∙ ap (λ ys. ys ++ (None ∷ later)) (views-some c.before)) in
+          ap (map (option_map view)) c.is ∙ (map-append (option_map view) (map (λ x. Some x) c.before) (None ∷ c.after) ∙ ap (λ ys. ys ++ (None ∷ later)) (views-some c.before)) in
           let given : merged nowhere (map view c.before) ≡ its =
-              given-stretch (map view c.before) its later (merge_answers nowhere u.held []) (ended-nones ends e.last e.end u.iter c.after e.ends e.after)
-                  (sym (answers-stretch [] (map view c.before) later) ∙ (ap (merge_answers nowhere []) (sym seen) ∙ all)) in
+          given-stretch (map view c.before) its later (merge_answers nowhere u.held []) (ended-nones ends e.last e.end u.iter c.after e.ends e.after)
+          (sym (answers-stretch [] (map view c.before) later) ∙ (ap (merge_answers nowhere []) (sym seen) ∙ all)) in
           let no_error = subst HasNoError (runs_of_items (map view c.before)) (no_error-runs (runs (map view c.before)) (subst HasNoError (sym given) (no_error-views views))) in
           let read = are_events c.before no_error in
           record {
-              events = read.events;
-              read = subst (λ xs. Drains steps s.iter xs) read.are (e.end, (e.last, e.yields, e.ends));
-              merges = ap (λ xs. flat_map item_events (merged nowhere xs)) (sym (views-items read.events) ∙ ap (map view) (sym read.are))
-                  ∙ (ap (flat_map item_events) given ∙ events-items views) }
+            events = read.events;
+            read = subst (λ xs. Drains steps s.iter xs) read.are (e.end, (e.last, e.yields, e.ends));
+            merges = ap (λ xs. flat_map item_events (merged nowhere xs)) (sym (views-items read.events) ∙ ap (map view) (sym read.are))
+                ∙ (ap (flat_map item_events) given ∙ events-items views);
+          }
 
   module _ {M : Type 0} (can : S → Type 0) (rest : S → Count) (state : M → MergeState S U) where
     abbrev merge_steps : M → Option Raw → M → Type 0

@@ -81,7 +81,8 @@ fn attributes_are_escaped_byte_by_byte(rt: HostRuntime) -> Result<(), Fail> {
 }
 
 /// The bytes that a destination keeps.
-const KEPT: &str = "ABCDEFGHIJKLMNOPQRSTUVWXYZabcdefghijklmnopqrstuvwxyz0123456789!#$%()*+,-./:;=?@_~";
+const KEPT: &str =
+    "ABCDEFGHIJKLMNOPQRSTUVWXYZabcdefghijklmnopqrstuvwxyz0123456789!#$%()*+,-./:;=?@_~";
 
 /// `%` and two digits.
 fn push_percent(expected: &mut Vec<u8>, byte: u8) -> Result<(), Fail> {

@@ -17,33 +17,27 @@ use markdown_base::fault::Fault;
 pub fn merged_texts_are_no_neighbours()
     ensures events { (items : List (Item (Unit {0}))) → HasNoNeighbours (merged nowhere items) }
     ensures ranged { (items : List (Item (Range ℕ))) → HasNoNeighbours (merged through_ranges items) }
-{
-}
+{}
 
 /// Merging twice is merging once.
 pub fn merging_twice_is_merging_once()
     ensures events { (items : List (Item (Unit {0}))) → merged nowhere (merged nowhere items) ≡ merged nowhere items }
     ensures ranged { (items : List (Item (Range ℕ))) →
         merged through_ranges (merged through_ranges items) ≡ merged through_ranges items }
-{
-}
+{}
 
 /// Where no text is empty, merging changes no byte of the HTML.
 pub fn merging_keeps_the_html()
     ensures { MergingKeepsHtml }
-{
-}
+{}
 
 /// What `push_html` makes of a merge that nothing was read for yet, over an iterator that stays
 /// ended: the HTML of the merge of the events.
 pub fn html_of_a_merge_is_that_of_the_merged_events<
     'a,
     I: Iterator<Item = Result<Event<'a>, Fault>>,
->(
-    merge: &TextMergeStream<'a, I>,
-)
+>(merge: &TextMergeStream<'a, I>)
     ensures { StaysEnded I.next_gives → (stream_state merge.now).held ≡ [] → (stream_state merge.now).over ≡ false
         → (old new : List ℕ) → IsRendered (λ m r t. MergeSteps I.next_gives I.can_next I.remaining (stream_state m) r (stream_state t)) merge.now old new
         → IsRenderedMerged I.next_gives (stream_state merge.now).iter old new }
-{
-}
+{}

@@ -79,8 +79,7 @@ impl<'a, I> TextMergeWithOffset<'a, I> {
 }
 
 impl<'a, I: Iterator<Item = Result<(Event<'a>, Range<usize>), Fault>>> Iterator
-    for TextMergeWithOffset<'a, I>
-{
+    for TextMergeWithOffset<'a, I> {
     type Item = Result<(Event<'a>, Range<usize>), Fault>;
 
     ghost use Rattle.std.specs.Iterator.{at_most};

@@ -115,7 +115,14 @@ impl<'a> Iterator for Answers<'a> {
 #[test]
 fn each_stretch_is_merged_by_itself(rt: HostRuntime) -> Result<(), Fail> {
     let alloc = rt.alloc();
-    let left = vec![in alloc; None, None, Some(text("c")), Some(text("b")), None, Some(text("a"))]?;
+    let left = vec![in alloc;
+        None,
+        None,
+        Some(text("c")),
+        Some(text("b")),
+        None,
+        Some(text("a")),
+    ]?;
     let mut merge = TextMergeStream::new(alloc, Answers { left });
     assert_eq!(rt; merge.next(), Some(text("a")));
     assert_eq!(rt; merge.next(), Some(text("bc")));
@@ -132,7 +139,13 @@ fn merged_events_have_their_html(rt: HostRuntime) -> Result<(), Fail> {
         title: CowStr::Borrowed(""),
         id: CowStr::Borrowed(""),
     };
-    let items = vec![in alloc; text("a"), text("<b"), Ok(Event::Start(image)), text("c"), text("\"")]?;
+    let items = vec![in alloc;
+        text("a"),
+        text("<b"),
+        Ok(Event::Start(image)),
+        text("c"),
+        text("\""),
+    ]?;
     let mut s = String::from_str(alloc, "old ")?;
     let done = push_html(
         alloc,
@@ -163,7 +176,10 @@ fn mapped_events_have_their_html(rt: HostRuntime) -> Result<(), Fail> {
         Ok(Event::End(TagEnd::Paragraph)),
     ]?;
     let mut s = String::new(alloc);
-    assert_eq!(rt; push_html(alloc, &mut s, items.into_iter().map(harden)), Ok(()));
+    assert_eq!(rt;
+        push_html(alloc, &mut s, items.into_iter().map(harden)),
+        Ok(())
+    );
     assert_eq!(rt; s.as_str(), "<p>a<br />\nb</p>\n");
     Ok(())
 }

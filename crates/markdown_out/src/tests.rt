@@ -4,7 +4,8 @@ use markdown_base::cow_str::CowStr;
 use markdown_base::event::Event;
 use markdown_base::fault::Fault;
 use markdown_base::tag::{
-    Alignment, BlockQuoteKind, CodeBlockKind, HeadingLevel, LinkType, MetadataBlockKind, Tag, TagEnd,
+    Alignment, BlockQuoteKind, CodeBlockKind, HeadingLevel, LinkType, MetadataBlockKind, Tag,
+    TagEnd,
 };
 use std::alloc::Global;
 use std::test::Fail;
@@ -299,7 +300,12 @@ fn each_start_writes_its_tag(rt: HostRuntime) -> Result<(), Fail> {
         attrs: Vec::new(alloc),
     };
     let rust = CodeBlockKind::Fenced(CowStr::Borrowed("rs x"));
-    let left = vec![in alloc; Alignment::Left, Alignment::Center, Alignment::Right, Alignment::None]?;
+    let left = vec![in alloc;
+        Alignment::Left,
+        Alignment::Center,
+        Alignment::Right,
+        Alignment::None,
+    ]?;
     let events = vec![in alloc;
         start(Tag::Paragraph),
         start(heading(HeadingLevel::H1)),
