@@ -1,5 +1,9 @@
 //! The program's texts and statuses.
 use crate::run::run;
+use markdown_base::event::Event;
+use markdown_base::fault::Fault;
+use markdown_inline::walk::Parser;
+use markdown_out::html::push_html;
 use std::alloc::Global;
 use std::io::{self, ErrorKind, Read, Write};
 use std::test::Fail;
@@ -115,5 +119,23 @@ fn answers_the_same_where_nothing_can_be_said(rt: HostRuntime) -> Result<(), Fai
         2
     );
     assert_eq!(rt; out.len(), 0);
+    Ok(())
+}
+
+/// A soft break as a hard one, and all else as it is.
+fn harden<'a>(item: Result<Event<'a>, Fault>) -> Result<Event<'a>, Fault> {
+    match item {
+        Ok(Event::SoftBreak) => Ok(Event::HardBreak),
+        other => other,
+    }
+}
+
+#[test]
+fn a_parser_can_be_mapped(rt: HostRuntime) -> Result<(), Fail> {
+    let alloc = rt.alloc();
+    let mut html = String::new(alloc);
+    let parser = Parser::new(alloc, "a\nb")?;
+    assert_eq!(rt; push_html(alloc, &mut html, parser.map(harden)), Ok(()));
+    assert_eq!(rt; html.as_str(), "<p>a<br />\nb</p>\n");
     Ok(())
 }
