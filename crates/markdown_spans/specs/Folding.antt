@@ -4,7 +4,7 @@ use Rattle.std.specs.Prelude.{ℕ, List, Bool, chars, encode_utf8_all, nat_eq}
 use Rattle.std.specs.Cmp.Lexicographic.{pointwise}
 use Rattle.caseless.specs.Caseless.{default_case_fold, IsDefaultMatch}
 
--- toCasefold (R4) of a text: its code points with full case folding
+-- toCasefold of a text (The Unicode Standard, 3.13): its code points with full case folding
 unfoldable pub case_folding : List ℕ → List ℕ
 case_folding text = default_case_fold (chars text)
 
