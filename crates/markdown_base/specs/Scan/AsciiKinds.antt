@@ -17,11 +17,6 @@ is_control b = nat_lt b 32 || (b == 127)
 abbrev pub is_control_or_space : ℕ → Bool
 is_control_or_space b = is_control b || (b == 32)
 
--- an ASCII punctuation character: ! to /, : to @, [ to `, { to ~
-abbrev pub is_punctuation : ℕ → Bool
-is_punctuation b =
-    (nat_le 33 b && nat_le b 47) || (nat_le 58 b && nat_le b 64) || (nat_le 91 b && nat_le b 96) || (nat_le 123 b && nat_le b 126)
-
 -- white space: a space, tab, line feed, line tabulation, form feed or carriage return
 abbrev pub is_white_space : ℕ → Bool
 is_white_space b = (b == 32) || (nat_le 9 b && nat_le b 13)

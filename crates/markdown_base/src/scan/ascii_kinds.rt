@@ -9,13 +9,6 @@ pub fn is_control_or_space(byte: u8) -> bool
     byte <= b' ' || byte == 127
 }
 
-/// An ASCII punctuation character.
-pub fn is_punctuation(byte: u8) -> bool
-    ensures { result ≡ kinds.is_punctuation byte }
-{
-    matches!(byte, b'!'..=b'/' | b':'..=b'@' | b'['..=b'`' | b'{'..=b'~')
-}
-
 /// A space, tab, line feed, line tabulation, form feed or carriage return.
 pub fn is_white_space(byte: u8) -> bool
     ensures { result ≡ kinds.is_white_space byte }
