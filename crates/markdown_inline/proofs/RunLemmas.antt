@@ -1,16 +1,17 @@
 -- Calls of `next`, one after another up to None, and what was left before them.
-use Rattle.std.proofs.Common.{◌≡◌, ℕ, List, [], ◌∷◌, ◌++◌, map, Option, Some, None, Result, Ok, Err, ◌⊎◌, inl, inr, ⊎_elim, refl, sym, ap, ◌∙◌, append_assoc}
+use Rattle.std.proofs.Common.{◌≡◌, ℕ, List, [], ◌∷◌, ◌++◌, map, Option, Some, None, Result, Ok, Err, inl, inr, ⊎_elim, refl, sym, ap, ◌∙◌, append_assoc}
 use Rattle.std.proofs.Common.{Vec}
-use Rattle.std.specs.Iterator.{Drains, DrainsIf}
-use Rattle.std.specs.Prelude.{IfOk, ⊤}
+use Rattle.std.specs.Iterator.{Drains}
+use Rattle.std.specs.Prelude.{IfOk}
 use Rattle.std.proofs.lemmas.Iterator.{IsCollectResult}
 use Rattle.markdown_base.specs.Document.{Question, Answer, Answers, Element, Placed, question, event, events_of}
+use Rattle.markdown_base.specs.Event.{event_view}
+use Rattle.markdown_base.specs.declared.event.Event.{Event}
 use Rattle.markdown_base.specs.declared.fault.Fault.{Fault}
-use Rattle.markdown_base.specs.declared.fault.Fault.TheVariants.{Memory}
 use Rattle.markdown_spans.specs.Callback.{Asks}
-use Rattle.markdown_inline.specs.NextGives.{NextGives, GivesItem, GivesError, GivesNone}
-use Rattle.markdown_inline.specs.ParserLeft.{elements, parser_text, parser_callback}
-use Rattle.markdown_inline.specs.Runs.{AreOf, GaveAll, WasRefused, IsRun}
+use Rattle.markdown_inline.specs.NextGives.{NextGives, GivesItem, IsEventOf}
+use Rattle.markdown_inline.specs.ParserLeft.{elements, parser_callback}
+use Rattle.markdown_inline.specs.Runs.{GaveAll, WasRefused, IsRun}
 use Rattle.markdown_inline.specs.declared.walk.Parser.{Parser}
 
 -- questions are no events
@@ -91,3 +92,25 @@ unasked step old new [] (a ∷ answers) h n = absurd h
 unasked step old new (q ∷ questions) [] h n = absurd h
 unasked step None new (q ∷ questions) (a ∷ answers) h n = absurd h
 unasked step (Some c) new (q ∷ questions) (a ∷ answers) h n = cc n
+
+-- so the items of a run without an error are what was left, whatever answers are thought of
+pub drained_unasked : {F : Type 0} (step : F → Question → Option Answer → F → Type 0) (p : Parser F) (given : List Event)
+    → Drains (NextGives step IsEventOf) p (map (λ e. Ok e) given) → parser_callback p ≡ None
+    → (later : Answers) → map (λ e. e.0) (events_of (elements p later)) ≡ map event_view given
+drained_unasked step p [] (u, (t, y, z)) n later = rw (y, z.gives.none_left later) refl
+drained_unasked step p (e ∷ given) (u, (t, (j, h, y), z)) n later =
+    let g = h.gives in
+    let none = unasked step (parser_callback p) (parser_callback j) g.questions g.answers g.asked n in
+    let first = rw none.0 at (events_before step IsEventOf (λ q. q) p j e g later) in
+    let rest = drained_unasked step j given (u, (t, y, z)) none.1 later in
+    rw (first, g.is_item.view, rest) refl
+
+-- whatever the callback answers, the events of a run without an error are those that were left
+pub drained : {F : Type 0} (step : F → Question → Option Answer → F → Type 0) (p : Parser F) (given : List Event)
+    → Drains (NextGives step IsEventOf) p (map (λ e. Ok e) given)
+    → (answers : Answers) × ((later : Answers) → map (λ e. e.0) (events_of (elements p (answers ++ later))) ≡ map event_view given)
+drained step p [] (u, (t, y, z)) = ([], λ later. rw (y, z.gives.none_left later) refl)
+drained step p (e ∷ given) (u, (t, (j, h, y), z)) =
+    let g = h.gives in
+    let rest = drained step j given (u, (t, y, z)) in
+    (g.answers ++ rest.0, λ later. rw (append_assoc g.answers rest.0 later, events_before step IsEventOf (λ q. q) p j e g (rest.0 ++ later), g.is_item.view, rest.1 later) refl)
