@@ -1,7 +1,7 @@
 -- What a parser of a text gives, written as HTML, is the rendering of the text.
 use Rattle.std.proofs.Common.{◌≡◌, ℕ, List, [], None, Option}
 use Rattle.std.specs.Str.{IsUtf8}
-use Rattle.markdown_base.specs.Document.{Question, Answer}
+use Rattle.markdown_base.specs.Questions.{Question, Answer}
 use Rattle.markdown_inline.specs.NextGives.{NextGives, IsEventOf}
 use Rattle.markdown_inline.specs.ParserLeft.{ReadsText, no_options, parser_callback}
 use Rattle.markdown_inline.specs.declared.walk.Parser.{Parser}
