@@ -9,6 +9,8 @@ mod builders;
 #[cfg(test)]
 mod merged;
 #[cfg(test)]
+mod notes;
+#[cfg(test)]
 mod parser;
 #[cfg(test)]
 mod program;
