@@ -11,7 +11,6 @@ pub mod inline_str;
 pub mod item;
 pub mod node;
 pub mod options;
-pub mod scan;
 pub mod tag;
 #[cfg(test)]
 mod tests;
