@@ -13,6 +13,4 @@ pub mod node;
 pub mod options;
 pub mod scan;
 pub mod tag;
-#[cfg(test)]
-mod tests;
 pub mod tree;
