@@ -7,6 +7,12 @@ mod bodies;
 #[cfg(test)]
 mod builders;
 #[cfg(test)]
+mod merged;
+#[cfg(test)]
+mod parser;
+#[cfg(test)]
+mod program;
+#[cfg(test)]
 mod texts;
 #[cfg(test)]
 mod trees;

@@ -1,9 +1,11 @@
 //! The program, over any reader and two writers.
-ghost use Rattle.std.specs.Prelude.{◌≡◌, ◌≢◌, ◌≤◌, ◌<◌, ◌⊎◌, ℕ, List, length, IfOk, IfErr, IfSome, OnOk, string_bytes};
+ghost use Rattle.std.specs.Prelude.{◌≡◌, ◌≢◌, ◌≤◌, ◌<◌, ◌⊎◌, ℕ, List, length, Result, IfOk, IfErr, IfSome, OnOk, string_bytes};
 ghost use Rattle.std.specs.Str.{IsUtf8};
 ghost use Rattle.std.specs.IoError.{error_kind};
 ghost use Rattle.std.specs.Io.KnownBytes.{Appends};
-ghost use Rattle.markdown_html.specs.Rendering.{IsRenderingOf};
+ghost use Rattle.markdown_render.specs.Rendering.{IsRenderingOf};
+ghost use Rattle.markdown_render.specs.Outcome.{status_of, Leaves};
+ghost use Rattle.markdown_render.specs.declared.run.Failure.{Failure};
 
 use markdown_inline::walk::Parser;
 use markdown_out::html::push_html;
@@ -11,7 +13,7 @@ use markdown_spans::blocks::Fault;
 use std::alloc::Global;
 use std::io::{self, ErrorKind, Read, Write};
 
-/// Why nothing was printed.
+/// What failed.
 #[derive(Debug, Drop)]
 enum Failure {
     ReadFailed,
@@ -35,7 +37,7 @@ impl Failure {
 }
 
 impl From<Fault> for Failure {
-    ghost use Rattle.markdown_html.specs.declared.run.Failure.{Failure};
+    ghost use Rattle.markdown_render.specs.declared.run.Failure.{Failure};
 
     ghost from_gives = { λ fault failure. failure ≡ Failure.Fault fault };
 
@@ -95,13 +97,29 @@ fn print<W: Write>(out: &mut W, html: &str) -> Result<(), Failure>
 
 /// Reads, renders and writes.
 fn convert<R: Read, W: Write>(alloc: Global, input: &mut R, out: &mut W) -> Result<(), Failure>
-    ensures printed { OnOk result (IfSome (R.remaining input.old) (λ bytes.
-        (html : List ℕ) × IsRenderingOf bytes html × Appends (W.contents out.old) (W.contents out.new) html)) }
-    ensures not_text { IfSome (R.remaining input.old) (λ bytes. (IsUtf8 bytes → ⊥) → out.new ≡ out.old) }
+    ensures leaves { Leaves W.contents (R.remaining input.old) out.old out.new result }
+    ensures not_text { IfSome (R.remaining input.old) (λ bytes.
+        (IsUtf8 bytes → ⊥) → (result ≢ Ok tt) × (out.new ≡ out.old)) }
 {
     let text = read_text(alloc, input)?;
     let html = rendered(alloc, text.as_str())?;
     print(out, html.as_str())
+}
+
+/// Says on `err`, in one line, what failed, and answers the exit status. Where that can't be written the status is the
+/// same.
+fn report<E: Write>(outcome: Result<(), Failure>, err: &mut E) -> u8
+    ensures status { result ≡ status_of outcome }
+    ensures quiet { OnOk outcome (err.new ≡ err.old) }
+{
+    match outcome {
+        Ok(()) => 0,
+        Err(failure) => {
+            let text = failure.text();
+            let _ = writeln!(err, "{text}");
+            1
+        }
+    }
 }
 
 /// Reads all of `input` as Markdown and writes its HTML to `out`. Every word is an option that is not
@@ -115,24 +133,23 @@ pub fn run<R: Read, W: Write, E: Write>(
     out: &mut W,
     err: &mut E,
 ) -> u8
+    // A word is found before anything else.
     ensures words { 0 < length words.now → (result ≡ 2) × (out.new ≡ out.old) × (input.new ≡ input.old) }
-    ensures printed { result ≡ 0 → IfSome (R.remaining input.old) (λ bytes.
-        (html : List ℕ) × IsRenderingOf bytes html × Appends (W.contents out.old) (W.contents out.new) html) }
+
+    // Without one the status follows from what came of reading, rendering and writing.
+    ensures outcome { length words.now ≡ 0 → (outcome : Result (Unit {0}) Failure)
+        × (result ≡ status_of outcome) × Leaves W.contents (R.remaining input.old) out.old out.new outcome }
+    ensures status { length words.now ≡ 0 → result ≤ 1 }
     ensures not_text { length words.now ≡ 0 → IfSome (R.remaining input.old) (λ bytes.
         (IsUtf8 bytes → ⊥) → (result ≡ 1) × (out.new ≡ out.old)) }
+    ensures printed { result ≡ 0 → IfSome (R.remaining input.old) (λ bytes.
+        (html : List ℕ) × IsRenderingOf bytes html × Appends (W.contents out.old) (W.contents out.new) html) }
     ensures quiet { result ≡ 0 → err.new ≡ err.old }
-    ensures status { result ≤ 2 }
 {
     if let Some(word) = words.first() {
         let _ = writeln!(err, "unknown option: {word}");
         return 2;
     }
-    match convert(alloc, input, out) {
-        Ok(()) => 0,
-        Err(failure) => {
-            let text = failure.text();
-            let _ = writeln!(err, "{text}");
-            1
-        }
-    }
+    let outcome = convert(alloc, input, out);
+    report(outcome, err)
 }

@@ -1,6 +1,6 @@
 -- The events read are those of the block result's reading, and their HTML stands in the new string.
-use Rattle.markdown_html.proofs.RenderingLemmas.{rendering}
-use Rattle.markdown_html.proofs.run.rendered.Goals as goal
+use Rattle.markdown_render.proofs.RenderingLemmas.{rendering}
+use Rattle.markdown_render.proofs.run.rendered.Goals as goal
 
 pub returns-clause-html : goal.returns-clause-html
 returns-clause-html c =
