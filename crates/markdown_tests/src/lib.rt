@@ -4,3 +4,11 @@
 
 #[cfg(test)]
 mod builders;
+#[cfg(test)]
+mod escapes;
+#[cfg(test)]
+mod events;
+#[cfg(test)]
+mod html;
+#[cfg(test)]
+mod merges;
