@@ -76,7 +76,7 @@ fn push_destination(expected: &mut Vec<u8>, byte: u8) -> Result<(), Fail> {
 /// Whether the HTML of one event is that.
 fn is_written<'a>(alloc: Global, event: Item<'a>, expected: &[u8]) -> Result<bool, Fail> {
     let mut html = String::new(alloc);
-    let events = Vec::from_array(alloc, [event])?;
+    let events = vec![in alloc; event]?;
     let done = push_html(alloc, &mut html, events.into_iter());
     Ok(done == Ok(()) && html.as_str().as_bytes() == expected)
 }

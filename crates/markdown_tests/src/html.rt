@@ -13,24 +13,19 @@ use std::alloc::Global;
 use std::test::Fail;
 
 /// Whether the events append this HTML to a string that holds `old `, and the call ends so.
-fn ends_with<'a, const N: usize>(
+fn ends_with<'a>(
     alloc: Global,
-    events: [Item<'a>; N],
+    events: Vec<Item<'a>>,
     html: &str,
     fault: Option<Fault>,
 ) -> Result<bool, Fail> {
     let mut s = String::from_str(alloc, "old ")?;
-    let events = Vec::from_array(alloc, events)?;
     let answer = push_html(alloc, &mut s, events.into_iter()).err();
     Ok(answer == fault && s.as_str().strip_prefix("old ") == Some(html))
 }
 
 /// Whether the events append this HTML.
-fn writes<'a, const N: usize>(
-    alloc: Global,
-    events: [Item<'a>; N],
-    html: &str,
-) -> Result<bool, Fail> {
+fn writes<'a>(alloc: Global, events: Vec<Item<'a>>, html: &str) -> Result<bool, Fail> {
     ends_with(alloc, events, html, None)
 }
 
@@ -58,7 +53,7 @@ fn definition<'a>(name: &'a str) -> Item<'a> {
 #[test]
 fn starts_of_blocks(rt: HostRuntime) -> Result<(), Fail> {
     let alloc = rt.alloc();
-    let blocks = [
+    let blocks = vec![in alloc;
         start(Tag::Paragraph),
         heading(alloc, HeadingLevel::H1),
         heading(alloc, HeadingLevel::H6),
@@ -76,7 +71,7 @@ fn starts_of_blocks(rt: HostRuntime) -> Result<(), Fail> {
         start(Tag::DefinitionListTitle),
         start(Tag::DefinitionListDefinition),
         definition("n"),
-    ];
+    ]?;
     let html = "<p>\n<h1>\n<h6>\n<blockquote>\n\
         <blockquote class=\"markdown-alert-note\">\n\
         <blockquote class=\"markdown-alert-tip\">\n\
@@ -88,20 +83,20 @@ fn starts_of_blocks(rt: HostRuntime) -> Result<(), Fail> {
         <div class=\"footnote-definition\" id=\"n\">\
         <sup class=\"footnote-definition-label\">1</sup>";
     assert!(rt; writes(alloc, blocks, html)?);
-    let code = [
+    let code = vec![in alloc;
         fenced("rust ignore"),
         end(TagEnd::CodeBlock),
         fenced(" rust"),
-    ];
+    ]?;
     let html = "<pre><code class=\"language-rust\"></code></pre>\n<pre><code>";
     assert!(rt; writes(alloc, code, html)?);
-    let lists = [
+    let lists = vec![in alloc;
         start(Tag::List(None)),
         start(Tag::List(Some(1))),
         start(Tag::List(Some(0))),
         start(Tag::List(Some(7))),
         start(Tag::List(Some(18446744073709551615))),
-    ];
+    ]?;
     let html =
         "<ul>\n<ol>\n<ol start=\"0\">\n<ol start=\"7\">\n<ol start=\"18446744073709551615\">\n";
     assert!(rt; writes(alloc, lists, html)?);
@@ -111,7 +106,7 @@ fn starts_of_blocks(rt: HostRuntime) -> Result<(), Fail> {
 #[test]
 fn starts_of_inline_markup(rt: HostRuntime) -> Result<(), Fail> {
     let alloc = rt.alloc();
-    let markup = [
+    let markup = vec![in alloc;
         start(Tag::Emphasis),
         start(Tag::Strong),
         start(Tag::Strikethrough),
@@ -120,7 +115,7 @@ fn starts_of_inline_markup(rt: HostRuntime) -> Result<(), Fail> {
         link(LinkType::Inline, "/a b", "t\""),
         link(LinkType::Email, "a@b.c", ""),
         image("u", "t"),
-    ];
+    ]?;
     let html = "<em><strong><del><sub><sup><a href=\"/a%20b\" title=\"t&quot;\">\
         <a href=\"mailto:a@b.c\"><img src=\"u\" alt=\"\" title=\"t\" />";
     assert!(rt; writes(alloc, markup, html)?);
@@ -130,7 +125,7 @@ fn starts_of_inline_markup(rt: HostRuntime) -> Result<(), Fail> {
 #[test]
 fn ends(rt: HostRuntime) -> Result<(), Fail> {
     let alloc = rt.alloc();
-    let ends = [
+    let ends = vec![in alloc;
         end(TagEnd::Paragraph),
         end(TagEnd::Heading(HeadingLevel::H4)),
         end(TagEnd::BlockQuote(Some(BlockQuoteKind::Tip))),
@@ -156,7 +151,7 @@ fn ends(rt: HostRuntime) -> Result<(), Fail> {
         end(TagEnd::Image),
         end(TagEnd::HtmlBlock),
         end(TagEnd::MetadataBlock(MetadataBlockKind::PlusesStyle)),
-    ];
+    ]?;
     let html = "</p>\n</h4>\n</blockquote>\n</code></pre>\n</ol>\n</ul>\n</li>\n\
         </dl>\n</dt>\n</dd>\n</th></tr></thead><tbody>\n</td></tr>\n</tbody></table>\n\
         </em></strong></del></sub></sup></a></div>\n";
@@ -167,8 +162,8 @@ fn ends(rt: HostRuntime) -> Result<(), Fail> {
 #[test]
 fn other_events(rt: HostRuntime) -> Result<(), Fail> {
     let alloc = rt.alloc();
-    assert!(rt; writes(alloc, [], "")?);
-    let others = [
+    assert!(rt; writes(alloc, Vec::new(alloc), "")?);
+    let others = vec![in alloc;
         Ok(Event::Code(CowStr::Borrowed("a<\""))),
         Ok(Event::InlineMath(CowStr::Borrowed("b<\""))),
         Ok(Event::DisplayMath(CowStr::Borrowed("c"))),
@@ -180,7 +175,7 @@ fn other_events(rt: HostRuntime) -> Result<(), Fail> {
         reference("f\""),
         Ok(Event::TaskListMarker(true)),
         Ok(Event::TaskListMarker(false)),
-    ];
+    ]?;
     let html = "<code>a&lt;\"</code><span class=\"math math-inline\">b&lt;&quot;</span>\
         <span class=\"math math-display\">c</span><d><e>\n<br />\n<hr />\n\
         <sup class=\"footnote-reference\"><a href=\"#f&quot;\">1</a></sup>\
@@ -193,21 +188,21 @@ fn other_events(rt: HostRuntime) -> Result<(), Fail> {
 #[test]
 fn look_backs(rt: HostRuntime) -> Result<(), Fail> {
     let alloc = rt.alloc();
-    let after_empty = [text(""), Ok(Event::Rule)];
+    let after_empty = vec![in alloc; text(""), Ok(Event::Rule)]?;
     assert!(rt; writes(alloc, after_empty, "\n<hr />\n")?);
-    let out_of_order = [text("a"), end(TagEnd::Image), Ok(Event::Rule)];
+    let out_of_order = vec![in alloc; text("a"), end(TagEnd::Image), Ok(Event::Rule)]?;
     assert!(rt; writes(alloc, out_of_order, "a\n<hr />\n")?);
     let kind = MetadataBlockKind::YamlStyle;
-    let metadata = [
+    let metadata = vec![in alloc;
         start(Tag::MetadataBlock(kind)),
         text("a"),
         text(""),
         Ok(Event::Html(CowStr::Borrowed("<i>"))),
         end(TagEnd::MetadataBlock(kind)),
         text("b"),
-    ];
+    ]?;
     assert!(rt; writes(alloc, metadata, "<i>b")?);
-    let footnotes = [
+    let footnotes = vec![in alloc;
         reference("A"),
         image("u", ""),
         reference("i"),
@@ -216,7 +211,7 @@ fn look_backs(rt: HostRuntime) -> Result<(), Fail> {
         end(TagEnd::FootnoteDefinition),
         reference("A"),
         reference("a"),
-    ];
+    ]?;
     let html = "<sup class=\"footnote-reference\"><a href=\"#A\">1</a></sup>\
         <img src=\"u\" alt=\"[2]\" />\n\
         <div class=\"footnote-definition\" id=\"a\">\
@@ -230,9 +225,9 @@ fn look_backs(rt: HostRuntime) -> Result<(), Fail> {
 #[test]
 fn images(rt: HostRuntime) -> Result<(), Fail> {
     let alloc = rt.alloc();
-    let open = [image("u", ""), text("a\"b")];
+    let open = vec![in alloc; image("u", ""), text("a\"b")]?;
     assert!(rt; writes(alloc, open, "<img src=\"u\" alt=\"a&quot;b\" />")?);
-    let whole = [
+    let whole = vec![in alloc;
         image("c", "t"),
         text("a "),
         start(Tag::Emphasis),
@@ -243,7 +238,7 @@ fn images(rt: HostRuntime) -> Result<(), Fail> {
         Ok(Event::TaskListMarker(true)),
         end(TagEnd::Image),
         Ok(Event::SoftBreak),
-    ];
+    ]?;
     let html = "<img src=\"c\" alt=\"a b $x$[x]\" title=\"t\" />\n";
     assert!(rt; writes(alloc, whole, html)?);
     Ok(())
@@ -258,7 +253,7 @@ fn tables(rt: HostRuntime) -> Result<(), Fail> {
         Alignment::Center,
         Alignment::Right,
     ]?;
-    let table = [
+    let table = vec![in alloc;
         start(Tag::Table(alignments)),
         start(Tag::TableHead),
         start(Tag::TableCell),
@@ -281,19 +276,19 @@ fn tables(rt: HostRuntime) -> Result<(), Fail> {
         end(TagEnd::TableCell),
         end(TagEnd::TableRow),
         end(TagEnd::Table),
-    ];
+    ]?;
     let html = "<table><thead><tr><th style=\"text-align: left\">a</th><th></th>\
         </tr></thead><tbody>\n<tr><td style=\"text-align: left\">b</td><td></td>\
         <td style=\"text-align: center\"></td><td style=\"text-align: right\"></td><td></td></tr>\n\
         </tbody></table>\n";
     assert!(rt; writes(alloc, table, html)?);
     let left = vec![in alloc; Alignment::Left]?;
-    let no_row = [
+    let no_row = vec![in alloc;
         start(Tag::Table(left)),
         start(Tag::TableCell),
         end(TagEnd::TableCell),
         start(Tag::TableCell),
-    ];
+    ]?;
     let html = "<table><th style=\"text-align: left\"></th><th>";
     assert!(rt; writes(alloc, no_row, html)?);
     Ok(())
@@ -313,11 +308,11 @@ fn headings(rt: HostRuntime) -> Result<(), Fail> {
         classes,
         attrs,
     };
-    let events = [
+    let events = vec![in alloc;
         start(heading),
         text("t"),
         end(TagEnd::Heading(HeadingLevel::H2)),
-    ];
+    ]?;
     let html = "<h2 id=\"i\" class=\"a b&quot;\" k=\"v\" x=\"\">t</h2>\n";
     assert!(rt; writes(alloc, events, html)?);
     Ok(())
@@ -326,40 +321,46 @@ fn headings(rt: HostRuntime) -> Result<(), Fail> {
 #[test]
 fn errors(rt: HostRuntime) -> Result<(), Fail> {
     let alloc = rt.alloc();
-    let at_once = [text("a"), Err(Fault::Memory), text("b")];
+    let at_once = vec![in alloc; text("a"), Err(Fault::Memory), text("b")]?;
     assert!(rt; ends_with(alloc, at_once, "a", Some(Fault::Memory))?);
     for fault in [Fault::Blocks, Fault::Depth, Fault::Memory] {
-        let in_image = [image("u", "t"), text("a"), Err(fault)];
+        let in_image = vec![in alloc; image("u", "t"), text("a"), Err(fault)]?;
         let open = "<img src=\"u\" alt=\"a";
         assert!(rt; ends_with(alloc, in_image, open, Some(fault))?);
     }
     Ok(())
 }
 
+/// Whether the merge of the events appends this HTML, and the call ends so.
+fn merged_ends_with<'a>(
+    alloc: Global,
+    events: Vec<Item<'a>>,
+    html: &str,
+    fault: Option<Fault>,
+) -> Result<bool, Fail> {
+    let mut s = String::new(alloc);
+    let merge = TextMergeStream::new(alloc, events.into_iter());
+    let answer = push_html(alloc, &mut s, merge).err();
+    Ok(answer == fault && s.as_str() == html)
+}
+
 #[test]
 fn html_of_merges(rt: HostRuntime) -> Result<(), Fail> {
     let alloc = rt.alloc();
-    let rows = [
-        (
-            text("c"),
-            text("\""),
-            "a&lt;b<img src=\"u\" alt=\"c&quot;\" />",
-            None,
-        ),
-        (
-            text("c"),
-            Err(Fault::Memory),
-            "a&lt;b<img src=\"u\" alt=\"c",
-            Some(Fault::Memory),
-        ),
-    ];
-    for (first, second, html, fault) in rows {
-        let events = [text("a"), text("<b"), image("u", ""), first, second];
-        let mut s = String::new(alloc);
-        let merge = TextMergeStream::new(alloc, Vec::from_array(alloc, events)?.into_iter());
-        assert_eq!(rt; push_html(alloc, &mut s, merge).err(), fault);
-        assert_eq!(rt; s.as_str(), html);
-    }
+    let whole = vec![in alloc;
+        text("a"),
+        text("<b"),
+        image("u", ""),
+        text("c"),
+        text("\""),
+    ]?;
+    let html = "a&lt;b<img src=\"u\" alt=\"c&quot;\" />";
+    assert!(rt; merged_ends_with(alloc, whole, html, None)?);
+    let at_once = vec![in alloc; text("a"), Err(Fault::Memory)]?;
+    assert!(rt; merged_ends_with(alloc, at_once, "a", Some(Fault::Memory))?);
+    let in_image = vec![in alloc; image("u", "t"), text("c"), Err(Fault::Memory)]?;
+    let open = "<img src=\"u\" alt=\"c";
+    assert!(rt; merged_ends_with(alloc, in_image, open, Some(Fault::Memory))?);
     Ok(())
 }
 
@@ -374,13 +375,12 @@ fn harden<'a>(item: Item<'a>) -> Item<'a> {
 #[test]
 fn html_of_mapped_events(rt: HostRuntime) -> Result<(), Fail> {
     let alloc = rt.alloc();
-    let events = [
+    let events = vec![in alloc;
         start(Tag::Paragraph),
         text("a"),
         Ok(Event::SoftBreak),
         text("b"),
-    ];
-    let events = Vec::from_array(alloc, events)?;
+    ]?;
     let mut s = String::new(alloc);
     let done = push_html(alloc, &mut s, events.into_iter().map(harden));
     assert_eq!(rt; done, Ok(()));

@@ -1,5 +1,5 @@
 //! What the merges give, with ample memory.
-use crate::events::{Item, end, is_nothing, start, text};
+use crate::events::{Item, is_nothing, text};
 use markdown_base::cow_str::CowStr;
 use markdown_base::event::Event;
 use markdown_base::fault::Fault;
@@ -9,76 +9,79 @@ use std::alloc::Global;
 use std::ops::Range;
 use std::test::Fail;
 
-/// Whether the merge of these items up to its first None is that.
-fn merges_to<'a, const N: usize, const M: usize>(
-    alloc: Global,
-    items: [Item<'a>; N],
-    expected: [Item<'a>; M],
-) -> Result<bool, Fail> {
-    let items = Vec::from_array(alloc, items)?;
-    let expected = Vec::from_array(alloc, expected)?;
-    let mut given = Vec::new(alloc);
-    for item in TextMergeStream::new(alloc, items.into_iter()) {
-        given.push(item)?;
+/// Writes an item down: a text in brackets, a rule as a dash, an error as `!`.
+fn push_item<'a>(notes: &mut String, item: Item<'a>) -> Result<(), Fail> {
+    match item {
+        Ok(Event::Text(text)) => {
+            notes.push('[')?;
+            notes.push_str(text.as_str())?;
+            notes.push(']')?;
+        }
+        Ok(other) => {
+            drop(other);
+            notes.push('-')?;
+        }
+        Err(_) => notes.push('!')?,
     }
-    Ok(given == expected)
+    Ok(())
+}
+
+/// The merge of these items up to its first None, written down.
+fn merged<'a>(alloc: Global, items: Vec<Item<'a>>) -> Result<String, Fail> {
+    let mut notes = String::new(alloc);
+    for item in TextMergeStream::new(alloc, items.into_iter()) {
+        push_item(&mut notes, item)?;
+    }
+    Ok(notes)
 }
 
 #[test]
 fn runs(rt: HostRuntime) -> Result<(), Fail> {
     let alloc = rt.alloc();
-    let empty_run = [Ok(Event::Rule), text(""), text(""), Ok(Event::Rule)];
-    assert!(rt; merges_to(alloc, empty_run, [Ok(Event::Rule), Ok(Event::Rule)])?);
-    assert!(rt; merges_to(alloc, [text(""), text("")], [])?);
-    let lone_empty = [Ok(Event::Rule), text(""), Ok(Event::Rule)];
-    assert!(rt;
-        merges_to(
-            alloc,
-            lone_empty,
-            [Ok(Event::Rule), text(""), Ok(Event::Rule)]
-        )?
-    );
-    let around_error = [text("a"), text("b"), Err(Fault::Memory), text("c")];
-    assert!(rt;
-        merges_to(
-            alloc,
-            around_error,
-            [text("ab"), Err(Fault::Memory), text("c")]
-        )?
-    );
+    let empty_run = vec![in alloc; Ok(Event::Rule), text(""), text(""), Ok(Event::Rule)]?;
+    assert_eq!(rt; merged(alloc, empty_run)?.as_str(), "--");
+    let nothing = vec![in alloc; text(""), text("")]?;
+    assert_eq!(rt; merged(alloc, nothing)?.as_str(), "");
+    let lone_empty = vec![in alloc; Ok(Event::Rule), text(""), Ok(Event::Rule)]?;
+    assert_eq!(rt; merged(alloc, lone_empty)?.as_str(), "-[]-");
+    let around_error = vec![in alloc; text("a"), text("b"), Err(Fault::Memory), text("c")]?;
+    assert_eq!(rt; merged(alloc, around_error)?.as_str(), "[ab]![c]");
     Ok(())
 }
 
 type Ranged<'a> = Result<(Event<'a>, Range<usize>), Fault>;
 
-fn ranged<'a>(item: Item<'a>, range: Range<usize>) -> Ranged<'a> {
-    match item {
-        Ok(event) => Ok((event, range)),
-        Err(fault) => Err(fault),
+fn ranged<'a>(event: Event<'a>, range: Range<usize>) -> Ranged<'a> {
+    Ok((event, range))
+}
+
+/// The merge of these items up to its first None, written down, each with its range.
+fn merged_ranges<'a>(alloc: Global, items: Vec<Ranged<'a>>) -> Result<String, Fail> {
+    let mut notes = String::new(alloc);
+    for item in TextMergeWithOffset::new(alloc, items.into_iter()) {
+        match item {
+            Ok((event, range)) => {
+                push_item(&mut notes, Ok(event))?;
+                let place = format!(in alloc; "{}..{} ", range.start, range.end)?;
+                notes.push_str(place.as_str())?;
+            }
+            Err(fault) => push_item(&mut notes, Err(fault))?,
+        }
     }
+    Ok(notes)
 }
 
 #[test]
 fn runs_with_ranges(rt: HostRuntime) -> Result<(), Fail> {
     let alloc = rt.alloc();
-    let items = [
-        ranged(start(Tag::CodeBlock(CodeBlockKind::Indented)), 5..32),
-        ranged(text("first line\n"), 5..16),
-        ranged(text("second line\n"), 20..32),
-        ranged(end(TagEnd::CodeBlock), 5..32),
-    ];
-    let items = Vec::from_array(alloc, items)?;
-    let mut given = Vec::new(alloc);
-    for item in TextMergeWithOffset::new(alloc, items.into_iter()) {
-        given.push(item)?;
-    }
-    let expected = [
-        ranged(start(Tag::CodeBlock(CodeBlockKind::Indented)), 5..32),
-        ranged(text("first line\nsecond line\n"), 5..32),
-        ranged(end(TagEnd::CodeBlock), 5..32),
-    ];
-    let expected = Vec::from_array(alloc, expected)?;
-    assert!(rt; given == expected);
+    let items = vec![in alloc;
+        ranged(Event::Start(Tag::CodeBlock(CodeBlockKind::Indented)), 5..32),
+        ranged(Event::Text(CowStr::Borrowed("first line\n")), 5..16),
+        ranged(Event::Text(CowStr::Borrowed("second line\n")), 20..32),
+        ranged(Event::End(TagEnd::CodeBlock), 5..32),
+    ]?;
+    let expected = "-5..32 [first line\nsecond line\n]5..32 -5..32 ";
+    assert_eq!(rt; merged_ranges(alloc, items)?.as_str(), expected);
     Ok(())
 }
 
@@ -121,15 +124,14 @@ fn is_text<'a>(answer: Option<Item<'a>>, words: &str) -> bool {
 #[test]
 fn stretches_between_nones(rt: HostRuntime) -> Result<(), Fail> {
     let alloc = rt.alloc();
-    let left = [
+    let left = vec![in alloc;
         None,
         None,
         Some(text("c")),
         Some(text("b")),
         None,
         Some(text("a")),
-    ];
-    let left = Vec::from_array(alloc, left)?;
+    ]?;
     let mut merge = TextMergeStream::new(alloc, Answers { left });
     assert!(rt; is_text(merge.next(), "a"));
     assert!(rt; is_text(merge.next(), "bc"));
