@@ -7,7 +7,15 @@ mod bodies;
 #[cfg(test)]
 mod builders;
 #[cfg(test)]
+mod escapes;
+#[cfg(test)]
+mod events;
+#[cfg(test)]
+mod html;
+#[cfg(test)]
 mod merged;
+#[cfg(test)]
+mod merges;
 #[cfg(test)]
 mod parser;
 #[cfg(test)]
