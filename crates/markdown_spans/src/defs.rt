@@ -5,8 +5,6 @@ mod callback;
 mod definitions;
 mod folding;
 mod footnotes;
-#[cfg(test)]
-mod tests;
 
 pub use allocations::Allocations;
 pub use callback::{

@@ -1,6 +1,14 @@
-//! Tests of what no clause says: a module for each crate that is tested, and the builders that they share. They stand
-//! apart from the libraries, so that no library is proved a second time with its tests.
+//! Tests of what no clause says: a module for each topic, and the builders that they share. They stand apart from the
+//! libraries, so that no library is proved a second time with its tests.
 #![tactic(auto)]
 
 #[cfg(test)]
+mod allocations;
+#[cfg(test)]
+mod blocks;
+#[cfg(test)]
 mod builders;
+#[cfg(test)]
+mod callbacks;
+#[cfg(test)]
+mod look_ups;
