@@ -3,7 +3,7 @@ use crate::builders::no_parts;
 use markdown_base::block_parts::{BlockParts, LinkDef};
 use markdown_base::cow_str::CowStr;
 use markdown_base::fault::Fault;
-use markdown_spans::defs::{Allocations, FootnoteDef};
+use markdown_spans::defs::{Absence, Allocations, FootnoteDef};
 use std::alloc::{AllocError, Global};
 use std::test::Fail;
 
@@ -66,6 +66,18 @@ fn keys_find_the_first_of_equal_folding(rt: HostRuntime) -> Result<(), Fail> {
     Ok(())
 }
 
+/// Whether each of two labels finds this destination under the other.
+fn find_each_other(
+    alloc: Global,
+    one: &str,
+    other: &str,
+    dest: Option<&str>,
+) -> Result<bool, Fault> {
+    let there = finds(alloc, &[(one, "/u")], other, dest)?;
+    let back = finds(alloc, &[(other, "/u")], one, dest)?;
+    Ok(there && back)
+}
+
 #[test]
 fn foldings_are_unicodes(rt: HostRuntime) -> Result<(), Fail> {
     // statuses C and F of CaseFolding.txt, and pairs that default matching keeps apart
@@ -95,10 +107,10 @@ fn foldings_are_unicodes(rt: HostRuntime) -> Result<(), Fail> {
         ("[", "{", None),
     ];
     for (label, key, dest) in rows {
-        let forwards = finds(rt.alloc(), &[(label, "/u")], key, dest)?;
-        assert!(rt; forwards, "{key} among {label}");
-        let backwards = finds(rt.alloc(), &[(key, "/u")], label, dest)?;
-        assert!(rt; backwards, "{label} among {key}");
+        assert!(rt;
+            find_each_other(rt.alloc(), label, key, dest)?,
+            "{label} and {key}"
+        );
     }
     Ok(())
 }
@@ -144,34 +156,63 @@ fn uses(held: &mut Allocations<'_>, name: &str) -> Result<Option<usize>, Fault> 
     Ok(found.map(|footnote| footnote.use_count))
 }
 
+/// How often a footnote is used, whether it is defined, whether one more use is counted, and how often it is used then.
+fn count_one_use(
+    held: &mut Allocations<'_>,
+    name: &str,
+) -> Result<(Option<usize>, bool, bool, Option<usize>), Fault> {
+    let before = uses(held, name)?;
+    let is_defined = held.footdefs.contains(name)?;
+    let is_counted = held.footdefs.count_use(name)?;
+    let after = uses(held, name)?;
+    Ok((before, is_defined, is_counted, after))
+}
+
 #[test]
 fn uses_of_footnotes_are_counted(rt: HostRuntime) -> Result<(), Fail> {
     let mut held = footnotes(rt.alloc())?;
     let rows = [
-        ("a", true, Some(1)),
-        ("A", true, Some(2)),
-        ("b", false, None),
-        ("a ", false, None),
-        ("STRASSE", true, Some(1)),
-        ("a", true, Some(3)),
+        ("a", Some(0), Some(1)),
+        ("A", Some(1), Some(2)),
+        ("b", None, None),
+        ("a ", None, None),
+        ("STRASSE", Some(0), Some(1)),
+        ("a", Some(2), Some(3)),
     ];
-    assert_eq!(rt; uses(&mut held, "a")?, Some(0));
-    for (name, is_defined, count) in rows {
-        assert_eq!(rt; held.footdefs.contains(name)?, is_defined, "{name}");
-        assert_eq!(rt; held.footdefs.count_use(name)?, is_defined, "{name}");
-        assert_eq!(rt; uses(&mut held, name)?, count, "{name}");
+    for (name, before, after) in rows {
+        let counted = count_one_use(&mut held, name)?;
+        assert_eq!(rt;
+            counted,
+            (before, before.is_some(), before.is_some(), after),
+            "{name}"
+        );
     }
+    drop(held);
     Ok(())
+}
+
+/// Writes how often a footnote is used, or tells why there is none.
+fn set_uses(held: &mut Allocations<'_>, name: &str, count: usize) -> Option<Absence> {
+    match held.footdefs.find_mut(CowStr::from(name)) {
+        Ok(footnote) => {
+            footnote.use_count = count;
+            None
+        }
+        Err(why) => Some(why),
+    }
 }
 
 #[test]
 fn a_count_stays_at_its_greatest(rt: HostRuntime) -> Result<(), Fail> {
     let mut held = footnotes(rt.alloc())?;
-    if let Some(footnote) = held.footdefs.get_mut(CowStr::from("STRASSE"))? {
-        footnote.use_count = usize::MAX;
-    }
+    assert_eq!(rt; set_uses(&mut held, "STRASSE", usize::MAX), None);
+    assert_eq!(rt;
+        set_uses(&mut held, "strase", usize::MAX),
+        Some(Absence::Undefined)
+    );
     assert!(rt; held.footdefs.count_use("straße")?);
     assert_eq!(rt; uses(&mut held, "Straße")?, Some(usize::MAX));
+    drop(held);
     let footnote = FootnoteDef { use_count: 3 };
     assert_eq!(rt; footnote.clone()?.use_count, 3);
     Ok(())
