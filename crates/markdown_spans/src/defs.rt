@@ -11,5 +11,5 @@ pub use callback::{
     BoxedCallback, BrokenLink, BrokenLinkCallback, Closure, DefaultBrokenLinkCallback,
 };
 pub use definitions::{RefDefs, RefDefsIter};
-pub use footnotes::{FootnoteDef, FootnoteDefs};
+pub use footnotes::{Absence, FootnoteDef, FootnoteDefs};
 pub use markdown_base::block_parts::{HeadingAttributes, LinkDef};
