@@ -3,15 +3,23 @@
 #![tactic(auto)]
 
 #[cfg(test)]
+mod allocations;
+#[cfg(test)]
+mod blocks;
+#[cfg(test)]
 mod bodies;
 #[cfg(test)]
 mod builders;
+#[cfg(test)]
+mod callbacks;
 #[cfg(test)]
 mod escapes;
 #[cfg(test)]
 mod events;
 #[cfg(test)]
 mod html;
+#[cfg(test)]
+mod look_ups;
 #[cfg(test)]
 mod merged;
 #[cfg(test)]
