@@ -1,3 +1,5 @@
 pub mod ArenaLemmas
 pub mod ArenaForestLemmas
 pub mod ForestLemmas
+pub mod WellFormedLemmas
+pub mod ArenaRulesLemmas

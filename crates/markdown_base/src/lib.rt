@@ -12,6 +12,4 @@ pub mod item;
 pub mod node;
 pub mod options;
 pub mod tag;
-#[cfg(test)]
-mod tests;
 pub mod tree;

@@ -241,7 +241,7 @@ impl<T: Drop> Tree<T> {
         ensures within { IfSome result (λ ix. ix < length self.old.nodes) }
     {
         let ix = self.spine.pop()?;
-        self.cur = Some(ix);
+        self.focus(ix);
         Some(ix)
     }
 
@@ -252,7 +252,7 @@ impl<T: Drop> Tree<T> {
         ensures goes { self.new ≡ record self.old { cursor = sibling_of self.old.nodes ix } }
     {
         self.cur = self.nodes[ix].next;
-        self.cur
+        self.cur()
     }
 
     /// Back to the first node below the root.

@@ -37,11 +37,7 @@ pub fn one_text(alloc: Global) -> Result<BlockParts<'static>, AllocError> {
 }
 
 /// Appends a block with items in it.
-pub fn append_block(
-    tree: &mut Tree<Item>,
-    block: Item,
-    inside: &[Item],
-) -> Result<(), AllocError> {
+pub fn append_block(tree: &mut Tree<Item>, block: Item, inside: &[Item]) -> Result<(), AllocError> {
     tree.append(block)?;
     tree.push()?;
     for item in inside {
