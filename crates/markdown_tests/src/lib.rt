@@ -5,6 +5,8 @@
 #[cfg(test)]
 mod allocations;
 #[cfg(test)]
+mod block_pass;
+#[cfg(test)]
 mod blocks;
 #[cfg(test)]
 mod bodies;

@@ -129,7 +129,10 @@ fn a_walk_that_changes_hands(rt: HostRuntime) -> Result<(), Fail> {
     let mut parser = Parser::new(alloc, "a\nb")?;
     assert!(rt; !is_nothing(parser.next()));
     let events = "[a]0..1 /1..2 [b]2..3 </p>0..3 ";
-    assert_eq!(rt; notes_of(alloc, parser.into_offset_iter())?.as_str(), events);
+    assert_eq!(rt;
+        notes_of(alloc, parser.into_offset_iter())?.as_str(),
+        events
+    );
 
     let mut ended = Parser::new(alloc, "")?;
     assert!(rt; is_nothing(ended.next()));
@@ -160,7 +163,10 @@ fn adapters(rt: HostRuntime) -> Result<(), Fail> {
     let hard: Vec<bool> = Parser::new(alloc, "a  \nb")?
         .map(is_hard_break)
         .collect(alloc)?;
-    assert_eq!(rt; hard.as_slice(), [false, false, true, false, false].as_slice());
+    assert_eq!(rt;
+        hard.as_slice(),
+        [false, false, true, false, false].as_slice()
+    );
     let iter = Parser::new(alloc, "a  \nb")?.into_offset_iter();
     let ends: Vec<usize> = iter.map(end_of).collect(alloc)?;
     assert_eq!(rt; ends.as_slice(), [5, 1, 4, 5, 5].as_slice());

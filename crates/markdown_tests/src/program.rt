@@ -85,7 +85,10 @@ fn says_what_failed(rt: HostRuntime) -> Result<(), Fail> {
     assert_eq!(rt; err.as_slice(), "read failed\n".as_bytes());
 
     let mut err = Vec::new(alloc);
-    assert_eq!(rt; run(alloc, &[], &mut "a".as_bytes(), &mut NoWriter, &mut err), 1);
+    assert_eq!(rt;
+        run(alloc, &[], &mut "a".as_bytes(), &mut NoWriter, &mut err),
+        1
+    );
     assert_eq!(rt; err.as_slice(), "write failed\n".as_bytes());
     Ok(())
 }
@@ -97,7 +100,10 @@ fn answers_the_same_where_nothing_can_be_said(rt: HostRuntime) -> Result<(), Fai
     let mut bad: &[u8] = &[255];
     assert_eq!(rt; run(alloc, &[], &mut bad, &mut out, &mut NoWriter), 1);
     let words = two_words(alloc)?;
-    assert_eq!(rt; run(alloc, &words, &mut NoReader, &mut out, &mut NoWriter), 2);
+    assert_eq!(rt;
+        run(alloc, &words, &mut NoReader, &mut out, &mut NoWriter),
+        2
+    );
     assert_eq!(rt; out.len(), 0);
     Ok(())
 }

@@ -1,7 +1,10 @@
-//! The block pass on small texts.
-use crate::blocks;
+//! The block pass on small texts, and the items of a line.
+use crate::builders::text;
 use markdown_base::item::ItemBody;
 use markdown_base::options::Options;
+use markdown_base::tree::Tree;
+use markdown_items::items;
+use markdown_plain::blocks;
 use std::alloc::{AllocError, Global};
 use std::test::Fail;
 
@@ -106,5 +109,23 @@ fn nothing_is_named(rt: HostRuntime) -> Result<(), Fail> {
     assert!(rt; parts.definitions.is_empty() && parts.footnotes.is_empty());
     assert!(rt; parts.cows.is_empty() && parts.alignments.is_empty());
     assert!(rt; parts.headings.is_empty());
+    Ok(())
+}
+
+#[test]
+fn a_line_is_one_text(rt: HostRuntime) -> Result<(), Fail> {
+    let mut tree = Tree::new(rt.alloc())?;
+    let mut cows = Vec::new(rt.alloc());
+    items(
+        rt.alloc(),
+        &mut tree,
+        "hello world",
+        6..11,
+        Options::ENABLE_GFM,
+        &mut cows,
+    )?;
+    assert_eq!(rt; tree.len(), 2);
+    assert_eq!(rt; *tree.item(1), text(6, 11));
+    assert_eq!(rt; cows.len(), 0);
     Ok(())
 }
