@@ -14,6 +14,7 @@ pub mod OutLaws
 -- For private clauses.
 pub mod Escaped
 pub mod Writer
+pub mod FootnoteNames
 pub mod HeldItems
 pub mod AdvanceSteps
 -- Words of other crates that the clauses stand on.
