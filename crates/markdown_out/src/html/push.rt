@@ -72,9 +72,11 @@ impl<'a> Writer<'a> {
 ///
 /// - The fault of an item that is one: the HTML of the events before it stands appended, without
 ///   what closes an image whose End did not come.
-/// - `Memory`, where an allocation is refused: a front of the HTML of the events read stands
-///   appended.
-/// - `Depth`, where more than 2^64 - 1 Starts in one image have no End yet: the same.
+/// - `Memory`, where an allocation is refused: the same, of the events before the one that was being
+///   written, and a front of its bytes; or, where an image was to be closed behind all events, of
+///   them all, and a front of what closes it.
+/// - `Depth`, where more than 2^64 - 1 Starts in one image have no End yet: the same, of the events
+///   read.
 pub fn push_html<'a, I>(alloc: Global, s: &mut String, iter: I) -> Result<(), Fault>
 where
     I: Iterator<Item = Result<Event<'a>, Fault>>,
