@@ -3,6 +3,7 @@ pub mod EscapesLemmas
 pub mod EventHtmlLemmas
 pub mod FootnoteNamesLemmas
 pub mod HtmlCorrectLemmas
+pub mod ImageHtmlLemmas
 pub mod WriterLemmas
 pub mod MergeLemmas
 pub mod HeldItemsLemmas

@@ -3,6 +3,7 @@
 ghost use Rattle.std.specs.Prelude.{◌≡◌, ℕ, List, [], false};
 ghost use Rattle.std.specs.declared.ops.Range.{Range};
 ghost use Rattle.markdown_out.specs.Merge.{Item, merged};
+ghost use Rattle.markdown_out.specs.ImageHtml.{ImagesHaveParts};
 ghost use Rattle.markdown_out.specs.Places.{nowhere, through_ranges};
 ghost use Rattle.markdown_out.specs.OutLaws.{HasNoNeighbours, MergingKeepsHtml};
 ghost use Rattle.markdown_out.specs.OutLaws.{StaysEnded, MergeSteps, IsRenderedMerged};
@@ -12,6 +13,12 @@ ghost use Rattle.markdown_out.specs.MergeState.{stream_state};
 use crate::merge::TextMergeStream;
 use markdown_base::event::Event;
 use markdown_base::fault::Fault;
+
+/// The HTML of an image is that of its parts: what stands up to the alt text, what each event up to the
+/// matching End adds to it, and what closes the image.
+pub fn an_image_has_the_html_of_its_parts()
+    ensures { ImagesHaveParts }
+{}
 
 /// No two merged texts are neighbours.
 pub fn merged_texts_are_no_neighbours()
