@@ -10,4 +10,5 @@ pub mod HeldItemsLemmas
 pub mod MergeNextLemmas
 pub mod MergeLawsLemmas
 pub mod MergedHtmlLemmas
+pub mod DrainedMergeLemmas
 pub mod RenderedMergeLemmas
