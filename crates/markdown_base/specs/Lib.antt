@@ -10,9 +10,10 @@ pub mod WellFormed
 pub mod Coverage
 pub mod Document
 pub mod Walk
-pub mod Scan
 -- facts of a representation
 pub mod InlineText
 pub mod ArenaBounds
 pub mod ArenaForest
 pub mod ArenaWalk
+pub mod ArenaRules
+pub mod OneWay

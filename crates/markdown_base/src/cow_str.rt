@@ -1,5 +1,5 @@
 //! A text that is boxed, borrowed from the source, or short and held in place.
-ghost use Rattle.std.specs.Prelude.{◌≡◌, ◌<◌, ◌≤◌, length, IfOk, IsOk, Some, nat_eq, encode_utf8, string_bytes};
+ghost use Rattle.std.specs.Prelude.{◌≡◌, ◌<◌, ◌≤◌, length, IfOk, IsOk, IsOkAnd, Some, nat_eq, encode_utf8, string_bytes};
 ghost use Rattle.std.specs.Str.{bytes_eq};
 ghost use Rattle.std.specs.Hash as fed;
 ghost use Rattle.std.specs.Cmp;
@@ -26,7 +26,7 @@ pub enum CowStr<'a> {
 }
 
 impl<'a> CowStr<'a> {
-    ghost use Rattle.markdown_base.specs.CowText.{text_of};
+    ghost use Rattle.markdown_base.specs.CowText.{text_of, IsBorrowed, IsBoxed};
 
     /// The text.
     pub fn as_str(&self) -> &str
@@ -50,10 +50,11 @@ impl<'a> CowStr<'a> {
         }
     }
 
-    /// The same text once more: a slice of the source stays one, and only a text of more than
-    /// 22 bytes that is boxed takes memory.
+    /// The same text once more. A slice of the source stays one and takes no memory, nor does a text of at most
+    /// 22 bytes.
     pub fn try_clone(&self, alloc: Global) -> Result<CowStr<'a>, AllocError>
         ensures text { IfOk result (λ copy. text_of copy ≡ text_of self.now) }
+        ensures borrowed { IsBorrowed self.now → IsOkAnd result IsBorrowed }
         ensures short { length (text_of self.now) ≤ 22 → IsOk result }
     {
         match self {
@@ -63,9 +64,11 @@ impl<'a> CowStr<'a> {
         }
     }
 
-    /// The same text, borrowed from nothing. Only a slice of more than 22 bytes takes memory.
+    /// The same text, borrowed from nothing. A boxed text stays so and takes no memory, nor does a text of at most
+    /// 22 bytes.
     pub fn into_static(self, alloc: Global) -> Result<CowStr<'static>, AllocError>
         ensures text { IfOk result (λ made. text_of made ≡ text_of self.entry) }
+        ensures boxed { IsBoxed self.entry → IsOkAnd result IsBoxed }
         ensures short { length (text_of self.entry) ≤ 22 → IsOk result }
     {
         match self {

@@ -11,8 +11,5 @@ pub mod inline_str;
 pub mod item;
 pub mod node;
 pub mod options;
-pub mod scan;
 pub mod tag;
-#[cfg(test)]
-mod tests;
 pub mod tree;

@@ -240,9 +240,9 @@ impl<T: Drop> Tree<T> {
             (λ ix. (outer : _) × (self.old.spine ≡ outer ++ ix ∷ []) × (self.new ≡ record self.old { spine = outer; cursor = Some ix })) }
         ensures within { IfSome result (λ ix. ix < length self.old.nodes) }
     {
-        let ix = self.spine.pop()?;
-        self.cur = Some(ix);
-        Some(ix)
+        let outer = self.spine.pop()?;
+        self.focus(outer);
+        Some(outer)
     }
 
     /// Goes on to the node after `ix`.
@@ -252,7 +252,7 @@ impl<T: Drop> Tree<T> {
         ensures goes { self.new ≡ record self.old { cursor = sibling_of self.old.nodes ix } }
     {
         self.cur = self.nodes[ix].next;
-        self.cur
+        self.cur()
     }
 
     /// Back to the first node below the root.

@@ -1,0 +1,177 @@
+//! Texts in their three forms, and what holds texts: equality, copies, definitions.
+use markdown_base::block_parts::LinkDef;
+use markdown_base::cow_str::CowStr;
+use markdown_base::event::Event;
+use markdown_base::inline_str::InlineStr;
+use markdown_base::tag::{Tag, TagEnd};
+use std::alloc::{AllocError, Global};
+use std::hash::{DefaultHasher, Hash, Hasher};
+use std::ops::Range;
+use std::test::Fail;
+
+fn hash_of(text: &CowStr<'_>) -> u64 {
+    let mut state = DefaultHasher::new();
+    text.hash(&mut state);
+    state.finish()
+}
+
+fn form_of(text: &CowStr<'_>) -> &'static str {
+    match text {
+        CowStr::Boxed(_) => "boxed",
+        CowStr::Borrowed(_) => "borrowed",
+        CowStr::Inlined(_) => "in place",
+    }
+}
+
+fn boxed<'a>(alloc: Global, text: &str) -> Result<CowStr<'a>, AllocError> {
+    Ok(CowStr::from(String::from_str(alloc, text)?))
+}
+
+/// One text in its three forms.
+fn three_forms<'a>(alloc: Global) -> Result<Vec<CowStr<'a>>, AllocError> {
+    let mut texts = Vec::new(alloc);
+    texts.push(boxed(alloc, "é")?)?;
+    texts.push(CowStr::from("é"))?;
+    texts.push(CowStr::from('é'))?;
+    Ok(texts)
+}
+
+#[test]
+fn texts_are_equal_whatever_their_forms(rt: HostRuntime) -> Result<(), Fail> {
+    let texts = three_forms(rt.alloc())?;
+    let mut forms = String::new(rt.alloc());
+    for text in &texts {
+        forms.push_str(form_of(text))?;
+        forms.push_str(" ")?;
+        assert_eq!(rt; text.as_str(), "é");
+        for other in &texts {
+            assert!(rt; text == other);
+            assert_eq!(rt; hash_of(text), hash_of(other));
+        }
+    }
+    assert_eq!(rt; forms.as_str(), "boxed borrowed in place ");
+    assert!(rt; CowStr::from("e") != CowStr::from("é"));
+    Ok(())
+}
+
+fn are_equal(left: Event<'_>, right: Event<'_>) -> bool {
+    let equal = left == right;
+    drop(left);
+    drop(right);
+    equal
+}
+
+#[test]
+fn events_are_equal_by_their_texts(rt: HostRuntime) {
+    let text = |c| Event::Text(CowStr::from(c));
+    assert!(rt; are_equal(text('a'), Event::Text(CowStr::from("a"))));
+    assert!(rt; !are_equal(text('a'), Event::Code(CowStr::from("a"))));
+    assert!(rt; !are_equal(Event::Start(Tag::Paragraph), Event::End(TagEnd::Paragraph)));
+}
+
+/// Whether it is this text in this form.
+fn is_held(text: Result<CowStr<'_>, AllocError>, wanted: &str, form: &str) -> bool {
+    match text {
+        Ok(text) => {
+            let held = text.as_str() == wanted && form_of(&text) == form;
+            drop(text);
+            held
+        }
+        Err(_) => false,
+    }
+}
+
+#[test]
+fn texts_are_copied(rt: HostRuntime) -> Result<(), Fail> {
+    let alloc = rt.alloc();
+    // 22 and 23 bytes
+    for (text, form) in [
+        ("", "in place"),
+        ("1234567890123456789012", "in place"),
+        ("12345678901234567890123", "boxed"),
+    ] {
+        assert!(rt;
+            is_held(CowStr::from(text).try_clone(alloc), text, "borrowed"),
+            "{text}"
+        );
+        assert!(rt;
+            is_held(CowStr::from(text).into_static(alloc), text, form),
+            "{text}"
+        );
+        assert!(rt;
+            is_held(boxed(alloc, text)?.try_clone(alloc), text, form),
+            "{text}"
+        );
+        assert!(rt;
+            is_held(boxed(alloc, text)?.into_static(alloc), text, "boxed"),
+            "{text}"
+        );
+        assert_eq!(rt;
+            InlineStr::new(text).is_some(),
+            form == "in place",
+            "{text}"
+        );
+    }
+    assert!(rt; is_held(CowStr::from('a').try_clone(alloc), "a", "in place"));
+    assert!(rt; is_held(CowStr::from('a').into_static(alloc), "a", "in place"));
+    Ok(())
+}
+
+#[test]
+fn texts_are_printed(rt: HostRuntime) -> Result<(), Fail> {
+    let printed = format!(in rt.alloc(); "{} {:?}", CowStr::from("b"), CowStr::from("c"))?;
+    assert_eq!(rt; printed.as_str(), "b \"c\"");
+    Ok(())
+}
+
+const LONG: &str = "http://example.com/a/long/destination";
+
+fn definition<'a>(alloc: Global) -> Result<LinkDef<'a>, AllocError> {
+    Ok(LinkDef {
+        dest: CowStr::from(LONG),
+        title: Some(boxed(alloc, "a title")?),
+        span: 3..60,
+    })
+}
+
+/// What a definition holds, and the form of its destination.
+fn parts<'b>(
+    definition: &'b LinkDef<'_>,
+) -> (&'b str, &'static str, Option<&'b str>, Range<usize>) {
+    let title = match &definition.title {
+        Some(title) => Some(title.as_str()),
+        None => None,
+    };
+    let span = definition.span.start..definition.span.end;
+    (
+        definition.dest.as_str(),
+        form_of(&definition.dest),
+        title,
+        span,
+    )
+}
+
+#[test]
+fn definitions_are_copied(rt: HostRuntime) -> Result<(), Fail> {
+    let alloc = rt.alloc();
+    let copy = definition(alloc)?.try_clone(alloc)?;
+    assert!(rt; parts(&copy) == (LONG, "borrowed", Some("a title"), 3..60));
+    let owned = definition(alloc)?.into_static(alloc)?;
+    assert!(rt; parts(&owned) == (LONG, "boxed", Some("a title"), 3..60));
+    Ok(())
+}
+
+#[test]
+fn definitions_without_a_title_are_copied(rt: HostRuntime) -> Result<(), Fail> {
+    let alloc = rt.alloc();
+    let untitled = LinkDef {
+        dest: CowStr::from(""),
+        title: None,
+        span: 0..4,
+    };
+    let copy = untitled.try_clone(alloc)?;
+    assert!(rt; parts(&copy) == ("", "borrowed", None, 0..4));
+    let owned = untitled.into_static(alloc)?;
+    assert!(rt; parts(&owned) == ("", "in place", None, 0..4));
+    Ok(())
+}
