@@ -9,9 +9,10 @@ pub mod BlockTree
 pub mod WellFormed
 pub mod Coverage
 pub mod Questions
-pub mod Scan
 -- facts of a representation
 pub mod InlineText
 pub mod ArenaBounds
 pub mod ArenaForest
 pub mod ArenaWalk
+pub mod ArenaRules
+pub mod OneWay

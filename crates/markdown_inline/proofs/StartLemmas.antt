@@ -17,15 +17,15 @@ use Rattle.std.proofs.lemmas.Map.Keys.{IsDistinct-tail}
 use Rattle.markdown_base.specs.Arena.{Arena, child_of}
 use Rattle.markdown_base.specs.ArenaForest.{numbers_below}
 use Rattle.markdown_base.specs.BlockTree.{Numbered, numbered, item_at, tree_of}
-use Rattle.markdown_base.specs.Forest.{Forest, nil, node, Each, Throughout, preorder, relabelled}
+use Rattle.markdown_base.specs.Forest.{Forest, nil, node, Each, Throughout, preorder, first_root, relabelled}
 use Rattle.markdown_base.specs.Item.{LiesIn, is_open, is_inline, is_childless, is_resolved, text_named}
-use Rattle.markdown_base.specs.WellFormed.{IsReachedOnce, RangesLieIn, ChainsAreKept, PartsAreNamed, all_named, has_open, all_inline}
+use Rattle.markdown_base.specs.WellFormed.{KeepsRules, IsWellFormed, counts_of, all_named, has_open, all_inline}
 use Rattle.markdown_base.specs.declared.block_parts.BlockParts.{BlockParts}
 use Rattle.markdown_base.specs.declared.cow_str.CowStr.{CowStr}
 use Rattle.markdown_base.specs.declared.item.Item.{Item}
 use Rattle.markdown_base.specs.declared.item.ItemBody.{ItemBody}
 use Rattle.markdown_base.specs.declared.node.Node.{Node}
-use Rattle.markdown_base.proofs.ForestLemmas.{relabelled-Throughout, relabelled-relabelled}
+use Rattle.markdown_base.proofs.ForestLemmas.{Throughout-weaker, relabelled-Throughout, relabelled-relabelled}
 use Rattle.markdown_base.specs.Questions.{Answers}
 use Rattle.markdown_spans.specs.Blocks.{block_text, block_options, block_tree, block_parts, IsOfText}
 use Rattle.markdown_spans.specs.declared.blocks.Blocks.{Blocks}
@@ -125,18 +125,22 @@ kept_from source cows nodes (node ix below after) c i h =
     )
 
 -- the walk stands before the first block
-pub starts_stands : (source : List ℕ) (nodes : List (Node Item)) (parts : BlockParts) → IsReachedOnce nodes → RangesLieIn source (tree_of nodes) → ChainsAreKept (tree_of nodes) → PartsAreNamed parts (tree_of nodes)
-    → Stands source parts.cows.items nodes (child_of nodes 0) []
+pub starts_stands : (source : List ℕ) (nodes : List (Node Item)) (parts : BlockParts) → IsWellFormed source nodes parts → Stands source parts.cows.items nodes (child_of nodes 0) []
 unfolding left_total
-starts_stands source nodes parts once ranges chains named =
+starts_stands source nodes parts w =
     let f = numbers_below nodes in
-    let lies = relabelled-Throughout (numbered nodes) (λ n below after. LiesIn source n.item) f ranges in
-    let texts = relabelled-Throughout (numbered nodes) (λ n below after. IfSome (text_named n.item.body) (λ ix. ix < length parts.cows.items)) f named.texts in
+    let keeps = λ (a : Numbered) (below after : Forest Numbered). KeepsRules source (counts_of parts) a below (first_root after) in
+    let lies = relabelled-Throughout (numbered nodes) (λ n below after. LiesIn source n.item) f
+    (Throughout-weaker keeps (λ n below after. LiesIn source n.item) (λ a below after k. k.ranges_lie_in) (tree_of nodes) w.rules) in
+    let texts = relabelled-Throughout (numbered nodes) (λ n below after. IfSome (text_named n.item.body) (λ ix. ix < length parts.cows.items)) f
+    (Throughout-weaker keeps (λ n below after. IfSome (text_named n.item.body) (λ ix. ix < length parts.cows.items)) (λ a below after k. k.parts_are_named.text) (tree_of nodes) w.rules) in
+    let childless : Childless (tree_of nodes) = Throughout-weaker keeps (λ a below after. IsTrue (is_childless a.item.body) → below ≡ nil) (λ a below after k. k.chains_are_kept.childless) (tree_of nodes) w.rules in
+    let inline_only : InlineOnly (tree_of nodes) = Throughout-weaker keeps (λ a below after. IsTrue (has_open below) → IsTrue (all_inline below)) (λ a below after k. k.chains_are_kept.inline_only) (tree_of nodes) w.rules in
     record {
-      walk = record { here = record { spelled = once.finite; each = each_placed source parts.cows.items nodes f lies texts }; above = tt };
-      once = λ n. let a = total-preorder (same n) f in let b = listed_once n (preorder f) (IsDistinct-tail nat_eq 0 (preorder f) once.once) in omega arith;
-      named_once = λ n. let a = named-listed nodes n f in let b = listed_once n (all_named text_named (tree_of nodes)) named.each_text_once in omega arith;
-      here_kept = kept_from source parts.cows.items nodes f chains.childless chains.inline_only (λ o. cc (o, chains.top));
+      walk = record { here = record { spelled = w.reached_once.finite; each = each_placed source parts.cows.items nodes f lies texts }; above = tt };
+      once = λ n. let a = total-preorder (same n) f in let b = listed_once n (preorder f) (IsDistinct-tail nat_eq 0 (preorder f) w.reached_once.once) in omega arith;
+      named_once = λ n. let a = named-listed nodes n f in let b = listed_once n (all_named text_named (tree_of nodes)) w.each_text_once in omega arith;
+      here_kept = kept_from source parts.cows.items nodes f childless inline_only (λ o. cc (o, w.top_is_closed));
       above_kept = tt;
     }
 

@@ -17,5 +17,5 @@ rendering {F} step text old html p utf8 empty of none r =
       is_text = utf8;
       blocks = of.0;
       of_text = of.1;
-      rendered = λ answers. rw (← of.2 answers, drained_unasked step p r.events r.read none answers) (rw empty at r.stands);
+      rendered = λ answers. rw (← (rw none at (of.2 answers)), drained_unasked step p r.events r.read none answers) (rw empty at r.stands);
     }

@@ -9,7 +9,7 @@ pub invariant_of-result : goal.invariant_of-result
 invariant_of-result g c =
     let parts = c.into_parts-tree.result in
     let rules = c.into_parts-tree.ensures.rules in
-    record { stands = rw (c.reset.ensures, c.in_ok-tables.ensures.holds.cows) (starts_stands parts.0.now parts.2.nodes parts.3 rules.reached_once rules.ranges_lie_in rules.chains_are_kept rules.parts_are_named) }
+    record { stands = rw (c.reset.ensures, c.in_ok-tables.ensures.holds.cows) (starts_stands parts.0.now parts.2.nodes parts.3 rules) }
 
 pub returns-clause-left : goal.returns-clause-left
 returns-clause-left g c answers =
