@@ -17,6 +17,8 @@ mod builders;
 #[cfg(test)]
 mod callbacks;
 #[cfg(test)]
+mod chains;
+#[cfg(test)]
 mod escapes;
 #[cfg(test)]
 mod events;
