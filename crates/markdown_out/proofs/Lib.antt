@@ -1,8 +1,8 @@
 pub mod ByteListsLemmas
 pub mod EscapesLemmas
 pub mod EventHtmlLemmas
+pub mod FootnoteNamesLemmas
 pub mod HtmlCorrectLemmas
-pub mod LookBacksLemmas
 pub mod WriterLemmas
 pub mod MergeLemmas
 pub mod HeldItemsLemmas

@@ -166,25 +166,25 @@ fn image<'a>() -> Tag<'a> {
 
 pub fn walks(alloc: Global) -> bool {
     match Parser::new(alloc, TEXT) {
-        Ok(mut parser) => gives(&mut parser, &Walked),
+        Ok(parser) => gives(parser, Walked),
         Err(fault) => fault == Fault::Memory,
     }
 }
 
 pub fn walks_with_ranges(alloc: Global) -> bool {
     match Parser::new(alloc, TEXT) {
-        Ok(parser) => gives(&mut parser.into_offset_iter(), &WalkedRanges),
+        Ok(parser) => gives(parser.into_offset_iter(), WalkedRanges),
         Err(fault) => fault == Fault::Memory,
     }
 }
 
 pub fn merges(alloc: Global) -> bool {
-    gives(&mut TextMergeStream::new(alloc, Items::of(Texts)), &Merged)
+    gives(TextMergeStream::new(alloc, Items::of(Texts)), Merged)
 }
 
 pub fn merges_with_ranges(alloc: Global) -> bool {
     let texts = Items::of(RangedTexts);
-    gives(&mut TextMergeWithOffset::new(alloc, texts), &MergedRanges)
+    gives(TextMergeWithOffset::new(alloc, texts), MergedRanges)
 }
 
 pub fn renders_a_text(alloc: Global) -> bool {

@@ -78,10 +78,14 @@ fn stays_over<T: Drop, I: Iterator<Item = T>>(items: &mut I) -> bool
 
 /// Whether the items of a list come in order, and then None ever after; or a beginning of them, `Memory`,
 /// and then None ever after.
-pub fn gives<L: Listed, I: Iterator<Item = Result<L::Item, Fault>>>(items: &mut I, list: &L) -> bool
+pub fn gives<L: Listed, I: Iterator<Item = Result<L::Item, Fault>> + Drop>(
+    items: I,
+    list: L,
+) -> bool
     requires can { (left : I) → I.can_next left }
-    requires ends { IsFinite (I.remaining items.old) }
+    requires ends { IsFinite (I.remaining items) }
 {
+    let mut items = items;
     'giving: for at in 0..100 {
         match items.next() {
             Some(Ok(item)) => {
@@ -89,8 +93,8 @@ pub fn gives<L: Listed, I: Iterator<Item = Result<L::Item, Fault>>>(items: &mut 
                     return false;
                 }
             }
-            Some(Err(fault)) => return fault == Fault::Memory && stays_over(items),
-            None => return is_nothing(list.item(at)) && stays_over(items),
+            Some(Err(fault)) => return fault == Fault::Memory && stays_over(&mut items),
+            None => return is_nothing(list.item(at)) && stays_over(&mut items),
         }
     }
     false

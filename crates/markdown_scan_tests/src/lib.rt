@@ -2,14 +2,20 @@
 #![tactic(auto)]
 
 #[cfg(test)]
-mod entity_tests;
+mod autolink;
 #[cfg(test)]
-mod html_tag_tests;
+mod destination;
 #[cfg(test)]
-mod line_start_tests;
+mod entity;
 #[cfg(test)]
-mod link_tests;
+mod html_tag;
 #[cfg(test)]
-mod raw_html_tests;
+mod label;
 #[cfg(test)]
-mod unescape_tests;
+mod line_start;
+#[cfg(test)]
+mod raw_html;
+#[cfg(test)]
+mod unescape;
+#[cfg(test)]
+mod wikilink_pipe;

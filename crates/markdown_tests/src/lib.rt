@@ -7,6 +7,8 @@ mod allocations;
 #[cfg(test)]
 mod block_pass;
 #[cfg(test)]
+mod block_rules;
+#[cfg(test)]
 mod blocks;
 #[cfg(test)]
 mod bodies;

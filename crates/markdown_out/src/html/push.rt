@@ -9,7 +9,7 @@ ghost use Rattle.markdown_out.specs.EventHtml.{closing, event_bytes, past_of};
 ghost use Rattle.markdown_out.specs.HtmlCorrect.{IsRendered, StopsAtError, IsOwnFault};
 
 use super::Writer;
-use indexmap::IndexSet;
+use super::names::FootnoteNames;
 use markdown_base::event::Event;
 use markdown_base::fault::Fault;
 use std::alloc::Global;
@@ -27,13 +27,13 @@ impl<'a> Writer<'a> {
             in_head: true,
             column: 0,
             alignments: Vec::new(alloc),
-            names: IndexSet::new(alloc),
+            names: FootnoteNames::new(alloc),
             image: None,
         }
     }
 
     /// Appends what stands for an event.
-    fn event(&mut self, alloc: Global, s: &mut String, event: Event<'a>) -> Result<(), Fault>
+    fn event(&mut self, s: &mut String, event: Event<'a>) -> Result<(), Fault>
         ensures ok { OnOk result
             (Appends s.old s.new (event_bytes (view self.old) (event_view event.entry))) }
         ensures told { OnOk result
@@ -43,8 +43,8 @@ impl<'a> Writer<'a> {
             × AppendsPart s.old s.new (event_bytes (view self.old) (event_view event.entry))) }
     {
         match self.image.take() {
-            Some(image) => self.inside(alloc, s, image, event),
-            None => match self.outside(alloc, s, event) {
+            Some(image) => self.inside(s, image, event),
+            None => match self.outside(s, event) {
                 Ok(()) => Ok(()),
                 Err(_) => Err(Fault::Memory),
             },
@@ -94,7 +94,7 @@ where
     let mut writer = Writer::new(alloc);
     for item in iter {
         let event = item?;
-        writer.event(alloc, s, event)?;
+        writer.event(s, event)?;
     }
     writer.finish(s)
 }

@@ -1,10 +1,9 @@
 //! Entities: the examples of CommonMark 2.5 that one reference decides, and the boundaries.
 use markdown_scan::entity::scan_entity;
-use std::test::Fail;
 
 #[test]
-fn references_have_a_length_and_a_character(rt: HostRuntime) -> Result<(), Fail> {
-    let rows = [
+fn references(rt: HostRuntime) {
+    for (text, length, character) in [
         ("&amp;", 5, '&'),
         ("&lt;b", 4, '<'),
         ("&gt;&gt;", 4, '>'),
@@ -36,20 +35,18 @@ fn references_have_a_length_and_a_character(rt: HostRuntime) -> Result<(), Fail>
         ("&#1114111;", 10, '\u{10FFFF}'),
         ("&#1114112;", 10, '\u{FFFD}'),
         ("&#x0;", 5, '\u{FFFD}'),
-    ];
-    for (text, length, character) in rows {
+    ] {
         assert_eq!(rt;
             scan_entity(text.as_bytes()),
             Some((length, character)),
             "{text}"
         );
     }
-    Ok(())
 }
 
 #[test]
-fn other_texts_are_none(rt: HostRuntime) -> Result<(), Fail> {
-    let rows = [
+fn other_texts(rt: HostRuntime) {
+    for text in [
         "",
         "&",
         "&amp",
@@ -83,9 +80,7 @@ fn other_texts_are_none(rt: HostRuntime) -> Result<(), Fail> {
         "&#x",
         "\\&amp;",
         "&;",
-    ];
-    for text in rows {
+    ] {
         assert_eq!(rt; scan_entity(text.as_bytes()), None, "{text}");
     }
-    Ok(())
 }
