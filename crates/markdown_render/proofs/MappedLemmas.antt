@@ -5,7 +5,7 @@ use Rattle.std.specs.Fn.{Mut}
 use Rattle.std.specs.Iterator.{Yields, CallableOnAll, at_most}
 use Rattle.std.specs.Iterator.Adapters.{map_source, map_callee, map_steps}
 use Rattle.std.specs.declared.iter.Map.{Map}
-use Rattle.markdown_base.specs.Document.{Question, Answer}
+use Rattle.markdown_base.specs.Questions.{Question, Answer}
 use Rattle.markdown_base.specs.declared.event.Event.{Event}
 use Rattle.markdown_base.specs.declared.fault.Fault.{Fault}
 use Rattle.markdown_inline.specs.NextGives.{NextGives, IsEventOf}
