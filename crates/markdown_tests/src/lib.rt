@@ -29,6 +29,8 @@ mod merged;
 #[cfg(test)]
 mod merges;
 #[cfg(test)]
+mod notes;
+#[cfg(test)]
 mod parser;
 #[cfg(test)]
 mod program;
