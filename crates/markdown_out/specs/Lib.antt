@@ -4,6 +4,7 @@ pub mod LookBacks
 pub mod AltText
 pub mod TagHtml
 pub mod EventHtml
+pub mod ImageHtml
 pub mod HtmlCorrect
 pub mod ByteLists
 pub mod Merge

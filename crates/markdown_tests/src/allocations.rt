@@ -19,9 +19,13 @@ fn heading<'a>(alloc: Global, id: &'a str) -> HeadingAttributes<'a> {
 
 /// Allocations with one text and one heading's attributes.
 fn one_of_each<'a>(alloc: Global) -> Result<Allocations<'a>, Fault> {
+    let mut cows = Vec::new(alloc);
+    cows.push(CowStr::from("first"))?;
+    let mut headings = Vec::new(alloc);
+    headings.push(heading(alloc, "h1"))?;
     let mut parts = no_parts(alloc);
-    parts.cows.push(CowStr::from("first"))?;
-    parts.headings.push(heading(alloc, "h1"))?;
+    parts.cows = cows;
+    parts.headings = headings;
     Allocations::new(alloc, parts)
 }
 

@@ -7,6 +7,8 @@ mod allocations;
 #[cfg(test)]
 mod block_pass;
 #[cfg(test)]
+mod block_rules;
+#[cfg(test)]
 mod blocks;
 #[cfg(test)]
 mod bodies;
@@ -26,6 +28,8 @@ mod look_ups;
 mod merged;
 #[cfg(test)]
 mod merges;
+#[cfg(test)]
+mod notes;
 #[cfg(test)]
 mod parser;
 #[cfg(test)]

@@ -12,15 +12,17 @@ fn defining<'a>(
     alloc: Global,
     definitions: &[(&'a str, &'a str)],
 ) -> Result<BlockParts<'a>, AllocError> {
-    let mut parts = no_parts(alloc);
+    let mut held = Vec::new(alloc);
     for (label, dest) in definitions {
         let definition = LinkDef {
             dest: CowStr::from(*dest),
             title: None,
             span: 0..0,
         };
-        parts.definitions.push((CowStr::from(*label), definition))?;
+        held.push((CowStr::from(*label), definition))?;
     }
+    let mut parts = no_parts(alloc);
+    parts.definitions = held;
     Ok(parts)
 }
 
@@ -78,37 +80,48 @@ fn find_each_other(
     Ok(there && back)
 }
 
+/// Pairs that match, of statuses C and F of CaseFolding.txt.
+const MATCHING: [(&str, &str); 17] = [
+    ("Weiß", "WEISS"),
+    ("ﬀ", "FF"),
+    ("ﬃ", "fFi"),
+    ("ς", "Σ"),
+    ("ΜΆΪΟΣ", "μάϊος"),
+    ("\u{212A}", "k"),
+    ("\u{212B}", "å"),
+    ("\u{B5}", "\u{3BC}"),
+    ("\u{149}", "\u{2BC}N"),
+    ("\u{390}", "\u{3B9}\u{308}\u{301}"),
+    ("\u{345}", "ι"),
+    ("ᾈ", "ἀι"),
+    ("ſ", "S"),
+    ("Ａ", "ａ"),
+    ("\u{130}", "i\u{307}"),
+    ("\u{AB70}", "\u{13A0}"),
+    ("\u{10400}", "\u{10428}"),
+];
+
+/// Pairs that default matching keeps apart.
+const APART: [(&str, &str); 6] = [
+    ("\u{130}", "i"),
+    ("ı", "i"),
+    ("é", "e\u{301}"),
+    ("ﬀ", "f"),
+    ("ａ", "a"),
+    ("[", "{"),
+];
+
 #[test]
 fn foldings_are_unicodes(rt: HostRuntime) -> Result<(), Fail> {
-    // statuses C and F of CaseFolding.txt, and pairs that default matching keeps apart
-    let rows = [
-        ("Weiß", "WEISS", Some("/u")),
-        ("ﬀ", "FF", Some("/u")),
-        ("ﬃ", "fFi", Some("/u")),
-        ("ς", "Σ", Some("/u")),
-        ("ΜΆΪΟΣ", "μάϊος", Some("/u")),
-        ("\u{212A}", "k", Some("/u")),
-        ("\u{212B}", "å", Some("/u")),
-        ("\u{B5}", "\u{3BC}", Some("/u")),
-        ("\u{149}", "\u{2BC}N", Some("/u")),
-        ("\u{390}", "\u{3B9}\u{308}\u{301}", Some("/u")),
-        ("\u{345}", "ι", Some("/u")),
-        ("ᾈ", "ἀι", Some("/u")),
-        ("ſ", "S", Some("/u")),
-        ("Ａ", "ａ", Some("/u")),
-        ("\u{130}", "i\u{307}", Some("/u")),
-        ("\u{AB70}", "\u{13A0}", Some("/u")),
-        ("\u{10400}", "\u{10428}", Some("/u")),
-        ("\u{130}", "i", None),
-        ("ı", "i", None),
-        ("é", "e\u{301}", None),
-        ("ﬀ", "f", None),
-        ("ａ", "a", None),
-        ("[", "{", None),
-    ];
-    for (label, key, dest) in rows {
+    for (label, key) in MATCHING {
         assert!(rt;
-            find_each_other(rt.alloc(), label, key, dest)?,
+            find_each_other(rt.alloc(), label, key, Some("/u"))?,
+            "{label} and {key}"
+        );
+    }
+    for (label, key) in APART {
+        assert!(rt;
+            find_each_other(rt.alloc(), label, key, None)?,
             "{label} and {key}"
         );
     }
@@ -143,10 +156,12 @@ fn definitions_are_listed_in_order(rt: HostRuntime) -> Result<(), Fail> {
 
 /// Allocations with the footnotes `a` and `Straße`, the first of them named twice.
 fn footnotes<'a>(alloc: Global) -> Result<Allocations<'a>, Fault> {
-    let mut parts = no_parts(alloc);
+    let mut names = Vec::new(alloc);
     for name in ["a", "Straße", "A"] {
-        parts.footnotes.push(CowStr::from(name))?;
+        names.push(CowStr::from(name))?;
     }
+    let mut parts = no_parts(alloc);
+    parts.footnotes = names;
     Allocations::new(alloc, parts)
 }
 

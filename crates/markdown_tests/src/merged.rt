@@ -1,11 +1,14 @@
 //! Parsers under merges and adapters, and what is written of them.
-use crate::parser::push_event;
+ghost use Rattle.std.specs.Iterator.{IsFinite};
+
+use crate::notes::notes_of;
 use markdown_base::event::Event;
 use markdown_base::fault::Fault;
 use markdown_inline::walk::Parser;
 use markdown_out::html::push_html;
 use markdown_out::merge::{TextMergeStream, TextMergeWithOffset};
 use markdown_render::merged::merged_html;
+use std::alloc::Global;
 use std::test::Fail;
 
 /// A soft break as a hard one, and all else as it is.
@@ -16,20 +19,34 @@ fn harden<'a>(item: Result<Event<'a>, Fault>) -> Result<Event<'a>, Fault> {
     }
 }
 
+/// The HTML of the events of an iterator.
+fn html_of<'a, I: Iterator<Item = Result<Event<'a>, Fault>>>(
+    alloc: Global,
+    iter: I,
+) -> Result<String, Fail>
+    requires can { I.can_next iter }
+    requires ends { IsFinite (I.remaining iter) }
+{
+    let mut html = String::new(alloc);
+    push_html(alloc, &mut html, iter)?;
+    Ok(html)
+}
+
 #[test]
-fn html_of_parsers(rt: HostRuntime) -> Result<(), Fail> {
+fn html_of_adapters(rt: HostRuntime) -> Result<(), Fail> {
     let alloc = rt.alloc();
-    let hardened = "<p>a<br />\nb</p>\n";
-    let mut html = String::new(alloc);
     let parser = Parser::new(alloc, "a\nb")?;
-    assert_eq!(rt; push_html(alloc, &mut html, parser.map(harden)), Ok(()));
-    assert_eq!(rt; html.as_str(), hardened);
-
-    let mut html = String::new(alloc);
+    let html = html_of(alloc, parser.map(harden))?;
+    assert_eq!(rt; html.as_str(), "<p>a<br />\nb</p>\n");
     let merge = TextMergeStream::new(alloc, Parser::new(alloc, "a\nb")?);
-    assert_eq!(rt; push_html(alloc, &mut html, merge.map(harden)), Ok(()));
-    assert_eq!(rt; html.as_str(), hardened);
+    let html = html_of(alloc, merge.map(harden))?;
+    assert_eq!(rt; html.as_str(), "<p>a<br />\nb</p>\n");
+    Ok(())
+}
 
+#[test]
+fn html_of_a_merge(rt: HostRuntime) -> Result<(), Fail> {
+    let alloc = rt.alloc();
     let html = merged_html(alloc, Parser::new(alloc, "a\nb")?)?;
     assert_eq!(rt; html.as_str(), "<p>a\nb</p>\n");
     Ok(())
@@ -38,15 +55,9 @@ fn html_of_parsers(rt: HostRuntime) -> Result<(), Fail> {
 #[test]
 fn ranges_of_merged_parsers(rt: HostRuntime) -> Result<(), Fail> {
     let alloc = rt.alloc();
-    let mut notes = String::new(alloc);
     let iter = Parser::new(alloc, "a\nb")?.into_offset_iter();
-    for placed in TextMergeWithOffset::new(alloc, iter) {
-        let (event, range) = placed?;
-        push_event(&mut notes, event)?;
-        let place = format!(in alloc; "{}..{} ", range.start, range.end)?;
-        notes.push_str(place.as_str())?;
-    }
     let events = "<p>0..3 [a]0..1 /1..2 [b]2..3 </p>0..3 ";
+    let notes = notes_of(alloc, TextMergeWithOffset::new(alloc, iter))?;
     assert_eq!(rt; notes.as_str(), events);
     Ok(())
 }

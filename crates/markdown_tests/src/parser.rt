@@ -1,18 +1,18 @@
 //! What parsers give, with ample memory.
-ghost use Rattle.std.specs.Prelude.{◌≡◌, ◌+◌, ◌%◌, ◌^◌, IfSome};
-ghost use Rattle.markdown_inline.specs.ParserLeft.{parser_callback, offset_parser};
+ghost use Rattle.std.specs.Prelude.{◌≡◌, ◌+◌, ◌%◌, ◌^◌};
 
 use crate::builders::{append_block, item, no_parts, text};
+use crate::notes::notes_of;
 use bitflags::Flags;
 use markdown_base::cow_str::CowStr;
 use markdown_base::event::Event;
 use markdown_base::fault::Fault;
 use markdown_base::item::{Item, ItemBody};
 use markdown_base::options::Options;
-use markdown_base::tag::{LinkType, Tag, TagEnd};
+use markdown_base::tag::LinkType;
 use markdown_base::tree::Tree;
 use markdown_inline::runs::{gather, gather_offsets};
-use markdown_inline::walk::{OffsetIter, Parser};
+use markdown_inline::walk::Parser;
 use markdown_spans::blocks::Blocks;
 use markdown_spans::defs::{
     BoxedCallback, BrokenLink, BrokenLinkCallback, Closure, DefaultBrokenLinkCallback,
@@ -20,42 +20,6 @@ use markdown_spans::defs::{
 use std::alloc::{AllocError, Global};
 use std::ops::Range;
 use std::test::Fail;
-
-/// Writes an event down: a text in brackets, any other as it stands in HTML or by a sign.
-pub fn push_event(notes: &mut String, event: Event<'_>) -> Result<(), AllocError> {
-    match event {
-        Event::Text(text) => {
-            notes.push('[')?;
-            notes.push_str(text.as_str())?;
-            notes.push(']')
-        }
-        Event::Start(Tag::Paragraph) => notes.push_str("<p>"),
-        Event::End(TagEnd::Paragraph) => notes.push_str("</p>"),
-        Event::SoftBreak => notes.push('/'),
-        Event::HardBreak => notes.push_str("//"),
-        other => {
-            drop(other);
-            notes.push('?')
-        }
-    }
-}
-
-/// The events that are left, each with its range.
-fn notes_of<'a, F: BrokenLinkCallback<'a>>(
-    alloc: Global,
-    iter: OffsetIter<'a, F>,
-) -> Result<String, Fail>
-    requires { IfSome (parser_callback (offset_parser iter)) F.can_ask }
-{
-    let mut notes = String::new(alloc);
-    for placed in iter {
-        let (event, range) = placed?;
-        push_event(&mut notes, event)?;
-        let place = format!(in alloc; "{}..{} ", range.start, range.end)?;
-        notes.push_str(place.as_str())?;
-    }
-    Ok(notes)
-}
 
 #[test]
 fn texts(rt: HostRuntime) -> Result<(), Fail> {
@@ -142,10 +106,6 @@ fn a_walk_that_changes_hands(rt: HostRuntime) -> Result<(), Fail> {
     Ok(())
 }
 
-fn is_hard_break(item: Result<Event<'_>, Fault>) -> bool {
-    matches!(&item, Ok(Event::HardBreak))
-}
-
 fn end_of(item: Result<(Event<'_>, Range<usize>), Fault>) -> usize {
     match item {
         Ok((event, range)) => {
@@ -160,13 +120,6 @@ fn end_of(item: Result<(Event<'_>, Range<usize>), Fault>) -> usize {
 fn adapters(rt: HostRuntime) -> Result<(), Fail> {
     let alloc = rt.alloc();
     assert_eq!(rt; Parser::new(alloc, "a\nb")?.count(), 5);
-    let hard: Vec<bool> = Parser::new(alloc, "a  \nb")?
-        .map(is_hard_break)
-        .collect(alloc)?;
-    assert_eq!(rt;
-        hard.as_slice(),
-        [false, false, true, false, false].as_slice()
-    );
     let iter = Parser::new(alloc, "a  \nb")?.into_offset_iter();
     let ends: Vec<usize> = iter.map(end_of).collect(alloc)?;
     assert_eq!(rt; ends.as_slice(), [5, 1, 4, 5, 5].as_slice());

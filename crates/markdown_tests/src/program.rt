@@ -30,29 +30,40 @@ impl Write for NoWriter {
     }
 }
 
-/// The status, what was printed and what was said, of a run over any reader.
-fn ran<R: Read>(alloc: Global, words: &[String], input: &mut R) -> (u8, Vec<u8>, Vec<u8>) {
-    let mut out = Vec::new(alloc);
+/// A run over any reader and writer: its status, and what was said.
+fn said<R: Read, W: Write>(
+    alloc: Global,
+    words: &[String],
+    input: &mut R,
+    out: &mut W,
+) -> Result<String, Fail> {
     let mut err = Vec::new(alloc);
-    let status = run(alloc, words, input, &mut out, &mut err);
-    (status, out, err)
+    let status = run(alloc, words, input, out, &mut err);
+    let text = String::from_utf8(err)?;
+    Ok(format!(in alloc; "{status} {text}")?)
+}
+
+/// The same, and then what was printed.
+fn printed<R: Read>(alloc: Global, words: &[String], input: &mut R) -> Result<String, Fail> {
+    let mut out = Vec::new(alloc);
+    let status = said(alloc, words, input, &mut out)?;
+    let html = String::from_utf8(out)?;
+    Ok(format!(in alloc; "{status}{html}")?)
 }
 
 #[test]
 fn prints_html(rt: HostRuntime) -> Result<(), Fail> {
     let rows = [
-        ("", ""),
-        ("hello world", "<p>hello world</p>\n"),
-        ("a\nb", "<p>a\nb</p>\n"),
-        ("a  \nb", "<p>a<br />\nb</p>\n"),
-        ("a\\\nb\n\nc", "<p>a<br />\nb</p>\n<p>c</p>\n"),
-        ("a<b>&\"", "<p>a&lt;b&gt;&amp;\"</p>\n"),
+        ("", "0 "),
+        ("hello world", "0 <p>hello world</p>\n"),
+        ("a\nb", "0 <p>a\nb</p>\n"),
+        ("a  \nb", "0 <p>a<br />\nb</p>\n"),
+        ("a\\\nb\n\nc", "0 <p>a<br />\nb</p>\n<p>c</p>\n"),
+        ("a<b>&\"", "0 <p>a&lt;b&gt;&amp;\"</p>\n"),
     ];
-    for (input, html) in rows {
-        let (status, out, err) = ran(rt.alloc(), &[], &mut input.as_bytes());
-        assert_eq!(rt; status, 0);
-        assert_eq!(rt; out.as_slice(), html.as_bytes());
-        assert_eq!(rt; err.len(), 0);
+    for (input, wanted) in rows {
+        let found = printed(rt.alloc(), &[], &mut input.as_bytes())?;
+        assert_eq!(rt; found.as_str(), wanted);
     }
     Ok(())
 }
@@ -69,27 +80,14 @@ fn two_words(alloc: Global) -> Result<Vec<String>, Fail> {
 fn says_what_failed(rt: HostRuntime) -> Result<(), Fail> {
     let alloc = rt.alloc();
     let mut bad: &[u8] = &[255];
-    let (status, out, err) = ran(alloc, &[], &mut bad);
-    assert_eq!(rt; status, 1);
-    assert_eq!(rt; out.len(), 0);
-    assert_eq!(rt; err.as_slice(), "input is not UTF-8\n".as_bytes());
-
-    let (status, out, err) = ran(alloc, &two_words(alloc)?, &mut NoReader);
-    assert_eq!(rt; status, 2);
-    assert_eq!(rt; out.len(), 0);
-    assert_eq!(rt; err.as_slice(), "unknown option: tables\n".as_bytes());
-
-    let (status, out, err) = ran(alloc, &[], &mut NoReader);
-    assert_eq!(rt; status, 1);
-    assert_eq!(rt; out.len(), 0);
-    assert_eq!(rt; err.as_slice(), "read failed\n".as_bytes());
-
-    let mut err = Vec::new(alloc);
-    assert_eq!(rt;
-        run(alloc, &[], &mut "a".as_bytes(), &mut NoWriter, &mut err),
-        1
-    );
-    assert_eq!(rt; err.as_slice(), "write failed\n".as_bytes());
+    let found = printed(alloc, &[], &mut bad)?;
+    assert_eq!(rt; found.as_str(), "1 input is not UTF-8\n");
+    let found = printed(alloc, &two_words(alloc)?, &mut NoReader)?;
+    assert_eq!(rt; found.as_str(), "2 unknown option: tables\n");
+    let found = printed(alloc, &[], &mut NoReader)?;
+    assert_eq!(rt; found.as_str(), "1 read failed\n");
+    let found = said(alloc, &[], &mut "a".as_bytes(), &mut NoWriter)?;
+    assert_eq!(rt; found.as_str(), "1 write failed\n");
     Ok(())
 }
 

@@ -10,8 +10,12 @@ returns-in-Err-clause-takes g c =
     let held : held_items c.hold.result ≡ answer_items c.args.answer = c.hold.ensures.items in
     let count : held_count c.hold.result ≡ answer_count c.args.answer = c.hold.ensures.count in
     record {
-      leaves = λ later. rw (held, same, gives-alone g.P.Place.through (placed_view c.args.item)
-          c.args.answer later c.in-Err.ensures.1);
+      leaves = λ later. rw (
+        held,
+        same,
+        gives-alone g.P.Place.through (placed_view c.args.item)
+            c.args.answer later c.in-Err.ensures.1,
+      );
       counts = omega (arith, count);
       holds = omega (arith, count);
       needs = omega arith;
@@ -25,8 +29,13 @@ returns-in-Err-text_or-clause-takes g c =
     let count : held_count hold.result ≡ answer_count c.args.answer =
     hold.ensures.count ∙ ap answer_count same in
     record {
-      leaves = λ later. rw (c.in-Ok.ensures, held, same, gives-lone_text g.P.Place.through
-          (placed_text c.in-Ok.first) c.args.answer later c.in-Err-text_or.ensures.1);
+      leaves = λ later. rw (
+        c.in-Ok.ensures,
+        held,
+        same,
+        gives-lone_text g.P.Place.through
+            (placed_text c.in-Ok.first) c.args.answer later c.in-Err-text_or.ensures.1,
+      );
       counts = omega (arith, count);
       holds = omega (arith, count);
       needs = omega arith;
@@ -38,9 +47,15 @@ returns-in_ok-join-in-Ok-text_or-clause-takes g c =
     let count : answer_count c.args.answer ≡ 1 =
     sym (answer_count-mapped placed_view c.args.answer) ∙ ap answer_count c.in-Ok-text_or.ensures in
     record {
-      leaves = λ later. rw (c.in-Ok.ensures, c.in-Ok-text_or.ensures, made.bytes, made.first,
-          made.last, joins-two g.P.Place.through (placed_text c.in-Ok.first)
-          (placed_text c.in-Ok-text_or.last) later);
+      leaves = λ later. rw (
+        c.in-Ok.ensures,
+        c.in-Ok-text_or.ensures,
+        made.bytes,
+        made.first,
+        made.last,
+        joins-two g.P.Place.through (placed_text c.in-Ok.first)
+            (placed_text c.in-Ok-text_or.last) later,
+      );
       counts = omega (arith, count);
       holds = omega (arith, count);
       needs = omega arith;

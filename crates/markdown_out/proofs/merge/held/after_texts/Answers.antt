@@ -17,9 +17,14 @@ returns-in-Err-clause-takes g c =
     ≡ map (λ i. Some i) (unless_empty (string_bytes t.bytes) (through t.first t.last)) =
     c.close.ensures.given in
     record {
-      leaves = λ later. rw (held, same, given, gives-run through
-          (record { bytes = string_bytes t.bytes; place = t.first })
-          (record { bytes = []; place = t.last }) c.args.answer later refl c.in-Err.ensures.1);
+      leaves = λ later. rw (
+        held,
+        same,
+        given,
+        gives-run through
+            (record { bytes = string_bytes t.bytes; place = t.first })
+            (record { bytes = []; place = t.last }) c.args.answer later refl c.in-Err.ensures.1,
+      );
       counts = omega (arith, count, c.close.ensures.count);
       holds = omega (arith, count);
       needs = omega (arith, again_count-most c.close.result);
@@ -32,9 +37,15 @@ returns-in_ok-append-in-Ok-clause-takes g c =
     let count : answer_count c.args.answer ≡ 1 =
     sym (answer_count-mapped placed_view c.args.answer) ∙ ap answer_count c.in-Ok.ensures in
     record {
-      leaves = λ later. rw (c.in-Ok.ensures, made.bytes, made.first, made.last, joins-more
-          g.P.Place.through (record { bytes = string_bytes t.bytes; place = t.first })
-          (record { bytes = []; place = t.last }) (placed_text c.in-Ok.last) later refl);
+      leaves = λ later. rw (
+        c.in-Ok.ensures,
+        made.bytes,
+        made.first,
+        made.last,
+        joins-more
+            g.P.Place.through (record { bytes = string_bytes t.bytes; place = t.first })
+            (record { bytes = []; place = t.last }) (placed_text c.in-Ok.last) later refl,
+      );
       counts = omega (arith, count);
       holds = omega (arith, count);
       needs = omega arith;
