@@ -8,16 +8,19 @@ use Rattle.markdown_base.specs.declared.item.Item.{Item}
 use Rattle.markdown_base.specs.declared.node.Node.{Node}
 use Rattle.markdown_base.specs.BlockTree.{Numbered, tree_of}
 use Rattle.markdown_base.specs.Forest.{Forest, roots}
-use Rattle.markdown_base.specs.Item.{range_of}
+use Rattle.markdown_base.specs.Item.{is_block, range_of}
 
 -- a byte lies in a range
 abbrev pub is_inside : ℕ → Range ℕ → Bool
 is_inside at range = nat_le range.start at && nat_lt at range.end
 
+-- it lies in one of the trees that stand side by side, and that tree is a block
+abbrev pub is_in_block : Forest Numbered → ℕ → Bool
+is_in_block tree at = list_any (λ n. is_block n.item.body && is_inside at (range_of n.item)) (roots tree)
+
 -- it lies in a block directly below the root, or in the span of a definition
 abbrev pub is_covered : Forest Numbered → BlockParts → ℕ → Bool
-is_covered tree parts at =
-    list_any (λ n. is_inside at (range_of n.item)) (roots tree) || list_any (λ d. is_inside at d.1.span) parts.definitions.items
+is_covered tree parts at = is_in_block tree at || list_any (λ d. is_inside at d.1.span) parts.definitions.items
 
 -- each byte that is no ASCII white space is covered, and each definition's span begins with a `[`
 pub record Covers (text : List ℕ) (nodes : List (Node Item)) (parts : BlockParts) : Type 0 where

@@ -1,5 +1,5 @@
 -- The kinds of items, by their bodies.
-use Rattle.std.specs.Prelude.{ℕ, ◌≤◌, Bool, true, false, List, Option, Some, None}
+use Rattle.std.specs.Prelude.{ℕ, ◌≤◌, Bool, true, false, ◌||◌, not, List, Option, Some, None}
 use Rattle.std.specs.Str.{IsCharBoundary}
 use Rattle.std.specs.declared.ops.Range.{Range}
 use Rattle.std.proofs.Props.{props}
@@ -50,6 +50,10 @@ is_resolved (body.Link ix) = true
 is_resolved (body.Image ix) = true
 is_resolved (body.FootnoteReference ix) = true
 is_resolved other = false
+
+-- it is a block: not inline, and not what an inline item becomes
+abbrev pub is_block : ItemBody → Bool
+is_block body = not (is_inline body || is_resolved body)
 
 -- it is a paragraph of a tight list
 abbrev pub is_tight_paragraph : ItemBody → Bool

@@ -4,12 +4,12 @@ use Rattle.std.specs.Prelude.{IsTrue, IfSome, ⊤, ◌&&◌}
 use Rattle.std.specs.List.{AllByRecursion}
 use Rattle.markdown_base.specs.BlockTree.{Numbered}
 use Rattle.markdown_base.specs.Forest.{Forest, nil, node, roots, first_root}
-use Rattle.markdown_base.specs.Item.{is_inline}
+use Rattle.markdown_base.specs.Item.{is_block, is_inline}
 use Rattle.markdown_base.specs.WellFormed.{Precedes, all_inline, RunCharacter, run_character, StandsInRun, EndsRun, RunGoesOn}
 use Rattle.markdown_plain.specs.BlockPass.{KeepsRules, AllKeepRules, AreInline, LiesBetween, EndsNoRun}
 use Rattle.markdown_plain.specs.Layout.{size_of, beside, IsCounted}
 use Rattle.markdown_plain.proofs.LayoutLemmas.{IsCounted-beside}
-use Rattle.markdown_plain.proofs.RuleLemmas.{no_run}
+use Rattle.markdown_plain.proofs.RuleLemmas.{not_inline, no_run}
 
 -- ---- rules
 
@@ -167,12 +167,13 @@ ends_no_run (node b inner (node c x y)) a below h = ends_no_run (node c x y) a b
 -- ---- blocks
 
 -- a block ends no run, and stands in no order
-block_end : (text : List ℕ) (f g : Forest Numbered) → AllByRecursion (λ n. is_inline n.item.body ≡ false) (roots f)
+block_end : (text : List ℕ) (f g : Forest Numbered) → AllByRecursion (λ n. IsTrue (is_block n.item.body)) (roots f)
     → AtEnd (KeepsBefore text (first_root g)) f
 block_end text nil g h = tt
 block_end text (node a below nil) g h =
-    keeps_before text a below (first_root g) (out_of_order (is_inline a.item.body) a (first_root g) h.0)
-    (rw (no_run a.item.body h.0) tt)
+    let other = not_inline a.item.body h.0 in
+    keeps_before text a below (first_root g) (out_of_order (is_inline a.item.body) a (first_root g) other)
+    (rw (no_run a.item.body other) tt)
   where
     out_of_order : (i : Bool) (a : Numbered) (next : Option Numbered) → i ≡ false
         → IfSome next (λ b. IsTrue i → IsTrue (is_inline b.item.body) → Precedes a b)
@@ -182,5 +183,5 @@ block_end text (node a below (node b inner later)) g h = block_end text (node b 
 
 -- blocks side by side keep the rules
 pub blocks_beside : (text : List ℕ) (f g : Forest Numbered) → AllKeepRules text f → AllKeepRules text g
-    → AllByRecursion (λ n. is_inline n.item.body ≡ false) (roots f) → AllKeepRules text (beside f g)
+    → AllByRecursion (λ n. IsTrue (is_block n.item.body)) (roots f) → AllKeepRules text (beside f g)
 blocks_beside text f g t u h = rules_beside text f g t u (block_end text f g h)

@@ -9,9 +9,9 @@ use Rattle.markdown_base.specs.declared.node.Node.{Node}
 use Rattle.markdown_base.specs.declared.item.Item.{Item}
 use Rattle.markdown_base.specs.Arena.{Arena}
 use Rattle.markdown_base.specs.BlockTree.{Numbered, tree_of}
-use Rattle.markdown_base.specs.Coverage.{is_covered, is_inside, Covers}
+use Rattle.markdown_base.specs.Coverage.{is_covered, is_in_block, is_inside, Covers}
 use Rattle.markdown_base.specs.Forest.{Forest, nil, node, Each, preorder, roots, first_root}
-use Rattle.markdown_base.specs.Item.{LiesIn, range_of, is_open, is_inline, is_childless, is_resolved, is_tight_paragraph, is_unplaced, text_named, alignments_named, attributes_named}
+use Rattle.markdown_base.specs.Item.{LiesIn, is_block, is_open, is_inline, is_childless, is_resolved, is_tight_paragraph, is_unplaced, text_named, alignments_named, attributes_named}
 use Rattle.markdown_base.specs.WellFormed.{Precedes, RangesLieIn, InlineInOrder, has_open, all_inline, source_of, StandsOverMarkup, run_character, StandsInRun, ChainsAreKept, NothingResolved, MarkupIsThere, RunsAreWhole, all_named, PartsAreNamed, has_tight_paragraph, BlocksAreSettled, IsWellFormed}
 use Rattle.markdown_base.proofs.ForestLemmas.{Throughout-weaker}
 use Rattle.markdown_plain.specs.declared.made.Made.{Made}
@@ -19,17 +19,17 @@ use Rattle.markdown_plain.specs.BlockPass.{KeepsRules, AllKeepRules, NamesTexts,
 use Rattle.markdown_plain.specs.Layout.{laid_out}
 use Rattle.markdown_plain.proofs.OutsideLemmas.{covers_blank}
 use Rattle.markdown_plain.proofs.ReadingLemmas.{tree_of-laid_out, laid_out-reached}
-use Rattle.markdown_plain.proofs.RuleLemmas.{not_open}
+use Rattle.markdown_plain.proofs.RuleLemmas.{not_inline, not_open}
 
 -- the rules of one item
 abbrev Rules : List ℕ → Numbered → Forest Numbered → Forest Numbered → Type 0
 Rules text a below after = KeepsRules text a below (first_root after)
 
 -- no block is open
-blocks_closed : (chain : List Numbered) → AllByRecursion (λ n. is_inline n.item.body ≡ false) chain
+blocks_closed : (chain : List Numbered) → AllByRecursion (λ n. IsTrue (is_block n.item.body)) chain
     → list_any (λ n. is_open n.item.body) chain ≡ false
 blocks_closed [] h = refl
-blocks_closed (n ∷ chain) h = rw (not_open n.item.body h.0, blocks_closed chain h.1) refl
+blocks_closed (n ∷ chain) h = rw (not_open n.item.body (not_inline n.item.body h.0), blocks_closed chain h.1) refl
 
 -- where no item names anything, nothing is named
 none_named : (name : ItemBody → Option ℕ) (text : List ℕ) (tree : Forest Numbered)
@@ -180,7 +180,7 @@ read_covers text made parts all e =
     ap (λ (x : Arena Item). tree_of x.nodes) s.arena ∙ tree_of-laid_out s.tree b.counted in
     record {
       bytes = λ at low dark. subst (λ (x : Forest Numbered). IsTrue (is_covered x parts at)) (sym read)
-          (first_passes (list_any (λ n. is_inside at (range_of n.item)) (roots s.tree))
+          (first_passes (is_in_block s.tree at)
           (list_any (λ d. is_inside at d.1.span) parts.definitions.items) (covers at low dark));
       definitions = rw e tt;
     }

@@ -4,7 +4,7 @@ use Rattle.std.proofs.lemmas.Bool.{cases_lt}
 use Rattle.std.proofs.lemmas.Bool.Decides.{nat_tests}
 use Rattle.std.proofs.lemmas.List.{append-nil}
 use Rattle.std.proofs.lemmas.List.Folds.{list_any-append}
-use Rattle.std.specs.Prelude.{MatchOption, nat_eq, ◌||◌}
+use Rattle.std.specs.Prelude.{IsTrue, MatchOption, nat_eq, ◌||◌, ◌&&◌}
 use Rattle.std.specs.Char.{is_ascii_whitespace}
 use Rattle.std.specs.List.{IsDistinct, filter_map, list_any}
 use Rattle.markdown_base.specs.declared.item.Item.{Item}
@@ -14,7 +14,7 @@ use Rattle.markdown_base.specs.Arena.{Arena, single, child_of, appended}
 use Rattle.markdown_base.specs.BlockTree.{Numbered}
 use Rattle.markdown_base.specs.Coverage.{is_inside}
 use Rattle.markdown_base.specs.Forest.{Forest, nil, node, preorder, roots}
-use Rattle.markdown_base.specs.Item.{LiesIn, range_of, is_inline, text_named}
+use Rattle.markdown_base.specs.Item.{LiesIn, range_of, is_block, text_named}
 use Rattle.markdown_plain.specs.declared.made.Made.{Made}
 use Rattle.markdown_plain.specs.BlockPass.{KeepsRules, AreInline, CoversUpTo, StandsOutside, StandsBeforeParagraph, StandsBeforeLine, StandsBehindLines, texts_in}
 use Rattle.markdown_plain.specs.Layout.{size_of, beside, laid_out, outside, inside}
@@ -149,7 +149,7 @@ covers_paragraph : (text : List ℕ) (tree chain : Forest Numbered) (first end :
     → CoversUpTo text (beside tree (node (paragraph_behind tree first end) chain nil)) end
 covers_paragraph text tree chain first end covers at low dark =
     let block = paragraph_behind tree first end in
-    let test : Numbered → Bool = λ n. is_inside at (range_of n.item) in
+    let test : Numbered → Bool = λ n. is_block n.item.body && is_inside at (range_of n.item) in
     let more : list_any test (roots (beside tree (node block chain nil)))
     ≡ (list_any test (roots tree) || list_any test (block ∷ [])) =
     ap (λ (x : List Numbered). list_any test x) (roots-beside tree (node block chain nil))
@@ -205,7 +205,7 @@ left_behind text old new (Some ix) first end behind goes cows =
           tt,
         ) b.blocks;
         blocks = rw (roots-beside s.tree (node block s.chain nil))
-            (All-append (λ n. is_inline n.item.body ≡ false) (roots s.tree) (block ∷ []) b.blocks (refl, tt));
+            (All-append (λ n. IsTrue (is_block n.item.body)) (roots s.tree) (block ∷ []) b.blocks (refl, tt));
       };
       names = rw (named_behind s.tree s.chain first end, cows) s.names;
       covers = covers_paragraph text s.tree s.chain first end s.covers;

@@ -1,6 +1,6 @@
 -- Laws of the rules that items keep: of inline bodies, of a line's items, and of items side by side.
 use Rattle.std.proofs.Common.{◌≡◌, ℕ, suc, ◌≤◌, List, [], ◌∷◌, Option, Some, None, Bool, true, false, refl}
-use Rattle.std.specs.Prelude.{IsTrue, IfSome, ◌&&◌}
+use Rattle.std.specs.Prelude.{IsTrue, IfSome, not, ◌&&◌, ◌||◌}
 use Rattle.std.specs.List.{AllByRecursion}
 use Rattle.std.specs.declared.ops.Range.{Range}
 use Rattle.markdown_base.specs.declared.item.Item.{Item}
@@ -8,7 +8,7 @@ use Rattle.markdown_base.specs.declared.item.ItemBody.{ItemBody}
 use Rattle.markdown_base.specs.declared.item.ItemBody.TheVariants as body
 use Rattle.markdown_base.specs.BlockTree.{Numbered}
 use Rattle.markdown_base.specs.Forest.{nil, Each, roots, first_root}
-use Rattle.markdown_base.specs.Item.{LiesIn, is_open, is_inline, is_resolved, is_tight_paragraph, is_unplaced, text_named, alignments_named, attributes_named}
+use Rattle.markdown_base.specs.Item.{LiesIn, is_block, is_open, is_inline, is_resolved, is_tight_paragraph, is_unplaced, text_named, alignments_named, attributes_named}
 use Rattle.markdown_base.specs.WellFormed.{Precedes, RangesLieIn, InlineInOrder, all_inline, MarkupIsThere, RunsAreWhole, run_character, StandsInRun, source_of, StandsOverMarkup}
 use Rattle.markdown_items.specs.LineItems.{chain_from, LiesInLine, AreLineItems}
 use Rattle.markdown_plain.specs.BlockPass.{KeepsRules, AllKeepRules, AreInline, LiesBetween}
@@ -41,6 +41,14 @@ only_inline body.Root h = cc (h)
 only_inline body.MaybeDefinitionListTitle h = cc (h)
 only_inline body.TightParagraph h = cc (h)
 only_inline other h = record { unresolved = refl; alignments = refl; attributes = refl; placed = refl; loose = refl }
+
+-- a block is not inline
+pub not_inline : (b : ItemBody) → IsTrue (is_block b) → is_inline b ≡ false
+not_inline b h = neither (is_inline b) (is_resolved b) h
+  where
+    neither : (i r : Bool) → IsTrue (not (i || r)) → i ≡ false
+    neither true r h = cc (h)
+    neither false r h = refl
 
 -- what is not inline is not open
 pub not_open : (b : ItemBody) → is_inline b ≡ false → is_open b ≡ false

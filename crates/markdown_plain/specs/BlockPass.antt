@@ -1,13 +1,13 @@
 -- Where a block pass stands: what it has made so far keeps the rules of a well-formed block result.
 use Rattle.std.specs.Prelude.{◌≡◌, ℕ, suc, ◌<◌, ◌≤◌, false, IsTrue, List, ◌++◌, Option, None, IfSome, ⊤, nat_eq, length, slice_index}
 use Rattle.std.specs.Char.{is_ascii_whitespace}
-use Rattle.std.specs.List.{AllByRecursion, IsDistinct, list_any}
+use Rattle.std.specs.List.{AllByRecursion, IsDistinct}
 use Rattle.std.specs.declared.ops.Range.{Range}
 use Rattle.markdown_base.specs.declared.item.Item.{Item}
 use Rattle.markdown_base.specs.BlockTree.{Numbered}
-use Rattle.markdown_base.specs.Coverage.{is_inside}
+use Rattle.markdown_base.specs.Coverage.{is_in_block}
 use Rattle.markdown_base.specs.Forest.{Forest, nil, node, Throughout, roots, first_root}
-use Rattle.markdown_base.specs.Item.{LiesIn, range_of, is_inline, is_childless, is_resolved, is_tight_paragraph, is_unplaced, text_named, alignments_named, attributes_named}
+use Rattle.markdown_base.specs.Item.{LiesIn, is_block, is_inline, is_childless, is_resolved, is_tight_paragraph, is_unplaced, text_named, alignments_named, attributes_named}
 use Rattle.markdown_base.specs.WellFormed.{Precedes, has_open, all_inline, source_of, StandsOverMarkup, run_character, StandsInRun, all_named}
 use Rattle.markdown_items.specs.LineItems.{AreLineItems}
 use Rattle.markdown_plain.specs.declared.line.Line.{Line}
@@ -47,7 +47,7 @@ pub record NamesTexts (count : ℕ) (names : List ℕ) : Type 0 where
 pub record AreBlocks (text : List ℕ) (tree : Forest Numbered) : Type 0 where
   pub counted : IsCounted 1 tree
   pub rules : AllKeepRules text tree
-  pub blocks : AllByRecursion (λ n. is_inline n.item.body ≡ false) (roots tree)
+  pub blocks : AllByRecursion (λ n. IsTrue (is_block n.item.body)) (roots tree)
 
 -- an item lies between two places
 pub record LiesBetween (from to : ℕ) (item : Item) : Type 0 where
@@ -71,7 +71,7 @@ EndsNoRun (node a below (node b inner later)) = EndsNoRun (node b inner later)
 abbrev pub CoversUpTo : List ℕ → Forest Numbered → ℕ → Type 0
 CoversUpTo text tree to =
     (at : ℕ) → at < to → is_ascii_whitespace (slice_index text at) ≡ false
-    → IsTrue (list_any (λ n. is_inside at (range_of n.item)) (roots tree))
+    → IsTrue (is_in_block tree at)
 
 -- the pass stands behind the last block, and has read the text up to a place
 pub record StandsOutside (text : List ℕ) (made : Made) (to : ℕ) : Type 0 where
