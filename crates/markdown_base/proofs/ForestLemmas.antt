@@ -1,7 +1,8 @@
 -- Laws of forests and of facts that hold throughout them.
-use Rattle.std.proofs.Common.{◌≡◌, ◌∷◌, ◌++◌, map, refl, sym, ap, ◌∙◌}
+use Rattle.std.proofs.Common.{◌≡◌, List, [], ◌∷◌, ◌++◌, map, refl, sym, ap, ◌∙◌}
+use Rattle.std.specs.List.{AllByRecursion}
 use Rattle.std.proofs.lemmas.List.{map-append}
-use Rattle.markdown_base.specs.Forest.{Forest, nil, node, Throughout, preorder, roots, relabelled}
+use Rattle.markdown_base.specs.Forest.{Forest, nil, node, Throughout, Each, preorder, roots, relabelled}
 
 -- what follows from a fact holds where the fact does
 pub Throughout-weaker : {A : Type 0} (p q : A → Forest A → Forest A → Type 0) → ((a : A) (below after : Forest A) → p a below after → q a below after)
@@ -40,3 +41,29 @@ preorder-relabelled f (node a below after) =
 pub roots-relabelled : {A B : Type 0} (f : A → B) (t : Forest A) → roots (relabelled f t) ≡ map f (roots t)
 roots-relabelled f nil = refl
 roots-relabelled f (node a below after) = ap (λ x. f a ∷ x) (roots-relabelled f after)
+
+-- the facts of two lists, joined
+pub All-append : {X : Type 0} (p : X → Type 0) (xs ys : List X) → AllByRecursion p xs → AllByRecursion p ys → AllByRecursion p (xs ++ ys)
+All-append p [] ys a b = b
+All-append p (x ∷ xs) ys a b = (a.0, All-append p xs ys a.1 b)
+
+-- and parted
+pub All-parted : {X : Type 0} (p : X → Type 0) (xs ys : List X) → AllByRecursion p (xs ++ ys) → AllByRecursion p xs × AllByRecursion p ys
+All-parted p [] ys a = (tt, a)
+All-parted p (x ∷ xs) ys a = let parts = All-parted p xs ys a.1 in ((a.0, parts.0), parts.1)
+
+-- those of a list, by what follows from them
+pub All-weaker : {X : Type 0} (p q : X → Type 0) → ((x : X) → p x → q x) → (xs : List X) → AllByRecursion p xs → AllByRecursion q xs
+All-weaker p q h [] a = tt
+All-weaker p q h (x ∷ xs) a = (h x a.0, All-weaker p q h xs a.1)
+
+-- a fact holds of each label just where it holds of the labels in preorder
+pub preorder-Each : {A : Type 0} (p : A → Type 0) (f : Forest A) → Each p f → AllByRecursion p (preorder f)
+preorder-Each p nil e = tt
+preorder-Each p (node a below after) e = (e.0, All-append p (preorder below) (preorder after) (preorder-Each p below e.1) (preorder-Each p after e.2))
+
+pub Each-preorder : {A : Type 0} (p : A → Type 0) (f : Forest A) → AllByRecursion p (preorder f) → Each p f
+Each-preorder p nil a = tt
+Each-preorder p (node x below after) a =
+    let parts = All-parted p (preorder below) (preorder after) a.1 in
+    (a.0, Each-preorder p below parts.0, Each-preorder p after parts.1)

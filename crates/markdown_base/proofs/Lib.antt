@@ -1,6 +1,8 @@
 pub mod ArenaLemmas
 pub mod ArenaForestLemmas
 pub mod ForestLemmas
+pub mod WellFormedLemmas
+pub mod ArenaRulesLemmas
 pub mod BoundaryLemmas
 pub mod DestinationLemmas
 pub mod LabelLemmas

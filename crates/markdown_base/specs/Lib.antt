@@ -16,3 +16,5 @@ pub mod InlineText
 pub mod ArenaBounds
 pub mod ArenaForest
 pub mod ArenaWalk
+pub mod ArenaRules
+pub mod OneWay

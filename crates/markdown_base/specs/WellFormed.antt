@@ -1,5 +1,6 @@
--- A well-formed block result: the nine rules that every block pass keeps, and every walk relies on. The
--- root is no item: its own range and body say nothing.
+-- A well-formed block result: the nine rules that every block pass keeps, and every walk relies on. Rules 2 to 9
+-- speak of an item, of the forest below it and of the item after it (`KeepsRules`); what rules 4 and 8 say of more
+-- than that stands in `IsWellFormed`. The root is no item: its own range and body say nothing.
 use Rattle.std.specs.Prelude.{◌≡◌, ℕ, zero, suc, ◌<◌, ◌≤◌, Bool, false, IsTrue, ◌==◌, ◌||◌, List, [], ◌∷◌, Option, Some, None, IfSome, nat_eq, codes, length, replicate, slice_index, slice_range}
 use Rattle.std.specs.List.{IsDistinct, filter_map, list_all, list_any}
 use Rattle.markdown_base.specs.declared.block_parts.BlockParts.{BlockParts}
@@ -10,7 +11,7 @@ use Rattle.markdown_base.specs.declared.node.Node.{Node}
 use Rattle.markdown_base.specs.Arena.{child_of}
 use Rattle.markdown_base.specs.ArenaForest.{links_of, Spells, numbers_below}
 use Rattle.markdown_base.specs.BlockTree.{Numbered, tree_of}
-use Rattle.markdown_base.specs.Forest.{Forest, nil, Throughout, Each, preorder, roots, first_root}
+use Rattle.markdown_base.specs.Forest.{Forest, nil, Throughout, preorder, roots, first_root}
 use Rattle.markdown_base.specs.Item.{LiesIn, is_open, is_inline, is_childless, is_resolved, is_tight_paragraph, is_unplaced, text_named, alignments_named, attributes_named}
 
 -- 1. The tree is finite, and no node is reached twice, nor the root again.
@@ -19,8 +20,8 @@ pub record IsReachedOnce (nodes : List (Node Item)) : Type 0 where
   pub once : IsDistinct nat_eq (0 ∷ preorder (numbers_below nodes))
 
 -- 2. Each range lies in the text, between characters.
-abbrev pub RangesLieIn : List ℕ → Forest Numbered → Type 0
-RangesLieIn text tree = Each (λ n. LiesIn text n.item) tree
+abbrev pub RangesLieIn : List ℕ → Item → Type 0
+RangesLieIn text item = LiesIn text item
 
 -- one stands before the other: in the text, and by its number
 pub record Precedes (a b : Numbered) : Type 0 where
@@ -28,9 +29,8 @@ pub record Precedes (a b : Numbered) : Type 0 where
   pub numbers : a.number < b.number
 
 -- 3. Of two neighbours that are both inline the first stands before the second.
-abbrev pub InlineInOrder : Forest Numbered → Type 0
-InlineInOrder tree =
-    Throughout (λ a below after. IfSome (first_root after) (λ b. IsTrue (is_inline a.item.body) → IsTrue (is_inline b.item.body) → Precedes a b)) tree
+abbrev pub InlineInOrder : Numbered → Option Numbered → Type 0
+InlineInOrder a next = IfSome next (λ b. IsTrue (is_inline a.item.body) → IsTrue (is_inline b.item.body) → Precedes a b)
 
 -- some item of a chain is open; all of them are inline
 abbrev pub has_open : Forest Numbered → Bool
@@ -40,15 +40,14 @@ abbrev pub all_inline : Forest Numbered → Bool
 all_inline chain = list_all (λ n. is_inline n.item.body) (roots chain)
 
 -- 4. Inline items and thematic breaks have no children. A chain with an open item holds inline items
--- only, and does not stand directly below the root.
-pub record ChainsAreKept (tree : Forest Numbered) : Type 0 where
-  pub childless : Throughout (λ a below after. IsTrue (is_childless a.item.body) → below ≡ nil) tree
-  pub inline_only : Throughout (λ a below after. IsTrue (has_open below) → IsTrue (all_inline below)) tree
-  pub top : has_open tree ≡ false
+-- only (and does not stand directly below the root).
+pub record ChainsAreKept (above : ItemBody) (below : Forest Numbered) : Type 0 where
+  pub childless : IsTrue (is_childless above) → below ≡ nil
+  pub inline_only : IsTrue (has_open below) → IsTrue (all_inline below)
 
 -- 5. Nothing is resolved yet.
-abbrev pub NothingResolved : Forest Numbered → Type 0
-NothingResolved tree = Each (λ n. is_resolved n.item.body ≡ false) tree
+abbrev pub NothingResolved : ItemBody → Type 0
+NothingResolved b = is_resolved b ≡ false
 
 -- the bytes that an item stands over
 abbrev pub source_of : List ℕ → Item → List ℕ
@@ -66,8 +65,8 @@ StandsOverMarkup source body.MaybeImage = source ≡ codes "!["
 StandsOverMarkup source other = Unit {0}
 
 -- 6. Brackets, quotes, dollars, backticks and `<` stand over their markup.
-abbrev pub MarkupIsThere : List ℕ → Forest Numbered → Type 0
-MarkupIsThere text tree = Each (λ n. StandsOverMarkup (source_of text n.item) n.item.body) tree
+abbrev pub MarkupIsThere : List ℕ → Item → Type 0
+MarkupIsThere text item = StandsOverMarkup (source_of text item) item.body
 
 -- a character of a delimiter run: how many characters there are from here to the run's end, and whether
 -- the run can open, and can close
@@ -114,38 +113,64 @@ pub record StandsInRun (text : List ℕ) (a : Numbered) (next : Option Numbered)
 
 -- 7. A delimiter run of n characters is n neighbours that touch, of consecutive numbers and the same
 -- flags, counted n, n - 1, .., 1. Two runs of one character have another item between them.
-abbrev pub RunsAreWhole : List ℕ → Forest Numbered → Type 0
-RunsAreWhole text tree = Throughout (λ a below after. IfSome (run_character a.item.body) (StandsInRun text a (first_root after))) tree
+abbrev pub RunsAreWhole : List ℕ → Numbered → Option Numbered → Type 0
+RunsAreWhole text a next = IfSome (run_character a.item.body) (StandsInRun text a next)
 
--- the numbers that the items of a tree name
-abbrev pub all_named : (ItemBody → Option ℕ) → Forest Numbered → List ℕ
-all_named name tree = filter_map (λ n. name n.item.body) (preorder tree)
+-- how many parts there are to be named
+pub record PartCounts : Type 0 where
+  pub texts : ℕ
+  pub alignments : ℕ
+  pub attributes : ℕ
 
--- 8. Each number names a part of the block result. No text and no list of alignments is named twice.
-pub record PartsAreNamed (parts : BlockParts) (tree : Forest Numbered) : Type 0 where
-  pub texts : Each (λ n. IfSome (text_named n.item.body) (λ ix. ix < length parts.cows.items)) tree
-  pub alignments : Each (λ n. IfSome (alignments_named n.item.body) (λ ix. ix < length parts.alignments.items)) tree
-  pub attributes : Each (λ n. IfSome (attributes_named n.item.body) (λ ix. (1 ≤ ix) × (ix ≤ length parts.headings.items))) tree
-  pub each_text_once : IsDistinct nat_eq (all_named text_named tree)
-  pub each_alignments_once : IsDistinct nat_eq (all_named alignments_named tree)
+abbrev pub counts_of : BlockParts → PartCounts
+counts_of parts = record {
+  texts = length parts.cows.items;
+  alignments = length parts.alignments.items;
+  attributes = length parts.headings.items;
+}
+
+-- 8. Each number names a part of the block result. (No text and no list of alignments is named twice.)
+pub record PartsAreNamed (counts : PartCounts) (b : ItemBody) : Type 0 where
+  pub text : IfSome (text_named b) (λ ix. ix < counts.texts)
+  pub alignments : IfSome (alignments_named b) (λ ix. ix < counts.alignments)
+  pub attributes : IfSome (attributes_named b) (λ ix. (1 ≤ ix) × (ix ≤ counts.attributes))
 
 -- a tight paragraph stands in a chain
 abbrev pub has_tight_paragraph : Forest Numbered → Bool
 has_tight_paragraph chain = list_any (λ n. is_tight_paragraph n.item.body) (roots chain)
 
 -- 9. No root and no undecided block stands in the tree, and no tight paragraph directly in another.
-pub record BlocksAreSettled (tree : Forest Numbered) : Type 0 where
-  pub placed : Each (λ n. is_unplaced n.item.body ≡ false) tree
-  pub tight : Throughout (λ a below after. IsTrue (is_tight_paragraph a.item.body) → has_tight_paragraph below ≡ false) tree
+pub record BlocksAreSettled (above : ItemBody) (below : Forest Numbered) : Type 0 where
+  pub placed : is_unplaced above ≡ false
+  pub tight : IsTrue (is_tight_paragraph above) → has_tight_paragraph below ≡ false
+
+-- rules 2 to 9 at one item, with the forest below it and the item after it
+pub record KeepsRules (text : List ℕ) (counts : PartCounts) (a : Numbered) (below : Forest Numbered) (next : Option Numbered) : Type 0 where
+  pub ranges_lie_in : RangesLieIn text a.item
+  pub inline_in_order : InlineInOrder a next
+  pub chains_are_kept : ChainsAreKept a.item.body below
+  pub nothing_resolved : NothingResolved a.item.body
+  pub markup_is_there : MarkupIsThere text a.item
+  pub runs_are_whole : RunsAreWhole text a next
+  pub parts_are_named : PartsAreNamed counts a.item.body
+  pub blocks_are_settled : BlocksAreSettled a.item.body below
+
+-- and at each item of a forest
+abbrev pub AllKeepRules : List ℕ → PartCounts → Forest Numbered → Type 0
+AllKeepRules text counts tree = Throughout (λ a below after. KeepsRules text counts a below (first_root after)) tree
+
+-- the numbers that the items of a tree name
+abbrev pub all_named : (ItemBody → Option ℕ) → Forest Numbered → List ℕ
+all_named name tree = filter_map (λ n. name n.item.body) (preorder tree)
 
 -- all nine
 pub record IsWellFormed (text : List ℕ) (nodes : List (Node Item)) (parts : BlockParts) : Type 0 where
+  -- 1
   pub reached_once : IsReachedOnce nodes
-  pub ranges_lie_in : RangesLieIn text (tree_of nodes)
-  pub inline_in_order : InlineInOrder (tree_of nodes)
-  pub chains_are_kept : ChainsAreKept (tree_of nodes)
-  pub nothing_resolved : NothingResolved (tree_of nodes)
-  pub markup_is_there : MarkupIsThere text (tree_of nodes)
-  pub runs_are_whole : RunsAreWhole text (tree_of nodes)
-  pub parts_are_named : PartsAreNamed parts (tree_of nodes)
-  pub blocks_are_settled : BlocksAreSettled (tree_of nodes)
+  -- 2 to 9, at each item
+  pub rules : AllKeepRules text (counts_of parts) (tree_of nodes)
+  -- 4: nothing is open directly below the root
+  pub top_is_closed : has_open (tree_of nodes) ≡ false
+  -- 8: nothing is named twice
+  pub each_text_once : IsDistinct nat_eq (all_named text_named (tree_of nodes))
+  pub each_alignments_once : IsDistinct nat_eq (all_named alignments_named (tree_of nodes))

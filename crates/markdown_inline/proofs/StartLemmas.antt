@@ -11,15 +11,16 @@ use Rattle.markdown_base.specs.ArenaForest.{Links, links_of, Spells, numbers_bel
 use Rattle.markdown_base.specs.ArenaWalk.{IsWalk, weight, steps_of}
 use Rattle.markdown_base.specs.BlockTree.{numbered, tree_of}
 use Rattle.markdown_base.specs.Document.{Answers, Known, Part, part_of, document, reading, nothing}
-use Rattle.markdown_base.specs.Forest.{Forest, nil, node, preorder}
+use Rattle.markdown_base.specs.Forest.{Forest, nil, node, preorder, first_root}
 use Rattle.markdown_base.specs.Item.{LiesIn}
 use Rattle.markdown_base.specs.Walk.{trees_from, left_of}
-use Rattle.markdown_base.specs.WellFormed.{IsReachedOnce, RangesLieIn}
+use Rattle.markdown_base.specs.WellFormed.{IsReachedOnce, counts_of, KeepsRules, IsWellFormed}
+use Rattle.markdown_base.specs.declared.block_parts.BlockParts.{BlockParts}
 use Rattle.markdown_base.specs.declared.fault.Fault.{Fault}
 use Rattle.markdown_base.specs.declared.item.Item.{Item}
 use Rattle.markdown_base.specs.declared.node.Node.{Node}
 use Rattle.markdown_base.specs.declared.options.Options.{Options}
-use Rattle.markdown_base.proofs.ForestLemmas.{relabelled-Throughout, relabelled-relabelled}
+use Rattle.markdown_base.proofs.ForestLemmas.{Throughout-weaker, relabelled-Throughout, relabelled-relabelled}
 use Rattle.markdown_spans.specs.Blocks.{block_text, block_tree, IsOfText}
 use Rattle.markdown_spans.specs.declared.blocks.Blocks.{Blocks}
 use Rattle.markdown_inline.specs.ParserLeft.{elements, reading_of, known_at_start}
@@ -29,12 +30,14 @@ use Rattle.markdown_inline.specs.declared.walk.Parser.{Parser}
 use Rattle.markdown_inline.proofs.ParserLemmas.{elements-parts}
 
 -- the walk stands before the first block, and all of it lies in the text
-pub starts_walk : (source : List ℕ) (nodes : List (Node Item)) → IsReachedOnce nodes → RangesLieIn source (tree_of nodes)
+pub starts_walk : (source : List ℕ) (nodes : List (Node Item)) (parts : BlockParts) → IsWellFormed source nodes parts
     → IsWalk (links_of nodes) (LiesAt source nodes) (child_of nodes 0) []
-starts_walk source nodes once ranges = record {
+starts_walk source nodes parts w = record {
   here = record {
-    spelled = once.finite;
-    each = relabelled-Throughout (numbered nodes) (λ n below after. LiesIn source n.item) (numbers_below nodes) ranges;
+    spelled = w.reached_once.finite;
+    each = relabelled-Throughout (numbered nodes) (λ n below after. LiesIn source n.item) (numbers_below nodes)
+        (Throughout-weaker (λ a below after. KeepsRules source (counts_of parts) a below (first_root after)) _
+        (λ a below after k. k.ranges_lie_in) (tree_of nodes) w.rules);
   };
   above = tt;
 }

@@ -23,12 +23,8 @@ no_items : (text : List ℕ) (line : Range ℕ) (known count : ℕ) → line.end
     → AreLineItems text line known count nil
 no_items text line known count h = record {
   in_line = tt;
-  ranges_lie_in = tt;
-  in_order = tt;
   inline = refl;
-  unresolved = tt;
-  markup_is_there = tt;
-  runs_are_whole = tt;
+  rules = tt;
   texts_are_new = tt;
   each_text_once = none_distinct;
   complete = λ at low high other. absurd (omega (arith, low, high, h));
@@ -47,12 +43,21 @@ one_text : (text : List ℕ) (line : Range ℕ) (known count number : ℕ) → I
     → AreLineItems text line known count (chain_from number (line_text line ∷ []))
 one_text text line known count number l = record {
   in_line = (record { start = omega arith; end = omega arith }, tt, tt);
-  ranges_lie_in = (record { ordered = l.ordered; start = l.start; end = l.end }, tt, tt);
-  in_order = (tt, tt, tt);
   inline = refl;
-  unresolved = (refl, tt, tt);
-  markup_is_there = (tt, tt, tt);
-  runs_are_whole = (tt, tt, tt);
+  rules = (
+    record {
+      ranges_lie_in = record { ordered = l.ordered; start = l.start; end = l.end };
+      inline_in_order = tt;
+      chains_are_kept = record { childless = λ t. refl; inline_only = λ t. refl };
+      nothing_resolved = refl;
+      markup_is_there = tt;
+      runs_are_whole = tt;
+      parts_are_named = record { text = tt; alignments = tt; attributes = tt };
+      blocks_are_settled = record { placed = refl; tight = λ t. refl };
+    },
+    tt,
+    tt,
+  );
   texts_are_new = tt;
   each_text_once = none_distinct;
   complete = λ at low high other. rw (inside line at low high) refl;

@@ -10,7 +10,7 @@ use Rattle.markdown_base.specs.BlockTree.{Numbered}
 use Rattle.markdown_base.specs.Coverage.{is_inside}
 use Rattle.markdown_base.specs.Forest.{Forest, nil, node, Each, roots}
 use Rattle.markdown_base.specs.Item.{range_of, text_named}
-use Rattle.markdown_base.specs.WellFormed.{RangesLieIn, InlineInOrder, all_inline, NothingResolved, MarkupIsThere, RunsAreWhole, all_named}
+use Rattle.markdown_base.specs.WellFormed.{all_inline, PartCounts, AllKeepRules, all_named}
 
 -- a line's content lies in the text, between characters
 pub record IsLine (text : List ℕ) (line : Range ℕ) : Type 0 where
@@ -33,23 +33,18 @@ pub record LiesInLine (line : Range ℕ) (item : Item) : Type 0 where
   pub start : line.start ≤ item.start
   pub end : item.end ≤ line.end
 
--- a text is one of those from number `known` on, before number `count`
-pub record IsNewText (known count ix : ℕ) : Type 0 where
-  pub new : known ≤ ix
-  pub there : ix < count
+-- so many texts are there to be named, and nothing else
+abbrev pub texts_alone : ℕ → PartCounts
+texts_alone count = record { texts = count; alignments = 0; attributes = 0 }
 
--- A chain of items that a line's content is read as. They lie in the line, and they keep the rules of a
--- well-formed block result among themselves. The texts that they name are new, and each is named once. Of
--- the line only backslashes stand in no item.
+-- A chain of items that a line's content is read as. They are inline, lie in the line, and keep the rules
+-- of a well-formed block result side by side, where `count` texts are there. The texts that they name are
+-- those from number `known` on, and each is named once. Of the line only backslashes stand in no item.
 pub record AreLineItems (text : List ℕ) (line : Range ℕ) (known count : ℕ) (chain : Forest Numbered) : Type 0 where
   pub in_line : Each (λ n. LiesInLine line n.item) chain
-  pub ranges_lie_in : RangesLieIn text chain
-  pub in_order : InlineInOrder chain
   pub inline : IsTrue (all_inline chain)
-  pub unresolved : NothingResolved chain
-  pub markup_is_there : MarkupIsThere text chain
-  pub runs_are_whole : RunsAreWhole text chain
-  pub texts_are_new : AllByRecursion (IsNewText known count) (all_named text_named chain)
+  pub rules : AllKeepRules text (texts_alone count) chain
+  pub texts_are_new : AllByRecursion (λ ix. known ≤ ix) (all_named text_named chain)
   pub each_text_once : IsDistinct nat_eq (all_named text_named chain)
   pub complete : (at : ℕ) → line.start ≤ at → at < line.end → slice_index text at ≢ 92
       → IsTrue (list_any (λ n. is_inside at (range_of n.item)) (roots chain))

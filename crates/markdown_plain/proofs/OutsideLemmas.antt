@@ -1,5 +1,5 @@
 -- Laws of a block pass between paragraphs: how it begins, goes into a paragraph and out of it, and ends.
-use Rattle.std.proofs.Common.{◌≡◌, ℕ, suc, ◌<◌, ◌≤◌, List, [], ◌∷◌, ◌++◌, Option, Some, None, Bool, true, false, get_or, refl, sym, ap, ◌∙◌, subst, arith, ⊎_elim}
+use Rattle.std.proofs.Common.{◌≡◌, ℕ, suc, ◌<◌, ◌≤◌, List, [], ◌∷◌, ◌++◌, Option, Some, None, Bool, true, false, length, get_or, refl, sym, ap, ◌∙◌, subst, arith, ⊎_elim}
 use Rattle.std.proofs.lemmas.Bool.{cases_lt}
 use Rattle.std.proofs.lemmas.Bool.Decides.{nat_tests}
 use Rattle.std.proofs.lemmas.List.{append-nil}
@@ -15,12 +15,15 @@ use Rattle.markdown_base.specs.BlockTree.{Numbered}
 use Rattle.markdown_base.specs.Coverage.{is_inside}
 use Rattle.markdown_base.specs.Forest.{Forest, nil, node, preorder, roots}
 use Rattle.markdown_base.specs.Item.{LiesIn, range_of, is_block, text_named}
+use Rattle.markdown_base.specs.WellFormed.{all_inline, PartCounts, KeepsRules}
+use Rattle.markdown_base.proofs.ForestLemmas.{All-append}
+use Rattle.markdown_items.specs.LineItems.{texts_alone}
 use Rattle.markdown_plain.specs.declared.made.Made.{Made}
-use Rattle.markdown_plain.specs.BlockPass.{KeepsRules, AreInline, CoversUpTo, StandsOutside, StandsBeforeParagraph, StandsBeforeLine, StandsBehindLines, texts_in}
+use Rattle.markdown_plain.specs.BlockPass.{CoversUpTo, StandsOutside, StandsBeforeParagraph, StandsBeforeLine, StandsBehindLines, texts_in}
 use Rattle.markdown_plain.specs.Layout.{size_of, beside, laid_out, outside, inside}
 use Rattle.markdown_plain.specs.Lines.{is_blank, AllPass}
 use Rattle.markdown_plain.specs.Paragraphs.{paragraph_item, paragraph_behind, IsParagraphEnd, no_line, no_paragraph, one_paragraph}
-use Rattle.markdown_plain.proofs.BesideLemmas.{All-append, roots-beside, blocks_beside}
+use Rattle.markdown_plain.proofs.BesideLemmas.{roots-beside, blocks_beside}
 use Rattle.markdown_plain.proofs.LayoutLemmas.{IsCounted-beside, last_number-beside, outside_grows, inside-nodes, front_of, length-front_of, child_of-here}
 use Rattle.markdown_plain.proofs.PassLemmas.{all_named-beside}
 
@@ -40,7 +43,7 @@ begun text made e = record {
   tree = nil;
   arena = e;
   are_blocks = record { counted = tt; rules = tt; blocks = tt };
-  names = record { there = tt; once = none_distinct };
+  each_text_once = none_distinct;
   covers = λ at low dark. absurd (omega (arith, low));
   paragraphs = no_paragraph;
 }
@@ -95,9 +98,9 @@ entered text old new middle ix first end before ends range m cursor goes cows =
         arena = arena;
         range = range;
         reached = omega arith;
-        are_blocks = b;
+        are_blocks = rw cows b;
         are_inline = record { counted = tt; rules = tt; inline = refl; between = tt };
-        names = rw (cows, append-nil (texts_in s.tree)) s.names;
+        each_text_once = rw (append-nil (texts_in s.tree)) s.each_text_once;
         covers = covers_blank text s.tree before.from first s.covers begins.passes;
         from = before.from;
         paragraphs = s.paragraphs;
@@ -115,21 +118,18 @@ last_alone x ix (y ∷ []) e = cc (e)
 last_alone x ix (y ∷ z ∷ outer) e = cc (e)
 
 -- a paragraph keeps the rules
-paragraph_rules : (text : List ℕ) (tree chain : Forest Numbered) (number first end to : ℕ)
-    → LiesIn text (paragraph_item first end) → AreInline text number first to chain
-    → KeepsRules text (paragraph_behind tree first end) chain None
-paragraph_rules text tree chain number first end to range i = record {
-  range = range;
-  order = tt;
-  childless = λ t. cc (t);
-  inline_only = λ t. i.inline;
-  unresolved = refl;
-  markup = tt;
-  run = tt;
-  alignments = refl;
-  attributes = refl;
-  placed = refl;
-  loose = refl;
+paragraph_rules : (text : List ℕ) (counts : PartCounts) (tree chain : Forest Numbered) (first end : ℕ)
+    → LiesIn text (paragraph_item first end) → IsTrue (all_inline chain)
+    → KeepsRules text counts (paragraph_behind tree first end) chain None
+paragraph_rules text counts tree chain first end range inline = record {
+  ranges_lie_in = range;
+  inline_in_order = tt;
+  chains_are_kept = record { childless = λ t. cc (t); inline_only = λ t. inline };
+  nothing_resolved = refl;
+  markup_is_there = tt;
+  runs_are_whole = tt;
+  parts_are_named = record { text = tt; alignments = tt; attributes = tt };
+  blocks_are_settled = record { placed = refl; tight = λ t. cc (t) };
 }
 
 -- a byte from one place up to another is inside
@@ -190,6 +190,7 @@ left_behind text old new (Some ix) first end behind goes cows =
     let block = paragraph_behind s.tree first end in
     let b = s.are_blocks in
     let i = s.are_inline in
+    let counts = texts_alone (length old.cows.items) in
     let last = last_alone block.number ix goes.0 (sym (ap (λ (x : Arena Item). x.spine) s.arena) ∙ goes.1) in
     let arena : new.tree ≡ outside (beside s.tree (node block s.chain nil)) =
     goes.2 ∙ rw (s.arena, last.0, last.1, last_number-beside s.tree block s.chain) refl in
@@ -199,15 +200,12 @@ left_behind text old new (Some ix) first end behind goes cows =
       are_blocks = record {
         counted = IsCounted-beside 1 block.number s.tree (node block s.chain nil) (omega arith) b.counted
             (refl, i.counted, tt);
-        rules = blocks_beside text s.tree (node block s.chain nil) b.rules (
-          paragraph_rules text s.tree s.chain (suc (suc (size_of s.tree))) first end behind.to s.range i,
-          i.rules,
-          tt,
-        ) b.blocks;
+        rules = rw cows (blocks_beside text counts s.tree (node block s.chain nil) b.rules
+            (paragraph_rules text counts s.tree s.chain first end s.range i.inline, i.rules, tt) b.blocks);
         blocks = rw (roots-beside s.tree (node block s.chain nil))
             (All-append (λ n. IsTrue (is_block n.item.body)) (roots s.tree) (block ∷ []) b.blocks (refl, tt));
       };
-      names = rw (named_behind s.tree s.chain first end, cows) s.names;
+      each_text_once = rw (named_behind s.tree s.chain first end) s.each_text_once;
       covers = covers_paragraph text s.tree s.chain first end s.covers;
       paragraphs = one_paragraph s.from first end s.tree s.chain s.paragraphs s.begins s.ends behind.lines;
     }

@@ -12,17 +12,19 @@ use Rattle.markdown_base.specs.Arena.{Arena, appended}
 use Rattle.markdown_base.specs.BlockTree.{Numbered}
 use Rattle.markdown_base.specs.Forest.{Forest, nil, node, preorder}
 use Rattle.markdown_base.specs.Item.{LiesIn, text_named}
-use Rattle.markdown_base.specs.WellFormed.{all_named}
-use Rattle.markdown_items.specs.LineItems.{chain_from, all_appended, IsNewText, AppendsLineItems}
+use Rattle.markdown_base.specs.WellFormed.{AllKeepRules, all_named}
+use Rattle.markdown_base.proofs.ForestLemmas.{All-append, All-weaker}
+use Rattle.markdown_base.proofs.WellFormedLemmas.{rules_more, texts_there}
+use Rattle.markdown_items.specs.LineItems.{chain_from, all_appended, texts_alone, AppendsLineItems}
 use Rattle.markdown_plain.specs.declared.made.Made.{Made}
-use Rattle.markdown_plain.specs.BlockPass.{NamesTexts, StandsInside, StandsBeforeLine, StandsBehindItems, StandsBehindLines, texts_in}
+use Rattle.markdown_plain.specs.BlockPass.{AreBlocks, AreInline, StandsInside, StandsBeforeLine, StandsBehindItems, StandsBehindLines, texts_in}
 use Rattle.markdown_plain.specs.Layout.{beside, laid_out}
 use Rattle.markdown_plain.specs.LineBreaks.{IsLineBreak, BreakFits}
 use Rattle.markdown_plain.specs.declared.line.Line.{Line}
 use Rattle.markdown_plain.specs.declared.line_break.LineBreak.{LineBreak}
 use Rattle.markdown_plain.specs.Lines.{is_space_or_tab, IsFirstOther, IsRunBefore, IsLineFrom}
 use Rattle.markdown_plain.specs.Paragraphs.{paragraph_behind, break_item, one_more}
-use Rattle.markdown_plain.proofs.BesideLemmas.{All-append, All-weaker, inline_beside, ends_no_run}
+use Rattle.markdown_plain.proofs.BesideLemmas.{inline_beside, ends_no_run}
 use Rattle.markdown_plain.proofs.LayoutLemmas.{alone, length-inside, inside_grows, inside_grows_by}
 use Rattle.markdown_plain.proofs.RuleLemmas.{line_inline, break_inline, only_break}
 
@@ -55,15 +57,24 @@ distinct_append bound (x ∷ xs) ys low high d e =
     All-weaker (λ y. bound ≤ y) (λ y. nat_eq x y ≡ false) (λ y h. other x y (omega (arith, h, low.0))) ys high in
     (All-append (λ y. nat_eq x y ≡ false) xs ys d.0 apart, distinct_append bound xs ys low.1 high d.1 e)
 
--- more texts, and more that are named
-names_more : (known count : ℕ) (xs ys : List ℕ) → known ≤ count → NamesTexts known xs
-    → AllByRecursion (IsNewText known count) ys → IsDistinct nat_eq ys → NamesTexts count (xs ++ ys)
-names_more known count xs ys l h new once = record {
-  there = All-append (λ ix. ix < count) xs ys (All-weaker (λ ix. ix < known) (λ ix. ix < count)
-      (λ ix k. omega (arith, k, l)) xs h.there) (All-weaker (IsNewText known count) (λ ix. ix < count) (λ ix k. k.there)
-      ys new);
-  once = distinct_append known xs ys h.there (All-weaker (IsNewText known count) (λ ix. known ≤ ix) (λ ix k. k.new) ys
-      new) h.once once;
+-- the rules hold where more texts are there
+texts_more : (text : List ℕ) (known count : ℕ) (f : Forest Numbered) → known ≤ count → AllKeepRules text (texts_alone known) f
+    → AllKeepRules text (texts_alone count) f
+texts_more text known count f h k =
+    rules_more text (texts_alone known) (texts_alone count) f (record { texts = h; alignments = omega arith; attributes = omega arith }) k
+
+-- so blocks are blocks still
+blocks_more : (text : List ℕ) (known count : ℕ) (f : Forest Numbered) → known ≤ count → AreBlocks text known f → AreBlocks text count f
+blocks_more text known count f h b = record { counted = b.counted; rules = texts_more text known count f h b.rules; blocks = b.blocks }
+
+-- and inline items are inline items
+inline_more : (text : List ℕ) (known count number from to : ℕ) (f : Forest Numbered) → known ≤ count → AreInline text known number from to f
+    → AreInline text count number from to f
+inline_more text known count number from to f h i = record {
+  counted = i.counted;
+  rules = texts_more text known count f h i.rules;
+  inline = i.inline;
+  between = i.between;
 }
 
 -- ---- inside a paragraph
@@ -74,9 +85,9 @@ nodes_inside : (text : List ℕ) (made : Made) (first end to : ℕ) (s : StandsI
 nodes_inside text made first end to s = ap (λ (x : Arena Item). length x.nodes) s.arena
 
 -- the texts that are named with more items behind a chain
-texts_more : (tree chain items : Forest Numbered)
+texts_behind : (tree chain items : Forest Numbered)
     → texts_in tree ++ texts_in (beside chain items) ≡ (texts_in tree ++ texts_in chain) ++ texts_in items
-texts_more tree chain items =
+texts_behind tree chain items =
     ap (λ x. texts_in tree ++ x) (all_named-beside text_named chain items)
     ∙ sym (append_assoc (texts_in tree) (texts_in chain) (texts_in items))
 
@@ -104,9 +115,14 @@ items_added text line old new first end ordered a s =
     let chain = a.chain in
     let items = chain_from number a.items in
     let made = line_inline text line known count number a.items chain in
-    let names =
-    names_more known count (texts_in st.tree ++ texts_in st.chain) (texts_in items) (omega (arith, more)) st.names
-    chain.texts_are_new chain.each_text_once in
+    let grown : known ≤ count = omega (arith, more) in
+    let b = st.are_blocks in
+    let there =
+    All-append (λ ix. ix < known) (texts_in st.tree) (texts_in st.chain)
+    (texts_there text (texts_alone known) st.tree b.rules) (texts_there text (texts_alone known) st.chain i.rules) in
+    let once =
+    distinct_append known (texts_in st.tree ++ texts_in st.chain) (texts_in items) there chain.texts_are_new
+    st.each_text_once chain.each_text_once in
     record {
       stands = record {
         tree = st.tree;
@@ -116,11 +132,11 @@ items_added text line old new first end ordered a s =
             ∙ inside_grows_by st.tree block st.chain a.items number refl i.counted n);
         range = st.range;
         reached = omega (arith, st.reached, ordered);
-        are_blocks = st.are_blocks;
+        are_blocks = blocks_more text known count st.tree grown b;
         are_inline =
-            inline_beside text (suc block.number) number first line.start line.start line.end st.chain items i made
+            inline_beside text count (suc block.number) number first line.start line.start line.end st.chain items (inline_more text known count (suc block.number) first line.start st.chain grown i) made
             (omega (arith, n, size)) st.reached (omega arith) ordered (inl s.no_run);
-        names = rw (texts_more st.tree st.chain items) names;
+        each_text_once = rw (texts_behind st.tree st.chain items) once;
         covers = st.covers;
         from = st.from;
         paragraphs = st.paragraphs;
@@ -151,10 +167,11 @@ break_added text old new first end from next line between is_line is_between mor
     let number = length old.tree.nodes in
     let n = nodes_inside text old first end between.text_end st in
     let size = length-inside st.tree block st.chain in
-    let o = only_break text item.body fits.body in
+    let o = only_break item.body fits.body in
     let lies : between.start ≤ line.next = range.ordered in
     let order = fits.order in
-    let made = break_inline text number between.start next item fits.body range (omega arith) begins.low in
+    let count = length old.cows.items in
+    let made = break_inline text count number between.start next item fits.body range (omega arith) begins.low in
     record {
       stands = record {
         tree = st.tree;
@@ -164,12 +181,12 @@ break_added text old new first end from next line between is_line is_between mor
             ∙ inside_grows st.tree block st.chain item number refl i.counted n);
         range = st.range;
         reached = omega (arith, st.reached, order, lies, begins.low);
-        are_blocks = st.are_blocks;
+        are_blocks = rw cows st.are_blocks;
         are_inline =
-            inline_beside text (suc block.number) number first between.text_end between.start next st.chain
+            rw cows (inline_beside text count (suc block.number) number first between.text_end between.start next st.chain
             (alone number item) i made (omega (arith, n, size)) (omega (arith, st.reached, order)) order
-            (omega (arith, order, lies, begins.low)) (inr o.no_run);
-        names = rw (texts_with_break st.tree st.chain number item o.no_text, cows) st.names;
+            (omega (arith, order, lies, begins.low)) (inr o.no_run));
+        each_text_once = rw (texts_with_break st.tree st.chain number item o.no_text) st.each_text_once;
         covers = st.covers;
         from = st.from;
         paragraphs = st.paragraphs;

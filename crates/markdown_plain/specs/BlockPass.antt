@@ -1,52 +1,29 @@
 -- Where a block pass stands: what it has made so far keeps the rules of a well-formed block result.
-use Rattle.std.specs.Prelude.{◌≡◌, ℕ, suc, ◌<◌, ◌≤◌, false, IsTrue, List, ◌++◌, Option, None, IfSome, ⊤, nat_eq, length, slice_index}
+use Rattle.std.specs.Prelude.{◌≡◌, ℕ, suc, ◌<◌, ◌≤◌, false, IsTrue, List, ◌++◌, None, ⊤, nat_eq, length, slice_index}
 use Rattle.std.specs.Char.{is_ascii_whitespace}
 use Rattle.std.specs.List.{AllByRecursion, IsDistinct}
 use Rattle.std.specs.declared.ops.Range.{Range}
 use Rattle.markdown_base.specs.declared.item.Item.{Item}
 use Rattle.markdown_base.specs.BlockTree.{Numbered}
 use Rattle.markdown_base.specs.Coverage.{is_in_block}
-use Rattle.markdown_base.specs.Forest.{Forest, nil, node, Throughout, roots, first_root}
-use Rattle.markdown_base.specs.Item.{LiesIn, is_block, is_inline, is_childless, is_resolved, is_tight_paragraph, is_unplaced, text_named, alignments_named, attributes_named}
-use Rattle.markdown_base.specs.WellFormed.{Precedes, has_open, all_inline, source_of, StandsOverMarkup, run_character, StandsInRun, all_named}
-use Rattle.markdown_items.specs.LineItems.{AreLineItems}
+use Rattle.markdown_base.specs.Forest.{Forest, nil, node, roots}
+use Rattle.markdown_base.specs.Item.{LiesIn, is_block, text_named}
+use Rattle.markdown_base.specs.WellFormed.{all_inline, run_character, AllKeepRules, all_named}
+use Rattle.markdown_items.specs.LineItems.{texts_alone, AreLineItems}
 use Rattle.markdown_plain.specs.declared.line.Line.{Line}
 use Rattle.markdown_plain.specs.declared.made.Made.{Made}
 use Rattle.markdown_plain.specs.Layout.{size_of, beside, IsCounted, outside, inside}
 use Rattle.markdown_plain.specs.Lines.{is_blank, AllPass, IsFirstOther}
 use Rattle.markdown_plain.specs.Paragraphs.{paragraph_item, paragraph_behind, IsParagraphEnd, AreBrokenLines, AreParagraphLines, AreParagraphs}
 
--- what the rules say of one item, with what stands below it and what follows it
-pub record KeepsRules (text : List ℕ) (a : Numbered) (below : Forest Numbered) (next : Option Numbered) : Type 0 where
-  pub range : LiesIn text a.item
-  pub order : IfSome next (λ b. IsTrue (is_inline a.item.body) → IsTrue (is_inline b.item.body) → Precedes a b)
-  pub childless : IsTrue (is_childless a.item.body) → below ≡ nil
-  pub inline_only : IsTrue (has_open below) → IsTrue (all_inline below)
-  pub unresolved : is_resolved a.item.body ≡ false
-  pub markup : StandsOverMarkup (source_of text a.item) a.item.body
-  pub run : IfSome (run_character a.item.body) (StandsInRun text a next)
-  pub alignments : alignments_named a.item.body ≡ None
-  pub attributes : attributes_named a.item.body ≡ None
-  pub placed : is_unplaced a.item.body ≡ false
-  pub loose : is_tight_paragraph a.item.body ≡ false
-
--- each item of a tree keeps them
-abbrev pub AllKeepRules : List ℕ → Forest Numbered → Type 0
-AllKeepRules text tree = Throughout (λ a below after. KeepsRules text a below (first_root after)) tree
-
 -- the numbers of the texts that the items of a tree name
 abbrev pub texts_in : Forest Numbered → List ℕ
 texts_in tree = all_named text_named tree
 
--- the texts that items name are there, and none is named twice
-pub record NamesTexts (count : ℕ) (names : List ℕ) : Type 0 where
-  pub there : AllByRecursion (λ ix. ix < count) names
-  pub once : IsDistinct nat_eq names
-
--- the blocks so far
-pub record AreBlocks (text : List ℕ) (tree : Forest Numbered) : Type 0 where
+-- the blocks so far, which keep the rules where so many texts are there
+pub record AreBlocks (text : List ℕ) (texts : ℕ) (tree : Forest Numbered) : Type 0 where
   pub counted : IsCounted 1 tree
-  pub rules : AllKeepRules text tree
+  pub rules : AllKeepRules text (texts_alone texts) tree
   pub blocks : AllByRecursion (λ n. IsTrue (is_block n.item.body)) (roots tree)
 
 -- an item lies between two places
@@ -54,10 +31,10 @@ pub record LiesBetween (from to : ℕ) (item : Item) : Type 0 where
   pub start : from ≤ item.start
   pub end : item.end ≤ to
 
--- the inline items so far, numbered from a number on, lie between two places
-pub record AreInline (text : List ℕ) (number from to : ℕ) (chain : Forest Numbered) : Type 0 where
+-- the inline items so far, which keep the rules, numbered from a number on, lie between two places
+pub record AreInline (text : List ℕ) (texts number from to : ℕ) (chain : Forest Numbered) : Type 0 where
   pub counted : IsCounted number chain
-  pub rules : AllKeepRules text chain
+  pub rules : AllKeepRules text (texts_alone texts) chain
   pub inline : IsTrue (all_inline chain)
   pub between : AllByRecursion (λ n. LiesBetween from to n.item) (roots chain)
 
@@ -77,8 +54,8 @@ CoversUpTo text tree to =
 pub record StandsOutside (text : List ℕ) (made : Made) (to : ℕ) : Type 0 where
   pub tree : Forest Numbered
   pub arena : made.tree ≡ outside tree
-  pub are_blocks : AreBlocks text tree
-  pub names : NamesTexts (length made.cows.items) (texts_in tree)
+  pub are_blocks : AreBlocks text (length made.cows.items) tree
+  pub each_text_once : IsDistinct nat_eq (texts_in tree)
   pub covers : CoversUpTo text tree to
   pub paragraphs : AreParagraphs text to tree
 
@@ -95,9 +72,9 @@ pub record StandsInside (text : List ℕ) (made : Made) (first end to : ℕ) : T
   pub arena : made.tree ≡ inside tree (paragraph_behind tree first end) chain
   pub range : LiesIn text (paragraph_item first end)
   pub reached : first ≤ to
-  pub are_blocks : AreBlocks text tree
-  pub are_inline : AreInline text (suc (suc (size_of tree))) first to chain
-  pub names : NamesTexts (length made.cows.items) (texts_in tree ++ texts_in chain)
+  pub are_blocks : AreBlocks text (length made.cows.items) tree
+  pub are_inline : AreInline text (length made.cows.items) (suc (suc (size_of tree))) first to chain
+  pub each_text_once : IsDistinct nat_eq (texts_in tree ++ texts_in chain)
   pub covers : CoversUpTo text tree first
   pub from : ℕ
   pub paragraphs : AreParagraphs text from tree

@@ -1,5 +1,4 @@
 -- lemmas
-pub mod CheckedLemmas
 pub mod DefinitionsLemmas
 pub mod FoldingLemmas
 pub mod IndexLemmas
@@ -7,5 +6,6 @@ pub mod LookUpLawsLemmas
 pub mod MarkLemmas
 pub mod NameLemmas
 pub mod NodeLemmas
+pub mod NodeRulesLemmas
 pub mod PlaceLemmas
 pub mod ReachLemmas

@@ -4,6 +4,7 @@ use Rattle.std.specs.Prelude.{nat_eq, ⊤}
 use Rattle.std.specs.List.{AllByRecursion, IsDistinct}
 use Rattle.std.proofs.lemmas.Bool.{eqb-false, ne_eqb}
 use Rattle.std.proofs.lemmas.List.{get_or-set_other, get_or-replicate}
+use Rattle.markdown_base.proofs.ForestLemmas.{All-weaker}
 use Rattle.markdown_spans.specs.NodeRules.{AreNamedOnce}
 
 -- none of the numbers is marked, and each is marked as it is met
@@ -68,25 +69,19 @@ unset_before seen x y h =
     let other : y ≡ x → ⊥ = λ e. eqb-false x y (unset_other seen x y h) (sym e) in
     sym (get_or-set_other seen x y true true other) ∙ h
 
--- the facts of a list, each by what follows from it
-All-weaker : (p q : ℕ → Type 0) (xs : List ℕ) → ((x : ℕ) → p x → q x) → AllByRecursion p xs
-    → AllByRecursion q xs
-All-weaker p q [] h a = tt
-All-weaker p q (x ∷ xs) h a = (h x a.0, All-weaker p q xs h a.1)
-
 -- fresh numbers are not marked
 Fresh-unset : (seen : List Bool) (xs : List ℕ) → Fresh seen xs
     → AllByRecursion (λ x. get_or seen x true ≡ false) xs
 Fresh-unset seen [] h = tt
 Fresh-unset seen (x ∷ xs) h =
-    (h.0, All-weaker (λ y. get_or (set seen x true) y true ≡ false) (λ y. get_or seen y true ≡ false) xs (λ y. unset_before seen x y) (Fresh-unset (set seen x true) xs h.1))
+    (h.0, All-weaker (λ y. get_or (set seen x true) y true ≡ false) (λ y. get_or seen y true ≡ false) (λ y. unset_before seen x y) xs (Fresh-unset (set seen x true) xs h.1))
 
 -- and distinct
 Fresh-distinct : (seen : List Bool) (xs : List ℕ) → Fresh seen xs → IsDistinct nat_eq xs
 unfolding IsDistinct
 Fresh-distinct seen [] h = tt
 Fresh-distinct seen (x ∷ xs) h = (
-  All-weaker (λ y. get_or (set seen x true) y true ≡ false) (λ y. nat_eq x y ≡ false) xs (λ y. unset_other seen x y) (Fresh-unset (set seen x true) xs h.1),
+  All-weaker (λ y. get_or (set seen x true) y true ≡ false) (λ y. nat_eq x y ≡ false) (λ y. unset_other seen x y) xs (Fresh-unset (set seen x true) xs h.1),
   Fresh-distinct (set seen x true) xs h.1,
 )
 
@@ -120,11 +115,11 @@ below_unmarked (suc n) (suc x) h = omega (arith, below_unmarked n x h)
 -- numbers are fresh for n marks none of which is set just where they are below n, and distinct
 pub AreNamedOnce-from_Fresh : (n : ℕ) (xs : List ℕ) → Fresh (unmarked n) xs → AreNamedOnce n xs
 AreNamedOnce-from_Fresh n xs h = record {
-  within = All-weaker (λ x. get_or (unmarked n) x true ≡ false) (λ x. x < n) xs (λ x. below_unmarked n x) (Fresh-unset (unmarked n) xs h);
+  within = All-weaker (λ x. get_or (unmarked n) x true ≡ false) (λ x. x < n) (λ x. below_unmarked n x) xs (Fresh-unset (unmarked n) xs h);
   once = Fresh-distinct (unmarked n) xs h;
 }
 
 -- and the other way round
 pub Fresh-from_AreNamedOnce : (n : ℕ) (xs : List ℕ) → AreNamedOnce n xs → Fresh (unmarked n) xs
 Fresh-from_AreNamedOnce n xs o =
-    distinct-Fresh (unmarked n) xs (All-weaker (λ x. x < n) (λ x. get_or (unmarked n) x true ≡ false) xs (λ x. unmarked_below n x) o.within) o.once
+    distinct-Fresh (unmarked n) xs (All-weaker (λ x. x < n) (λ x. get_or (unmarked n) x true ≡ false) (λ x. unmarked_below n x) xs o.within) o.once

@@ -1,18 +1,18 @@
 -- How the trees from a link on open, node by node, and what that says of the chain that the link
 -- begins.
 use Rattle.std.proofs.Common.{◌≡◌, ℕ, ◌<◌, List, Option, Some, None, Bool, true, false, length, refl, sym, ap, ◌∙◌, arith}
-use Rattle.std.specs.Prelude.{⊤, IsTrue, ◌↔◌, IfSome, ◌||◌, ◌&&◌, not, is_some}
+use Rattle.std.specs.Prelude.{⊤, IsTrue, ◌↔◌, ◌||◌, ◌&&◌, not, is_some}
 use Rattle.markdown_base.specs.declared.item.Item.{Item}
 use Rattle.markdown_base.specs.declared.node.Node.{Node}
 use Rattle.markdown_base.specs.Arena.{child_of, sibling_of}
 use Rattle.markdown_base.specs.ArenaForest.{links_of, forest_at}
-use Rattle.markdown_base.specs.BlockTree.{Numbered, numbered, item_at}
-use Rattle.markdown_base.specs.Forest.{Forest, nil, node, Each, roots, first_root, relabelled}
+use Rattle.markdown_base.specs.BlockTree.{numbered, item_at, trees_at}
+use Rattle.markdown_base.specs.Forest.{Forest, nil, node, Each, roots, relabelled}
 use Rattle.markdown_base.specs.Item.{is_open, is_inline, is_tight_paragraph}
 use Rattle.markdown_base.specs.WellFormed.{has_open, all_inline, has_tight_paragraph}
 use Rattle.markdown_base.proofs.ArenaForestLemmas.{opens, forest_at-none}
 use Rattle.markdown_spans.specs.declared.blocks.chain.ChainKinds.{ChainKinds}
-use Rattle.markdown_spans.specs.NodeRules.{trees_at, LeadsOn, IsReachable, Tells}
+use Rattle.markdown_spans.specs.NodeRules.{LeadsOn, Tells}
 
 -- what always holds, holds of each node
 always : (f : Forest ℕ) → Each (λ ix. ⊤) f
@@ -21,7 +21,8 @@ always (node ix below after) = (tt, always below, always after)
 
 -- a link to a node leads to that node, to what is below it and to what follows it
 pub record OpensAt (nodes : List (Node Item)) (ix : ℕ) : Type 0 where
-  pub reachable : IsReachable nodes ix
+  pub within : ix < length nodes
+  pub after : LeadsOn nodes (sibling_of nodes ix)
   pub here : trees_at nodes (Some ix) ≡ node (numbered nodes ix) (trees_at nodes (child_of nodes ix)) (trees_at nodes (sibling_of nodes ix))
 
 -- each link that leads on opens so
@@ -30,26 +31,14 @@ opens_at nodes ix l =
     let k = links_of nodes in
     let o = opens k (λ i. ⊤) ix (record { spelled = l.spelled; each = always (forest_at k (Some ix)) }) in
     record {
-      reachable = record { within = o.within; below = record { spelled = o.below.spelled }; after = record { spelled = o.after.spelled } };
+      within = o.within;
+      after = record { spelled = o.after.spelled };
       here = ap (relabelled (numbered nodes)) o.here;
     }
 
 -- a link to nothing leads to nothing
 pub trees_at-none : (nodes : List (Node Item)) → trees_at nodes None ≡ nil
 trees_at-none nodes = ap (relabelled (numbered nodes)) (forest_at-none (links_of nodes))
-
--- a test of none, or of the first of what follows
-pub first-none : (nodes : List (Node Item)) (link : Option ℕ) (P : Numbered → Type 0) → None ≡ link
-    → IfSome (first_root (trees_at nodes link)) P
-first-none nodes link P e = rw (← e, trees_at-none nodes) tt
-
--- of the first, where the link leads to a node
-pub first-some : (nodes : List (Node Item)) (link : Option ℕ) (after : ℕ) (P : Numbered → Type 0)
-    → LeadsOn nodes link → Some after ≡ link
-    → IfSome (first_root (trees_at nodes link)) P ≡ P (numbered nodes after)
-first-some nodes link after P l e =
-    let leads : LeadsOn nodes (Some after) = rw e l in
-    rw (← e) (ap (λ t. IfSome (first_root t) P) (opens_at nodes after leads).here)
 
 -- how many items the chain has that a link begins
 abbrev pub chain_length : List (Node Item) → Option ℕ → ℕ
@@ -93,7 +82,7 @@ pub tells_more : (nodes : List (Node Item)) (first : Option ℕ) (ix : ℕ) (kin
 tells_more nodes first ix kinds more link w o i t e =
     let opened = opens_at nodes ix w.leads in
     record {
-      leads = rw e opened.reachable.after;
+      leads = rw e opened.after;
       any_open = rw (e, o) (or-or kinds.any_open _ _ ∙ (sym (ap (λ c. kinds.any_open || has_open c) opened.here) ∙ w.any_open));
       only_inline = rw (e, i) (and-and kinds.only_inline _ _ ∙ (sym (ap (λ c. kinds.only_inline && all_inline c) opened.here) ∙ w.only_inline));
       any_tight = rw (e, t) (or-or kinds.any_tight _ _ ∙ (sym (ap (λ c. kinds.any_tight || has_tight_paragraph c) opened.here) ∙ w.any_tight));

@@ -12,6 +12,7 @@ use Rattle.markdown_base.specs.ArenaForest.{Links, links_of, Spells, forest_at, 
 use Rattle.markdown_base.specs.Forest.{Forest, nil, node, preorder}
 use Rattle.markdown_base.specs.WellFormed.{IsReachedOnce}
 use Rattle.markdown_base.proofs.ArenaForestLemmas.{height, forest_at-fits}
+use Rattle.markdown_base.proofs.ForestLemmas.{All-append}
 use Rattle.markdown_spans.proofs.MarkLemmas.{Fresh, unmarked, unset, unset-set, Fresh-unmarked_length, AreNamedOnce-from_Fresh, Fresh-from_AreNamedOnce}
 
 -- the links below the root lead through a forest with the numbers xs in preorder, and no number
@@ -191,12 +192,6 @@ found_end k seen (l ∷ ls) done w e = absurd (omega (arith, e))
 height-preorder : (f : Forest ℕ) → height f ≤ length (preorder f)
 height-preorder nil = omega arith
 height-preorder (node i below after) = simp length-append (omega (arith, height-preorder below, height-preorder after))
-
--- the facts of two lists, joined
-All-append : (p : ℕ → Type 0) (xs ys : List ℕ) → AllByRecursion p xs → AllByRecursion p ys
-    → AllByRecursion p (xs ++ ys)
-All-append p [] ys a b = b
-All-append p (x ∷ xs) ys a b = (a.0, All-append p xs ys a.1 b)
 
 -- the nodes of a forest that links lead through are there
 spelled_within : (k : Links) (l : Option ℕ) (f : Forest ℕ) → Spells k l f

@@ -10,9 +10,8 @@ pub mod FootnoteLending
 pub mod Allocations
 -- what is asked about broken links, and what is answered
 pub mod Callback
--- a checked block result, and what is checked of it
+-- a checked block result
 pub mod Blocks
-pub mod Checked
 -- what is tested of one node: private
 pub mod NodeRules
 -- the words of the lower crates that the clauses here are written in

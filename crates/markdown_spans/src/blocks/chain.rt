@@ -17,7 +17,8 @@ pub struct ChainKinds {
 }
 
 impl ChainKinds {
-    ghost use Rattle.markdown_spans.specs.NodeRules.{trees_at, LeadsOn, Tells};
+    ghost use Rattle.markdown_base.specs.BlockTree.{trees_at};
+    ghost use Rattle.markdown_spans.specs.NodeRules.{LeadsOn, Tells};
 
     /// With one more item.
     fn with(self, body: ItemBody) -> ChainKinds

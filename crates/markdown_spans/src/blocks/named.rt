@@ -27,7 +27,8 @@ impl NamedPart {
         }
     }
 
-    /// Whether the nodes of an order name parts of this kind that are there, none of them twice.
+    /// Rule 8, parts are named: whether the nodes of an order name parts of this kind that are there, none of
+    /// them twice.
     pub fn named_once(
         self,
         alloc: Global,

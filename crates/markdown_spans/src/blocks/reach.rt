@@ -1,4 +1,4 @@
-//! The nodes that the links below the root lead to.
+//! Rule 1 of a block result: the nodes that the links below the root lead to.
 ghost use Rattle.std.specs.Prelude.{◌≡◌, ◌<◌, length, IfOk, MatchOption};
 ghost use Rattle.markdown_base.specs.ArenaForest.{numbers_below};
 ghost use Rattle.markdown_base.specs.Forest.{preorder};
@@ -9,9 +9,9 @@ use markdown_base::item::Item;
 use markdown_base::tree::Tree;
 use std::alloc::{AllocError, Global};
 
-/// The numbers of the nodes below the root in preorder; none where the tree does not end, or a
-/// node is reached twice.
-pub fn preorder_of(alloc: Global, tree: &Tree<Item>) -> Result<Option<Vec<usize>>, AllocError>
+/// Rule 1, reached once: the numbers of the nodes below the root in preorder; none where the tree does not
+/// end, or a node is reached twice.
+pub fn reached_once(alloc: Global, tree: &Tree<Item>) -> Result<Option<Vec<usize>>, AllocError>
     ensures rooted { IfOk result (λ _. 0 < length tree.now.nodes) }
     ensures found { IfOk result (λ found. MatchOption found
         (IsReachedOnce tree.now.nodes → ⊥)

@@ -6,7 +6,7 @@ pub invariant_of-result : goal.invariant_of-result
 invariant_of-result g c =
     let parts = c.into_parts-tree.result in
     let rules = c.into_parts-tree.ensures.rules in
-    record { walks = rw c.reset.ensures (starts_walk parts.0.now parts.2.nodes rules.reached_once rules.ranges_lie_in) }
+    record { walks = rw c.reset.ensures (starts_walk parts.0.now parts.2.nodes parts.3 rules) }
 
 pub returns-clause-left : goal.returns-clause-left
 returns-clause-left g c answers =

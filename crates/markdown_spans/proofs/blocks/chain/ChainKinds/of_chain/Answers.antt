@@ -7,10 +7,10 @@ use Rattle.markdown_spans.proofs.NodeLemmas.{opens_at, chain_falls, tells_more, 
 use Rattle.markdown_spans.proofs.blocks.chain.ChainKinds.of_chain.Goals as goal
 
 pub item-requires : goal.item-requires
-item-requires c = (opens_at c.args.tree.now.nodes c.in-Some.ix (rw c.in-Some.is at c.chain.invariant.leads)).reachable.within
+item-requires c = (opens_at c.args.tree.now.nodes c.in-Some.ix (rw c.in-Some.is at c.chain.invariant.leads)).within
 
 pub next-link-requires : goal.next-link-requires
-next-link-requires c = (opens_at c.args.tree.now.nodes c.in-Some.ix (rw c.in-Some.is at c.chain.invariant.leads)).reachable.within
+next-link-requires c = (opens_at c.args.tree.now.nodes c.in-Some.ix (rw c.in-Some.is at c.chain.invariant.leads)).within
 
 pub chain-smaller : goal.chain-smaller
 chain-smaller c =

@@ -3,7 +3,7 @@ use Rattle.std.proofs.Common.{◌∙◌, ap, arith, refl, ◌++◌, ◌∷◌, [
 use Rattle.markdown_base.specs.ArenaForest.{links_of}
 use Rattle.markdown_spans.proofs.MarkLemmas.{unset_within}
 use Rattle.markdown_spans.proofs.ReachLemmas.{found_init, found_skips, found_visits, found_again_top, found_end, found_below, not_found, visits_fall}
-use Rattle.markdown_spans.proofs.blocks.reach.preorder_of.Goals as goal
+use Rattle.markdown_spans.proofs.blocks.reach.reached_once.Goals as goal
 
 pub reach-init : goal.reach-init
 reach-init c =

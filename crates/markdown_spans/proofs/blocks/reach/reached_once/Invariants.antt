@@ -3,7 +3,7 @@ use Rattle.std.proofs.Common.{◌+◌, ◌*◌, length, reverse}
 use Rattle.markdown_base.specs.ArenaForest.{links_of}
 use Rattle.markdown_spans.proofs.MarkLemmas.{unset}
 use Rattle.markdown_spans.proofs.ReachLemmas.{IsFound}
-use Rattle.markdown_spans.proofs.blocks.reach.preorder_of.Given as goal
+use Rattle.markdown_spans.proofs.blocks.reach.reached_once.Given as goal
 
 abbrev pub invariant-reach : goal.invariant-reach
 invariant-reach l = IsFound (links_of l.tree.nodes) l.seen.items (reverse l.pending.items) l.order.items

@@ -5,7 +5,7 @@ use Rattle.markdown_base.specs.Arena.{child_of}
 use Rattle.markdown_base.specs.BlockTree.{no_item}
 use Rattle.markdown_base.specs.Item.{is_childless}
 use Rattle.markdown_spans.proofs.NodeLemmas.{nothing_tested}
-use Rattle.markdown_spans.proofs.blocks.rules.keeps_childless.Goals as goal
+use Rattle.markdown_spans.proofs.blocks.rules.is_kept_childless.Goals as goal
 
 pub returns : goal.returns
 returns c =

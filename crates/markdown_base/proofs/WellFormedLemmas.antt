@@ -1,0 +1,69 @@
+-- Laws of the rules of a block result: they hold where more parts are there, and what is named is there.
+use Rattle.std.proofs.Common.{◌≡◌, ℕ, ◌<◌, ◌≤◌, List, ◌++◌, Option, Some, None, arith}
+use Rattle.std.specs.Prelude.{IfSome}
+use Rattle.std.specs.List.{AllByRecursion, filter_map, cons_option}
+use Rattle.std.proofs.lemmas.List.Elements.{filter_map-append}
+use Rattle.markdown_base.specs.declared.item.ItemBody.{ItemBody}
+use Rattle.markdown_base.specs.BlockTree.{Numbered}
+use Rattle.markdown_base.specs.Forest.{Forest, nil, node, Each, preorder, first_root}
+use Rattle.markdown_base.specs.Item.{text_named, alignments_named}
+use Rattle.markdown_base.specs.WellFormed.{PartCounts, PartsAreNamed, KeepsRules, AllKeepRules, all_named}
+use Rattle.markdown_base.proofs.ForestLemmas.{Throughout-weaker, All-append}
+
+-- as many parts of each kind are there, or more
+pub record HasMore (few many : PartCounts) : Type 0 where
+  pub texts : few.texts ≤ many.texts
+  pub alignments : few.alignments ≤ many.alignments
+  pub attributes : few.attributes ≤ many.attributes
+
+-- whatever is named stays so under a fact that follows
+some_weaker : (o : Option ℕ) (p q : ℕ → Type 0) → ((ix : ℕ) → p ix → q ix) → IfSome o p → IfSome o q
+some_weaker None p q h s = tt
+some_weaker (Some ix) p q h s = h ix s
+
+-- what is named is there where more parts are there
+named_more : (few many : PartCounts) (b : ItemBody) → HasMore few many → PartsAreNamed few b → PartsAreNamed many b
+named_more few many b more n = record {
+  text = some_weaker _ (λ ix. ix < few.texts) (λ ix. ix < many.texts) (λ ix k. omega (arith, k, more.texts)) n.text;
+  alignments = some_weaker _ (λ ix. ix < few.alignments) (λ ix. ix < many.alignments) (λ ix k. omega (arith, k, more.alignments)) n.alignments;
+  attributes = some_weaker _ (λ ix. (1 ≤ ix) × (ix ≤ few.attributes)) (λ ix. (1 ≤ ix) × (ix ≤ many.attributes)) (λ ix k. (k.0, omega (arith, k.1, more.attributes))) n.attributes;
+}
+
+-- the rules hold where more parts are there
+pub rules_more : (text : List ℕ) (few many : PartCounts) (f : Forest Numbered) → HasMore few many → AllKeepRules text few f → AllKeepRules text many f
+rules_more text few many f more t =
+    Throughout-weaker (λ a below after. KeepsRules text few a below (first_root after)) (λ a below after. KeepsRules text many a below (first_root after))
+    (λ a below after k. record {
+      ranges_lie_in = k.ranges_lie_in;
+      inline_in_order = k.inline_in_order;
+      chains_are_kept = k.chains_are_kept;
+      nothing_resolved = k.nothing_resolved;
+      markup_is_there = k.markup_is_there;
+      runs_are_whole = k.runs_are_whole;
+      parts_are_named = named_more few many a.item.body more k.parts_are_named;
+      blocks_are_settled = k.blocks_are_settled;
+    }) f t
+
+-- a fact of what each item names is one of all that are named
+all_named-Each : (name : ItemBody → Option ℕ) (p : ℕ → Type 0) (f : Forest Numbered) → Each (λ n. IfSome (name n.item.body) p) f → AllByRecursion p (all_named name f)
+all_named-Each name p nil e = tt
+all_named-Each name p (node a below after) e =
+    let parts = filter_map-append (λ (n : Numbered). name n.item.body) (preorder below) (preorder after) in
+    let others = All-append p (all_named name below) (all_named name after) (all_named-Each name p below e.1) (all_named-Each name p after e.2) in
+    first_named (name a.item.body) (filter_map (λ (n : Numbered). name n.item.body) (preorder below ++ preorder after)) e.0 (rw parts others)
+  where
+    first_named : (o : Option ℕ) (others : List ℕ) → IfSome o p → AllByRecursion p others → AllByRecursion p (cons_option o others)
+    first_named None others h a = a
+    first_named (Some ix) others h a = (h, a)
+
+-- the texts that are named are there
+pub texts_there : (text : List ℕ) (counts : PartCounts) (f : Forest Numbered) → AllKeepRules text counts f → AllByRecursion (λ ix. ix < counts.texts) (all_named text_named f)
+texts_there text counts f t =
+    all_named-Each text_named (λ ix. ix < counts.texts) f
+    (Throughout-weaker (λ a below after. KeepsRules text counts a below (first_root after)) _ (λ a below after k. k.parts_are_named.text) f t)
+
+-- and the lists of alignments
+pub alignments_there : (text : List ℕ) (counts : PartCounts) (f : Forest Numbered) → AllKeepRules text counts f → AllByRecursion (λ ix. ix < counts.alignments) (all_named alignments_named f)
+alignments_there text counts f t =
+    all_named-Each alignments_named (λ ix. ix < counts.alignments) f
+    (Throughout-weaker (λ a below after. KeepsRules text counts a below (first_root after)) _ (λ a below after k. k.parts_are_named.alignments) f t)
