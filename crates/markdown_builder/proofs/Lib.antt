@@ -1,0 +1,10 @@
+pub mod RisingLemmas
+pub mod NodeWriteLemmas
+pub mod BodiesLemmas
+pub mod NodeRulesLemmas
+pub mod RunLemmas
+pub mod FormedLemmas
+pub mod StandingLemmas
+pub mod StepLemmas
+pub mod CoveredLemmas
+pub mod CallLemmas
