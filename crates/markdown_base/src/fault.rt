@@ -8,7 +8,9 @@ use std::alloc::{AllocError, AllocFailed};
 pub enum Fault {
     /// An allocation was refused.
     Memory,
-    /// A block result that is not well formed was handed in.
+    /// A block result that is not well formed was handed in. It breaks one of nine rules: each node is reached
+    /// once, ranges lie in the text, inline items stand in order, chains are kept, nothing is resolved, markup
+    /// is there, runs are whole, parts are named, blocks are settled.
     Blocks,
     /// More starts are open in one image's alt text than a counter holds.
     Depth,

@@ -3,6 +3,8 @@
 #![tactic(auto)]
 
 #[cfg(test)]
+mod block_rules;
+#[cfg(test)]
 mod bodies;
 #[cfg(test)]
 mod builders;
