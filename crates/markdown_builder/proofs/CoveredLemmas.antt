@@ -19,6 +19,7 @@ use Rattle.markdown_builder.specs.Rising.{IsOnTop, first_block, next_block}
 use Rattle.markdown_builder.specs.NodeRules.{StandsUnder, StandsAfter, KeepsNodes}
 use Rattle.markdown_builder.specs.Standing.{State, seen, IsUnderTop, is_in_definition, IsSound}
 use Rattle.markdown_builder.proofs.RisingLemmas.{IsRoot, top_is_root}
+use Rattle.markdown_builder.proofs.StepLemmas.{either_passes}
 
 -- what stands on top is not inline
 top_inline : (text : List ℕ) (counts : PartCounts) (nodes : List (Node Item)) (j : ℕ) → KeepsNodes text counts nodes → IsOnTop (links_of nodes) j
@@ -60,12 +61,6 @@ root_passes nodes test (node i below after) j r h =
     second_passes : (a b : Bool) → b ≡ true → (a || b) ≡ true
     second_passes true b h = refl
     second_passes false b h = h
-
--- of two tests one passes
-pub either_passes : (a b : Bool) → (a ≡ true) ⊎ IsTrue b → IsTrue (a || b)
-either_passes true b h = refl
-either_passes false true h = refl
-either_passes false false h = ⊎_elim (λ (e : false ≡ true). cc (e)) (λ (e : IsTrue false). cc (e)) h
 
 -- a byte under a block on top lies in a block of the tree
 in_tree : (text : List ℕ) (counts : PartCounts) (nodes : List (Node Item)) (at : ℕ) → KeepsNodes text counts nodes → IsUnderTop nodes at

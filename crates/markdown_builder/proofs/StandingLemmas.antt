@@ -170,6 +170,7 @@ appended_fits s many x h more fits names kind low =
         last = g.other_links false t n ∙ o.last;
         item = g.old_items t o.low ∙ o.item;
         inline = o.inline;
+        childless = o.childless;
       }) s.tree.spine s.blocks (off_place s.tree.spine s.tree.spine s.tree.cursor h.behind) h.are_open;
       behind = open_low old s.tree.spine s.blocks h.are_open;
       top = top_appended old new s.tree.spine s.tree.cursor x g h.free h.top;

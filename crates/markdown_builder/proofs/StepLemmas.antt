@@ -34,6 +34,12 @@ use Rattle.markdown_builder.proofs.NodeWriteLemmas.{Writes, item_writes}
 use Rattle.markdown_builder.proofs.RunLemmas.{runs_appended, runs_written, ends_run}
 use Rattle.markdown_builder.proofs.StandingLemmas.{Appended, appended_fits, IsInnermost, open_snoc, open_unsnoc, open_map, top_stays, not_inside, inside, covered_stays}
 
+-- of two tests one passes
+pub either_passes : (a b : Bool) → (a ≡ true) ⊎ IsTrue b → IsTrue (a || b)
+either_passes true b h = refl
+either_passes false true h = refl
+either_passes false false h = ⊎_elim (λ (e : false ≡ true). cc (e)) (λ (e : IsTrue false). cc (e)) h
+
 -- ---- the beginning
 
 -- the root alone
@@ -214,7 +220,7 @@ opened s many b k outside placed parent =
     let block : OpenBlock = record { start = s.at; body = b } in
     let x : Item = open_item block in
     let n = length s.tree.nodes in
-    let fits = placed_fits s.text s.counts many s.at s.at b placed (record { ordered = omega arith; start = k.stands.boundary; end = k.stands.boundary }) in
+    let fits = placed_fits s.text s.counts many s.at s.at b placed (block_markup b (source_of s.text (item_over s.at s.at b)) parent.inline) (record { ordered = omega arith; start = k.stands.boundary; end = k.stands.boundary }) in
     let a = appended_fits s many x k.stands placed.more fits (placed_new s.counts many s.at s.at b placed) (parent.inline ∙ sym outside) (omega arith) in
     let i = innermost-snoc s.tree.spine n in
     let new = (appended s.tree x).nodes in
@@ -232,6 +238,7 @@ opened s many b k outside placed parent =
           last = a.free false;
           item = a.grows.new_item;
           inline = parent.inline;
+          childless = parent.childless;
         });
         leaves = leaves_open s.blocks block (subst (λ (l : Bool). OnlyLastIsLeaf s.blocks l) outside k.stands.leaves);
         behind = tt;
@@ -251,7 +258,7 @@ pub opened_alone : (s : State) (many : PartCounts) (b : ItemBody) (run : Option 
     → IsSound (after_item s many s.at b run)
 opened_alone s many b run k outside placed parent =
     added s many s.at b run k placed.more
-    (placed_fits s.text s.counts many s.at s.at b placed (record { ordered = omega arith; start = k.stands.boundary; end = k.stands.boundary }))
+    (placed_fits s.text s.counts many s.at s.at b placed (block_markup b (source_of s.text (item_over s.at s.at b)) parent.inline) (record { ordered = omega arith; start = k.stands.boundary; end = k.stands.boundary }))
     (placed_new s.counts many s.at s.at b placed) (parent.inline ∙ sym outside) placed.no_run
 
 -- with more parts all stands as before
@@ -287,7 +294,7 @@ more_parts s many more k = record {
 -- ---- a block is closed
 
 -- a block with another end or body in place of the open one
-block_replaces : (a b : Item) → is_inline a.body ≡ false → is_inline b.body ≡ false → is_leaf b.body ≡ is_leaf a.body → is_childless b.body ≡ is_childless a.body
+pub block_replaces : (a b : Item) → is_inline a.body ≡ false → is_inline b.body ≡ false → is_leaf b.body ≡ is_leaf a.body → is_childless b.body ≡ is_childless a.body
     → ((t : ℕ) → text_named b.body ≡ Some t → text_named a.body ≡ Some t) → ((t : ℕ) → alignments_named b.body ≡ Some t → alignments_named a.body ≡ Some t)
     → MayReplace a b
 block_replaces a b was inline leaf childless texts alignments = record {
@@ -376,6 +383,7 @@ closed s spine blocks n block k whole split =
       last = w.all_links false t ∙ q.last;
       item = w.old_items t (λ z. absurd (omega (arith, z, l))) ∙ q.item;
       inline = q.inline;
+      childless = q.childless;
     }) spine blocks o.above o.others in
     let top_was : IsTopPlace old (spine ++ n ∷ []) None = whole_top old s.tree.spine spine n s.tree.cursor split k.stands.top in
     let top : IsTopPlace made spine (Some n) = top_closed old made spine n links top_was in
@@ -413,3 +421,52 @@ closed s spine blocks n block k whole split =
           (rw none tt) k.runs;
       last_run = rw none_now tt;
     }
+
+-- ---- definitions
+
+-- a byte in one of some definitions, or in one more
+in_more : (definitions : List (CowStr × LinkDef)) (d : CowStr × LinkDef) (p : ℕ) → IsTrue (is_in_definition definitions p)
+    → IsTrue (is_in_definition (definitions ++ d ∷ []) p)
+in_more definitions d p h =
+    rw (list_any-append (λ (x : CowStr × LinkDef). is_inside p x.1.span) definitions (d ∷ []))
+    (either_passes (is_in_definition definitions p) (is_in_definition (d ∷ []) p) (inl h))
+
+in_last : (definitions : List (CowStr × LinkDef)) (d : CowStr × LinkDef) (p : ℕ) → is_inside p d.1.span ≡ true
+    → IsTrue (is_in_definition (definitions ++ d ∷ []) p)
+in_last definitions d p h =
+    let here : is_in_definition (d ∷ []) p ≡ true = rw h refl in
+    rw (list_any-append (λ (x : CowStr × LinkDef). is_inside p x.1.span) definitions (d ∷ []))
+    (either_passes (is_in_definition definitions p) (is_in_definition (d ∷ []) p) (inr here))
+
+-- a definition is added, which stands from here up to a place
+pub defined : (s : State) (to : ℕ) (d : CowStr × LinkDef) → IsSound s → s.at ≤ to → IsCharBoundary s.text to → slice_index s.text s.at ≡ 91
+    → d.1.span ≡ record { start = s.at; end = to } → IsSound (record s { definitions = s.definitions ++ d ∷ []; at = to })
+defined s to d k low boundary bracket span = record {
+  utf8 = k.utf8;
+  stands = record {
+    nodes = k.stands.nodes;
+    low = k.stands.low;
+    free = k.stands.free;
+    fits = λ x e l. k.stands.fits x e (omega (arith, l, low));
+    are_open = k.stands.are_open;
+    leaves = k.stands.leaves;
+    behind = k.stands.behind;
+    top = k.stands.top;
+    covered = over s.blocks k.stands.covered;
+    boundary = boundary;
+    begun = All-weaker (λ b. b.start ≤ s.at) (λ b. b.start ≤ to) (λ b h. omega (arith, h, low)) s.blocks k.stands.begun;
+    brackets = All-snoc (λ x. slice_index s.text x.1.span.start ≡ 91) s.definitions d k.stands.brackets (rw span bracket);
+  };
+  runs = k.runs;
+  last_run = k.last_run;
+}
+  where
+    widened : (end : ℕ) → AreCovered s.text s.tree.nodes s.definitions end → AreCovered s.text s.tree.nodes (s.definitions ++ d ∷ []) end
+    widened end c p l dark = ⊎_elim (λ (b : IsUnderTop s.tree.nodes p). inl b)
+        (λ (h : IsTrue (is_in_definition s.definitions p)). inr (in_more s.definitions d p h)) (c p l dark)
+
+    over : (blocks : List OpenBlock) → AreCovered s.text s.tree.nodes s.definitions (covered_to blocks s.at)
+        → AreCovered s.text s.tree.nodes (s.definitions ++ d ∷ []) (covered_to blocks to)
+    over [] c = λ p l dark. ⊎_elim (λ (h : p < s.at). widened s.at c p h dark)
+        (λ (h : s.at ≤ p). inr (in_last s.definitions d p (rw span (inside p s.at to h l)))) (cases_lt p s.at)
+    over (b ∷ blocks) c = widened b.start c

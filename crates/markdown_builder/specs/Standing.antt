@@ -11,7 +11,7 @@ use Rattle.markdown_base.specs.Arena.{Arena, appended, changed_at, child_of}
 use Rattle.markdown_base.specs.ArenaForest.{links_of}
 use Rattle.markdown_base.specs.BlockTree.{item_at}
 use Rattle.markdown_base.specs.Coverage.{is_inside}
-use Rattle.markdown_base.specs.Item.{range_of, is_inline}
+use Rattle.markdown_base.specs.Item.{range_of, is_inline, is_childless}
 use Rattle.markdown_base.specs.WellFormed.{PartCounts, run_character, byte_of}
 use Rattle.markdown_builder.specs.declared.open_block.OpenBlock.{OpenBlock}
 use Rattle.markdown_builder.specs.Bodies.{is_leaf}
@@ -56,6 +56,7 @@ pub record IsOpenAt (nodes : List (Node Item)) (s : ℕ) (block : OpenBlock) : T
   pub last : (links_of nodes).next s ≡ None
   pub item : item_at nodes s ≡ open_item block
   pub inline : is_inline block.body ≡ false
+  pub childless : is_childless block.body ≡ false
 
 -- the blocks gone into are the open ones, and their numbers rise
 abbrev pub AreOpen : List (Node Item) → List ℕ → List OpenBlock → Type 0

@@ -1,10 +1,20 @@
 -- What a builder does to its tree in several steps: tight paragraphs, and the characters of a delimiter run.
-use Rattle.std.specs.Prelude.{◌≡◌, ℕ, zero, suc, ◌+◌, ◌-◌, ◌<◌, Bool, false, length}
+use Rattle.std.specs.Prelude.{◌≡◌, ℕ, zero, suc, ◌+◌, ◌-◌, ◌<◌, Bool, false, List, [], ◌∷◌, ◌++◌, length}
 use Rattle.markdown_base.specs.declared.item.Item.{Item}
+use Rattle.markdown_base.specs.declared.item.ItemBody.{ItemBody}
 use Rattle.markdown_base.specs.declared.item.ItemBody.TheVariants as body
 use Rattle.markdown_base.specs.Arena.{Arena, appended}
 use Rattle.markdown_base.specs.BlockTree.{item_at}
+use Rattle.markdown_builder.specs.declared.open_block.OpenBlock.{OpenBlock}
 use Rattle.markdown_builder.specs.Standing.{with_item}
+
+-- the last block, which begins at a place, has another body
+pub record LastRenamed (old new : List OpenBlock) (start : ℕ) (b : ItemBody) : Type 0 where
+  pub outer : List OpenBlock
+  pub block : OpenBlock
+  pub was : old ≡ outer ++ block ∷ []
+  pub begins : start ≡ block.start
+  pub now : new ≡ outer ++ record { start = start; body = b } ∷ []
 
 -- a paragraph with bytes in it
 pub record IsFilledParagraph (item : Item) : Type 0 where

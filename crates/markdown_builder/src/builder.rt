@@ -4,7 +4,7 @@ ghost use Rattle.markdown_builder.specs.Bodies.{is_leaf};
 
 use crate::open_block::OpenBlock;
 use crate::tight::tighten_items;
-use crate::tree_steps::{append_texts, enter, leave, mark_run, push_text, rewrite};
+use crate::tree_steps::{enter, leave, push_text, rename_last, rewrite};
 use markdown_base::block_parts::{BlockParts, HeadingAttributes, LinkDef};
 use markdown_base::cow_str::CowStr;
 use markdown_base::index::{AlignmentIndex, HeadingIndex};
@@ -58,7 +58,7 @@ impl<'a> Builder<'a> {
     ghost use Rattle.markdown_base.specs.WellFormed.{IsWellFormed, is_delimiter};
     ghost use Rattle.markdown_builder.specs.declared.open_block.OpenBlock.{OpenBlock};
     ghost use Rattle.markdown_builder.specs.Bodies.{is_leaf, is_plain_block, is_settled, mark_byte};
-    ghost use Rattle.markdown_builder.specs.BuilderView.{BuilderView, IsWhite, IsRunOf, follows_run};
+    ghost use Rattle.markdown_builder.specs.BuilderView.{IsWhite, IsRunOf, follows_run, GoesInto, LastHasBody};
 
     /// Nothing is made yet.
     pub fn new(alloc: Global, text: &'a str) -> Result<Builder<'a>, AllocError>
@@ -177,6 +177,211 @@ impl<'a> Builder<'a> {
         })?;
         self.at = end;
         self.run = None;
+        Ok(())
+    }
+
+    /// Opens a fenced code block with an info string.
+    pub fn open_fenced(&mut self, info: CowStr<'a>) -> Result<(), AllocError>
+        requires { self.old.leaf ≡ false }
+        ensures { IfOk result (λ _. GoesInto self.old self.new true) }
+    {
+        let ix = push_text(&mut self.cows, info)?;
+        let block = OpenBlock {
+            start: self.at,
+            body: ItemBody::FencedCodeBlock(ix),
+        };
+        enter(&mut self.tree, &mut self.blocks, block)?;
+        self.leaf = true;
+        self.run = None;
+        Ok(())
+    }
+
+    /// Opens a footnote definition with a name, which is listed as defined.
+    pub fn open_footnote(&mut self, name: CowStr<'a>, listed: CowStr<'a>) -> Result<(), AllocError>
+        requires { self.old.leaf ≡ false }
+        ensures { IfOk result (λ _. GoesInto self.old self.new false) }
+    {
+        self.footnotes.push(listed)?;
+        let ix = push_text(&mut self.cows, name)?;
+        let block = OpenBlock {
+            start: self.at,
+            body: ItemBody::FootnoteDefinition(ix),
+        };
+        enter(&mut self.tree, &mut self.blocks, block)?;
+        self.leaf = false;
+        self.run = None;
+        Ok(())
+    }
+
+    /// Opens a heading with attributes.
+    pub fn open_heading(
+        &mut self,
+        level: HeadingLevel,
+        attributes: HeadingAttributes<'a>,
+    ) -> Result<(), AllocError>
+        requires { self.old.leaf ≡ false }
+        ensures { IfOk result (λ _. GoesInto self.old self.new true) }
+    {
+        self.headings.push(attributes)?;
+        let ix = HeadingIndex(self.headings.len());
+        let block = OpenBlock {
+            start: self.at,
+            body: ItemBody::Heading(level, Some(ix)),
+        };
+        enter(&mut self.tree, &mut self.blocks, block)?;
+        self.leaf = true;
+        self.run = None;
+        Ok(())
+    }
+
+    /// Opens a table with the alignments of its columns.
+    pub fn open_table(&mut self, alignments: Vec<Alignment>) -> Result<(), AllocError>
+        requires { self.old.leaf ≡ false }
+        ensures { IfOk result (λ _. GoesInto self.old self.new false) }
+    {
+        let ix = AlignmentIndex(self.alignments.len());
+        self.alignments.push(alignments)?;
+        let block = OpenBlock {
+            start: self.at,
+            body: ItemBody::Table(ix),
+        };
+        enter(&mut self.tree, &mut self.blocks, block)?;
+        self.leaf = false;
+        self.run = None;
+        Ok(())
+    }
+
+    /// Gives the innermost open block another body of the same kind, as a heading's for a paragraph's.
+    pub fn change(&mut self, body: ItemBody)
+        requires block { is_plain_block body ≡ true }
+        requires same { is_leaf body ≡ self.old.leaf }
+        ensures same { self.new ≡ record self.old { blocks = self.new.blocks } }
+        ensures changed { LastHasBody self.old.blocks self.new.blocks body }
+    {
+        if let Some(start) = rename_last(&mut self.blocks, body) {
+            let item = Item {
+                start,
+                end: start,
+                body,
+            };
+            rewrite(&mut self.tree, item);
+        }
+    }
+
+    /// Makes the paragraphs tight that stand directly in the items of a list, where it was closed last.
+    pub fn tighten(&mut self)
+        ensures { self.new ≡ self.old }
+    {
+        if let Some(list) = self.tree.cur() {
+            tighten_items(&mut self.tree, list);
+        }
+    }
+
+    /// Appends a thematic break up to a place.
+    pub fn rule(&mut self, end: usize) -> Result<(), AllocError>
+        requires outside { self.old.leaf ≡ false }
+        requires low { self.old.at ≤ end }
+        requires boundary { IsCharBoundary self.old.text end }
+        ensures { IfOk result (λ _. self.new ≡ record self.old { at = end; run = None }) }
+    {
+        self.tree.append(Item {
+            start: self.at,
+            end,
+            body: ItemBody::Rule,
+        })?;
+        self.at = end;
+        self.run = None;
+        Ok(())
+    }
+
+    /// Appends a text that stands for the bytes up to a place.
+    pub fn synthesize(&mut self, text: CowStr<'a>, end: usize) -> Result<(), AllocError>
+        requires inside { self.old.leaf ≡ true }
+        requires low { self.old.at ≤ end }
+        requires boundary { IsCharBoundary self.old.text end }
+        ensures { IfOk result (λ _. self.new ≡ record self.old { at = end; run = None }) }
+    {
+        let ix = push_text(&mut self.cows, text)?;
+        self.tree.append(Item {
+            start: self.at,
+            end,
+            body: ItemBody::SynthesizeText(ix),
+        })?;
+        self.at = end;
+        self.run = None;
+        Ok(())
+    }
+
+    /// Appends an open item over one byte: a `$`, a quotation mark, a `<`, a `[` or a `]`.
+    pub fn mark(&mut self, body: ItemBody) -> Result<(), AllocError>
+        requires inside { self.old.leaf ≡ true }
+        requires more { self.old.at < length self.old.text }
+        requires byte { mark_byte body ≡ Some (slice_index self.old.text self.old.at) }
+        ensures { IfOk result (λ _. self.new ≡ record self.old { at = self.old.at + 1; run = None }) }
+    {
+        let end = self.at + 1;
+        self.tree.append(Item {
+            start: self.at,
+            end,
+            body,
+        })?;
+        self.at = end;
+        self.run = None;
+        Ok(())
+    }
+
+    /// Appends the open item over a `![`.
+    pub fn image(&mut self) -> Result<(), AllocError>
+        requires inside { self.old.leaf ≡ true }
+        requires more { self.old.at + 1 < length self.old.text }
+        requires first { slice_index self.old.text self.old.at ≡ 33 }
+        requires second { slice_index self.old.text (self.old.at + 1) ≡ 91 }
+        ensures { IfOk result (λ _. self.new ≡ record self.old { at = self.old.at + 2; run = None }) }
+    {
+        let end = self.at + 2;
+        self.tree.append(Item {
+            start: self.at,
+            end,
+            body: ItemBody::MaybeImage,
+        })?;
+        self.at = end;
+        self.run = None;
+        Ok(())
+    }
+
+    /// Appends the open item over backticks up to a place; whether a backslash stands before them.
+    pub fn backticks(&mut self, end: usize, escaped: bool) -> Result<(), AllocError>
+        requires inside { self.old.leaf ≡ true }
+        requires run { IsRunOf 96 self.old.text self.old.at end }
+        ensures { IfOk result (λ _. self.new ≡ record self.old { at = end; run = None }) }
+    {
+        self.tree.append(Item {
+            start: self.at,
+            end,
+            body: ItemBody::MaybeCode(end - self.at, escaped),
+        })?;
+        self.at = end;
+        self.run = None;
+        Ok(())
+    }
+
+    /// Adds a link reference definition, which stands from here, at a `[`, up to a place.
+    pub fn define(
+        &mut self,
+        label: CowStr<'a>,
+        dest: CowStr<'a>,
+        title: Option<CowStr<'a>>,
+        end: usize,
+    ) -> Result<(), AllocError>
+        requires low { self.old.at ≤ end }
+        requires boundary { IsCharBoundary self.old.text end }
+        requires bracket { slice_index self.old.text self.old.at ≡ 91 }
+        ensures { IfOk result (λ _. self.new ≡ record self.old { at = end }) }
+    {
+        let span = self.at..end;
+        self.definitions
+            .push((label, LinkDef { dest, title, span }))?;
+        self.at = end;
         Ok(())
     }
 

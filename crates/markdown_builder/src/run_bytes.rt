@@ -15,8 +15,7 @@ pub fn is_delimiter(byte: u8) -> bool
 pub fn run_end(text: &str, from: usize, byte: u8) -> usize
     requires within { from < length text.now }
     requires first { slice_index text.now from ≡ byte }
-    ensures run { IsRunOf byte text.now from result }
-    ensures within { result ≤ length text.now }
+    ensures { IsRunOf byte text.now from result }
 {
     let bytes = text.as_bytes();
     for end in from + 1..bytes.len() {

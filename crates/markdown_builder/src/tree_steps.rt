@@ -1,8 +1,8 @@
 //! What a builder does to its tree, a step at a time.
-ghost use Rattle.std.specs.Prelude.{◌≡◌, ℕ, ◌+◌, ◌-◌, ◌<◌, ◌≤◌, ◌⊎◌, List, ◌++◌, ◌∷◌, [], Some, length, IfOk, OnErr};
+ghost use Rattle.std.specs.Prelude.{◌≡◌, ℕ, ◌+◌, ◌-◌, ◌<◌, ◌≤◌, ◌⊎◌, List, ◌++◌, ◌∷◌, [], Some, length, IfOk, IfSome, IfNone, OnErr};
 ghost use Rattle.markdown_base.specs.Arena.{appended, changed_at};
 ghost use Rattle.markdown_builder.specs.Standing.{entered, open_item};
-ghost use Rattle.markdown_builder.specs.TreeSteps.{texts_appended, run_marked};
+ghost use Rattle.markdown_builder.specs.TreeSteps.{LastRenamed, texts_appended, run_marked};
 
 use crate::open_block::OpenBlock;
 use markdown_base::cow_str::CowStr;
@@ -65,6 +65,20 @@ pub fn rewrite(tree: &mut Tree<Item>, item: Item)
         Some(number) => tree.set_item(number, item),
         None => {}
     }
+}
+
+/// Gives the last block another body, and answers where it begins.
+pub fn rename_last(blocks: &mut Vec<OpenBlock>, body: ItemBody) -> Option<usize>
+    ensures none { IfNone result ((blocks.old.items ≡ []) × (blocks.new.items ≡ blocks.old.items)) }
+    ensures renamed { IfSome result (λ start. LastRenamed blocks.old.items blocks.new.items start body) }
+{
+    let depth = blocks.len();
+    if depth == 0 {
+        return None;
+    }
+    let start = blocks[depth - 1].start;
+    blocks[depth - 1] = OpenBlock { start, body };
+    Some(start)
 }
 
 /// Adds a text, and answers its number.
