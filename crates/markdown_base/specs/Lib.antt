@@ -10,7 +10,6 @@ pub mod WellFormed
 pub mod Coverage
 pub mod Document
 pub mod Walk
-pub mod Scan
 -- facts of a representation
 pub mod InlineText
 pub mod ArenaBounds

@@ -11,6 +11,5 @@ pub mod inline_str;
 pub mod item;
 pub mod node;
 pub mod options;
-pub mod scan;
 pub mod tag;
 pub mod tree;

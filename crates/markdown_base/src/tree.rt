@@ -240,9 +240,9 @@ impl<T: Drop> Tree<T> {
             (λ ix. (outer : _) × (self.old.spine ≡ outer ++ ix ∷ []) × (self.new ≡ record self.old { spine = outer; cursor = Some ix })) }
         ensures within { IfSome result (λ ix. ix < length self.old.nodes) }
     {
-        let ix = self.spine.pop()?;
-        self.focus(ix);
-        Some(ix)
+        let outer = self.spine.pop()?;
+        self.focus(outer);
+        Some(outer)
     }
 
     /// Goes on to the node after `ix`.

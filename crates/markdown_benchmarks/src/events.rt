@@ -1,4 +1,6 @@
 //! Events made one by one, so that only what reads them takes memory.
+ghost use Rattle.std.specs.Iterator.{IsFinite};
+
 use markdown_base::cow_str::CowStr;
 use markdown_base::event::Event;
 use markdown_base::fault::Fault;
@@ -174,20 +176,35 @@ impl<'a> Iterator for Letters<'a> {
     }
 }
 
+/// The bytes of a text; None of anything else.
+fn text_bytes(item: &Result<Event<'_>, Fault>) -> Option<usize> {
+    match item {
+        Ok(Event::Text(text)) => Some(text.as_str().len()),
+        _ => None,
+    }
+}
+
+/// What the items come to in all; None where one of them comes to nothing.
+fn sum_of<T: Drop, I: Iterator<Item = T> + Drop, F: Fn(&T) -> Option<usize> + Drop>(
+    items: I,
+    size: F,
+) -> Option<usize>
+    requires can { I.can_next items }
+    requires ends { IsFinite (I.remaining items) }
+    requires callable { F.IsAlwaysCallable size }
+{
+    let mut sum = 0usize;
+    for item in items {
+        sum = sum.saturating_add(size(&item)?);
+    }
+    Some(sum)
+}
+
 /// How many bytes the texts have that so many texts of one byte are merged to.
 pub fn merged_bytes(alloc: Global, texts: usize) -> Option<usize> {
-    let mut bytes = 0usize;
-    for item in TextMergeStream::new(
-        alloc,
-        Letters {
-            letter: "a",
-            left: texts,
-        },
-    ) {
-        match item {
-            Ok(Event::Text(text)) => bytes = bytes.saturating_add(text.as_str().len()),
-            _ => return None,
-        }
-    }
-    Some(bytes)
+    let letters = Letters {
+        letter: "a",
+        left: texts,
+    };
+    sum_of(TextMergeStream::new(alloc, letters), text_bytes)
 }

@@ -1,9 +1,9 @@
 //! Scans at each place of a text where they may begin, and where nothing is found.
-use markdown_base::scan::entity::scan_entity;
-use markdown_base::scan::html_tag::scan_html_tag;
-use markdown_base::scan::label::scan_link_label;
-use markdown_base::scan::line_rule::NoPrefix;
-use markdown_base::scan::raw_html::RawHtmlScanner;
+use markdown_raw_html::html_tag::scan_html_tag;
+use markdown_raw_html::raw_html::RawHtmlScanner;
+use markdown_scan::entity::scan_entity;
+use markdown_scan::label::scan_link_label;
+use markdown_scan::line_rule::NoPrefix;
 use std::alloc::Global;
 
 /// What begins and does not end.

@@ -1,6 +1,7 @@
 //! The tasks by their names.
+use crate::events;
+use crate::look_ups::{self, LabelKind};
 use crate::scans::{self, Beginning};
-use crate::{events, look_ups};
 use std::alloc::Global;
 
 /// The task that a line names, and its size.
@@ -18,7 +19,12 @@ pub fn run(alloc: Global, task: &str, size: usize) -> Option<usize> {
         "render" => events::rendered_bytes(alloc, size),
         "footnotes" => events::footnote_bytes(alloc, size),
         "merge" => events::merged_bytes(alloc, size),
-        "look-ups" => look_ups::found(alloc, size),
+        "look-ups" => look_ups::found(alloc, LabelKind::Numbers, size),
+        "long-look-ups" => look_ups::found(alloc, LabelKind::Long, size),
+        "chosen-look-ups" => look_ups::found(alloc, LabelKind::Chosen, size),
+        "uses" => look_ups::used(alloc, LabelKind::Numbers, size),
+        "long-uses" => look_ups::used(alloc, LabelKind::Long, size),
+        "chosen-uses" => look_ups::used(alloc, LabelKind::Chosen, size),
         "comments" => scans::found(alloc, Beginning::Comment, size),
         "cdata-sections" => scans::found(alloc, Beginning::CdataSection, size),
         "declarations" => scans::found(alloc, Beginning::Declaration, size),

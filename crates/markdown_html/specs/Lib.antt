@@ -1,1 +1,1 @@
-pub mod Rendering
+-- No definition: what the program does is said of `run` of `markdown_render`.

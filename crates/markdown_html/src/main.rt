@@ -1,11 +1,7 @@
 //! Markdown on standard input, HTML on standard output.
 #![tactic(auto)]
 
-mod run;
-#[cfg(test)]
-mod tests;
-
-use run::run;
+use markdown_render::run::run;
 use std::env::{self, Env};
 use std::io::{self, ErrorKind};
 use std::process::ExitCode;

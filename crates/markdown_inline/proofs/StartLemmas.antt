@@ -23,7 +23,7 @@ use Rattle.markdown_base.specs.declared.options.Options.{Options}
 use Rattle.markdown_base.proofs.ForestLemmas.{Throughout-weaker, relabelled-Throughout, relabelled-relabelled}
 use Rattle.markdown_spans.specs.Blocks.{block_text, block_tree, IsOfText}
 use Rattle.markdown_spans.specs.declared.blocks.Blocks.{Blocks}
-use Rattle.markdown_inline.specs.ParserLeft.{elements, reading_of, known_at_start}
+use Rattle.markdown_inline.specs.ParserLeft.{elements, reading_of, known_at_start, ReadsBlocks, ReadsText}
 use Rattle.markdown_inline.specs.Placing.{LiesAt}
 use Rattle.markdown_inline.specs.WalkSteps.{tree_steps}
 use Rattle.markdown_inline.specs.declared.walk.Parser.{Parser}
@@ -58,8 +58,7 @@ starts_left blocks p answers text tree same reset =
 
 -- a parser of a block result of a text is one of some block result of the text
 pub of_some_text : {F : Type 0} (text : List ℕ) (options : Options) (blocks : Blocks) (made : Result (Parser F) Fault) → IsOfText text options blocks
-    → IfOk made (λ p. (answers : Answers) → elements p answers ≡ reading_of blocks answers)
-    → IfOk made (λ p. (b : Blocks) × IsOfText text options b × ((answers : Answers) → elements p answers ≡ reading_of b answers))
+    → IfOk made (ReadsBlocks blocks) → IfOk made (ReadsText text options)
 of_some_text text options blocks (Ok p) of left = (blocks, of, left)
 of_some_text text options blocks (Err fault) of left = tt
 

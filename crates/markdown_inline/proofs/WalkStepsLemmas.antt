@@ -104,7 +104,7 @@ steps_at source s ix w e =
     rw (e, o.here) (omega arith)
 
 pub refused_at : (source : List ℕ) (s t : Arena Item) (ix : ℕ) → TreeWalks source s → s.cursor ≡ Some ix → t ≡ s → IsRefused s t
-refused_at source s t ix w e same = record { same = same; more = λ over. cc (e, over.cursor); steps = steps_at source s ix w e }
+refused_at source s t ix w e same = record { same = same; steps = steps_at source s ix w e }
 
 -- a walk that was stopped is over
 pub stopped : (s t : Arena Item) → t ≡ record s { spine = []; cursor = None } → HasEnded t

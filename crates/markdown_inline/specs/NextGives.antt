@@ -1,28 +1,56 @@
--- What a call of `next` gives of what was left.
-use Rattle.std.specs.Prelude.{◌≡◌, List, [], ◌∷◌, ◌++◌, Option, None, Result, MatchOption, MatchResult, IfSome, IfOk, IfErr}
-use Rattle.markdown_base.specs.Document.{Question, Answer, Answers}
+-- What a call of `next` gives of what was left of a parser.
+use Rattle.std.specs.Prelude.{◌≡◌, ℕ, List, [], ◌∷◌, ◌++◌, map, Option, None, Result, MatchOption, MatchResult}
+use Rattle.std.specs.declared.ops.Range.{Range}
+use Rattle.markdown_base.specs.Document.{Question, Answer, Answers, Placed, Element, question, event}
+use Rattle.markdown_base.specs.Event.{event_view}
+use Rattle.markdown_base.specs.declared.event.Event.{Event}
 use Rattle.markdown_base.specs.declared.fault.Fault.{Fault}
 use Rattle.markdown_base.specs.declared.fault.Fault.TheVariants.{Memory}
 use Rattle.markdown_spans.specs.Callback.{Asks}
+use Rattle.markdown_inline.specs.ParserLeft.{parser_text, parser_callback, elements, IsOver}
+use Rattle.markdown_inline.specs.Slices.{IsSlice}
+use Rattle.markdown_inline.specs.declared.walk.Parser.{Parser}
 
--- From s to t: nothing comes only where nothing was left; an error leaves nothing; an event comes after
--- the questions before it. There is a list of answers, the callback went by exactly those questions and
--- these answers, and, whatever answers follow, what was left is this event and then what is left now.
-abbrev pub GivesNext : {P I V C : Type 0} → (P → Answers → List V) → (P → Answers → List Question) → (I → V) → (P → Option C) → (C → Question → Option Answer → C → Type 0)
-    → P → Option (Result I Fault) → P → Type 0
-GivesNext left questions view callback step s r t =
-    MatchOption r
-    (((later : Answers) → left s later ≡ []) × ((later : Answers) → left t later ≡ []) × (callback s ≡ callback t))
-    (λ item. MatchResult item
-    (λ e. (answers : Answers) × Asks step (callback s) (questions s answers) answers (callback t)
-    × ((later : Answers) → left s (answers ++ later) ≡ view e ∷ left t later))
-    (λ fault. (later : Answers) → left t later ≡ []))
+-- an event is one of a reading of the source: by the bytes of its texts, and a Text is a slice over its range
+pub record IsEventOf (source : List ℕ) (e : Event) (placed : Placed) : Type 0 where
+  pub view : placed.0 ≡ event_view e
+  pub slice : IsSlice source placed.1 e
 
--- the whole: beside this, a Text is a slice of the source; after None and after an error, which is one
--- of memory, the walk is over; and where it is over None comes, and it stays over
-pub record NextGives {P I V C : Type 0} (left : P → Answers → List V) (questions : P → Answers → List Question) (view : I → V) (callback : P → Option C)
-    (step : C → Question → Option Answer → C → Type 0) (slice : P → I → Type 0) (over : P → Type 0) (s : P) (r : Option (Result I Fault)) (t : P) : Type 0 where
-  pub gives : GivesNext left questions view callback step s r t
-  pub slices : IfSome r (λ item. IfOk item (slice s))
-  pub ends : MatchOption r (over t) (λ item. IfErr item (λ fault. (fault ≡ Memory) × over t))
-  pub stays : over s → (r ≡ None) × over t
+-- so is an event with its range
+pub record IsPlacedOf (source : List ℕ) (e : Event × Range ℕ) (placed : Placed) : Type 0 where
+  pub is_event : IsEventOf source e.0 placed
+  pub range : placed.1 ≡ e.1
+
+-- From s to t an item was given: the callback went by these questions and answers, and, whatever answers
+-- follow, what was left is these questions, the event that the item is, and then what is left now.
+pub record GivesItem {F I : Type 0} (step : F → Question → Option Answer → F → Type 0) (is_of : List ℕ → I → Placed → Type 0)
+    (s : Parser F) (item : I) (t : Parser F) : Type 0 where
+  pub questions : List Question
+  pub answers : Answers
+  pub asked : Asks step (parser_callback s) questions answers (parser_callback t)
+  pub placed : Placed
+  pub is_item : is_of (parser_text s) item placed
+  pub left : (later : Answers) → elements s (answers ++ later) ≡ map question questions ++ event placed ∷ elements t later
+
+-- an error came, which is one of memory: the callback went by these questions, with which what was left
+-- begins, and these answers; and the walk is over
+pub record GivesError {F : Type 0} (step : F → Question → Option Answer → F → Type 0) (s : Parser F) (fault : Fault) (t : Parser F) : Type 0 where
+  pub memory : fault ≡ Memory
+  pub questions : List Question
+  pub answers : Answers
+  pub asked : Asks step (parser_callback s) questions answers (parser_callback t)
+  pub begins : (later : Answers) → (others : List Element) × (elements s (answers ++ later) ≡ map question questions ++ others)
+  pub over : IsOver t
+
+-- None came: nothing was left, nothing was asked, and the walk is over
+pub record GivesNone {F : Type 0} (s t : Parser F) : Type 0 where
+  pub none_left : (answers : Answers) → elements s answers ≡ []
+  pub callback : parser_callback t ≡ parser_callback s
+  pub over : IsOver t
+
+-- the whole: beside this the text stays, and where the walk is over None comes, and it stays over
+pub record NextGives {F I : Type 0} (step : F → Question → Option Answer → F → Type 0) (is_of : List ℕ → I → Placed → Type 0)
+    (s : Parser F) (r : Option (Result I Fault)) (t : Parser F) : Type 0 where
+  pub gives : MatchOption r (GivesNone s t) (λ item. MatchResult item (λ e. GivesItem step is_of s e t) (λ fault. GivesError step s fault t))
+  pub text : parser_text t ≡ parser_text s
+  pub stays : IsOver s → (r ≡ None) × IsOver t

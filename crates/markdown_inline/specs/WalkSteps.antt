@@ -60,7 +60,6 @@ pub record Went (source : List ℕ) (s t : Arena Item) (given : List Placed) : T
 -- a step that was refused memory: it left the tree as it was, and the walk was not over
 pub record IsRefused (s t : Arena Item) : Type 0 where
   pub same : t ≡ s
-  pub more : HasEnded s → ⊥
   pub steps : 0 < tree_steps s
 
 abbrev pub StepGives : List ℕ → Arena Item → Arena Item → Step → Type 0

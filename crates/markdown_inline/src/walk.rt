@@ -33,14 +33,14 @@ pub struct OffsetIter<'input, F = DefaultBrokenLinkCallback> {
 }
 
 impl<'input, F: BrokenLinkCallback<'input>> Parser<'input, F> {
-    ghost use Rattle.std.specs.Prelude.{◌≡◌, ◌<◌, IfSome};
-    ghost use Rattle.markdown_inline.specs.NextGives.{NextGives};
-    ghost use Rattle.markdown_inline.specs.ParserLeft.{placed_left, next_questions, placed, parser_callback, parser_steps, IsSliceAt, IsOver};
+    ghost use Rattle.std.specs.Prelude.{◌<◌, IfSome};
+    ghost use Rattle.markdown_inline.specs.NextGives.{NextGives, IsPlacedOf};
+    ghost use Rattle.markdown_inline.specs.ParserLeft.{parser_steps};
 
     /// The next event with its range.
     fn advance(&mut self) -> Option<Result<(Event<'input>, Range<usize>), Fault>>
         requires { IfSome self.old.callback F.can_ask }
-        ensures gives { NextGives placed_left next_questions placed parser_callback F.answers IsSliceAt IsOver self.old result self.new }
+        ensures gives { NextGives F.answers IsPlacedOf self.old result self.new }
         ensures askable { IfSome self.new.callback F.can_ask }
         ensures falls { IfSome result (λ _. parser_steps self.new < parser_steps self.old) }
     {
@@ -61,15 +61,14 @@ impl<'input, F: BrokenLinkCallback<'input>> Parser<'input, F> {
 impl<'input, F: BrokenLinkCallback<'input>> Iterator for Parser<'input, F> {
     ghost use Rattle.std.specs.Prelude.{IfSome};
     ghost use Rattle.std.specs.Iterator.{at_most};
-    ghost use Rattle.markdown_base.specs.Event.{event_view};
-    ghost use Rattle.markdown_inline.specs.NextGives.{NextGives};
-    ghost use Rattle.markdown_inline.specs.ParserLeft.{events_left, next_questions, parser_callback, parser_steps, IsSomeSlice, IsOver};
+    ghost use Rattle.markdown_inline.specs.NextGives.{NextGives, IsEventOf};
+    ghost use Rattle.markdown_inline.specs.ParserLeft.{parser_callback, parser_steps};
 
     type Item = Result<Event<'input>, Fault>;
 
     ghost can_next = { λ p. IfSome (parser_callback p) F.can_ask };
 
-    ghost next_gives = { NextGives events_left next_questions event_view parser_callback F.answers IsSomeSlice IsOver };
+    ghost next_gives = { NextGives F.answers IsEventOf };
 
     ghost remaining = { λ p. at_most (parser_steps p) };
 
@@ -92,16 +91,16 @@ impl<'input, F: BrokenLinkCallback<'input>> FusedIterator for Parser<'input, F> 
 impl<'input, F: BrokenLinkCallback<'input>> Iterator for OffsetIter<'input, F> {
     ghost use Rattle.std.specs.Prelude.{IfSome};
     ghost use Rattle.std.specs.Iterator.{at_most};
-    ghost use Rattle.markdown_inline.specs.NextGives.{NextGives};
-    ghost use Rattle.markdown_inline.specs.ParserLeft.{offset_left, offset_questions, placed, offset_callback, offset_steps, IsSliceAt, IsOver};
+    ghost use Rattle.markdown_inline.specs.NextGives.{NextGives, IsPlacedOf};
+    ghost use Rattle.markdown_inline.specs.ParserLeft.{parser_callback, parser_steps, offset_parser};
 
     type Item = Result<(Event<'input>, Range<usize>), Fault>;
 
-    ghost can_next = { λ o. IfSome (offset_callback o) F.can_ask };
+    ghost can_next = { λ o. IfSome (parser_callback (offset_parser o)) F.can_ask };
 
-    ghost next_gives = { NextGives offset_left offset_questions placed offset_callback F.answers (λ o. IsSliceAt o.inner) (λ o. IsOver o.inner) };
+    ghost next_gives = { λ o r t. NextGives F.answers IsPlacedOf (offset_parser o) r (offset_parser t) };
 
-    ghost remaining = { λ o. at_most (offset_steps o) };
+    ghost remaining = { λ o. at_most (parser_steps (offset_parser o)) };
 
     fn size_hint(&self) -> (usize, Option<usize>) {
         (0, None)
@@ -117,13 +116,12 @@ impl<'input, F: BrokenLinkCallback<'input>> FusedIterator for OffsetIter<'input,
 
 impl<'input> Parser<'input, DefaultBrokenLinkCallback> {
     ghost use Rattle.std.specs.Prelude.{◌≡◌, ◌<◌, ◌^◌, IfOk, IfErr};
-    ghost use Rattle.markdown_base.specs.Document.{Answers};
-    ghost use Rattle.markdown_spans.specs.Blocks.{IsOfText};
-    ghost use Rattle.markdown_inline.specs.ParserLeft.{elements, reading_of, parser_callback, parser_steps, no_options};
+    ghost use Rattle.markdown_inline.specs.ParserLeft.{ReadsText, parser_text, parser_callback, parser_steps, no_options};
 
     /// A parser of a text, with no extension.
     pub fn new(alloc: Global, text: &'input str) -> Result<Self, Fault>
-        ensures left { IfOk result (λ p. (blocks : _) × IsOfText text.entry.now no_options blocks × ((answers : Answers) → elements p answers ≡ reading_of blocks answers)) }
+        ensures left { IfOk result (ReadsText text.entry.now no_options) }
+        ensures text { IfOk result (λ p. parser_text p ≡ text.entry.now) }
         ensures callback { IfOk result (λ p. parser_callback p ≡ None) }
         ensures countable { IfOk result (λ p. parser_steps p < 2 ^ 64) }
         ensures refused { IfErr result (λ fault. fault ≡ Fault.Memory) }
@@ -133,7 +131,8 @@ impl<'input> Parser<'input, DefaultBrokenLinkCallback> {
 
     /// A parser of a text.
     pub fn new_ext(alloc: Global, text: &'input str, options: Options) -> Result<Self, Fault>
-        ensures left { IfOk result (λ p. (blocks : _) × IsOfText text.entry.now options blocks × ((answers : Answers) → elements p answers ≡ reading_of blocks answers)) }
+        ensures left { IfOk result (ReadsText text.entry.now options) }
+        ensures text { IfOk result (λ p. parser_text p ≡ text.entry.now) }
         ensures callback { IfOk result (λ p. parser_callback p ≡ None) }
         ensures countable { IfOk result (λ p. parser_steps p < 2 ^ 64) }
         ensures refused { IfErr result (λ fault. fault ≡ Fault.Memory) }
@@ -144,9 +143,8 @@ impl<'input> Parser<'input, DefaultBrokenLinkCallback> {
 
 impl<'input, F: BrokenLinkCallback<'input>> Parser<'input, F> {
     ghost use Rattle.std.specs.Prelude.{◌≡◌, ◌<◌, ◌^◌, IfOk, IfErr, IfSome};
-    ghost use Rattle.markdown_base.specs.Document.{Answers};
-    ghost use Rattle.markdown_spans.specs.Blocks.{IsOfText};
-    ghost use Rattle.markdown_inline.specs.ParserLeft.{elements, reading_of, parser_callback, parser_steps, offset_elements, offset_callback, offset_steps};
+    ghost use Rattle.markdown_spans.specs.Blocks.{block_text};
+    ghost use Rattle.markdown_inline.specs.ParserLeft.{ReadsText, ReadsBlocks, parser_text, parser_callback, parser_steps, offset_parser};
 
     /// A parser of a text, which asks `callback`, where there is one, about each link label that is
     /// defined nowhere.
@@ -156,7 +154,8 @@ impl<'input, F: BrokenLinkCallback<'input>> Parser<'input, F> {
         options: Options,
         callback: Option<F>,
     ) -> Result<Self, Fault>
-        ensures left { IfOk result (λ p. (blocks : _) × IsOfText text.entry.now options blocks × ((answers : Answers) → elements p answers ≡ reading_of blocks answers)) }
+        ensures left { IfOk result (ReadsText text.entry.now options) }
+        ensures text { IfOk result (λ p. parser_text p ≡ text.entry.now) }
         ensures callback { IfOk result (λ p. parser_callback p ≡ callback) }
         ensures countable { IfOk result (λ p. parser_steps p < 2 ^ 64) }
         ensures refused { IfErr result (λ fault. fault ≡ Fault.Memory) }
@@ -171,7 +170,8 @@ impl<'input, F: BrokenLinkCallback<'input>> Parser<'input, F> {
         blocks: Blocks<'input>,
         callback: Option<F>,
     ) -> Result<Self, Fault>
-        ensures left { IfOk result (λ p. (answers : Answers) → elements p answers ≡ reading_of blocks.entry answers) }
+        ensures left { IfOk result (ReadsBlocks blocks.entry) }
+        ensures text { IfOk result (λ p. parser_text p ≡ block_text blocks.entry) }
         ensures callback { IfOk result (λ p. parser_callback p ≡ callback) }
         ensures countable { IfOk result (λ p. parser_steps p < 2 ^ 64) }
         ensures refused { IfErr result (λ fault. fault ≡ Fault.Memory) }
@@ -191,9 +191,7 @@ impl<'input, F: BrokenLinkCallback<'input>> Parser<'input, F> {
 
     /// The same walk from where it stands, with the range of each event. Takes no memory.
     pub fn into_offset_iter(self) -> OffsetIter<'input, F>
-        ensures left { (answers : Answers) → offset_elements result answers ≡ elements self.entry answers }
-        ensures callback { offset_callback result ≡ parser_callback self.entry }
-        ensures steps { offset_steps result ≡ parser_steps self.entry }
+        ensures { offset_parser result ≡ self.entry }
     {
         OffsetIter { inner: self }
     }

@@ -28,6 +28,15 @@ front-none old new bytes e = record {
   whole = refl;
 }
 
+append-empty : (front missing : List ℕ) → front ++ missing ≡ [] → front ≡ []
+append-empty [] missing e = refl
+append-empty (b ∷ front) missing e = cc
+
+-- a front of nothing is nothing
+pub front-empty : (old new : List ℕ) → AppendsFront old new [] → new ≡ old
+front-empty old new f = f.stands ∙ (ap (λ x. old ++ x) (append-empty f.front f.missing f.whole)
+    ∙ append-nil old)
+
 -- a front of what comes after bytes that were appended
 pub front-after : (old mid new first bytes whole rest : List ℕ) → mid ≡ old ++ first
     → AppendsFront mid new bytes → first ++ (bytes ++ rest) ≡ whole → AppendsFront old new whole

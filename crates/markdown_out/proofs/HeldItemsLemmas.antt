@@ -1,11 +1,24 @@
 -- What an answer makes of the items that a merge holds.
-use Rattle.std.proofs.Common.{◌≡◌, List, [], ◌∷◌, ◌++◌, map, Result, Option, Some, None, refl, ap}
+use Rattle.std.proofs.Common.{◌≡◌, ◌≤◌, arith, List, [], ◌∷◌, ◌++◌, map, Result, Option, Some, None, refl, ap}
 use Rattle.std.specs.Option.{option_map}
 use Rattle.markdown_base.specs.declared.event.Event.{Event}
 use Rattle.markdown_base.specs.declared.fault.Fault.{Fault}
+use Rattle.markdown_out.specs.declared.merge.held.Step.{Step}
+use Rattle.markdown_out.specs.declared.merge.held.Step.TheVariants as step
 use Rattle.markdown_out.specs.Merge.{Item, PlacedText, text_item, text_in, unless_empty, merge_answers}
-use Rattle.markdown_out.specs.HeldItems.{placed_view, answer_items, IsNoText}
+use Rattle.markdown_out.specs.HeldItems.{placed_view}
+use Rattle.markdown_out.specs.TakenAnswers.{answer_items, IsNoText, answer_count, again_count}
 use Rattle.markdown_out.proofs.MergeLemmas.{merged-alone, merged-one, merged-lone_text, merged-two_texts, merged-three_texts, merged-run_end, merged-run_last, answers-front, answers-alike}
+
+-- an answer stays one, behind a function
+pub answer_count-mapped : {A B : Type 0} (f : A → B) (answer : Option A)
+    → answer_count (option_map f answer) ≡ answer_count answer
+answer_count-mapped f None = refl
+answer_count-mapped f (Some x) = refl
+
+pub again_count-most : {P : Type 0} (step : Step P) → again_count step ≤ 1
+again_count-most step.Again = omega arith
+again_count-most (step.Give r) = omega arith
 
 module _ {P : Type 0} (through : P → P → P) where
   -- an answer, held

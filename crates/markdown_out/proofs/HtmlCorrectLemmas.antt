@@ -1,6 +1,6 @@
 -- What the loop over the events keeps, and what follows from it where the loop is left.
 use Rattle.std.proofs.Common.{◌≡◌, ◌≤◌, ◌^◌, ◌++◌, List, ℕ, [], ◌∷◌, length, map, reverse}
-use Rattle.std.proofs.Common.{sym, ap, subst, ◌∙◌, append_assoc, append-nil}
+use Rattle.std.proofs.Common.{refl, sym, ap, subst, ◌∙◌, append_assoc, append-nil, inl, inr}
 use Rattle.std.proofs.Common.{Result, Ok, Err, Option, Some, None}
 use Rattle.std.proofs.lemmas.List.{map-append, reverse-append}
 use Rattle.std.proofs.iter.Next.{Yields-more}
@@ -11,14 +11,15 @@ use Rattle.markdown_base.specs.declared.event.Event.{Event}
 use Rattle.markdown_base.specs.declared.fault.Fault.{Fault}
 use Rattle.markdown_base.specs.declared.fault.Fault.TheVariants.{Memory, Blocks, Depth}
 use Rattle.markdown_out.specs.ByteLists.{AppendsFront}
-use Rattle.markdown_out.specs.EventHtml.{past_of, event_bytes, bytes_before, closing, html_of}
+use Rattle.markdown_out.specs.EventHtml.{past_of, event_bytes, bytes_before, closing}
+use Rattle.markdown_out.specs.EventHtml.{open_html, bytes_after, closing_after}
 use Rattle.markdown_out.specs.HtmlCorrect.{items, IsRendered, StopsAtError}
 use Rattle.markdown_out.specs.HtmlCorrect.{IsOwnFault}
 use Rattle.markdown_out.specs.LookBacks.{Past, image_before, IsTooDeep}
 use Rattle.markdown_out.specs.Writer.{view_after, MayRefuse, IsFull}
-use Rattle.markdown_out.proofs.ByteListsLemmas.{front-after}
+use Rattle.markdown_out.proofs.ByteListsLemmas.{front-empty}
 use Rattle.markdown_out.proofs.WriterLemmas.{capped, highest, event_bytes-capped, view_after-capped}
-use Rattle.markdown_out.proofs.WriterLemmas.{full_deep}
+use Rattle.markdown_out.proofs.WriterLemmas.{full_deep, full_silent}
 
 -- these events were read and their bytes appended, and the writer remembers what they tell
 pub record Wrote (told : Past) (old new : List ℕ) (yielded : List (Result Event Fault)) : Type 0
@@ -87,28 +88,23 @@ Wrote-more {told} {told'} {old} {new} {new'} {yielded} {item} e h w i n t =
 front-event : {told : Past} {old new out : List ℕ} {yielded : List (Result Event Fault)} (e : Event)
     (w : Wrote told old new yielded)
     → length told.alignments ≤ highest → AppendsFront new out (event_bytes told (event_view e))
-    → AppendsFront old out (html_of (map event_view (w.events ++ e ∷ [])))
+    → AppendsFront (old ++ open_html (map event_view w.events)) out
+    (bytes_after (map event_view w.events) (event_view e))
 front-event {told} {old} {new} {out} e w h f =
-    let before = reverse (map event_view w.events) in
-    let after = reverse (map event_view (w.events ++ e ∷ [])) in
-    let g = subst (AppendsFront new out) (told_bytes (event_view e) w h) f in
-    front-after old new out (bytes_before before) (event_bytes (past_of before) (event_view e))
-    (html_of (map event_view (w.events ++ e ∷ []))) (closing (image_before after)) w.stands g
-    (sym (append_assoc (bytes_before before) (event_bytes (past_of before) (event_view e))
-    (closing (image_before after)))
-    ∙ ap (λ b. bytes_before b ++ closing (image_before after)) (sym (past-more w.events e)))
+    let bytes = bytes_after (map event_view w.events) (event_view e) in
+    subst (λ n. AppendsFront n out bytes) w.stands
+    (subst (AppendsFront new out) (told_bytes (event_view e) w h) f)
 
 -- a front of what closes an image
 front-closing : {told : Past} {old new out : List ℕ} {yielded : List (Result Event Fault)}
     (w : Wrote told old new yielded)
     → AppendsFront new out (closing told.open_image)
-    → AppendsFront old out (html_of (map event_view w.events))
+    → AppendsFront (old ++ open_html (map event_view w.events)) out
+    (closing_after (map event_view w.events))
 front-closing {told} {old} {new} {out} w f =
-    let before = reverse (map event_view w.events) in
-    let g = subst (λ p. AppendsFront new out (closing p.open_image)) w.tells f in
-    front-after old new out (bytes_before before) (closing (image_before before))
-    (html_of (map event_view w.events)) [] w.stands g
-    (ap (λ x. bytes_before before ++ x) (append-nil (closing (image_before before))))
+    let bytes = closing_after (map event_view w.events) in
+    subst (λ n. AppendsFront n out bytes) w.stands
+    (subst (λ p. AppendsFront new out (closing p.open_image)) w.tells f)
 
 module _ {S : Type 0} (steps : S → Option (Result Event Fault) → S → Type 0) where
   pub StopsAtError-from : (it t u : S) {told : Past} {old new : List ℕ} {yielded : List
@@ -130,6 +126,7 @@ module _ {S : Type 0} (steps : S → Option (Result Event Fault) → S → Type 
       → length told.alignments ≤ highest → Yields steps it yielded t → steps t (Some item) u
       → item ≡ Ok e → Wrote told old new yielded → MayRefuse told (event_view e) fault
       → AppendsFront new out (event_bytes told (event_view e)) → IsOwnFault steps it old out fault
+  unfolding Wrote-more
   IsOwnFault-event it t u {told} {old} {new} {out} {yielded} {item} fault e h y p i w m f = by_fault
       fault m
     where
@@ -144,38 +141,43 @@ module _ {S : Type 0} (steps : S → Option (Result Event Fault) → S → Type 
           subst (λ b. IsSomeAnd (image_before b) (λ i. 2 ^ 64 ≤ i.starts))
           (sym (past-more w.events e)) (full_deep (image_before before) (event_view e) full')
 
+      silent : IsFull told.open_image (event_view e) → out ≡ new ++ event_bytes told (event_view e)
+      silent full =
+          let none = full_silent told.open_image told (event_view e) full in
+          front-empty new out (subst (AppendsFront new out) none f)
+          ∙ (sym (append-nil new) ∙ ap (λ bytes. new ++ bytes) (sym none))
+
       by_fault : (fault : Fault) → MayRefuse told (event_view e) fault
           → IsOwnFault steps it old out fault
-      by_fault Memory m = record {
-        events = w.events
-            ++ e ∷ [];
+      by_fault Memory m = inl (record {
+        events = w.events;
+        last = e;
         left = u;
         read = read;
         stands = front-event e w h f;
-      }
+      })
       by_fault Depth m = record {
         events = w.events
             ++ e ∷ [];
         left = u;
         read = read;
-        stands = front-event e w h f;
+        stands = (Wrote-more e h w i (silent m) refl).stands;
         deep = deep m;
       }
       by_fault Blocks m = absurd m
 
   -- memory ran out at the end
-  pub IsOwnFault-end : (it t : S) {told : Past} {old new out : List ℕ} {yielded : List
+  pub IsOwnFault-end : (it t u : S) {told : Past} {old new out : List ℕ} {yielded : List
       (Result Event Fault)} (fault : Fault)
-      → Yields steps it yielded t → Wrote told old new yielded → fault ≡ Memory
+      → Yields steps it yielded t → steps t None u → Wrote told old new yielded → fault ≡ Memory
       → AppendsFront new out (closing told.open_image) → IsOwnFault steps it old out fault
-  IsOwnFault-end it t {told} {old} {new} {out} {yielded} fault y w m f =
+  IsOwnFault-end it t u {told} {old} {new} {out} {yielded} fault y p w m f =
       subst (IsOwnFault steps it old out) (sym m)
-      (record {
+      (inr (record {
         events = w.events;
-        left = t;
-        read = subst (λ ys. Yields steps it ys t) w.read y;
+        read = (u, (t, subst (λ ys. Yields steps it ys t) w.read y, p));
         stands = front-closing w f;
-      })
+      }))
 
   -- all events were written
   pub IsRendered-from : (it t u : S) {told : Past} {old new out : List ℕ} {yielded : List

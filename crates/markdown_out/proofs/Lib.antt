@@ -1,12 +1,14 @@
 pub mod ByteListsLemmas
 pub mod EscapesLemmas
 pub mod EventHtmlLemmas
+pub mod FootnoteNamesLemmas
 pub mod HtmlCorrectLemmas
-pub mod LookBacksLemmas
+pub mod ImageHtmlLemmas
 pub mod WriterLemmas
 pub mod MergeLemmas
 pub mod HeldItemsLemmas
 pub mod MergeNextLemmas
 pub mod MergeLawsLemmas
 pub mod MergedHtmlLemmas
+pub mod DrainedMergeLemmas
 pub mod RenderedMergeLemmas

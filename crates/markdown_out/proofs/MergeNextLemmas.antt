@@ -8,7 +8,8 @@ use Rattle.markdown_base.specs.declared.fault.Fault.{Fault}
 use Rattle.markdown_out.specs.Merge.{Item, merge_answers}
 use Rattle.markdown_out.specs.MergeNext.{Gave, CanMerge}
 use Rattle.markdown_out.specs.AdvanceSteps.{IsMerged}
-use Rattle.markdown_out.specs.HeldItems.{placed_view, held_items, held_count, answer_count, given_answers, TakesIn}
+use Rattle.markdown_out.specs.HeldItems.{placed_view, held_items}
+use Rattle.markdown_out.specs.TakenAnswers.{held_count, answer_count, given_answers, TakesIn}
 use Rattle.markdown_out.specs.declared.merge.held.Held.{Held}
 use Rattle.markdown_out.specs.declared.merge.held.Step.{Step}
 
@@ -57,7 +58,7 @@ module _ {S T P : Type 0} (through : P → P → P) (view : T → Item P) (steps
     leaves = λ later.
         ap (merge_answers through items) (viewed-more view m.answers r later)
         ∙ (m.leaves (option_map view r ∷ later)
-        ∙ (ap (λ x. merge_answers through (held_items now) (x ∷ later)) (sym e) ∙ takes later));
+        ∙ (ap (λ x. merge_answers through (held_items now) (x ∷ later)) (sym e) ∙ takes.leaves later));
   }
 
   module _ (can : S → Type 0) (rest : S → Count) where

@@ -1,21 +1,22 @@
 -- What `push_html` makes of a merge: the HTML of the merge of the events.
-use Rattle.std.proofs.Common.{◌≡◌, ◌⊎◌, ℕ, true, false, List, [], ◌∷◌, ◌++◌, map, Ok, Err, Result, Option, Some, None, refl, sym, ap, subst, ◌∙◌, append_assoc, append-nil, inl, inr}
+use Rattle.std.proofs.Common.{◌≡◌, ◌⊎◌, ℕ, true, false, List, [], ◌∷◌, ◌++◌, map, Ok, Err, Result, Option, Some, None, refl, sym, ap, subst, ◌∙◌, append_assoc, inl, inr}
 use Rattle.std.specs.Bool.{MatchBool}
-use Rattle.std.specs.Option.{option_map}
 use Rattle.std.specs.List.{flat_map}
 use Rattle.std.specs.Iterator.{Count, Yields, Drains}
 use Rattle.std.proofs.lemmas.List.{map-append}
+use Rattle.std.proofs.lemmas.List.Concat.{flat_map-append}
 use Rattle.markdown_base.specs.Event.{EventView, event_view}
 use Rattle.markdown_base.specs.declared.event.Event.{Event}
 use Rattle.markdown_base.specs.declared.fault.Fault.{Fault}
 use Rattle.markdown_base.specs.declared.fault.Fault.TheVariants.{Memory}
-use Rattle.markdown_out.specs.EventHtml.{html_of}
-use Rattle.markdown_out.specs.HtmlCorrect.{items, IsRendered}
-use Rattle.markdown_out.specs.Merge.{Item, PlacedText, text_item, text_in, Run, alone, texts, before_runs, runs, last_text, unless_empty, run_items, merged, merge_answers}
-use Rattle.markdown_out.specs.MergeNext.{Gave, MergeState, PassesOn, MergesNext, item_view}
+use Rattle.markdown_out.specs.EventHtml.{html_of, open_html}
+use Rattle.markdown_out.specs.HtmlCorrect.{items, IsRendered, StopsAtError}
+use Rattle.markdown_out.specs.Merge.{Item, PlacedText, text_item, text_in, Run, alone, texts, before_runs, runs, last_text, unless_empty, run_items, merged}
+use Rattle.markdown_out.specs.MergeNext.{MergeState, PassesOn, item_view}
 use Rattle.markdown_out.specs.Places.{bare, nowhere}
-use Rattle.markdown_out.specs.OutLaws.{event_item, item_events, merged_events, StaysEnded, MergeSteps, IsRenderedMerged}
-use Rattle.markdown_out.proofs.MergeNextLemmas.{gave-append}
+use Rattle.markdown_out.specs.OutLaws.{event_item, item_events, merged_events, StaysEnded, merge_steps, IsNewMerge}
+use Rattle.markdown_out.specs.OutLaws.{IsRenderedMerged, StopsAtErrorMerged, IsRefusedMerged}
+use Rattle.markdown_out.proofs.DrainedMergeLemmas.{gives_the_merge}
 use Rattle.markdown_out.proofs.MergeLawsLemmas.{IsText, text_or_none}
 
 abbrev U : Type 0
@@ -26,6 +27,12 @@ Raw = Result Event Fault
 
 abbrev view : Raw → Item U
 view = item_view bare
+
+abbrev no_answer : Option Raw
+no_answer = None
+
+abbrev error : Fault → Raw
+error fault = Err fault
 
 -- ---- what the runs of a list hold
 
@@ -95,208 +102,238 @@ events-items : (es : List EventView) → flat_map item_events (map event_item es
 events-items [] = refl
 events-items (e ∷ es) = ap (λ ys. e ∷ ys) (events-items es)
 
--- ---- answers up to the first None
+-- ---- the first error
 
--- every answer is None
-abbrev AreNone : {A : Type 0} → List (Option A) → Type 0
-AreNone [] = Unit {0}
-AreNone (None ∷ rs) = AreNone rs
-AreNone (Some x ∷ rs) = ⊥
+no_error-unless : (bytes : List ℕ) (p : U) (xs : List (Item U)) → HasNoError xs → HasNoError (unless_empty bytes p ++ xs)
+no_error-unless [] p xs h = h
+no_error-unless (b ∷ bytes) p xs h = h
 
-cons-head : {A : Type 0} {x y : A} {xs ys : List A} → x ∷ xs ≡ y ∷ ys → x ≡ y
-cons-head {A} {x} {y} {xs} {ys} e = cc
+no_error-behind : (us : List (PlacedText U)) (xs : List (Item U)) → HasNoError (map text_item us ++ xs) → HasNoError xs
+no_error-behind [] xs h = h
+no_error-behind (u ∷ us) xs h = no_error-behind us xs h
 
-cons-tail : {A : Type 0} {x y : A} {xs ys : List A} → x ∷ xs ≡ y ∷ ys → xs ≡ ys
-cons-tail {A} {x} {y} {xs} {ys} e = cc
+no_error-given : (rs : List (Run U)) → HasNoError (flat_map run_source rs) → HasNoError (flat_map (run_items nowhere) rs)
+no_error-given [] h = tt
+no_error-given (alone (Ok x) ∷ rs) h = no_error-given rs h
+no_error-given (alone (Err fault) ∷ rs) h = absurd h
+no_error-given (texts t [] ∷ rs) h = no_error-given rs h
+no_error-given (texts t (u ∷ us) ∷ rs) h =
+    no_error-unless (flat_map (λ x. x.bytes) (t ∷ u ∷ us)) (nowhere t.place (last_text u us).place) (flat_map (run_items nowhere) rs)
+    (no_error-given rs (no_error-behind us (flat_map run_source rs) h))
 
-some-same : {A : Type 0} {x y : A} → Some x ≡ Some y → x ≡ y
-some-same {A} {x} {y} e = cc
+-- a merge of no error has none
+no_error-merged : (xs : List (Item U)) → HasNoError xs → HasNoError (merged nowhere xs)
+no_error-merged xs h = no_error-given (runs xs) (subst HasNoError (sym (runs_of_items xs)) h)
 
-nones-some : {A : Type 0} (q : List (Option A)) (y : A) (rest : List (Option A)) → AreNone q → q ≡ Some y ∷ rest → ⊥
-nones-some [] y rest n e = cc
-nones-some (None ∷ q) y rest n e = cc
-nones-some (Some x ∷ q) y rest n e = absurd n
+error-among : (xs : List (Item U)) (fault : Fault) (rest : List (Item U)) → HasNoError (xs ++ Err fault ∷ rest) → ⊥
+error-among [] fault rest h = h
+error-among (Ok x ∷ xs) fault rest h = error-among xs fault rest h
+error-among (Err f ∷ xs) fault rest h = h
 
--- items before Nones, and items before a None
-same-fronts : {A : Type 0} (a b : List A) (q r : List (Option A)) → AreNone q → map (λ x. Some x) a ++ q ≡ map (λ x. Some x) b ++ (None ∷ r) → a ≡ b
-same-fronts [] [] q r n e = refl
-same-fronts [] (y ∷ b) q r n e = absurd (nones-some q y (map (λ x. Some x) b ++ (None ∷ r)) n e)
-same-fronts (x ∷ a) [] q r n e = absurd (none-some (cons-head e))
+-- an error ends a run, and begins none
+runs-before : (x : Item U) (o : Option (PlacedText U)) (rs : List (Run U)) (y : Item U) (more : List (Run U))
+    → before_runs x o (rs ++ alone y ∷ more) ≡ before_runs x o rs ++ alone y ∷ more
+runs-before x None rs y more = refl
+runs-before x (Some t) [] y more = refl
+runs-before x (Some t) (alone z ∷ rs) y more = refl
+runs-before x (Some t) (texts u us ∷ rs) y more = refl
+
+runs-error : (xs : List (Item U)) (fault : Fault) (ys : List (Item U)) → runs (xs ++ Err fault ∷ ys) ≡ runs xs ++ alone (Err fault) ∷ runs ys
+runs-error [] fault ys = refl
+runs-error (x ∷ xs) fault ys =
+    ap (before_runs x (text_in x)) (runs-error xs fault ys) ∙ runs-before x (text_in x) (runs xs) (Err fault) (runs ys)
+
+merged-error : (xs : List (Item U)) (fault : Fault) (ys : List (Item U))
+    → merged nowhere (xs ++ Err fault ∷ ys) ≡ merged nowhere xs ++ Err fault ∷ merged nowhere ys
+merged-error xs fault ys =
+    ap (flat_map (run_items nowhere)) (runs-error xs fault ys)
+    ∙ flat_map-append (run_items nowhere) (runs xs) (alone (Err fault) ∷ runs ys)
+
+head-of : {A : Type 0} {x y : A} {xs ys : List A} → x ∷ xs ≡ y ∷ ys → x ≡ y
+head-of {A} {x} {y} {xs} {ys} e = cc
+
+tail-of : {A : Type 0} {x y : A} {xs ys : List A} → x ∷ xs ≡ y ∷ ys → xs ≡ ys
+tail-of {A} {x} {y} {xs} {ys} e = cc
+
+ok-error : (x : EventView × U) (fault : Fault) → Ok x ≡ Err fault → ⊥
+ok-error x fault e = cc
+
+abbrev error_item : Fault → Item U
+error_item fault = Err fault
+
+same-error : (f g : Fault) → error_item f ≡ error_item g → f ≡ g
+same-error f g e = cc
+
+-- the items before the first error, and the error
+same-until-error : (a b : List (Item U)) (f g : Fault) (ra rb : List (Item U)) → HasNoError a → HasNoError b
+    → a ++ Err f ∷ ra ≡ b ++ Err g ∷ rb → (a ≡ b) × (f ≡ g)
+same-until-error [] [] f g ra rb h k e = (refl, same-error f g (head-of e))
+same-until-error [] (Ok y ∷ b) f g ra rb h k e = absurd (ok-error y f (sym (head-of e)))
+same-until-error [] (Err y ∷ b) f g ra rb h k e = absurd k
+same-until-error (Ok x ∷ a) [] f g ra rb h k e = absurd (ok-error x g (head-of e))
+same-until-error (Err x ∷ a) b f g ra rb h k e = absurd h
+same-until-error (Ok x ∷ a) (Err y ∷ b) f g ra rb h k e = absurd k
+same-until-error (Ok x ∷ a) (Ok y ∷ b) f g ra rb h k e =
+    let rest = same-until-error a b f g ra rb h k (tail-of e) in
+    (ap (λ z. z ∷ a) (head-of e) ∙ ap (λ zs. Ok y ∷ zs) rest.0, rest.1)
+
+-- items, cut at the first error
+record IsErrorCut (xs : List Raw) : Type 0 where
+  pub events : List Event
+  pub fault : Fault
+  pub after : List Raw
+  pub is : xs ≡ items events ++ Err fault ∷ after
+
+error_cut : (xs : List Raw) → AreEvents xs ⊎ IsErrorCut xs
+error_cut [] = inl (record { events = []; are = refl })
+error_cut (Err fault ∷ xs) = inr (record { events = []; fault = fault; after = xs; is = refl })
+error_cut (Ok e ∷ xs) = more (error_cut xs)
   where
-    none-some : {A : Type 0} {x : A} → Some x ≡ None → ⊥
-    none-some {A} {x} e = cc
-same-fronts (x ∷ a) (y ∷ b) q r n e =
-    let head : x ≡ y = some-same (cons-head e) in
-    ap (λ z. z ∷ a) head ∙ ap (λ zs. y ∷ zs) (same-fronts a b q r n (cons-tail e))
+    more : AreEvents xs ⊎ IsErrorCut xs → AreEvents (Ok e ∷ xs) ⊎ IsErrorCut (Ok e ∷ xs)
+    more (inl a) = inl (events-more e xs a)
+    more (inr c) = inr (record { events = e ∷ c.events; fault = c.fault; after = c.after; is = ap (λ ys. Ok e ∷ ys) c.is })
 
-none-missing : {A : Type 0} (a b : List A) (r : List (Option A)) → map (λ x. Some x) a ≡ map (λ x. Some x) b ++ (None ∷ r) → ⊥
-none-missing [] [] r e = cc
-none-missing [] (y ∷ b) r e = cc
-none-missing (x ∷ a) [] r e = cc
-none-missing (x ∷ a) (y ∷ b) r e = none-missing a b r (cons-tail e)
+-- items whose merge has this error behind these events begin with events of that merge, and the error
+record IsStopped (xs : List Raw) (views : List EventView) (fault : Fault) : Type 0 where
+  pub events : List Event
+  pub after : List Raw
+  pub is : xs ≡ (items events ++ Err fault ∷ []) ++ after
+  pub merges : merged_events (map event_view events) ≡ views
 
--- a list of answers, cut at its first None
-record IsCut (answers : List (Option Raw)) : Type 0 where
-  pub before : List Raw
-  pub after : List (Option Raw)
-  pub is : answers ≡ map (λ x. Some x) before ++ (None ∷ after)
+merges-events : (es : List Event) (views : List EventView) → merged nowhere (map view (items es)) ≡ map event_item views
+    → merged_events (map event_view es) ≡ views
+merges-events es views e =
+    ap (λ xs. flat_map item_events (merged nowhere xs)) (sym (views-items es))
+    ∙ (ap (flat_map item_events) e ∙ events-items views)
 
-record HasNoNone (answers : List (Option Raw)) : Type 0 where
-  pub all : List Raw
-  pub is : answers ≡ map (λ x. Some x) all
-
-cut : (answers : List (Option Raw)) → IsCut answers ⊎ HasNoNone answers
-cut [] = inr (record { all = []; is = refl })
-cut (None ∷ rest) = inl (record { before = []; after = rest; is = refl })
-cut (Some x ∷ rest) = more (cut rest)
+stopped : (xs : List Raw) (views : List EventView) (fault : Fault) (rest : List (Item U))
+    → merged nowhere (map view xs) ≡ map event_item views ++ Err fault ∷ rest → IsStopped xs views fault
+stopped xs views fault rest e = by_cut (error_cut xs)
   where
-    more : IsCut rest ⊎ HasNoNone rest → IsCut (Some x ∷ rest) ⊎ HasNoNone (Some x ∷ rest)
-    more (inl c) = inl (record { before = x ∷ c.before; after = c.after; is = ap (λ ys. Some x ∷ ys) c.is })
-    more (inr n) = inr (record { all = x ∷ n.all; is = ap (λ ys. Some x ∷ ys) n.is })
+    by_cut : AreEvents xs ⊎ IsErrorCut xs → IsStopped xs views fault
+    by_cut (inl a) =
+        let none = no_error-merged (map event_item (map event_view a.events)) (no_error-views (map event_view a.events)) in
+        let seen : map view xs ≡ map event_item (map event_view a.events) = ap (map view) a.are ∙ views-items a.events in
+        absurd (error-among (map event_item views) fault rest (subst HasNoError (ap (merged nowhere) (sym seen) ∙ e) none))
+    by_cut (inr c) =
+        let front = map event_item (map event_view c.events) in
+        let seen : map view xs ≡ front ++ Err c.fault ∷ map view c.after =
+        ap (map view) c.is ∙ (map-append view (items c.events) (Err c.fault ∷ c.after)
+        ∙ ap (λ ys. ys ++ Err c.fault ∷ map view c.after) (views-items c.events)) in
+        let same = same-until-error (merged nowhere front) (map event_item views) c.fault fault (merged nowhere (map view c.after)) rest
+        (no_error-merged front (no_error-views (map event_view c.events))) (no_error-views views)
+        (sym (merged-error front c.fault (map view c.after)) ∙ (ap (merged nowhere) (sym seen) ∙ e)) in
+        record {
+          events = c.events;
+          after = c.after;
+          is = c.is ∙ (ap (λ f. items c.events ++ Err f ∷ c.after) same.1 ∙ sym (append_assoc (items c.events) (Err fault ∷ []) c.after));
+          merges = merges-events c.events views (ap (merged nowhere) (views-items c.events) ∙ same.0);
+        }
 
--- ---- what a merge answers of these
+-- ---- the calls
 
--- a stretch of items, and a None behind it
-abbrev stretch : List (Item U) → List (Option (Item U)) → List (Option (Item U))
-stretch [] later = None ∷ merge_answers nowhere [] later
-stretch (x ∷ xs) later = map (λ i. Some i) (merged nowhere (x ∷ xs)) ++ merge_answers nowhere [] later
+module _ {S A : Type 0} (steps : S → Option A → S → Type 0) where
+  record YieldsFront (s : S) (xs ys : List A) (t : S) : Type 0 where
+    pub mid : S
+    pub first : Yields steps s xs mid
+    pub rest : Yields steps mid ys t
 
-answers-stretch : (held xs : List (Item U)) (later : List (Option (Item U))) → merge_answers nowhere held (map (λ i. Some i) xs ++ (None ∷ later)) ≡ stretch (held ++ xs) later
-answers-stretch [] [] later = refl
-answers-stretch (y ∷ held) [] later = ap (λ zs. stretch (y ∷ zs) later) (sym (append-nil held))
-answers-stretch held (x ∷ xs) later = answers-stretch (held ++ x ∷ []) xs later ∙ ap (λ zs. stretch zs later) (append_assoc held (x ∷ []) xs)
+  yields-front : (s t : S) (xs ys : List A) → Yields steps s (xs ++ ys) t → YieldsFront s xs ys t
+  yields-front s t [] ys y = record { mid = s; first = refl; rest = y }
+  yields-front s t (x ∷ xs) ys y =
+      let f = yields-front y.0 t xs ys y.2 in record { mid = f.mid; first = (y.0, y.1, f.first); rest = f.rest }
 
-answers-last : (held xs : List (Item U)) → merge_answers nowhere held (map (λ i. Some i) xs) ≡ map (λ i. Some i) (merged nowhere (held ++ xs))
-answers-last held [] = ap (λ zs. map (λ i. Some i) (merged nowhere zs)) (sym (append-nil held))
-answers-last held (x ∷ xs) = answers-last (held ++ x ∷ []) xs ∙ ap (λ zs. map (λ i. Some i) (merged nowhere zs)) (append_assoc held (x ∷ []) xs)
+module _ {S M : Type 0} (steps : S → Option Raw → S → Type 0) (can : S → Type 0) (rest : S → Count) (state : M → MergeState S U) where
+  abbrev calls : M → Option Raw → M → Type 0
+  calls = merge_steps nowhere view steps can rest state
 
-answers-nones : (rs : List (Option (Item U))) → AreNone rs → AreNone (merge_answers nowhere [] rs)
-answers-nones [] n = tt
-answers-nones (None ∷ rs) n = answers-nones rs n
-answers-nones (Some x ∷ rs) n = absurd n
+  abbrev Passes : M → Option Raw → M → Type 0
+  Passes m r t = PassesOn nowhere view steps (state m) r (state t)
 
--- the items given before the first None are those of the stretch, merged
-given-stretch : (vs its : List (Item U)) (later rest : List (Option (Item U))) → AreNone later → stretch vs later ≡ map (λ i. Some i) its ++ (None ∷ rest) → merged nowhere vs ≡ its
-given-stretch [] its later rest n e = same-fronts [] its (None ∷ merge_answers nowhere [] later) rest (answers-nones later n) e
-given-stretch (v ∷ vs) its later rest n e = same-fronts (merged nowhere (v ∷ vs)) its (merge_answers nowhere [] later) rest (answers-nones later n) e
+  -- a merge that is not over passes on, or is refused memory
+  pub passes_or_refused : (m t : M) (r : Option Raw) → (state m).over ≡ false → calls m r t
+      → Passes m r t ⊎ ((r ≡ Some (Err Memory)) × ((state t).over ≡ true))
+  passes_or_refused m t r o c = subst (λ b. MatchBool b ((r ≡ None) × ((state t).over ≡ true))
+      (Passes m r t ⊎ ((r ≡ Some (Err Memory)) × ((state t).over ≡ true)))) o c.gives
 
-views-some : (xs : List Raw) → map (option_map view) (map (λ x. Some x) xs) ≡ map (λ i. Some i) (map view xs)
-views-some [] = refl
-views-some (x ∷ xs) = ap (λ ys. Some (view x) ∷ ys) (views-some xs)
-
-module _ {S : Type 0} (steps : S → Option Raw → S → Type 0) where
-  -- what a whole run of a merge gave
-  record IsRun (s : MergeState S U) (given : List (Option (Item U))) (t : MergeState S U) : Type 0 where
-    pub answers : List (Option Raw)
-    pub read : Gave steps s.iter answers t.iter
-    pub leaves : (later : List (Option (Item U))) → merge_answers nowhere s.held (map (option_map view) answers ++ later) ≡ given ++ merge_answers nowhere t.held later
-    pub goes_on : t.over ≡ false
-
-  abbrev IsRefusal : Option Raw → Type 0
-  IsRefusal r = r ≡ Some (Err Memory)
-
-  passes : (s : MergeState S U) (r : Option Raw) (t : MergeState S U) → s.over ≡ false → (IsRefusal r → ⊥) → MergesNext nowhere view steps s r t → PassesOn nowhere view steps s r t
-  passes s r t e n m = by_kind (subst (λ b. MatchBool b ((r ≡ None) × (t.over ≡ true)) (PassesOn nowhere view steps s r t ⊎ ((r ≡ Some (Err Memory)) × (t.over ≡ true)))) e m)
+  ok-goes-on : (m t : M) (e : Event) → (state m).over ≡ false → calls m (Some (Ok e)) t → (state t).over ≡ false
+  ok-goes-on m t e o c = by (passes_or_refused m t (Some (Ok e)) o c)
     where
-      by_kind : PassesOn nowhere view steps s r t ⊎ ((r ≡ Some (Err Memory)) × (t.over ≡ true)) → PassesOn nowhere view steps s r t
-      by_kind (inl p) = p
-      by_kind (inr q) = absurd (n q.0)
+      no_refusal : (e : Event) → Some (Ok e) ≡ Some (Err Memory) → ⊥
+      no_refusal e h = cc
 
-  run-more : (s t u : MergeState S U) (r : Option Raw) (given : List (Option (Item U))) → PassesOn nowhere view steps s r t → IsRun t given u → IsRun s (option_map view r ∷ given) u
-  run-more s t u r given p run = record {
-    answers = p.answers ++ run.answers;
-    read = gave-append steps s.iter t.iter u.iter p.answers run.answers p.read run.read;
-    leaves = λ later.
-        ap (λ rs. merge_answers nowhere s.held (rs ++ later)) (map-append (option_map view) p.answers run.answers)
-        ∙ (ap (merge_answers nowhere s.held) (append_assoc (map (option_map view) p.answers) (map (option_map view) run.answers) later)
-        ∙ (p.leaves (map (option_map view) run.answers ++ later) ∙ ap (λ rs. option_map view r ∷ rs) (run.leaves later)));
-    goes_on = run.goes_on;
-  }
+      by : Passes m (Some (Ok e)) t ⊎ ((Some (Ok e) ≡ Some (Err Memory)) × ((state t).over ≡ true)) → (state t).over ≡ false
+      by (inl p) = p.goes_on
+      by (inr q) = absurd (no_refusal e q.0)
 
-  -- an iterator that stays ended gives None and nothing else
-  ended-nones : StaysEnded steps → (s t u : S) (rs : List (Option Raw)) → steps s None t → Gave steps t rs u → AreNone (map (option_map view) rs)
-  ended-nones ends s t u [] p g = tt
-  ended-nones ends s t u (None ∷ rs) p g = ended-nones ends t g.0 u rs g.1 g.2
-  ended-nones ends s t u (Some x ∷ rs) p g = absurd (some-none (ends s t g.0 (Some x) p g.1))
+  none-goes-on : (m t : M) → (state m).over ≡ false → calls m None t → (state t).over ≡ false
+  none-goes-on m t o c = by (passes_or_refused m t None o c)
     where
-      some-none : {A : Type 0} {x : A} → Some x ≡ None → ⊥
-      some-none {A} {x} e = cc
+      no_refusal : no_answer ≡ Some (error Memory) → ⊥
+      no_refusal h = cc
 
-  -- the calls up to a None, and those after it
-  record IsEnded (s : S) (xs : List Raw) (later : List (Option Raw)) (u : S) : Type 0 where
-    pub last : S
-    pub end : S
-    pub yields : Yields steps s xs last
-    pub ends : steps last None end
-    pub after : Gave steps end later u
+      by : Passes m None t ⊎ ((no_answer ≡ Some (error Memory)) × ((state t).over ≡ true)) → (state t).over ≡ false
+      by (inl p) = p.goes_on
+      by (inr q) = absurd (no_refusal q.0)
 
-  ended : (s u : S) (xs : List Raw) (later : List (Option Raw)) → Gave steps s (map (λ x. Some x) xs ++ (None ∷ later)) u → IsEnded s xs later u
-  ended s u [] later g = record { last = s; end = g.0; yields = refl; ends = g.1; after = g.2 }
-  ended s u (x ∷ xs) later g =
-      let rest = ended g.0 u xs later g.2 in
-      record { last = rest.last; end = rest.end; yields = (g.0, g.1, rest.yields); ends = rest.ends; after = rest.after }
+  events-go-on : (m t : M) (es : List Event) → (state m).over ≡ false → Yields calls m (items es) t → (state t).over ≡ false
+  events-go-on m t [] o y = subst (λ k. (state k).over ≡ false) y o
+  events-go-on m t (e ∷ es) o y = events-go-on y.0 t es (ok-goes-on m y.0 e o y.1) y.2
 
-  -- what a run up to None gave is the merge of the events up to None
-  record IsMergeOf (it : S) (views : List EventView) : Type 0 where
-    pub events : List Event
-    pub read : Drains steps it (items events)
-    pub merges : merged_events (map event_view events) ≡ views
-
-  merge-of : StaysEnded steps → (s u : MergeState S U) (views : List EventView) → s.held ≡ [] → IsRun s (map (λ i. Some i) (map event_item views) ++ (None ∷ [])) u → IsMergeOf s.iter views
-  merge-of ends s u views empty run = by_cut (cut run.answers)
-    where
-      its : List (Item U)
-      its = map event_item views
-
-      all : merge_answers nowhere [] (map (option_map view) run.answers) ≡ map (λ i. Some i) its ++ (None ∷ merge_answers nowhere u.held [])
-      all = ap (λ h. merge_answers nowhere h (map (option_map view) run.answers)) (sym empty)
-          ∙ (ap (merge_answers nowhere s.held) (sym (append-nil (map (option_map view) run.answers)))
-          ∙ (run.leaves [] ∙ append_assoc (map (λ i. Some i) its) (None ∷ []) (merge_answers nowhere u.held [])))
-
-      by_cut : IsCut run.answers ⊎ HasNoNone run.answers → IsMergeOf s.iter views
-      by_cut (inr n) = absurd (none-missing (merged nowhere (map view n.all)) its (merge_answers nowhere u.held [])
-          (sym (answers-last [] (map view n.all)) ∙ (ap (merge_answers nowhere []) (sym (ap (map (option_map view)) n.is ∙ views-some n.all)) ∙ all)))
-      by_cut (inl c) =
-          let e = ended s.iter u.iter c.before c.after (subst (λ rs. Gave steps s.iter rs u.iter) c.is run.read) in
-          let later = map (option_map view) c.after in
-          let seen : map (option_map view) run.answers ≡ map (λ i. Some i) (map view c.before) ++ (None ∷ later) =
-          ap (map (option_map view)) c.is ∙ (map-append (option_map view) (map (λ x. Some x) c.before) (None ∷ c.after) ∙ ap (λ ys. ys ++ (None ∷ later)) (views-some c.before)) in
-          let given : merged nowhere (map view c.before) ≡ its =
-          given-stretch (map view c.before) its later (merge_answers nowhere u.held []) (ended-nones ends e.last e.end u.iter c.after e.ends e.after)
-          (sym (answers-stretch [] (map view c.before) later) ∙ (ap (merge_answers nowhere []) (sym seen) ∙ all)) in
-          let no_error = subst HasNoError (runs_of_items (map view c.before)) (no_error-runs (runs (map view c.before)) (subst HasNoError (sym given) (no_error-views views))) in
-          let read = are_events c.before no_error in
-          record {
-            events = read.events;
-            read = subst (λ xs. Drains steps s.iter xs) read.are (e.end, (e.last, e.yields, e.ends));
-            merges = ap (λ xs. flat_map item_events (merged nowhere xs)) (sym (views-items read.events) ∙ ap (map view) (sym read.are))
-                ∙ (ap (flat_map item_events) given ∙ events-items views);
-          }
-
-  module _ {M : Type 0} (can : S → Type 0) (rest : S → Count) (state : M → MergeState S U) where
-    abbrev merge_steps : M → Option Raw → M → Type 0
-    merge_steps m r t = MergeSteps steps can rest (state m) r (state t)
-
-    ok-no_refusal : (e : Event) → IsRefusal (Some (Ok e)) → ⊥
-    ok-no_refusal e h = cc
-
-    none-no_refusal : IsRefusal None → ⊥
-    none-no_refusal h = cc
-
-    run-of : (m : M) (es : List Event) (t u : M) → (state m).over ≡ false → Yields merge_steps m (items es) t → merge_steps t None u
-        → IsRun (state m) (map (λ i. Some i) (map event_item (map event_view es)) ++ (None ∷ [])) (state u)
-    run-of m [] t u o y p =
-        let q = passes (state m) None (state u) o none-no_refusal (subst (λ k. merge_steps k None u) (sym y) p).gives in
-        record { answers = q.answers; read = q.read; leaves = q.leaves; goes_on = q.goes_on }
-    run-of m (e ∷ es) t u o y p =
-        let q = passes (state m) (Some (Ok e)) (state y.0) o (ok-no_refusal e) y.1.gives in
-        run-more (state m) (state y.0) (state u) (Some (Ok e)) (map (λ i. Some i) (map event_item (map event_view es)) ++ (None ∷ [])) q (run-of y.0 es t u q.goes_on y.2 p)
-
+  module _ (ends : StaysEnded steps) (m : M) (old new : List ℕ) (begun : IsNewMerge (state m)) where
     -- the HTML of a merge is that of the merge of the events
-    pub rendered-merged : StaysEnded steps → (m : M) (old new : List ℕ) → (state m).held ≡ [] → (state m).over ≡ false
-        → IsRendered merge_steps m old new → IsRenderedMerged steps (state m).iter old new
-    rendered-merged ends m old new h o r =
-        let views = map event_view r.events in
-        let run = run-of m r.events r.read.1.0 r.read.0 o r.read.1.1 r.read.1.2 in
-        let of = merge-of ends (state m) (state r.read.0) views h run in
-        record { events = of.events; read = of.read; stands = r.stands ∙ ap (λ es. old ++ html_of es) (sym of.merges) }
+    pub rendered-merged : IsRendered calls m old new → IsRenderedMerged steps (state m).iter old new
+    rendered-merged r =
+        let es = r.events in
+        let views = map event_view es in
+        let t = r.read.1.0 in
+        let n = none-goes-on t r.read.0 (events-go-on m t es begun.goes_on r.read.1.1) r.read.1.2 in
+        let g = (gives_the_merge nowhere view steps can rest state ends m begun).all (items es) t r.read.0 r.read.1.1 r.read.1.2 n in
+        let given : merged nowhere (map view g.all) ≡ map event_item views = g.merges ∙ views-items es in
+        let no_error = subst HasNoError (runs_of_items (map view g.all)) (no_error-runs (runs (map view g.all)) (subst HasNoError (sym given) (no_error-views views))) in
+        let read = are_events g.all no_error in
+        let merges = merges-events read.events views (ap (λ xs. merged nowhere (map view xs)) (sym read.are) ∙ given) in
+        record {
+          events = read.events;
+          read = subst (λ xs. Drains steps (state m).iter xs) read.are g.read;
+          stands = r.stands ∙ ap (λ vs. old ++ html_of vs) (sym merges);
+        }
+
+    -- and so it is where the merge gives an error, of the iterator or its own
+    pub stopped-merged : (fault : Fault) → StopsAtError calls m old new fault
+        → StopsAtErrorMerged steps (state m).iter old new fault ⊎ ((fault ≡ Memory) × IsRefusedMerged steps (state m).iter old new)
+    stopped-merged fault r = by (passes_or_refused f.mid f.rest.0 (Some (Err fault)) o f.rest.1)
+      where
+        es : List Event
+        es = r.events
+
+        f : YieldsFront calls m (items r.events) (Err fault ∷ []) r.left
+        f = yields-front calls m r.left (items r.events) (Err fault ∷ []) r.read
+
+        o : (state f.mid).over ≡ false
+        o = events-go-on m f.mid es begun.goes_on f.first
+
+        same-fault : Some (error fault) ≡ Some (error Memory) → fault ≡ Memory
+        same-fault h = cc
+
+        by : Passes f.mid (Some (Err fault)) f.rest.0 ⊎ ((Some (error fault) ≡ Some (error Memory)) × ((state f.rest.0).over ≡ true))
+            → StopsAtErrorMerged steps (state m).iter old new fault ⊎ ((fault ≡ Memory) × IsRefusedMerged steps (state m).iter old new)
+        by (inl p) =
+            let last : (state r.left).over ≡ false = subst (λ k. (state k).over ≡ false) f.rest.2 p.goes_on in
+            let g = (gives_the_merge nowhere view steps can rest state ends m begun).so_far (items es ++ Err fault ∷ []) r.left r.read last in
+            let seen : map view (items es ++ Err fault ∷ []) ≡ map event_item (map event_view es) ++ Err fault ∷ [] =
+            map-append view (items es) (Err fault ∷ []) ∙ ap (λ ys. ys ++ Err fault ∷ []) (views-items es) in
+            let s = stopped g.so_far (map event_view es) fault g.missing
+            (g.merges ∙ (ap (λ ys. ys ++ g.missing) seen ∙ append_assoc (map event_item (map event_view es)) (Err fault ∷ []) g.missing)) in
+            let y = yields-front steps (state m).iter g.left (items s.events ++ Err fault ∷ []) s.after (subst (λ xs. Yields steps (state m).iter xs g.left) s.is g.read) in
+            inl (record {
+              events = s.events;
+              left = y.mid;
+              read = y.first;
+              stands = r.stands ∙ ap (λ vs. old ++ open_html vs) (sym s.merges);
+            })
+        by (inr q) = inr (same-fault q.0, record {
+          events = es;
+          front = (gives_the_merge nowhere view steps can rest state ends m begun).so_far (items es) f.mid f.first o;
+          stands = r.stands;
+        })

@@ -133,3 +133,9 @@ pub full_deep : (within : Option OpenImageView) (e : EventView) → IsFull withi
     → IsSomeAnd (image_after within e) (λ i. 2 ^ 64 ≤ i.starts)
 full_deep (Some i) (start tag) h = omega arith
 full_deep within e h = absurd h
+
+-- it writes nothing
+pub full_silent : (within : Option OpenImageView) (past : Past) (e : EventView) → IsFull within e
+    → bytes_by_image within past e ≡ []
+full_silent (Some i) past (start tag) h = refl
+full_silent within past e h = absurd h

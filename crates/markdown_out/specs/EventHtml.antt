@@ -1,6 +1,5 @@
 -- The HTML of a list of events: the bytes of each event by what the events before it tell, and
--- these
--- one after another.
+-- these one after another.
 use Rattle.std.specs.Prelude.{ℕ, zero, suc, Bool, true, false, List, [], ◌∷◌, ◌++◌, codes}
 use Rattle.std.specs.Prelude.{if◌then◌else◌, reverse, Option, Some, None}
 use Rattle.markdown_base.specs.Event.{EventView, start, end, text, code, inline_math, display_math}
@@ -99,10 +98,18 @@ abbrev pub bytes_before : List EventView → List ℕ
 bytes_before [] = []
 bytes_before (e ∷ before) = bytes_before before ++ event_bytes (past_of before) e
 
+-- the bytes of an event after these
+abbrev pub bytes_after : List EventView → EventView → List ℕ
+bytes_after events e = event_bytes (past_of (reverse events)) e
+
 -- what closes an image that is open
 abbrev pub closing : Option OpenImageView → List ℕ
 closing None = []
 closing (Some i) = image_end i.title
+
+-- what closes an image whose End is not among these events
+abbrev pub closing_after : List EventView → List ℕ
+closing_after events = closing (image_before (reverse events))
 
 -- the HTML of a list of events, without the closing bytes of an image whose End is not in it
 abbrev pub open_html : List EventView → List ℕ
@@ -110,4 +117,4 @@ open_html events = bytes_before (reverse events)
 
 -- the HTML of a list of events
 abbrev pub html_of : List EventView → List ℕ
-html_of events = open_html events ++ closing (image_before (reverse events))
+html_of events = open_html events ++ closing_after events

@@ -1,14 +1,13 @@
 -- What `push_html` read of an iterator and what it left in the string: at its end, at an error
--- among
--- the items, and at a fault of its own.
-use Rattle.std.specs.Prelude.{◌≡◌, ℕ, List, [], ◌∷◌, ◌++◌, map, Ok, Err, Result, Option}
+-- among the items, and at a fault of its own.
+use Rattle.std.specs.Prelude.{◌≡◌, ◌⊎◌, ℕ, List, [], ◌∷◌, ◌++◌, map, Ok, Err, Result, Option}
 use Rattle.std.specs.Iterator.{Yields, Drains}
 use Rattle.markdown_base.specs.Event.{event_view}
 use Rattle.markdown_base.specs.declared.event.Event.{Event}
 use Rattle.markdown_base.specs.declared.fault.Fault.{Fault}
 use Rattle.markdown_base.specs.declared.fault.Fault.TheVariants.{Memory, Blocks, Depth}
 use Rattle.markdown_out.specs.ByteLists.{AppendsFront}
-use Rattle.markdown_out.specs.EventHtml.{html_of, open_html}
+use Rattle.markdown_out.specs.EventHtml.{html_of, open_html, bytes_after, closing_after}
 use Rattle.markdown_out.specs.LookBacks.{IsTooDeep}
 
 -- events, as items of an iterator
@@ -30,23 +29,34 @@ module _ {S : Type 0} (steps : S → Option (Result Event Fault) → S → Type 
     pub read : Yields steps it (items events ++ Err fault ∷ []) left
     pub stands : new ≡ old ++ open_html (map event_view events)
 
-  -- these events were read, and a front of their HTML stands behind the old text
+  -- memory was refused at the last event read: the open HTML of those before it stands, and behind
+  -- it a front of its own bytes
   pub record IsCutShort : Type 0 where
     pub events : List Event
+    pub last : Event
     pub left : S
-    pub read : Yields steps it (items events) left
-    pub stands : AppendsFront old new (html_of (map event_view events))
+    pub read : Yields steps it (items (events ++ last ∷ [])) left
+    pub stands : AppendsFront (old ++ open_html (map event_view events)) new
+        (bytes_after (map event_view events) (event_view last))
 
-  -- the same, and more Starts are open in an image than can be counted
+  -- memory was refused behind all events, where an image was to be closed: their open HTML stands,
+  -- and behind it a front of what closes the image
+  pub record IsCutAtEnd : Type 0 where
+    pub events : List Event
+    pub read : Drains steps it (items events)
+    pub stands : AppendsFront (old ++ open_html (map event_view events)) new
+        (closing_after (map event_view events))
+
+  -- more Starts are open in an image than can be counted; the open HTML of the events read stands
   pub record GoesTooDeep : Type 0 where
     pub events : List Event
     pub left : S
     pub read : Yields steps it (items events) left
-    pub stands : AppendsFront old new (html_of (map event_view events))
+    pub stands : new ≡ old ++ open_html (map event_view events)
     pub deep : IsTooDeep (map event_view events)
 
   -- a fault of the call's own
   abbrev pub IsOwnFault : Fault → Type 0
-  IsOwnFault Memory = IsCutShort
+  IsOwnFault Memory = IsCutShort ⊎ IsCutAtEnd
   IsOwnFault Depth = GoesTooDeep
   IsOwnFault Blocks = ⊥

@@ -4,17 +4,20 @@ pub mod LookBacks
 pub mod AltText
 pub mod TagHtml
 pub mod EventHtml
+pub mod ImageHtml
 pub mod HtmlCorrect
 pub mod ByteLists
 pub mod Merge
 pub mod MergeNext
 pub mod Places
+pub mod HeldItems
 pub mod MergeState
 pub mod OutLaws
 -- For private clauses.
 pub mod Escaped
 pub mod Writer
-pub mod HeldItems
+pub mod FootnoteNames
+pub mod TakenAnswers
 pub mod AdvanceSteps
 -- Words of other crates that the clauses stand on.
 pub use Rattle.markdown_base.specs.Event

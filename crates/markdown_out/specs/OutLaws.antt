@@ -1,11 +1,11 @@
 -- Laws of the merge, and of the HTML of merged events.
-use Rattle.std.specs.Prelude.{◌≡◌, ◌⊎◌, ℕ, List, [], ◌∷◌, ◌++◌, map, Ok, Err, Result, Option, None}
+use Rattle.std.specs.Prelude.{◌≡◌, ◌⊎◌, ℕ, false, List, [], ◌∷◌, ◌++◌, map, Ok, Err, Result, Option, None}
 use Rattle.std.specs.List.{flat_map, AllByRecursion}
-use Rattle.std.specs.Iterator.{Count, Drains}
+use Rattle.std.specs.Iterator.{Count, Drains, Yields}
 use Rattle.markdown_base.specs.Event.{EventView, text, event_view}
 use Rattle.markdown_base.specs.declared.event.Event.{Event}
 use Rattle.markdown_base.specs.declared.fault.Fault.{Fault}
-use Rattle.markdown_out.specs.EventHtml.{html_of}
+use Rattle.markdown_out.specs.EventHtml.{html_of, open_html}
 use Rattle.markdown_out.specs.HtmlCorrect.{items}
 use Rattle.markdown_out.specs.Merge.{Item, text_in, merged}
 use Rattle.markdown_out.specs.MergeNext.{MergeState, CallsMerge, item_view}
@@ -44,18 +44,64 @@ abbrev pub MergingKeepsHtml : Type 0
 MergingKeepsHtml = (events : List EventView) → AllByRecursion IsNoEmptyText events
     → html_of (merged_events events) ≡ html_of events
 
-module _ {S : Type 0} (steps : S → Option (Result Event Fault) → S → Type 0) where
-  -- after None comes nothing but None
-  abbrev pub StaysEnded : Type 0
-  StaysEnded = (s t u : S) (r : Option (Result Event Fault)) → steps s None t → steps t r u → r ≡ None
+-- after None comes nothing but None
+abbrev pub StaysEnded : {S A : Type 0} → (S → Option A → S → Type 0) → Type 0
+StaysEnded {S} {A} steps = (s t u : S) (r : Option A) → steps s None t → steps t r u → r ≡ None
 
+module _ {S T P : Type 0} (through : P → P → P) (view : Result T Fault → Item P)
+    (steps : S → Option (Result T Fault) → S → Type 0) (it : S) (given : List (Result T Fault)) where
+  -- these are all items of the iterator up to its first None, and those given are their merge
+  pub record IsMergeOfAll : Type 0 where
+    pub all : List (Result T Fault)
+    pub read : Drains steps it all
+    pub merges : merged through (map view all) ≡ map view given
+
+  -- these items of the iterator were read, and those given are a front of their merge
+  pub record IsMergeSoFar : Type 0 where
+    pub so_far : List (Result T Fault)
+    pub left : S
+    pub read : Yields steps it so_far left
+    pub missing : List (Item P)
+    pub merges : merged through (map view so_far) ≡ map view given ++ missing
+
+module _ {M S T P : Type 0} (through : P → P → P) (view : Result T Fault → Item P)
+    (steps : S → Option (Result T Fault) → S → Type 0) (can : S → Type 0) (rest : S → Count)
+    (state : M → MergeState S P) where
+  -- a call of `next` of a merge
+  abbrev pub merge_steps : M → Option (Result T Fault) → M → Type 0
+  merge_steps m r t = CallsMerge through view steps can rest (state m) r (state t)
+
+  -- over an iterator that stays ended, where no growth was refused: up to its first None a new merge
+  -- gives the merge of all items, and at any moment it gave a front of the merge of those read
+  pub record GivesTheMerge (m : M) : Type 0 where
+    pub all : (given : List (Result T Fault)) (t u : M) → Yields merge_steps m given t
+        → merge_steps t None u → (state u).over ≡ false
+        → IsMergeOfAll through view steps (state m).iter given
+    pub so_far : (given : List (Result T Fault)) (t : M) → Yields merge_steps m given t
+        → (state t).over ≡ false → IsMergeSoFar through view steps (state m).iter given
+
+-- nothing was read for a merge yet
+pub record IsNewMerge {S P : Type 0} (m : MergeState S P) : Type 0 where
+  pub holds : m.held ≡ []
+  pub goes_on : m.over ≡ false
+
+module _ {S : Type 0} (steps : S → Option (Result Event Fault) → S → Type 0) (it : S)
+    (old new : List ℕ) where
   -- these are all events up to the first None, and the HTML of their merge stands behind the old text
-  pub record IsRenderedMerged (it : S) (old new : List ℕ) : Type 0 where
+  pub record IsRenderedMerged : Type 0 where
     pub events : List Event
     pub read : Drains steps it (items events)
     pub stands : new ≡ old ++ html_of (merged_events (map event_view events))
 
--- the calls of a merge of events
-abbrev pub MergeSteps : {S : Type 0} → (S → Option (Result Event Fault) → S → Type 0) → (S → Type 0) → (S → Count)
-    → MergeState S (Unit {0}) → Option (Result Event Fault) → MergeState S (Unit {0}) → Type 0
-MergeSteps = CallsMerge nowhere (item_view bare)
+  -- the item after these events is this error, and the open HTML of their merge stands
+  pub record StopsAtErrorMerged (fault : Fault) : Type 0 where
+    pub events : List Event
+    pub left : S
+    pub read : Yields steps it (items events ++ Err fault ∷ []) left
+    pub stands : new ≡ old ++ open_html (merged_events (map event_view events))
+
+  -- the merge was refused memory, and the open HTML of a front of the merge of what was read stands
+  pub record IsRefusedMerged : Type 0 where
+    pub events : List Event
+    pub front : IsMergeSoFar nowhere (item_view bare) steps it (items events)
+    pub stands : new ≡ old ++ open_html (map event_view events)

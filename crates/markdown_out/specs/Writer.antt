@@ -45,7 +45,7 @@ view w = record {
   in_head = w.in_head;
   column = w.column;
   alignments = w.alignments.items;
-  names = map text_of w.names.keys;
+  names = w.names;
   open_image = option_map image_view w.image;
 }
 

@@ -20,6 +20,17 @@ pub(crate) enum Escape {
     Attribute,
 }
 
+/// Appends a text, where there is any.
+pub(crate) fn push_any(out: &mut String, text: &str) -> Result<(), AllocError>
+    ensures ok { OnOk result (Appends out.old out.new text.now) }
+    ensures err { OnErr result (string_bytes out.new ≡ string_bytes out.old) }
+{
+    if text.is_empty() {
+        return Ok(());
+    }
+    out.push_str(text)
+}
+
 /// What stands for a byte, where it is not the byte itself.
 fn replacement(escape: Escape, byte: u8) -> Option<&'static str>
     ensures { MatchOption result (escaped_byte escape byte ≡ byte ∷ [])
@@ -44,20 +55,30 @@ pub(crate) fn push_escaped(out: &mut String, escape: Escape, text: &str) -> Resu
     let mut from = 0;
     for (i, byte) in bytes.iter().enumerate() {
         if let Some(replacement) = replacement(escape, *byte) {
-            out.push_str(&text[from..i])?;
+            push_any(out, &text[from..i])?;
             out.push_str(replacement)?;
             from = i + 1;
         }
     }
-    out.push_str(&text[from..])?;
-    Ok(())
+    push_any(out, &text[from..])
 }
+
+/// Each byte that a destination keeps stands at its own place, and a caret at every other place.
+static KEPT: [u8; 256] = *b"\
+    ^^^^^^^^^^^^^^^^^^^^^^^^^^^^^^^^\
+    ^!^#$%^^()*+,-./0123456789:;^=^?\
+    @ABCDEFGHIJKLMNOPQRSTUVWXYZ^^^^_\
+    ^abcdefghijklmnopqrstuvwxyz^^^~^\
+    ^^^^^^^^^^^^^^^^^^^^^^^^^^^^^^^^\
+    ^^^^^^^^^^^^^^^^^^^^^^^^^^^^^^^^\
+    ^^^^^^^^^^^^^^^^^^^^^^^^^^^^^^^^\
+    ^^^^^^^^^^^^^^^^^^^^^^^^^^^^^^^^";
 
 /// Whether a destination keeps the byte.
 fn is_kept(byte: u8) -> bool
     ensures { result ≡ is_kept_byte byte }
 {
-    byte.is_ascii_alphanumeric() || b"!#$%()*+,-./:;=?@_~".contains(&byte)
+    KEPT[byte as usize] != b'^'
 }
 
 /// What stands for a byte of a destination, where it is not the byte itself.
@@ -93,11 +114,10 @@ pub(crate) fn push_destination(out: &mut String, destination: &str) -> Result<()
     let mut from = 0;
     for (i, byte) in bytes.iter().enumerate() {
         if let Some(replacement) = destination_replacement(*byte) {
-            out.push_str(between(destination, from, i))?;
+            push_any(out, between(destination, from, i))?;
             out.push_str(replacement)?;
             from = i + 1;
         }
     }
-    out.push_str(between(destination, from, bytes.len()))?;
-    Ok(())
+    push_any(out, between(destination, from, bytes.len()))
 }

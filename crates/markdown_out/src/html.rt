@@ -1,5 +1,4 @@
 //! Events as HTML: the writer, which remembers what the events so far tell, and its parts.
-use indexmap::IndexSet;
 use markdown_base::cow_str::CowStr;
 use markdown_base::tag::Alignment;
 
@@ -9,12 +8,14 @@ mod footnotes;
 mod heading;
 mod inside;
 mod links;
+mod names;
 mod outside;
 mod pieces;
 mod push;
 mod starts;
 mod tables;
 
+use names::FootnoteNames;
 pub use push::push_html;
 
 /// A part of what is written: as it is, or escaped for where it stands.
@@ -46,7 +47,7 @@ struct Writer<'a> {
     column: usize,
     /// Those of the last table.
     alignments: Vec<Alignment>,
-    /// The footnotes' names, in the order in which each came first.
-    names: IndexSet<CowStr<'a>>,
+    /// Those of footnotes, in the order in which each came first.
+    names: FootnoteNames<'a>,
     image: Option<OpenImage<'a>>,
 }

@@ -1,17 +1,29 @@
 //! Laws of the definitions that this crate's contracts cite: functions without code, whose clauses
 //! say them.
-ghost use Rattle.std.specs.Prelude.{◌≡◌, ℕ, List, [], false};
+ghost use Rattle.std.specs.Prelude.{◌≡◌, ◌⊎◌, ℕ, List};
 ghost use Rattle.std.specs.declared.ops.Range.{Range};
+ghost use Rattle.markdown_base.specs.declared.fault.Fault.{Fault};
+ghost use Rattle.markdown_base.specs.declared.fault.Fault.TheVariants.{Memory};
+ghost use Rattle.markdown_out.specs.HtmlCorrect.{IsRendered, StopsAtError};
+ghost use Rattle.markdown_out.specs.ImageHtml.{ImagesHaveParts};
 ghost use Rattle.markdown_out.specs.Merge.{Item, merged};
-ghost use Rattle.markdown_out.specs.Places.{nowhere, through_ranges};
-ghost use Rattle.markdown_out.specs.OutLaws.{HasNoNeighbours, MergingKeepsHtml};
-ghost use Rattle.markdown_out.specs.OutLaws.{StaysEnded, MergeSteps, IsRenderedMerged};
-ghost use Rattle.markdown_out.specs.HtmlCorrect.{IsRendered};
-ghost use Rattle.markdown_out.specs.MergeState.{stream_state};
+ghost use Rattle.markdown_out.specs.MergeNext.{item_view};
+ghost use Rattle.markdown_out.specs.MergeState.{stream_state, offset_state};
+ghost use Rattle.markdown_out.specs.OutLaws.{HasNoNeighbours, MergingKeepsHtml, StaysEnded};
+ghost use Rattle.markdown_out.specs.OutLaws.{IsNewMerge, GivesTheMerge, merge_steps};
+ghost use Rattle.markdown_out.specs.OutLaws.{IsRenderedMerged, StopsAtErrorMerged, IsRefusedMerged};
+ghost use Rattle.markdown_out.specs.Places.{bare, nowhere, ranged, through_ranges};
 
-use crate::merge::TextMergeStream;
+use crate::merge::{TextMergeStream, TextMergeWithOffset};
 use markdown_base::event::Event;
 use markdown_base::fault::Fault;
+use std::ops::Range;
+
+/// The HTML of an image is that of its parts: what stands up to the alt text, what each event up to the
+/// matching End adds to it, and what closes the image.
+pub fn an_image_has_the_html_of_its_parts()
+    ensures { ImagesHaveParts }
+{}
 
 /// No two merged texts are neighbours.
 pub fn merged_texts_are_no_neighbours()
@@ -31,13 +43,36 @@ pub fn merging_keeps_the_html()
     ensures { MergingKeepsHtml }
 {}
 
-/// What `push_html` makes of a merge that nothing was read for yet, over an iterator that stays
-/// ended: the HTML of the merge of the events.
+/// What a merge gives that nothing was read for yet, over an iterator that stays ended: the merge of
+/// the items.
+pub fn a_stream_gives_the_merge<'a, I: Iterator<Item = Result<Event<'a>, Fault>>>(
+    merge: &TextMergeStream<'a, I>,
+)
+    ensures { StaysEnded I.next_gives → IsNewMerge (stream_state merge.now)
+        → GivesTheMerge nowhere (item_view bare) I.next_gives I.can_next I.remaining stream_state merge.now }
+{}
+
+/// The same, of events with their ranges.
+pub fn a_stream_with_offsets_gives_the_merge<
+    'a,
+    I: Iterator<Item = Result<(Event<'a>, Range<usize>), Fault>>,
+>(merge: &TextMergeWithOffset<'a, I>)
+    ensures { StaysEnded I.next_gives → IsNewMerge (offset_state merge.now)
+        → GivesTheMerge through_ranges (item_view ranged) I.next_gives I.can_next I.remaining offset_state merge.now }
+{}
+
+/// What `push_html` makes of such a merge of events: the HTML of the merge of the events; and at an
+/// error, the open HTML of the merge of the events before it, or, where the merge itself was refused
+/// memory, of a front of the merge of those read.
 pub fn html_of_a_merge_is_that_of_the_merged_events<
     'a,
     I: Iterator<Item = Result<Event<'a>, Fault>>,
 >(merge: &TextMergeStream<'a, I>)
-    ensures { StaysEnded I.next_gives → (stream_state merge.now).held ≡ [] → (stream_state merge.now).over ≡ false
-        → (old new : List ℕ) → IsRendered (λ m r t. MergeSteps I.next_gives I.can_next I.remaining (stream_state m) r (stream_state t)) merge.now old new
+    ensures whole { StaysEnded I.next_gives → IsNewMerge (stream_state merge.now) → (old new : List ℕ)
+        → IsRendered (merge_steps nowhere (item_view bare) I.next_gives I.can_next I.remaining stream_state) merge.now old new
         → IsRenderedMerged I.next_gives (stream_state merge.now).iter old new }
+    ensures error { StaysEnded I.next_gives → IsNewMerge (stream_state merge.now) → (old new : List ℕ) (fault : Fault)
+        → StopsAtError (merge_steps nowhere (item_view bare) I.next_gives I.can_next I.remaining stream_state) merge.now old new fault
+        → StopsAtErrorMerged I.next_gives (stream_state merge.now).iter old new fault
+        ⊎ ((fault ≡ Memory) × IsRefusedMerged I.next_gives (stream_state merge.now).iter old new) }
 {}

@@ -2,12 +2,6 @@
 #![tactic(auto)]
 
 mod escape;
-#[cfg(test)]
-mod escape_tests;
 pub mod html;
 pub mod laws;
 pub mod merge;
-#[cfg(test)]
-mod merge_tests;
-#[cfg(test)]
-mod tests;

@@ -6,7 +6,5 @@ mod line;
 mod line_break;
 mod made;
 mod paragraph;
-#[cfg(test)]
-mod tests;
 
 pub use block_pass::blocks;

@@ -1,85 +1,96 @@
-//! Each call, by the promise that is tried of it.
-use crate::{calls, merges, tables};
+//! Each promise with whether it holds.
+use crate::tables::{Call, answers_again};
+use crate::{lists, tables, texts, trees};
 use std::alloc::Global;
 
-/// Each promise with whether it holds.
-pub fn all(alloc: Global) -> [(&'static str, bool); 22] {
+pub fn all(alloc: Global) -> [(&'static str, bool); 24] {
     [
-        ("a text is copied whole or not at all", calls::copies(alloc)),
+        (
+            "a slice is copied without memory",
+            texts::copies_a_slice(alloc),
+        ),
+        (
+            "a slice is freed from its source or gone",
+            texts::frees_a_slice(alloc),
+        ),
         (
             "a text on the heap is copied whole or stays",
-            calls::copies_a_boxed_text(alloc),
+            texts::copies_a_boxed_text(alloc),
         ),
-        ("a refused append leaves the tree", calls::appends(alloc)),
-        ("a refused push leaves the tree", calls::pushes(alloc)),
+        (
+            "a text on the heap is freed from its source without memory",
+            texts::frees_a_boxed_text(alloc),
+        ),
+        ("a refused append leaves the tree", trees::appends(alloc)),
+        ("a refused push leaves the tree", trees::pushes(alloc)),
         (
             "a text's blocks are made or memory is refused",
-            calls::makes_blocks(alloc),
+            trees::makes_blocks(alloc),
         ),
         (
             "a good tree is never refused for its rules",
-            calls::checks(alloc),
+            trees::checks(alloc),
         ),
         (
             "the events are a beginning, and then an error ends them",
-            calls::walks(alloc),
+            lists::walks(alloc),
         ),
         (
             "the ranges are a beginning, and then an error ends them",
-            calls::walks_with_ranges(alloc),
+            lists::walks_with_ranges(alloc),
         ),
         (
             "the old text stands, and then a beginning of the HTML",
-            calls::renders(alloc),
+            lists::renders_a_text(alloc),
         ),
         (
             "the merged events are a beginning, and then an error ends them",
-            merges::merges(alloc),
+            lists::merges(alloc),
         ),
         (
             "the merged ranges are a beginning, and then an error ends them",
-            merges::merges_with_ranges(alloc),
+            lists::merges_with_ranges(alloc),
         ),
         (
             "the old text stands, and then a beginning of the HTML of any events",
-            merges::renders_mixed_events(alloc),
+            lists::renders_mixed_events(alloc),
         ),
         (
             "a look-up finds its definition, also after a refusal",
-            tables::looks_up(alloc),
+            answers_again(alloc, Call::LookUp),
         ),
         (
             "a footnote is found, also after a refusal",
-            tables::contains(alloc),
+            answers_again(alloc, Call::Contains),
         ),
         ("a use is counted once or not at all", tables::counts(alloc)),
         (
             "a text is put in or nothing is",
-            tables::puts_in_a_text(alloc),
+            answers_again(alloc, Call::PutText),
         ),
         (
             "a link is put in or nothing is",
-            tables::puts_in_a_link(alloc),
+            answers_again(alloc, Call::PutLink),
         ),
         (
             "alignments are put in or nothing is",
-            tables::puts_in_alignments(alloc),
+            answers_again(alloc, Call::PutAlignments),
         ),
         (
             "attributes are put in or nothing is",
-            tables::puts_in_attributes(alloc),
+            answers_again(alloc, Call::PutAttributes),
         ),
         (
             "a definition is copied whole or stays",
-            tables::copies_a_definition(alloc),
+            texts::copies_a_definition(alloc),
         ),
         (
             "a definition is freed from its source or gone",
-            tables::frees_a_definition(alloc),
+            texts::frees_a_definition(alloc),
         ),
         (
             "a broken link is freed from its source or gone",
-            tables::frees_a_broken_link(alloc),
+            texts::frees_a_broken_link(alloc),
         ),
     ]
 }

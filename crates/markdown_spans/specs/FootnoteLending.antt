@@ -4,7 +4,7 @@ use Rattle.std.specs.Prelude.{◌≡◌, ℕ, List, Option, None, Some, Result, 
 use Rattle.std.specs.Option.{ghost_name_of}
 use Rattle.std.specs.Borrow.{LendsSo, LendsSoOk, MutBor, Fml, GName, follows_so}
 use Rattle.markdown_base.specs.declared.fault.Fault.{Fault}
-use Rattle.std.specs.HashMap.{get_by_text}
+use Rattle.std.specs.BTreeMap.{get_by_text}
 use Rattle.std.specs.Str.{bytes_eq}
 use Rattle.markdown_spans.specs.Folding.{is_match}
 use Rattle.markdown_spans.specs.Footnotes.{footnote_at}

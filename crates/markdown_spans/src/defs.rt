@@ -5,13 +5,11 @@ mod callback;
 mod definitions;
 mod folding;
 mod footnotes;
-#[cfg(test)]
-mod tests;
 
 pub use allocations::Allocations;
 pub use callback::{
     BoxedCallback, BrokenLink, BrokenLinkCallback, Closure, DefaultBrokenLinkCallback,
 };
 pub use definitions::{RefDefs, RefDefsIter};
-pub use footnotes::{FootnoteDef, FootnoteDefs};
+pub use footnotes::{Absence, FootnoteDef, FootnoteDefs};
 pub use markdown_base::block_parts::{HeadingAttributes, LinkDef};

@@ -4,5 +4,3 @@
 pub mod blocks;
 pub mod defs;
 pub mod laws;
-#[cfg(test)]
-mod tests;

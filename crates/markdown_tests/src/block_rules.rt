@@ -62,7 +62,8 @@ fn is_well_formed(alloc: Global, over: &'static str, tree: Tree<Item>) -> Result
 }
 
 /// A character of a delimiter run that can open and close.
-fn run(start: usize, count: usize) -> Item {
+fn run(start: u8, count: usize) -> Item {
+    let start = usize::from(start);
     item(start, start + 1, ItemBody::MaybeEmphasis(count, true, true))
 }
 

@@ -3,11 +3,37 @@
 #![tactic(auto)]
 
 #[cfg(test)]
+mod allocations;
+#[cfg(test)]
+mod block_pass;
+#[cfg(test)]
 mod block_rules;
+#[cfg(test)]
+mod blocks;
 #[cfg(test)]
 mod bodies;
 #[cfg(test)]
 mod builders;
+#[cfg(test)]
+mod callbacks;
+#[cfg(test)]
+mod escapes;
+#[cfg(test)]
+mod events;
+#[cfg(test)]
+mod html;
+#[cfg(test)]
+mod look_ups;
+#[cfg(test)]
+mod merged;
+#[cfg(test)]
+mod merges;
+#[cfg(test)]
+mod notes;
+#[cfg(test)]
+mod parser;
+#[cfg(test)]
+mod program;
 #[cfg(test)]
 mod texts;
 #[cfg(test)]

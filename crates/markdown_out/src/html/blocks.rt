@@ -1,5 +1,5 @@
 //! The Starts of blocks: headings, block quotes, code blocks and lists.
-ghost use Rattle.std.specs.Prelude.{◌≡◌, ◌++◌, [], ◌∷◌, OnOk, OnErr, map, IfOk};
+ghost use Rattle.std.specs.Prelude.{◌≡◌, ◌++◌, [], ◌∷◌, OnOk, OnErr};
 ghost use Rattle.std.specs.String.{string_bytes};
 ghost use Rattle.markdown_base.specs.Event.{code_block_view, block_quote, list};
 ghost use Rattle.markdown_out.specs.ByteLists.{Appends, AppendsPart, ends_line, joined};
@@ -9,9 +9,10 @@ ghost use Rattle.markdown_out.specs.TagHtml.{language, code_block_parts, numbere
 use super::heading::put_heading;
 use super::pieces::{line_break, put};
 use super::{Piece, Writer};
+use itoa::Buffer;
 use markdown_base::cow_str::CowStr;
 use markdown_base::tag::{BlockQuoteKind, CodeBlockKind, HeadingLevel};
-use std::alloc::{AllocError, Global};
+use std::alloc::AllocError;
 
 /// The class of a block quote.
 fn class_of(kind: Option<BlockQuoteKind>) -> &'static str
@@ -163,12 +164,7 @@ impl<'a> Writer<'a> {
     }
 
     /// A list.
-    pub(super) fn list(
-        &mut self,
-        alloc: Global,
-        s: &mut String,
-        first: Option<u64>,
-    ) -> Result<(), AllocError>
+    pub(super) fn list(&mut self, s: &mut String, first: Option<u64>) -> Result<(), AllocError>
         ensures ok { OnOk result (Appends s.old s.new (joined (start_parts (view self.old)
             (list first)))) }
         ensures state { OnOk result (self.new ≡ after_bytes self.old
@@ -191,7 +187,7 @@ impl<'a> Writer<'a> {
                 &[Piece::Raw(line), Piece::Raw("<ol>\n")],
             );
         }
-        let digits = number.to_string(alloc)?;
-        put_numbered_list(s, &mut self.fresh, digits.as_str())
+        let mut digits = Buffer::new();
+        put_numbered_list(s, &mut self.fresh, digits.format(number))
     }
 }

@@ -1,7 +1,6 @@
 //! The numbers of footnotes, their references and their definitions.
-ghost use Rattle.std.specs.Prelude.{◌≡◌, ◌++◌, ◌+◌, ◌∷◌, [], ◌<◌, ◌≤◌, OnOk, OnErr, IfOk, IfErr};
-ghost use Rattle.std.specs.Prelude.{None, Some, map, length};
-ghost use Rattle.std.specs.Fmt.{decimal};
+ghost use Rattle.std.specs.Prelude.{◌≡◌, ◌++◌, ◌∷◌, [], OnOk, OnErr, IfErr};
+ghost use Rattle.std.specs.Prelude.{None, not};
 ghost use Rattle.std.specs.String.{string_bytes};
 ghost use Rattle.markdown_base.specs.CowText.{text_of};
 ghost use Rattle.markdown_base.specs.Event.{start as start_event, footnote_reference};
@@ -11,37 +10,16 @@ ghost use Rattle.markdown_out.specs.AltText.{alt_parts};
 ghost use Rattle.markdown_out.specs.ByteLists.{Appends, AppendsPart, ends_line, joined};
 ghost use Rattle.markdown_out.specs.EventHtml.{outside_parts, reference_parts};
 ghost use Rattle.markdown_out.specs.TagHtml.{start_parts, definition_parts};
-ghost use Rattle.markdown_out.specs.LookBacks.{place, with_name};
+ghost use Rattle.markdown_out.specs.LookBacks.{is_same_name, with_name};
+ghost use Rattle.std.specs.List.{list_any};
 
+use super::names::Name;
 use super::pieces::{line_break, put};
 use super::{OpenImage, Piece, Writer};
-use indexmap::IndexSet;
+use itoa::Buffer;
 use markdown_base::cow_str::CowStr;
 use markdown_base::fault::Fault;
-use std::alloc::{AllocError, Global};
-
-/// The place of a name, or how many names there are.
-fn find_name<'a>(names: &IndexSet<CowStr<'a>>, name: &CowStr<'a>) -> usize
-    ensures { result ≡ place (text_of name.now) (map text_of names.now.keys) }
-{
-    match names.get_index_of(name) {
-        Some(place) => place,
-        None => names.len(),
-    }
-}
-
-/// The number of a footnote, in digits.
-fn number_of<'a>(
-    alloc: Global,
-    names: &IndexSet<CowStr<'a>>,
-    name: &CowStr<'a>,
-) -> Result<String, AllocError>
-    ensures { IfOk result (λ digits. string_bytes digits ≡ decimal (place (text_of name.now)
-        (map text_of names.now.keys) + 1)) }
-{
-    let number = find_name(names, name) as u128 + 1;
-    number.to_string(alloc)
-}
+use std::alloc::AllocError;
 
 /// Appends a footnote's reference.
 fn put_reference<'x>(
@@ -102,20 +80,21 @@ impl<'a> Writer<'a> {
     ghost use Rattle.markdown_out.specs.Writer.{view, view_in, view_after, after_alt_reference};
 
     /// The name is known from now on.
-    fn know(&mut self, name: CowStr<'a>) -> Result<(), AllocError>
+    fn know(&mut self, is_new: bool, name: Name<'a>) -> Result<(), AllocError>
+        requires { is_new ≡ not (list_any (is_same_name (text_of name.text)) self.old.names) }
         ensures { OnOk result (view self.new ≡ record (view self.old) {
-          names = with_name
-              (text_of name.entry) (map text_of self.old.names.keys);
+          names = with_name (text_of name.entry.text) self.old.names;
         }) }
     {
-        self.names.insert(name)?;
+        if is_new {
+            return self.names.add(name);
+        }
         Ok(())
     }
 
     /// A footnote's definition.
     pub(super) fn footnote_definition(
         &mut self,
-        alloc: Global,
         s: &mut String,
         name: CowStr<'a>,
     ) -> Result<(), AllocError>
@@ -127,15 +106,21 @@ impl<'a> Writer<'a> {
         ensures err { OnErr result (AppendsPart s.old s.new (joined (start_parts (view self.old)
             (footnote_definition (text_of name.entry))))) }
     {
-        let digits = number_of(alloc, &self.names, &name)?;
-        put_definition(s, &mut self.fresh, name.as_str(), digits.as_str())?;
-        self.know(name)
+        let name = Name { text: name };
+        let footnote = self.names.number_of(&name);
+        let mut digits = Buffer::new();
+        put_definition(
+            s,
+            &mut self.fresh,
+            name.text.as_str(),
+            digits.format(footnote.number),
+        )?;
+        self.know(footnote.is_new, name)
     }
 
     /// A footnote's reference outside images.
     pub(super) fn footnote_reference(
         &mut self,
-        alloc: Global,
         s: &mut String,
         name: CowStr<'a>,
     ) -> Result<(), AllocError>
@@ -147,15 +132,21 @@ impl<'a> Writer<'a> {
         ensures err { OnErr result (AppendsPart s.old s.new (joined (outside_parts (view self.old)
             (footnote_reference (text_of name.entry))))) }
     {
-        let digits = number_of(alloc, &self.names, &name)?;
-        put_reference(s, &mut self.fresh, name.as_str(), digits.as_str())?;
-        self.know(name)
+        let name = Name { text: name };
+        let footnote = self.names.number_of(&name);
+        let mut digits = Buffer::new();
+        put_reference(
+            s,
+            &mut self.fresh,
+            name.text.as_str(),
+            digits.format(footnote.number),
+        )?;
+        self.know(footnote.is_new, name)
     }
 
     /// A footnote's reference in an image.
     pub(super) fn alt_reference(
         &mut self,
-        alloc: Global,
         s: &mut String,
         name: CowStr<'a>,
     ) -> Result<(), AllocError>
@@ -166,23 +157,21 @@ impl<'a> Writer<'a> {
         ensures err { OnErr result (AppendsPart s.old s.new (joined (alt_parts (view self.old)
             (footnote_reference (text_of name.entry))))) }
     {
-        let digits = number_of(alloc, &self.names, &name)?;
+        let name = Name { text: name };
+        let footnote = self.names.number_of(&name);
+        let mut digits = Buffer::new();
+        let number = digits.format(footnote.number);
         put(
             s,
             &mut self.fresh,
-            &[
-                Piece::Raw("["),
-                Piece::Raw(digits.as_str()),
-                Piece::Raw("]"),
-            ],
+            &[Piece::Raw("["), Piece::Raw(number), Piece::Raw("]")],
         )?;
-        self.know(name)
+        self.know(footnote.is_new, name)
     }
 
     /// The same, where the image stays open.
     pub(super) fn add_reference(
         &mut self,
-        alloc: Global,
         s: &mut String,
         image: OpenImage<'a>,
         name: CowStr<'a>,
@@ -195,7 +184,7 @@ impl<'a> Writer<'a> {
             (joined (alt_parts (view self.old) (footnote_reference (text_of name.entry))))) }
     {
         self.image = Some(image);
-        match self.alt_reference(alloc, s, name) {
+        match self.alt_reference(s, name) {
             Ok(()) => Ok(()),
             Err(_) => Err(Fault::Memory),
         }

@@ -14,7 +14,6 @@ use super::pieces::put;
 use super::{OpenImage, Piece, Writer};
 use markdown_base::event::Event;
 use markdown_base::fault::Fault;
-use std::alloc::Global;
 
 /// Drops what an event held.
 fn discard<T: Drop>(value: T) {
@@ -86,7 +85,6 @@ impl<'a> Writer<'a> {
     /// An event inside an image.
     pub(super) fn inside(
         &mut self,
-        alloc: Global,
         s: &mut String,
         image: OpenImage<'a>,
         event: Event<'a>,
@@ -125,7 +123,7 @@ impl<'a> Writer<'a> {
                 self.image = Some(image);
                 Ok(())
             }
-            Event::FootnoteReference(name) => self.add_reference(alloc, s, image, name),
+            Event::FootnoteReference(name) => self.add_reference(s, image, name),
             Event::SoftBreak | Event::HardBreak | Event::Rule => self.add(
                 s,
                 image,

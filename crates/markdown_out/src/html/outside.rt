@@ -9,7 +9,7 @@ ghost use Rattle.markdown_out.specs.EventHtml.{outside_parts};
 use super::pieces::put;
 use super::{Piece, Writer};
 use markdown_base::event::Event;
-use std::alloc::{AllocError, Global};
+use std::alloc::AllocError;
 
 /// Appends a code span.
 fn put_code(s: &mut String, fresh: &mut bool, text: &str) -> Result<(), AllocError>
@@ -60,12 +60,7 @@ impl<'a> Writer<'a> {
     ghost use Rattle.markdown_out.specs.Writer.{view, view_after};
 
     /// An event outside images.
-    pub(super) fn outside(
-        &mut self,
-        alloc: Global,
-        s: &mut String,
-        event: Event<'a>,
-    ) -> Result<(), AllocError>
+    pub(super) fn outside(&mut self, s: &mut String, event: Event<'a>) -> Result<(), AllocError>
         requires { self.old.image ≡ None }
         ensures ok { OnOk result (Appends s.old s.new (joined (outside_parts (view self.old)
             (event_view event.entry)))) }
@@ -75,7 +70,7 @@ impl<'a> Writer<'a> {
             (event_view event.entry)))) }
     {
         match event {
-            Event::Start(tag) => self.start(alloc, s, tag),
+            Event::Start(tag) => self.start(s, tag),
             Event::End(tag) => self.end(s, tag),
             Event::Text(text) => {
                 if self.in_metadata {
@@ -106,7 +101,7 @@ impl<'a> Writer<'a> {
             }
             Event::Html(html) => self.raw(s, html.as_str()),
             Event::InlineHtml(html) => self.raw(s, html.as_str()),
-            Event::FootnoteReference(name) => self.footnote_reference(alloc, s, name),
+            Event::FootnoteReference(name) => self.footnote_reference(s, name),
             Event::SoftBreak => self.raw(s, "\n"),
             Event::HardBreak => self.raw(s, "<br />\n"),
             Event::Rule => self.line(s, "<hr />\n"),

@@ -6,7 +6,7 @@ ghost use Rattle.markdown_out.specs.TagHtml.{new_line};
 ghost use Rattle.markdown_out.specs.Writer.{spelled, piece_bytes};
 
 use super::Piece;
-use crate::escape::{Escape, push_destination, push_escaped};
+use crate::escape::{Escape, push_any, push_destination, push_escaped};
 use std::alloc::AllocError;
 
 /// What begins a line.
@@ -22,7 +22,7 @@ fn push_piece(s: &mut String, piece: Piece<'_>) -> Result<(), AllocError>
     ensures err { OnErr result (AppendsPart s.old s.new (piece_bytes piece.entry)) }
 {
     match piece {
-        Piece::Raw(text) => s.push_str(text),
+        Piece::Raw(text) => push_any(s, text),
         Piece::Text(text) => push_escaped(s, Escape::Text, text),
         Piece::Attribute(text) => push_escaped(s, Escape::Attribute, text),
         Piece::Destination(text) => push_destination(s, text),

@@ -9,7 +9,7 @@ ghost use Rattle.markdown_out.specs.EventHtml.{closing, event_bytes, past_of};
 ghost use Rattle.markdown_out.specs.HtmlCorrect.{IsRendered, StopsAtError, IsOwnFault};
 
 use super::Writer;
-use indexmap::IndexSet;
+use super::names::FootnoteNames;
 use markdown_base::event::Event;
 use markdown_base::fault::Fault;
 use std::alloc::Global;
@@ -27,13 +27,13 @@ impl<'a> Writer<'a> {
             in_head: true,
             column: 0,
             alignments: Vec::new(alloc),
-            names: IndexSet::new(alloc),
+            names: FootnoteNames::new(alloc),
             image: None,
         }
     }
 
     /// Appends what stands for an event.
-    fn event(&mut self, alloc: Global, s: &mut String, event: Event<'a>) -> Result<(), Fault>
+    fn event(&mut self, s: &mut String, event: Event<'a>) -> Result<(), Fault>
         ensures ok { OnOk result
             (Appends s.old s.new (event_bytes (view self.old) (event_view event.entry))) }
         ensures told { OnOk result
@@ -43,8 +43,8 @@ impl<'a> Writer<'a> {
             × AppendsPart s.old s.new (event_bytes (view self.old) (event_view event.entry))) }
     {
         match self.image.take() {
-            Some(image) => self.inside(alloc, s, image, event),
-            None => match self.outside(alloc, s, event) {
+            Some(image) => self.inside(s, image, event),
+            None => match self.outside(s, event) {
                 Ok(()) => Ok(()),
                 Err(_) => Err(Fault::Memory),
             },
@@ -72,9 +72,11 @@ impl<'a> Writer<'a> {
 ///
 /// - The fault of an item that is one: the HTML of the events before it stands appended, without
 ///   what closes an image whose End did not come.
-/// - `Memory`, where an allocation is refused: a front of the HTML of the events read stands
-///   appended.
-/// - `Depth`, where more than 2^64 - 1 Starts in one image have no End yet: the same.
+/// - `Memory`, where an allocation is refused: the same, of the events before the one that was being
+///   written, and a front of its bytes; or, where an image was to be closed behind all events, of
+///   them all, and a front of what closes it.
+/// - `Depth`, where more than 2^64 - 1 Starts in one image have no End yet: the same, of the events
+///   read.
 pub fn push_html<'a, I>(alloc: Global, s: &mut String, iter: I) -> Result<(), Fault>
 where
     I: Iterator<Item = Result<Event<'a>, Fault>>,
@@ -92,7 +94,7 @@ where
     let mut writer = Writer::new(alloc);
     for item in iter {
         let event = item?;
-        writer.event(alloc, s, event)?;
+        writer.event(s, event)?;
     }
     writer.finish(s)
 }

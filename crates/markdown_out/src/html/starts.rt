@@ -9,7 +9,7 @@ use super::links::{put_image, put_link};
 use super::pieces::{line_break, put};
 use super::{OpenImage, Piece, Writer};
 use markdown_base::tag::Tag;
-use std::alloc::{AllocError, Global};
+use std::alloc::AllocError;
 
 impl<'a> Writer<'a> {
     ghost use Rattle.markdown_out.specs.Writer.{view, view_after, after_bytes};
@@ -37,12 +37,7 @@ impl<'a> Writer<'a> {
     }
 
     /// A Start outside images.
-    pub(super) fn start(
-        &mut self,
-        alloc: Global,
-        s: &mut String,
-        tag: Tag<'a>,
-    ) -> Result<(), AllocError>
+    pub(super) fn start(&mut self, s: &mut String, tag: Tag<'a>) -> Result<(), AllocError>
         requires { self.old.image ≡ None }
         ensures ok { OnOk result (Appends s.old s.new (joined (start_parts (view self.old)
             (tag_view tag.entry)))) }
@@ -62,9 +57,9 @@ impl<'a> Writer<'a> {
             Tag::BlockQuote(kind) => self.block_quote(s, kind),
             Tag::CodeBlock(kind) => self.code_block(s, kind),
             Tag::HtmlBlock => Ok(()),
-            Tag::List(first) => self.list(alloc, s, first),
+            Tag::List(first) => self.list(s, first),
             Tag::Item => self.line(s, "<li>"),
-            Tag::FootnoteDefinition(name) => self.footnote_definition(alloc, s, name),
+            Tag::FootnoteDefinition(name) => self.footnote_definition(s, name),
             Tag::DefinitionList => self.line(s, "<dl>\n"),
             Tag::DefinitionListTitle => self.line(s, "<dt>"),
             Tag::DefinitionListDefinition => self.line(s, "<dd>"),

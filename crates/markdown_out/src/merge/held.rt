@@ -1,10 +1,11 @@
 //! What a merge holds between two answers of its iterator, and what it does at an answer.
-ghost use Rattle.std.specs.Prelude.{◌≡◌, ◌++◌, ◌+◌, ◌≤◌, Some, None, IfOk, IfErr, MatchResult, map, string_bytes};
+ghost use Rattle.std.specs.Prelude.{◌≡◌, ◌++◌, ◌≤◌, Some, None, IfOk, IfErr, MatchResult, map, string_bytes};
 ghost use Rattle.std.specs.Option.{option_map};
 ghost use Rattle.markdown_base.specs.CowText.{text_of};
 ghost use Rattle.markdown_out.specs.Merge.{text_item, text_in, unless_empty};
-ghost use Rattle.markdown_out.specs.HeldItems.{placed_view, placed_text, held_items, answer_items, given_answers, IsNoText, TakesIn};
-ghost use Rattle.markdown_out.specs.HeldItems.{answer_count, held_count, given_count, again_count};
+ghost use Rattle.markdown_out.specs.HeldItems.{placed_view, held_items};
+ghost use Rattle.markdown_out.specs.TakenAnswers.{placed_text, answer_items, given_answers, IsNoText};
+ghost use Rattle.markdown_out.specs.TakenAnswers.{TakesIn, answer_count, held_count, given_count};
 
 use super::place::Place;
 use markdown_base::cow_str::CowStr;
@@ -136,8 +137,6 @@ fn after_item<'a, P: Place>(
     answer: Option<Placed<'a, P>>,
 ) -> Result<(Step<'a, P>, Held<'a, P>), AllocError>
     ensures takes { IfOk result (λ p. TakesIn P.through (held_items (Held.Item item.entry)) answer.entry p.0 p.1) }
-    ensures counts { IfOk result (λ p. held_count p.1 + given_count p.0 ≤ 1 + answer_count answer.entry) }
-    ensures held { IfOk result (λ p. held_count p.1 ≤ answer_count answer.entry) }
     ensures refused { IfErr result (λ _. 1 ≤ answer_count answer.entry) }
 {
     match into_text(item) {
@@ -158,8 +157,6 @@ fn after_texts<'a, P: Place>(
     answer: Option<Placed<'a, P>>,
 ) -> Result<(Step<'a, P>, Held<'a, P>), AllocError>
     ensures takes { IfOk result (λ p. TakesIn P.through (held_items (Held.Texts texts)) answer.entry p.0 p.1) }
-    ensures counts { IfOk result (λ p. held_count p.1 + given_count p.0 ≤ 1 + answer_count answer.entry) }
-    ensures held { IfOk result (λ p. held_count p.1 ≤ answer_count answer.entry) }
     ensures refused { IfErr result (λ _. 1 ≤ answer_count answer.entry) }
 {
     match text_or(answer) {
@@ -175,9 +172,6 @@ pub fn take_in<'a, P: Place>(
     answer: Option<Placed<'a, P>>,
 ) -> Result<(Step<'a, P>, Held<'a, P>), AllocError>
     ensures takes { IfOk result (λ p. TakesIn P.through (held_items held.entry) answer.entry p.0 p.1) }
-    ensures counts { IfOk result (λ p. held_count p.1 + given_count p.0 ≤ held_count held.entry + answer_count answer.entry) }
-    ensures held { IfOk result (λ p. held_count p.1 ≤ answer_count answer.entry) }
-    ensures again { IfOk result (λ p. again_count p.0 ≤ held_count held.entry + answer_count answer.entry) }
     ensures refused { IfErr result (λ _. 1 ≤ answer_count answer.entry) }
 {
     match held {

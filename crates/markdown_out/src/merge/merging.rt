@@ -3,7 +3,8 @@ ghost use Rattle.std.specs.Prelude.{◌≡◌, ◌+◌, ◌≤◌, ◌∷◌, []
 ghost use Rattle.std.specs.Option.{option_map};
 ghost use Rattle.std.specs.Iterator.{size};
 ghost use Rattle.markdown_out.specs.MergeNext.{CanMerge, MergesNext, item_view, left_count};
-ghost use Rattle.markdown_out.specs.HeldItems.{placed_view, answer_count, held_count, held_items};
+ghost use Rattle.markdown_out.specs.HeldItems.{placed_view, held_items};
+ghost use Rattle.markdown_out.specs.TakenAnswers.{answer_count, held_count};
 ghost use Rattle.markdown_out.specs.AdvanceSteps.{IsMerged};
 ghost use Rattle.markdown_out.specs.MergeState.{merging_state};
 

@@ -11,7 +11,7 @@ use markdown_base::block_parts::LinkDef;
 use markdown_base::cow_str::CowStr;
 use markdown_base::fault::Fault;
 use std::alloc::Global;
-use std::collections::HashMap;
+use std::collections::BTreeMap;
 use std::marker::Model;
 use std::slice::Iter;
 
@@ -21,8 +21,9 @@ use std::slice::Iter;
 pub struct RefDefs<'a> {
     /// Of each folding the first, in the order of the source.
     definitions: Vec<(CowStr<'a>, LinkDef<'a>)>,
-    /// The place of each by its folding, so that no stored label is folded again.
-    by_folding: HashMap<String, usize>,
+    /// The place of each by its folding, so that no stored label is folded again. The map is ordered, not
+    /// hashed: labels that all have one hash would make every look-up go through all of them.
+    by_folding: BTreeMap<String, usize>,
 }
 
 impl<'a> Model for RefDefs<'a> {
@@ -50,7 +51,7 @@ impl<'a> RefDefs<'a> {
         ensures refused { IfErr result (λ fault. fault ≡ Fault.Memory) }
     {
         let mut kept = Vec::new(alloc);
-        let mut by_folding: HashMap<String, usize> = HashMap::new(alloc);
+        let mut by_folding: BTreeMap<String, usize> = BTreeMap::new(alloc);
         for entry in definitions {
             keep_first(&mut kept, &mut by_folding, entry)?;
         }
@@ -60,8 +61,9 @@ impl<'a> RefDefs<'a> {
         })
     }
 
-    /// The first definition whose label has the folding of the key, in expected constant time. The
-    /// only error is `Fault::Memory`.
+    /// The first definition whose label has the folding of the key. The foldings that it is compared
+    /// with grow as the logarithm of the definitions, whatever their labels. The only error is
+    /// `Fault::Memory`.
     pub fn get(&self, key: &str) -> Result<Option<&LinkDef<'a>>, Fault>
         ensures found { IfOk result (λ found. option_copied found ≡ look_up key.now self.now) }
         ensures refused { IfErr result (λ fault. fault ≡ Fault.Memory) }
@@ -88,7 +90,7 @@ impl<'a> RefDefs<'a> {
 /// Keeps a definition, unless one of equal folding stands there.
 fn keep_first<'a>(
     kept: &mut Vec<(CowStr<'a>, LinkDef<'a>)>,
-    by_folding: &mut HashMap<String, usize>,
+    by_folding: &mut BTreeMap<String, usize>,
     entry: (CowStr<'a>, LinkDef<'a>),
 ) -> Result<(), Fault>
     requires { IsIndex by_folding.old kept.old.items }

@@ -2,7 +2,7 @@
 ghost use Rattle.std.specs.Prelude.{◌≡◌, ℕ, List, Some, None, IfErr, IfOk, OnErr, OnOk, encode_utf8_all, if◌then◌else◌, is_some, nat_eq};
 ghost use Rattle.std.specs.Borrow.{sem};
 ghost use Rattle.std.specs.Cmp.Lexicographic.{pointwise};
-ghost use Rattle.std.specs.HashMap.{get_by_text};
+ghost use Rattle.std.specs.BTreeMap.{get_by_text};
 ghost use Rattle.std.specs.Option.{option_copied_mut, option_map};
 ghost use Rattle.markdown_base.specs.CowText.{text_of};
 ghost use Rattle.markdown_base.specs.declared.fault.Fault.{Fault};
@@ -15,7 +15,7 @@ use super::folding::fold;
 use markdown_base::cow_str::CowStr;
 use markdown_base::fault::Fault;
 use std::alloc::Global;
-use std::collections::HashMap;
+use std::collections::BTreeMap;
 
 /// A footnote that is defined.
 #[derive(Clone, Copy, Debug, PartialEq, Eq, Drop)]
@@ -47,7 +47,8 @@ impl From<Fault> for Absence {
 #[derive(Drop)]
 pub struct FootnoteDefs {
     alloc: Global,
-    by_folding: HashMap<String, FootnoteDef>,
+    /// Ordered, not hashed, so that no choice of names makes look-ups slow.
+    by_folding: BTreeMap<String, FootnoteDef>,
 }
 
 impl FootnoteDefs {
@@ -57,7 +58,7 @@ impl FootnoteDefs {
             → footnote_at made name ≡ unused_at names.entry.items name) }
         ensures refused { IfErr result (λ fault. fault ≡ Fault.Memory) }
     {
-        let mut by_folding: HashMap<String, FootnoteDef> = HashMap::new(alloc);
+        let mut by_folding: BTreeMap<String, FootnoteDef> = BTreeMap::new(alloc);
         for name in names {
             add_unused(&mut by_folding, alloc, name.as_str())?;
         }
@@ -145,7 +146,7 @@ fn none_if_undefined<'a>(
 
 /// Adds a footnote that is not used yet.
 fn add_unused(
-    by_folding: &mut HashMap<String, FootnoteDef>,
+    by_folding: &mut BTreeMap<String, FootnoteDef>,
     alloc: Global,
     name: &str,
 ) -> Result<(), Fault>

@@ -7,22 +7,22 @@ use Rattle.markdown_out.proofs.EscapesLemmas.{Copied-keep, Copied-write, Cuts-no
 use Rattle.markdown_out.proofs.EscapesLemmas.{front-waiting, front-written, slice}
 use Rattle.markdown_out.proofs.escape.push_destination.Goals as goal
 use Rattle.markdown_out.proofs.escape.push_destination.Goals.{
-  in-Some+in_ok-push_str+in_ok-push_str-2,
+  in-Some+in_ok-push_any+in_ok-push_str,
 }
 use Rattle.markdown_out.proofs.escape.push_destination.Goals.{in_default}
 
-pub returns-in_err-push_str-clause-err : goal.returns-in_err-push_str-clause-err
-returns-in_err-push_str-clause-err c =
+pub returns-in_err-push_any-clause-err : goal.returns-in_err-push_any-clause-err
+returns-in_err-push_any-clause-err c =
     let p = err_from_is_err_and c.from_residual.result c.from_residual.ensures.1 in
-    rw p.1 (front-waiting destination_byte _ _ _ _ _ _ c.in_err-push_str.ensures.bytes
+    rw p.1 (front-waiting destination_byte _ _ _ _ _ _ c.in_err-push_any.ensures.err
     c.loop-i.invariant.copied)
 
-pub returns-in_err-push_str-2-clause-err : goal.returns-in_err-push_str-2-clause-err
-returns-in_err-push_str-2-clause-err c =
-    let p = err_from_is_err_and c.from_residual-in_err-push_str-2.result
-    c.from_residual-in_err-push_str-2.ensures.1 in
-    rw p.1 (front-written destination_byte _ _ _ _ _ _ (c.in_err-push_str-2.ensures.bytes
-    ∙ (c.in_ok-push_str.ensures.bytes ∙ ap (λ x. string_bytes c.loop-i.out
+pub returns-in_err-push_str-clause-err : goal.returns-in_err-push_str-clause-err
+returns-in_err-push_str-clause-err c =
+    let p = err_from_is_err_and c.from_residual-in_err-push_str.result
+    c.from_residual-in_err-push_str.ensures.1 in
+    rw p.1 (front-written destination_byte _ _ _ _ _ _ (c.in_err-push_str.ensures.bytes
+    ∙ (c.in_ok-push_any.ensures.ok ∙ ap (λ x. string_bytes c.loop-i.out
     ++ x) c.between.ensures)) c.loop-i.invariant.copied)
 
 pub loop-i-preserved : goal.loop-i-preserved
@@ -31,15 +31,15 @@ loop-i-preserved c =
     let url = c.args.destination.now in
     let here : c.loop-i.i < length c.args.destination.now = rw a at c.loop-i-test.true in
     elim c.match-destination_replacement.branch [
-      | in-Some+in_ok-push_str+in_ok-push_str-2 w ↦
+      | in-Some+in_ok-push_any+in_ok-push_str w ↦
           let r : w.in-Some.replacement.now ≡ destination_byte
           (get_or c.args.destination.now c.loop-i.i 0) = rw a at w.in-Some.ensures in
           rw (w.from-is, w.out-is) (record {
             order = omega arith;
             cuts = Cuts-none url (c.loop-i.i + 1);
             copied = Copied-write destination_byte _ _ _ _ _ _ here
-                (w.in_ok-push_str-2.ensures.bytes
-                ∙ (ap (λ x. x ++ w.in-Some.replacement.now) (w.in_ok-push_str.ensures.bytes
+                (w.in_ok-push_str.ensures.bytes
+                ∙ (ap (λ x. x ++ w.in-Some.replacement.now) (w.in_ok-push_any.ensures.ok
                 ∙ ap (λ x. string_bytes c.loop-i.out ++ x) w.between.ensures)
                 ∙ ap (λ x. (string_bytes c.loop-i.out
                 ++ slice c.loop-i.from c.loop-i.i c.args.destination.now)

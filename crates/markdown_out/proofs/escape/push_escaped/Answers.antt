@@ -7,7 +7,7 @@ use Rattle.markdown_out.specs.Escaped.{escaped_byte}
 use Rattle.markdown_out.proofs.EscapesLemmas.{Copied-none, Copied-keep, Copied-write}
 use Rattle.markdown_out.proofs.EscapesLemmas.{front-waiting, front-written, slice}
 use Rattle.markdown_out.proofs.escape.push_escaped.Goals as goal
-use Rattle.markdown_out.proofs.escape.push_escaped.Goals.{in-Some+in_ok-push_str+in_ok-push_str-2}
+use Rattle.markdown_out.proofs.escape.push_escaped.Goals.{in-Some+in_ok-push_any+in_ok-push_str}
 use Rattle.markdown_out.proofs.escape.push_escaped.Goals.{in_default}
 
 pub loop-i-init : goal.loop-i-init
@@ -18,18 +18,18 @@ loop-i-init c = record {
   copied = Copied-none _ _ _;
 }
 
-pub returns-in_err-push_str-clause-err : goal.returns-in_err-push_str-clause-err
-returns-in_err-push_str-clause-err c =
+pub returns-in_err-push_any-clause-err : goal.returns-in_err-push_any-clause-err
+returns-in_err-push_any-clause-err c =
     let p = err_from_is_err_and c.from_residual.result c.from_residual.ensures.1 in
-    rw p.1 (front-waiting (escaped_byte c.args.escape) _ _ _ _ _ _ c.in_err-push_str.ensures.bytes
+    rw p.1 (front-waiting (escaped_byte c.args.escape) _ _ _ _ _ _ c.in_err-push_any.ensures.err
     c.loop-i.invariant.copied)
 
-pub returns-in_err-push_str-2-clause-err : goal.returns-in_err-push_str-2-clause-err
-returns-in_err-push_str-2-clause-err c =
-    let p = err_from_is_err_and c.from_residual-in_err-push_str-2.result
-    c.from_residual-in_err-push_str-2.ensures.1 in
+pub returns-in_err-push_str-clause-err : goal.returns-in_err-push_str-clause-err
+returns-in_err-push_str-clause-err c =
+    let p = err_from_is_err_and c.from_residual-in_err-push_str.result
+    c.from_residual-in_err-push_str.ensures.1 in
     rw p.1 (front-written (escaped_byte c.args.escape) _ _ _ _ _ _
-    (c.in_err-push_str-2.ensures.bytes ∙ (c.in_ok-push_str.ensures.bytes
+    (c.in_err-push_str.ensures.bytes ∙ (c.in_ok-push_any.ensures.ok
     ∙ ap (λ x. string_bytes c.loop-i.out ++ x) c.range.ensures.value))
     c.loop-i.invariant.copied)
 
@@ -38,7 +38,7 @@ loop-i-preserved c =
     let a = c.as_bytes-bytes.ensures.value in
     let here : c.loop-i.i < length c.args.text.now = rw a at c.loop-i-test.true in
     elim c.match-replacement.branch [
-      | in-Some+in_ok-push_str+in_ok-push_str-2 w ↦
+      | in-Some+in_ok-push_any+in_ok-push_str w ↦
           let r : (w.in-Some.replacement.now ≡ (escaped_byte c.args.escape)
           (get_or c.args.text.now c.loop-i.i 0)) × (get_or c.args.text.now c.loop-i.i 0 < 128)
           = rw a at w.in-Some.ensures in
@@ -46,8 +46,8 @@ loop-i-preserved c =
             order = omega arith;
             cut = IsCharBoundary-after_ascii c.args.text.now c.loop-i.i c.utf8.text here r.1;
             copied = Copied-write (escaped_byte c.args.escape) _ _ _ _ _ _ here
-                (w.in_ok-push_str-2.ensures.bytes
-                ∙ (ap (λ x. x ++ w.in-Some.replacement.now) (w.in_ok-push_str.ensures.bytes
+                (w.in_ok-push_str.ensures.bytes
+                ∙ (ap (λ x. x ++ w.in-Some.replacement.now) (w.in_ok-push_any.ensures.ok
                 ∙ ap (λ x. string_bytes c.loop-i.out ++ x) w.range.ensures.value)
                 ∙ ap (λ x. (string_bytes c.loop-i.out
                 ++ slice c.loop-i.from c.loop-i.i c.args.text.now)

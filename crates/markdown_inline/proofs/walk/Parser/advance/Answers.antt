@@ -13,7 +13,7 @@ walk-preserved g c = went_skip c.args.self.now c.walk.self _ c.walk.invariant re
 pub returns-in-Ok-Done-clause-gives : goal.returns-in-Ok-Done-clause-gives
 returns-in-Ok-Done-clause-gives g c =
     let done = rw c.in-Ok-Done.field-0-is at c.in-Ok-Done.ensures in
-    advances_none g.F.BrokenLinkCallback.answers c.args.self.now c.walk.self _ c.walk.invariant done.1 refl done.0
+    advances_none g.F.BrokenLinkCallback.answers c.args.self.now c.walk.self _ c.walk.invariant done.1 refl refl done.0
 
 pub returns-in-Ok-Give-clause-gives : goal.returns-in-Ok-Give-clause-gives
 returns-in-Ok-Give-clause-gives g c =
@@ -25,7 +25,7 @@ invariant_of-self-in-Err g c = record { walks = walks_ended c.walk.self.text.now
 
 pub returns-in-Err-clause-gives : goal.returns-in-Err-clause-gives
 returns-in-Err-clause-gives g c =
-    advances_fault g.F.BrokenLinkCallback.answers c.args.self.now c.walk.self _ c.take_step.new.tree c.walk.invariant c.in-Err.ensures (stopped c.take_step.new.tree c.stop.new.self c.stop.ensures)
+    advances_fault g.F.BrokenLinkCallback.answers c.args.self.now c.walk.self _ c.take_step.new.tree c.walk.invariant c.in-Err.ensures refl refl (stopped c.take_step.new.tree c.stop.new.self c.stop.ensures)
 
 pub returns-in-Err-clause-falls : goal.returns-in-Err-clause-falls
 returns-in-Err-clause-falls g c =

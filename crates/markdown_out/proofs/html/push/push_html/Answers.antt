@@ -49,6 +49,6 @@ pub returns-clause-err : goal.returns-clause-err
 returns-clause-err g c =
     let read = rw c.into_iter-item-iterator.ensures.into_iter_gives at c.loop-item.yielded_by in
     IfErr-weaker c.finish.result _ _
-    (λ fault h. inr (IsOwnFault-end g.I.Iterator.next_gives _ _ fault read
-    c.loop-item.invariant h.0 h.1))
+    (λ fault h. inr (IsOwnFault-end g.I.Iterator.next_gives _ _ _ fault read
+    c.in-None.ensures.steps c.loop-item.invariant h.0 h.1))
     c.finish.ensures.err

@@ -1,7 +1,8 @@
 use Rattle.std.proofs.Common.{◌≡◌, ◌∷◌, [], sym, ap, subst, ◌∙◌, arith}
 use Rattle.std.specs.Option.{option_map}
 use Rattle.markdown_out.specs.MergeNext.{item_view}
-use Rattle.markdown_out.specs.HeldItems.{given_answers, held_items}
+use Rattle.markdown_out.specs.HeldItems.{held_items}
+use Rattle.markdown_out.specs.TakenAnswers.{given_answers}
 use Rattle.markdown_out.specs.AdvanceSteps.{IsMerged}
 use Rattle.markdown_out.proofs.MergeNextLemmas.{merged-more, can_merge-after, fewer-after}
 use Rattle.markdown_out.proofs.merge.merging.advance.Goals as goal
@@ -31,5 +32,5 @@ reading-preserved g c =
     record {
       merged = subst (λ given. IsMerged through view steps (held_items c.args.held) c.args.iter.now given (held_items after) c.next.new.self) given more;
       can_merge = can_merge-after steps c.next.result can c.next.ensures.steps c.next.ensures.goes;
-      fewer = omega (arith, c.reading.invariant.fewer, c.in_ok-step.ensures.counts, c.parted-answer.ensures.count, fewer-after steps c.next.result can c.next.ensures.steps c.next.ensures.goes);
+      fewer = omega (arith, c.reading.invariant.fewer, c.in_ok-step.ensures.takes.counts, c.parted-answer.ensures.count, fewer-after steps c.next.result can c.next.ensures.steps c.next.ensures.goes);
     }

@@ -1,7 +1,7 @@
 use Rattle.std.proofs.Common.{◌+◌, ◌*◌}
 use Rattle.std.specs.Iterator.{size}
 use Rattle.markdown_out.specs.MergeNext.{item_view}
-use Rattle.markdown_out.specs.HeldItems.{held_count}
+use Rattle.markdown_out.specs.TakenAnswers.{held_count}
 use Rattle.markdown_out.proofs.MergeNextLemmas.{IsReading}
 use Rattle.markdown_out.proofs.merge.merging.advance.Given as goal
 

@@ -1,7 +1,7 @@
 -- The folding of the label has a place exactly where the index says so.
 use Rattle.std.proofs.Common.{◌≡◌, sym, ◌∙◌, ap, false, string_bytes, is_some, length, refl}
-use Rattle.std.specs.HashMap.{get_by_text}
-use Rattle.std.proofs.lemmas.Map.Text.{hash_map_updates_text}
+use Rattle.std.specs.BTreeMap.{get_by_text}
+use Rattle.std.proofs.lemmas.Map.Text.{btree_map_updates_text}
 use Rattle.markdown_base.specs.CowText.{text_of}
 use Rattle.markdown_spans.specs.Folding.{case_folding, folded_text}
 use Rattle.markdown_spans.specs.DefinitionsIndex.{place_of}
@@ -26,7 +26,7 @@ returns-clause-indexed c =
     let asked = rw text at (sym (rw c.as_str-2.ensures.value at c.contains_key.ensures) ∙ c.if-contains_key.false) in
     let absent : is_some (place_of (case_folding (text_of c.args.entry.0)) c.args.kept.now.items) ≡ false = ap is_some (sym (c.requires (case_folding (text_of c.args.entry.0)))) ∙ asked in
     let last : c.len.result ≡ length c.args.kept.now.items = c.len.ensures ∙ c.args.kept.now.ok.0 in
-    let updated = rw (text, last) at (hash_map_updates_text (string_bytes c.in_ok-folded.folded) c.args.by_folding.now c.insert.new.self _ c.in_ok-insert.ensures.updates) in
+    let updated = rw (text, last) at (btree_map_updates_text (string_bytes c.in_ok-folded.folded) c.args.by_folding.now c.insert.new.self _ c.in_ok-insert.ensures.updates) in
     rw c.in_ok-push.ensures.items (
     indexed_push (get_by_text c.args.by_folding.now) (get_by_text c.insert.new.self) (case_folding (text_of c.args.entry.0)) c.args.kept.now.items c.args.entry c.requires
     updated refl absent)

@@ -1,7 +1,7 @@
 -- The footnotes of the names so far.
 use Rattle.std.proofs.Common.{◌≡◌, ℕ, List, Some, None, encode_utf8_all}
 use Rattle.std.specs.Prelude.{if◌then◌else◌}
-use Rattle.std.specs.HashMap.{get_by_text}
+use Rattle.std.specs.BTreeMap.{get_by_text}
 use Rattle.std.specs.List.{list_any}
 use Rattle.std.specs.Str.{bytes_eq}
 use Rattle.markdown_base.specs.CowText.{text_of}

@@ -1,5 +1,0 @@
-use Rattle.markdown_base.proofs.ScanLawLemmas.{bare_destination_plain}
-use Rattle.markdown_base.proofs.scan.laws.bare_destination_holds_no_space.Goals as goal
-
-pub returns : goal.returns
-returns c = bare_destination_plain c.args.max_nesting c.args.bytes.now

@@ -1,5 +1,0 @@
-use Rattle.markdown_base.proofs.ScanLawLemmas.{first_close}
-use Rattle.markdown_base.proofs.scan.laws.raw_html_ends_at_its_first_close.Goals as goal
-
-pub returns : goal.returns
-returns c = first_close c.args.closing.now c.args.bytes.now

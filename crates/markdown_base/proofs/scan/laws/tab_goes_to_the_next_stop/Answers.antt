@@ -1,5 +1,0 @@
-use Rattle.markdown_base.proofs.ScanLawLemmas.{tab_stop}
-use Rattle.markdown_base.proofs.scan.laws.tab_goes_to_the_next_stop.Goals as goal
-
-pub returns : goal.returns
-returns c = tab_stop c.args.spaces c.args.bytes.now

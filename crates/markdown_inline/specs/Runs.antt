@@ -1,0 +1,38 @@
+-- What all items of a parser are, from a call of `next` on to its None.
+use Rattle.std.specs.Prelude.{◌≡◌, ◌⊎◌, ℕ, List, [], ◌∷◌, ◌++◌, map, Ok, Err, Result}
+use Rattle.markdown_base.specs.Document.{Answers, Placed, events_of}
+use Rattle.markdown_base.specs.declared.fault.Fault.{Fault}
+use Rattle.markdown_base.specs.declared.fault.Fault.TheVariants.{Memory}
+use Rattle.markdown_inline.specs.ParserLeft.{parser_text, elements}
+use Rattle.markdown_inline.specs.declared.walk.Parser.{Parser}
+
+module _ {I : Type 0} (is_of : List ℕ → I → Placed → Type 0) where
+  -- these items are these events of a reading of the source, one by one
+  abbrev pub AreOf : List ℕ → List I → List Placed → Type 0
+  AreOf source [] [] = Unit {0}
+  AreOf source [] (placed ∷ events) = ⊥
+  AreOf source (item ∷ items) [] = ⊥
+  AreOf source (item ∷ items) (placed ∷ events) = is_of source item placed × AreOf source items events
+
+  -- the items are all events that were left, for the answers given
+  pub record GaveAll {F : Type 0} (p : Parser F) (all : List (Result I Fault)) : Type 0 where
+    pub given : List I
+    pub no_fault : all ≡ map (λ item. Ok item) given
+    pub events : List Placed
+    pub are : AreOf (parser_text p) given events
+    pub answers : Answers
+    pub left : (later : Answers) → events_of (elements p (answers ++ later)) ≡ events
+
+  -- the items are a beginning of the events that were left, whatever answers would have followed, and then
+  -- an error, after which nothing came
+  pub record WasRefused {F : Type 0} (p : Parser F) (all : List (Result I Fault)) : Type 0 where
+    pub given : List I
+    pub one_fault : all ≡ map (λ item. Ok item) given ++ Err Memory ∷ []
+    pub events : List Placed
+    pub are : AreOf (parser_text p) given events
+    pub answers : Answers
+    pub begins : (later : Answers) → (others : List Placed) × (events_of (elements p (answers ++ later)) ≡ events ++ others)
+
+  -- there is no third way
+  abbrev pub IsRun : {F : Type 0} → Parser F → List (Result I Fault) → Type 0
+  IsRun p all = GaveAll p all ⊎ WasRefused p all

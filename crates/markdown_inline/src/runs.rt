@@ -1,0 +1,35 @@
+//! Whole runs of a parser: its items in a list, as a site generator or a link checker reads them. Proved from what
+//! `next` promises alone.
+ghost use Rattle.std.specs.Prelude.{IfOk, IfSome};
+ghost use Rattle.markdown_inline.specs.NextGives.{IsEventOf, IsPlacedOf};
+ghost use Rattle.markdown_inline.specs.ParserLeft.{parser_callback, offset_parser};
+ghost use Rattle.markdown_inline.specs.Runs.{IsRun};
+
+use crate::walk::{OffsetIter, Parser};
+use markdown_base::event::Event;
+use markdown_spans::blocks::Fault;
+use markdown_spans::defs::BrokenLinkCallback;
+use std::alloc::{AllocError, Global};
+use std::ops::Range;
+
+/// All events that are left, in a list. An error item is the last.
+pub fn gather<'input, F: BrokenLinkCallback<'input>>(
+    parser: Parser<'input, F>,
+    alloc: Global,
+) -> Result<Vec<Result<Event<'input>, Fault>>, AllocError>
+    requires { IfSome (parser_callback parser) F.can_ask }
+    ensures { IfOk result (λ all. IsRun IsEventOf parser.entry all.items) }
+{
+    parser.collect(alloc)
+}
+
+/// The same with the range of each event.
+pub fn gather_offsets<'input, F: BrokenLinkCallback<'input>>(
+    iter: OffsetIter<'input, F>,
+    alloc: Global,
+) -> Result<Vec<Result<(Event<'input>, Range<usize>), Fault>>, AllocError>
+    requires { IfSome (parser_callback (offset_parser iter)) F.can_ask }
+    ensures { IfOk result (λ all. IsRun IsPlacedOf (offset_parser iter.entry) all.items) }
+{
+    iter.collect(alloc)
+}

@@ -1,0 +1,5 @@
+pub mod HtmlTagLemmas
+pub mod RawHtmlLemmas
+pub mod TagSourceLemmas
+pub mod TagTextLemmas
+pub mod RawHtmlLawsLemmas

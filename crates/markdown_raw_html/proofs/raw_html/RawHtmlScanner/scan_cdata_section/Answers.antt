@@ -1,0 +1,20 @@
+use Rattle.std.proofs.Common.{◌≡◌, true, drop, codes, sym, ◌∙◌}
+use Rattle.std.proofs.lemmas.List.{take_rest}
+use Rattle.markdown_scan.specs.Beginnings.{begins_with}
+use Rattle.markdown_raw_html.specs.RawHtml.{cdata_section}
+use Rattle.markdown_raw_html.proofs.RawHtmlLemmas.{cdata_section-ends, closed_by, end_if}
+use Rattle.markdown_raw_html.proofs.raw_html.RawHtmlScanner.scan_cdata_section.Goals as goal
+
+pub returns-clause-value : goal.returns-clause-value
+returns-clause-value c =
+    let self = c.args.self.now in
+    let begins : begins_with (codes "[CDATA[") (drop c.args.start self.text.now) ≡ true =
+    rw take_rest at (sym c.starts_with.ensures.value ∙ c.if-not-starts_with.false) in
+    let found = rw (self.cdata_sections_of, self.cdata_sections_end) at c.end.ensures.value in
+    found ∙ end_if (codes "]]>") self.text.now c.args.start 7
+    (begins_with (codes "[CDATA[") (drop c.args.start self.text.now)) begins
+
+pub returns-clause-closed : goal.returns-clause-closed
+returns-clause-closed c =
+    closed_by cdata_section c.args.self.now.text.now c.args.start c.end.result cdata_section-ends
+    (returns-clause-value c)

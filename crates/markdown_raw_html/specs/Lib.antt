@@ -1,0 +1,12 @@
+-- what raw HTML is, by CommonMark
+pub mod RawHtml
+pub mod HtmlTag
+pub mod TagText
+pub mod TagSource
+pub mod RawHtmlLaws
+-- for private clauses
+pub mod ByteKinds
+pub mod TagSteps
+-- the words of the lower crate that the definitions here are written in
+pub use Rattle.markdown_scan.specs.Beginnings
+pub use Rattle.markdown_scan.specs.LinePrefix

@@ -1,0 +1,49 @@
+-- Raw HTML that ends at the first place where its closing bytes stand (CommonMark 6.6): comments,
+-- CDATA sections, declarations and processing instructions. Each is read from the byte after its
+-- `<!` or `<?` on, and answers how many bytes it takes from there.
+use Rattle.std.specs.Prelude.{ℕ, ◌+◌, Bool, false, List, [], ◌∷◌, Option, Some, None, if◌then◌else◌, length, drop, codes}
+use Rattle.std.specs.Option.{option_map}
+use Rattle.std.specs.Char.{is_ascii_alphabetic}
+use Rattle.markdown_scan.specs.Beginnings.{begins_with}
+
+-- up to the first place where these bytes stand, and through them
+abbrev pub through_first : List ℕ → List ℕ → Option ℕ
+through_first closing [] = None
+through_first closing (b ∷ bytes) =
+    if begins_with closing (b ∷ bytes) then Some (length closing)
+    else option_map (λ n. 1 + n) (through_first closing bytes)
+
+-- the same after n bytes
+abbrev pub through_first_after : ℕ → List ℕ → List ℕ → Option ℕ
+through_first_after n closing bytes = option_map (λ m. n + m) (through_first closing (drop n bytes))
+
+-- `<!-->`, `<!--->`, or `<!--` and then all up to the first `-->`
+abbrev pub comment : List ℕ → Option ℕ
+comment bytes =
+    if begins_with (codes "-->") bytes then Some 3
+    else if begins_with (codes "--->") bytes then Some 4
+    else if begins_with (codes "--") bytes then through_first_after 2 (codes "-->") bytes
+    else None
+
+-- `<![CDATA[` and then all up to the first `]]>`
+abbrev pub cdata_section : List ℕ → Option ℕ
+cdata_section bytes =
+    if begins_with (codes "[CDATA[") bytes then through_first_after 7 (codes "]]>") bytes else None
+
+-- the bytes begin with an ASCII letter
+abbrev pub begins_with_letter : List ℕ → Bool
+begins_with_letter [] = false
+begins_with_letter (b ∷ bytes) = is_ascii_alphabetic b
+
+-- `<!`, an ASCII letter, and then all up to the first `>`
+abbrev pub declaration : List ℕ → Option ℕ
+declaration bytes =
+    if begins_with_letter bytes then through_first_after 1 (codes ">") bytes else None
+
+-- `<?` and then all up to the first `?>`
+abbrev pub processing_instruction : List ℕ → Option ℕ
+processing_instruction bytes = through_first (codes "?>") bytes
+
+-- where what begins at a place of the text ends
+abbrev pub end_from : (List ℕ → Option ℕ) → List ℕ → ℕ → Option ℕ
+end_from scan text start = option_map (λ n. start + n) (scan (drop start text))

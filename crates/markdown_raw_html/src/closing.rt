@@ -1,0 +1,67 @@
+//! The first place where closing bytes stand, looked for once: a search that failed is not repeated.
+ghost use Rattle.std.specs.Prelude.{◌≡◌, ◌<◌, ◌≤◌, IfSome, None, drop, length};
+ghost use Rattle.markdown_raw_html.specs.RawHtml.{end_from, through_first};
+
+/// A text, closing bytes, and a place from which on they do not stand in the text. Without that
+/// place each start of many that no end follows would be searched to the end of the text: `<!a<!a`
+/// and so on, n times, would cost n².
+#[derive(Debug, Drop)]
+pub(crate) struct ClosingGuard<'t> {
+    pub(crate) text: &'t [u8],
+    pub(crate) closing: &'static [u8],
+    none_from: usize,
+    ghost in_text: { none_from ≤ length text.now },
+    ghost none: { through_first closing.now (drop none_from text.now) ≡ None },
+}
+
+/// The length of the bytes up to the first place where the closing bytes stand, and through them.
+fn find_closing(bytes: &[u8], closing: &[u8]) -> Option<usize>
+    ensures value { result ≡ through_first closing.now bytes.now }
+    ensures within { IfSome result (λ n. n ≤ length bytes.now) }
+{
+    let mut rest = bytes;
+    let mut at = 0;
+    while let Some((_, tail)) = rest.split_first() {
+        if rest.starts_with(closing) {
+            return Some(at + closing.len());
+        }
+        rest = tail;
+        at += 1;
+    }
+    None
+}
+
+impl<'t> ClosingGuard<'t> {
+    /// No search has failed yet.
+    pub(crate) fn new(text: &'t [u8], closing: &'static [u8]) -> ClosingGuard<'t>
+        ensures text { result.text.now ≡ text.now }
+        ensures closing { result.closing.now ≡ closing.now }
+    {
+        ClosingGuard {
+            text,
+            closing,
+            none_from: text.len(),
+        }
+    }
+
+    /// The place just after the first closing bytes that stand at `start` or later.
+    pub(crate) fn end(&mut self, start: usize) -> Option<usize>
+        requires { start ≤ length self.old.text.now }
+        ensures value { result ≡ end_from (through_first self.old.closing.now) self.old.text.now
+            start }
+        ensures within { IfSome result (λ end. end ≤ length self.old.text.now) }
+        ensures text { self.new.text ≡ self.old.text }
+        ensures closing { self.new.closing ≡ self.old.closing }
+    {
+        if start >= self.none_from {
+            return None;
+        }
+        match find_closing(&self.text[start..], self.closing) {
+            Some(length) => Some(start + length),
+            None => {
+                self.none_from = start;
+                None
+            }
+        }
+    }
+}

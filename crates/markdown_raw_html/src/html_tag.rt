@@ -1,0 +1,92 @@
+//! Tags in a text whose lines may have prefixes.
+ghost use Rattle.std.specs.Prelude.{◌≡◌, ◌≤◌, IfOk, IfSome, IsOk, None, Some, length, option_and_then, take};
+ghost use Rattle.std.specs.Option.{option_map};
+ghost use Rattle.std.specs.Str.{IsCharBoundary};
+ghost use Rattle.markdown_raw_html.specs.HtmlTag.{html_tag};
+ghost use Rattle.markdown_raw_html.specs.TagSource.{tag_at, tag_lengths};
+ghost use Rattle.markdown_raw_html.specs.TagSteps.{after_part};
+ghost use Rattle.markdown_raw_html.specs.TagText.{text_in};
+
+use crate::tag_grammar::take_html_tag;
+use crate::tag_text::first_byte;
+use markdown_scan::line_rule::LineRule;
+use std::alloc::{AllocError, Global};
+
+/// How many bytes the tag has that stands before `rest`, without prefixes.
+fn count_tag<R: LineRule>(rule: &R, source: &[u8], rest: &[u8]) -> usize
+    requires { Some rest.now ≡ after_part (R.skipped rule.now) html_tag source.now }
+    ensures { Some result ≡ html_tag (text_in (R.skipped rule.now) source.now) }
+{
+    let mut left = source;
+    let mut count = 0;
+    'bytes: while left.len() > rest.len() {
+        let Some((_, tail)) = first_byte(rule, left) else {
+            return count;
+        };
+        left = tail;
+        count += 1;
+    }
+    count
+}
+
+/// The tag that begins the source: how many bytes it takes with its prefixes, and without them.
+fn read_tag<R: LineRule>(rule: &R, source: &[u8]) -> Option<(usize, usize)>
+    ensures value { result ≡ option_map (λ n. tag_lengths (R.skipped rule.now) source.now n)
+        (html_tag (text_in (R.skipped rule.now) source.now)) }
+    ensures within { IfSome result (λ lengths. lengths.0 ≤ length source.now) }
+{
+    let rest = take_html_tag(rule, source)?;
+    Some((source.len() - rest.len(), count_tag(rule, source, rest)))
+}
+
+/// The first so many bytes of the text, without prefixes.
+fn copy_text<R: LineRule>(
+    alloc: Global,
+    rule: &R,
+    source: &[u8],
+    count: usize,
+) -> Result<Vec<u8>, AllocError>
+    requires { count ≤ length (text_in (R.skipped rule.now) source.now) }
+    ensures { IfOk result (λ made.
+        made.items ≡ take count (text_in (R.skipped rule.now) source.now)) }
+{
+    let mut made = Vec::new(alloc);
+    let mut left = source;
+    'bytes: while made.len() < count {
+        let Some((byte, tail)) = first_byte(rule, left) else {
+            return Ok(made);
+        };
+        made.push(byte)?;
+        left = tail;
+    }
+    Ok(made)
+}
+
+/// The open or closing tag (CommonMark 6.6) whose `<` stands at the byte `at`: the place just after
+/// it, and, where prefixes of lines stand inside it, its bytes without them. None where no tag
+/// begins there, or where a line ending stands in it after which the rule lets no text go on. Memory
+/// is taken, and can run out, only for those bytes.
+pub fn scan_html_tag<R: LineRule>(
+    alloc: Global,
+    text: &str,
+    at: usize,
+    rule: &R,
+) -> Result<Option<(usize, Option<Vec<u8>>)>, AllocError>
+    requires { at ≤ length text.now }
+    ensures value { IfOk result (λ found.
+        option_map (λ tag. (tag.0, option_map (λ bytes. bytes.items) tag.1)) found
+        ≡ tag_at (R.skipped rule.now) text.now at) }
+    ensures plain { option_and_then (λ tag. tag.1) (tag_at (R.skipped rule.now) text.now at) ≡ None
+        → IsOk result }
+    ensures boundary { IfOk result (λ found. IfSome found (λ tag. IsCharBoundary text.now tag.0)) }
+{
+    let source = &text.as_bytes()[at..];
+    let Some((read, count)) = read_tag(rule, source) else {
+        return Ok(None);
+    };
+    if count == read {
+        return Ok(Some((at + read, None)));
+    }
+    let bytes = copy_text(alloc, rule, source, count)?;
+    Ok(Some((at + read, Some(bytes))))
+}

@@ -1,0 +1,203 @@
+//! The parts of tags (CommonMark 6.6), each as the source after it. A function takes two parts at
+//! most, as the grammar does.
+ghost use Rattle.std.specs.Prelude.{◌≡◌, ◌==◌, Some, not};
+ghost use Rattle.std.specs.Option.{option_copied};
+ghost use Rattle.markdown_raw_html.specs.ByteKinds.{in_kind};
+ghost use Rattle.markdown_raw_html.specs.HtmlTag.{all, attribute, attribute_name, attribute_value, both, byte, either, is_blank, line_end, nonempty, one, optional, quoted_value, tag_name, unquoted_value, value_specification, white_space};
+ghost use Rattle.markdown_raw_html.specs.TagSteps.{after_part};
+
+use crate::byte_kind::ByteKind;
+use crate::tag_text::{take_all, take_one};
+use markdown_scan::line_rule::LineRule;
+
+/// A byte of the kind, if one comes.
+#[tactic(auto, using(crate::proofs::TagTextLemmas::optional_none, crate::proofs::TagTextLemmas::optional_some))]
+pub(crate) fn take_optional<'t, R: LineRule>(rule: &R, source: &'t [u8], kind: ByteKind) -> &'t [u8]
+    ensures { Some result.now
+        ≡ after_part (R.skipped rule.now) (optional (one (in_kind kind))) source.now }
+{
+    match take_one(rule, source, kind) {
+        Some(rest) => rest,
+        None => source,
+    }
+}
+
+/// A carriage return, and the line feed that follows it, if one does.
+#[tactic(auto, using(crate::proofs::TagTextLemmas::both_none, crate::proofs::TagTextLemmas::both_some))]
+fn take_carriage_return<'t, R: LineRule>(rule: &R, source: &'t [u8]) -> Option<&'t [u8]>
+    ensures { option_copied result
+        ≡ after_part (R.skipped rule.now) (both (byte 13) (optional (byte 10))) source.now }
+{
+    let rest = take_one(rule, source, ByteKind::Only(b'\r'))?;
+    Some(take_optional(rule, rest, ByteKind::Only(b'\n')))
+}
+
+/// A line ending.
+#[tactic(auto, using(crate::proofs::TagTextLemmas::either_none, crate::proofs::TagTextLemmas::either_some))]
+fn take_line_end<'t, R: LineRule>(rule: &R, source: &'t [u8]) -> Option<&'t [u8]>
+    ensures { option_copied result
+        ≡ after_part (R.skipped rule.now) line_end source.now }
+{
+    match take_one(rule, source, ByteKind::Only(b'\n')) {
+        Some(rest) => Some(rest),
+        None => take_carriage_return(rule, source),
+    }
+}
+
+/// A line ending, if one comes.
+#[tactic(auto, using(crate::proofs::TagTextLemmas::optional_none, crate::proofs::TagTextLemmas::optional_some))]
+fn take_optional_line_end<'t, R: LineRule>(rule: &R, source: &'t [u8]) -> &'t [u8]
+    ensures { Some result.now
+        ≡ after_part (R.skipped rule.now) (optional line_end) source.now }
+{
+    match take_line_end(rule, source) {
+        Some(rest) => rest,
+        None => source,
+    }
+}
+
+/// A line ending, if one comes, and spaces and tabs.
+#[tactic(auto, using(crate::proofs::TagTextLemmas::both_none, crate::proofs::TagTextLemmas::both_some))]
+fn take_next_line<'t, R: LineRule>(rule: &R, source: &'t [u8]) -> &'t [u8]
+    ensures { Some result.now
+        ≡ after_part (R.skipped rule.now) (both (optional line_end) (all is_blank)) source.now }
+{
+    let line = take_optional_line_end(rule, source);
+    take_all(rule, line, ByteKind::Blank)
+}
+
+/// Spaces and tabs, and up to one line ending.
+#[tactic(auto, using(crate::proofs::TagTextLemmas::both_none, crate::proofs::TagTextLemmas::both_some))]
+pub(crate) fn take_white_space<'t, R: LineRule>(rule: &R, source: &'t [u8]) -> &'t [u8]
+    ensures { Some result.now
+        ≡ after_part (R.skipped rule.now) white_space source.now }
+{
+    let line_end = take_all(rule, source, ByteKind::Blank);
+    take_next_line(rule, line_end)
+}
+
+/// A tag's name.
+#[tactic(auto, using(crate::proofs::TagTextLemmas::both_none, crate::proofs::TagTextLemmas::both_some))]
+pub(crate) fn take_tag_name<'t, R: LineRule>(rule: &R, source: &'t [u8]) -> Option<&'t [u8]>
+    ensures { option_copied result
+        ≡ after_part (R.skipped rule.now) tag_name source.now }
+{
+    let rest = take_one(rule, source, ByteKind::Letter)?;
+    Some(take_all(rule, rest, ByteKind::InTagName))
+}
+
+/// An attribute's name.
+#[tactic(auto, using(crate::proofs::TagTextLemmas::both_none, crate::proofs::TagTextLemmas::both_some))]
+fn take_attribute_name<'t, R: LineRule>(rule: &R, source: &'t [u8]) -> Option<&'t [u8]>
+    ensures { option_copied result
+        ≡ after_part (R.skipped rule.now) attribute_name source.now }
+{
+    let rest = take_one(rule, source, ByteKind::BeginsAttribute)?;
+    Some(take_all(rule, rest, ByteKind::InAttribute))
+}
+
+/// A value without quotes.
+#[tactic(auto, using(crate::proofs::TagTextLemmas::both_none, crate::proofs::TagTextLemmas::both_some))]
+fn take_unquoted_value<'t, R: LineRule>(rule: &R, source: &'t [u8]) -> Option<&'t [u8]>
+    ensures { option_copied result
+        ≡ after_part (R.skipped rule.now) unquoted_value source.now }
+{
+    let rest = take_one(rule, source, ByteKind::Unquoted)?;
+    Some(take_all(rule, rest, ByteKind::Unquoted))
+}
+
+/// All up to this mark, and through it.
+#[tactic(auto, using(crate::proofs::TagTextLemmas::both_none, crate::proofs::TagTextLemmas::both_some))]
+fn take_to_mark<'t, R: LineRule>(rule: &R, source: &'t [u8], mark: u8) -> Option<&'t [u8]>
+    ensures { option_copied result
+        ≡ after_part (R.skipped rule.now) (both (all (λ b. not (b == mark))) (byte mark)) source.now }
+{
+    let end = take_all(rule, source, ByteKind::Except(mark));
+    take_one(rule, end, ByteKind::Only(mark))
+}
+
+/// A value between two of these marks.
+#[tactic(auto, using(crate::proofs::TagTextLemmas::both_none, crate::proofs::TagTextLemmas::both_some))]
+fn take_quoted_value<'t, R: LineRule>(rule: &R, source: &'t [u8], mark: u8) -> Option<&'t [u8]>
+    ensures { option_copied result
+        ≡ after_part (R.skipped rule.now) (quoted_value mark) source.now }
+{
+    let inside = take_one(rule, source, ByteKind::Only(mark))?;
+    take_to_mark(rule, inside, mark)
+}
+
+/// A value in single or in double quotes.
+#[tactic(auto, using(crate::proofs::TagTextLemmas::either_none, crate::proofs::TagTextLemmas::either_some))]
+fn take_value_in_quotes<'t, R: LineRule>(rule: &R, source: &'t [u8]) -> Option<&'t [u8]>
+    ensures { option_copied result
+        ≡ after_part (R.skipped rule.now) (either (quoted_value 39) (quoted_value 34)) source.now }
+{
+    match take_quoted_value(rule, source, b'\'') {
+        Some(rest) => Some(rest),
+        None => take_quoted_value(rule, source, b'"'),
+    }
+}
+
+/// An attribute's value.
+#[tactic(auto, using(crate::proofs::TagTextLemmas::either_none, crate::proofs::TagTextLemmas::either_some))]
+fn take_attribute_value<'t, R: LineRule>(rule: &R, source: &'t [u8]) -> Option<&'t [u8]>
+    ensures { option_copied result
+        ≡ after_part (R.skipped rule.now) attribute_value source.now }
+{
+    match take_unquoted_value(rule, source) {
+        Some(rest) => Some(rest),
+        None => take_value_in_quotes(rule, source),
+    }
+}
+
+/// Maybe white space, and a value.
+#[tactic(auto, using(crate::proofs::TagTextLemmas::both_none, crate::proofs::TagTextLemmas::both_some))]
+fn take_spaced_value<'t, R: LineRule>(rule: &R, source: &'t [u8]) -> Option<&'t [u8]>
+    ensures { option_copied result
+        ≡ after_part (R.skipped rule.now) (both white_space attribute_value) source.now }
+{
+    let value = take_white_space(rule, source);
+    take_attribute_value(rule, value)
+}
+
+/// `=` and a value.
+#[tactic(auto, using(crate::proofs::TagTextLemmas::both_none, crate::proofs::TagTextLemmas::both_some))]
+fn take_equals_and_value<'t, R: LineRule>(rule: &R, source: &'t [u8]) -> Option<&'t [u8]>
+    ensures { option_copied result
+        ≡ after_part (R.skipped rule.now) (both (byte 61) (both white_space attribute_value)) source.now }
+{
+    let value = take_one(rule, source, ByteKind::Only(b'='))?;
+    take_spaced_value(rule, value)
+}
+
+/// `=` and a value, maybe white space before each of them.
+#[tactic(auto, using(crate::proofs::TagTextLemmas::both_none, crate::proofs::TagTextLemmas::both_some))]
+fn take_value_specification<'t, R: LineRule>(rule: &R, source: &'t [u8]) -> Option<&'t [u8]>
+    ensures { option_copied result
+        ≡ after_part (R.skipped rule.now) value_specification source.now }
+{
+    let equals = take_white_space(rule, source);
+    take_equals_and_value(rule, equals)
+}
+
+/// `=` and a value, if they come.
+#[tactic(auto, using(crate::proofs::TagTextLemmas::optional_none, crate::proofs::TagTextLemmas::optional_some))]
+fn take_optional_value<'t, R: LineRule>(rule: &R, source: &'t [u8]) -> &'t [u8]
+    ensures { Some result.now
+        ≡ after_part (R.skipped rule.now) (optional value_specification) source.now }
+{
+    match take_value_specification(rule, source) {
+        Some(rest) => rest,
+        None => source,
+    }
+}
+
+/// An attribute's name, and maybe its value.
+#[tactic(auto, using(crate::proofs::TagTextLemmas::both_none, crate::proofs::TagTextLemmas::both_some))]
+pub(crate) fn take_name_and_value<'t, R: LineRule>(rule: &R, source: &'t [u8]) -> Option<&'t [u8]>
+    ensures { option_copied result
+        ≡ after_part (R.skipped rule.now) (both attribute_name (optional value_specification)) source.now }
+{
+    let rest = take_attribute_name(rule, source)?;
+    Some(take_optional_value(rule, rest))
+}

@@ -1,0 +1,99 @@
+//! Copies and `'static` forms: the same text, or memory was refused; where none is taken, the same text.
+use markdown_base::block_parts::LinkDef;
+use markdown_base::cow_str::CowStr;
+use markdown_base::fault::Fault;
+use markdown_base::tag::LinkType;
+use markdown_spans::defs::BrokenLink;
+use std::alloc::{AllocError, Global};
+
+/// More bytes than are held in place.
+const LONG: &str = "a text of more than 22 bytes";
+
+fn is_text(made: Result<CowStr<'_>, AllocError>) -> bool {
+    match made {
+        Ok(text) => text.as_str() == LONG,
+        Err(_) => false,
+    }
+}
+
+fn is_text_or_refused(made: Result<CowStr<'_>, AllocError>) -> bool {
+    made.is_err() || is_text(made)
+}
+
+/// A text on the heap; None where memory was refused.
+fn boxed(alloc: Global) -> Option<CowStr<'static>> {
+    Some(CowStr::from(String::from_str(alloc, LONG).ok()?))
+}
+
+/// The copy of a slice takes no memory.
+pub fn copies_a_slice(alloc: Global) -> bool {
+    is_text(CowStr::Borrowed(LONG).try_clone(alloc))
+}
+
+pub fn frees_a_slice(alloc: Global) -> bool {
+    is_text_or_refused(CowStr::Borrowed(LONG).into_static(alloc))
+}
+
+/// A text that was not copied is as before.
+pub fn copies_a_boxed_text(alloc: Global) -> bool {
+    match boxed(alloc) {
+        Some(text) => is_text_or_refused(text.try_clone(alloc)) && text.as_str() == LONG,
+        None => true,
+    }
+}
+
+/// What is owned already takes no memory.
+pub fn frees_a_boxed_text(alloc: Global) -> bool {
+    match boxed(alloc) {
+        Some(text) => is_text(text.into_static(alloc)),
+        None => true,
+    }
+}
+
+fn definition(dest: CowStr<'static>) -> LinkDef<'static> {
+    LinkDef {
+        dest,
+        title: None,
+        span: 3..7,
+    }
+}
+
+fn is_definition(held: &LinkDef<'_>) -> bool {
+    held.dest.as_str() == LONG && held.title.is_none() && held.span == (3..7)
+}
+
+fn is_definition_or_refused(made: Result<LinkDef<'_>, Fault>) -> bool {
+    match made {
+        Ok(made) => is_definition(&made),
+        Err(fault) => fault == Fault::Memory,
+    }
+}
+
+/// A definition that was not copied is as before.
+pub fn copies_a_definition(alloc: Global) -> bool {
+    let Some(dest) = boxed(alloc) else {
+        return true;
+    };
+    let held = definition(dest);
+    is_definition_or_refused(held.try_clone(alloc)) && is_definition(&held)
+}
+
+pub fn frees_a_definition(alloc: Global) -> bool {
+    is_definition_or_refused(definition(CowStr::Borrowed(LONG)).into_static(alloc))
+}
+
+pub fn frees_a_broken_link(alloc: Global) -> bool {
+    let link = BrokenLink {
+        span: 3..7,
+        link_type: LinkType::Shortcut,
+        reference: CowStr::Borrowed(LONG),
+    };
+    match link.into_static(alloc) {
+        Ok(made) => {
+            made.reference.as_str() == LONG
+                && made.span == (3..7)
+                && made.link_type == LinkType::Shortcut
+        }
+        Err(fault) => fault == Fault::Memory,
+    }
+}

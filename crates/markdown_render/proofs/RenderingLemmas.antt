@@ -1,0 +1,21 @@
+-- What a parser of a text gives, written as HTML, is the rendering of the text.
+use Rattle.std.proofs.Common.{◌≡◌, ℕ, List, [], None, Option}
+use Rattle.std.specs.Str.{IsUtf8}
+use Rattle.markdown_base.specs.Document.{Question, Answer}
+use Rattle.markdown_inline.specs.NextGives.{NextGives, IsEventOf}
+use Rattle.markdown_inline.specs.ParserLeft.{ReadsText, no_options, parser_callback}
+use Rattle.markdown_inline.specs.declared.walk.Parser.{Parser}
+use Rattle.markdown_inline.proofs.RunLemmas.{drained_unasked}
+use Rattle.markdown_out.specs.HtmlCorrect.{IsRendered}
+use Rattle.markdown_render.specs.Rendering.{IsRenderingOf}
+
+pub rendering : {F : Type 0} (step : F → Question → Option Answer → F → Type 0) (text old html : List ℕ) (p : Parser F) → IsUtf8 text → old ≡ []
+    → ReadsText text no_options p → parser_callback p ≡ None → IsRendered (NextGives step IsEventOf) p old html
+    → IsRenderingOf text html
+rendering {F} step text old html p utf8 empty of none r =
+    record {
+      is_text = utf8;
+      blocks = of.0;
+      of_text = of.1;
+      rendered = λ answers. rw (← of.2 answers, drained_unasked step p r.events r.read none answers) (rw empty at r.stands);
+    }

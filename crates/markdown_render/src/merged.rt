@@ -1,0 +1,41 @@
+//! Parsers under merges: neighbouring texts as one.
+ghost use Rattle.std.specs.Prelude.{IfOk, IfSome, string_bytes};
+ghost use Rattle.std.specs.Iterator.{at_most};
+ghost use Rattle.markdown_inline.specs.NextGives.{NextGives, IsEventOf, IsPlacedOf};
+ghost use Rattle.markdown_inline.specs.ParserLeft.{parser_callback, parser_steps, offset_parser};
+ghost use Rattle.markdown_out.specs.MergeNext.{CanMerge};
+ghost use Rattle.markdown_render.specs.Merged.{IsMergedHtmlOf};
+
+use markdown_inline::walk::{OffsetIter, Parser};
+use markdown_out::html::push_html;
+use markdown_out::merge::TextMergeStream;
+use markdown_spans::blocks::Fault;
+use markdown_spans::defs::BrokenLinkCallback;
+use std::alloc::Global;
+
+/// A parser may be merged: after `None` it may be called again, and has no more items left.
+pub fn parsers_can_be_merged<'input, F: BrokenLinkCallback<'input>>(parser: &Parser<'input, F>)
+    requires { IfSome (parser_callback parser.now) F.can_ask }
+    ensures { CanMerge (NextGives F.answers IsEventOf) (λ p. IfSome (parser_callback p) F.can_ask)
+        (λ p. at_most (parser_steps p)) parser.now }
+{}
+
+/// So may its events with their ranges.
+pub fn offsets_can_be_merged<'input, F: BrokenLinkCallback<'input>>(iter: &OffsetIter<'input, F>)
+    requires { IfSome (parser_callback (offset_parser iter.now)) F.can_ask }
+    ensures { CanMerge (λ o r t. NextGives F.answers IsPlacedOf (offset_parser o) r (offset_parser t))
+        (λ o. IfSome (parser_callback (offset_parser o)) F.can_ask) (λ o. at_most (parser_steps (offset_parser o))) iter.now }
+{}
+
+/// The HTML of what is left of a parser, neighbouring texts as one.
+///
+/// # Errors
+///
+/// `Memory` where an allocation is refused, and `Depth` as `push_html` answers it.
+pub fn merged_html(alloc: Global, parser: Parser<'_>) -> Result<String, Fault>
+    ensures { IfOk result (λ html. IsMergedHtmlOf parser.entry (string_bytes html)) }
+{
+    let mut html = String::new(alloc);
+    push_html(alloc, &mut html, TextMergeStream::new(alloc, parser))?;
+    Ok(html)
+}

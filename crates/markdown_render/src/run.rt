@@ -1,0 +1,155 @@
+//! The program, over any reader and two writers.
+ghost use Rattle.std.specs.Prelude.{◌≡◌, ◌≢◌, ◌≤◌, ◌<◌, ◌⊎◌, ℕ, List, length, Result, IfOk, IfErr, IfSome, OnOk, string_bytes};
+ghost use Rattle.std.specs.Str.{IsUtf8};
+ghost use Rattle.std.specs.IoError.{error_kind};
+ghost use Rattle.std.specs.Io.KnownBytes.{Appends};
+ghost use Rattle.markdown_render.specs.Rendering.{IsRenderingOf};
+ghost use Rattle.markdown_render.specs.Outcome.{status_of, Leaves};
+ghost use Rattle.markdown_render.specs.declared.run.Failure.{Failure};
+
+use markdown_inline::walk::Parser;
+use markdown_out::html::push_html;
+use markdown_spans::blocks::Fault;
+use std::alloc::Global;
+use std::io::{self, ErrorKind, Read, Write};
+
+/// What failed.
+#[derive(Debug, Drop)]
+enum Failure {
+    ReadFailed,
+    NotText,
+    Fault(Fault),
+    WriteFailed,
+}
+
+impl Failure {
+    /// What is said on the error writer.
+    fn text(&self) -> &'static str {
+        match self {
+            Failure::ReadFailed => "read failed",
+            Failure::NotText => "input is not UTF-8",
+            Failure::Fault(Fault::Memory) => "out of memory",
+            Failure::Fault(Fault::Blocks) => "bad block result",
+            Failure::Fault(Fault::Depth) => "image nested too deeply",
+            Failure::WriteFailed => "write failed",
+        }
+    }
+}
+
+impl From<Fault> for Failure {
+    ghost use Rattle.markdown_render.specs.declared.run.Failure.{Failure};
+
+    ghost from_gives = { λ fault failure. failure ≡ Failure.Fault fault };
+
+    fn from(fault: Fault) -> Failure {
+        Failure::Fault(fault)
+    }
+}
+
+/// A failed call of the reader or the writer, unless memory was refused in it.
+fn failure_of(error: io::Error, attempted: Failure) -> Failure
+    ensures memory { error_kind error ≡ ErrorKind.OutOfMemory → result ≡ Failure.Fault Fault.Memory }
+    ensures other { error_kind error ≢ ErrorKind.OutOfMemory → result ≡ attempted }
+{
+    if error.kind() == ErrorKind::OutOfMemory {
+        Failure::Fault(Fault::Memory)
+    } else {
+        attempted
+    }
+}
+
+/// All of the input, as text.
+fn read_text<R: Read>(alloc: Global, input: &mut R) -> Result<String, Failure>
+    ensures text { IfOk result (λ text. IfSome (R.remaining input.old) (λ bytes. string_bytes text ≡ bytes)) }
+    ensures not_text { IfErr result (λ failure. failure ≡ Failure.NotText
+        → IfSome (R.remaining input.old) (λ bytes. IsUtf8 bytes → ⊥)) }
+    ensures failed { IfErr result (λ failure. failure ≢ Failure.WriteFailed) }
+{
+    let mut bytes = Vec::new(alloc);
+    match input.read_to_end(&mut bytes) {
+        Ok(_) => String::from_utf8(bytes).map_err(|_| Failure::NotText),
+        Err(error) => Err(failure_of(error, Failure::ReadFailed)),
+    }
+}
+
+/// The HTML of a text, with no extension.
+fn rendered(alloc: Global, text: &str) -> Result<String, Failure>
+    ensures html { IfOk result (λ html. IsRenderingOf text.now (string_bytes html)) }
+    ensures failed { IfErr result (λ failure. (fault : Fault) × (failure ≡ Failure.Fault fault)) }
+{
+    let mut html = String::new(alloc);
+    let parser = Parser::new(alloc, text)?;
+    push_html(alloc, &mut html, parser)?;
+    Ok(html)
+}
+
+/// Writes all of it at once.
+fn print<W: Write>(out: &mut W, html: &str) -> Result<(), Failure>
+    ensures written { OnOk result (Appends (W.contents out.old) (W.contents out.new) html.now) }
+    ensures failed { IfErr result (λ failure.
+        (failure ≡ Failure.WriteFailed) ⊎ (failure ≡ Failure.Fault Fault.Memory)) }
+{
+    out.write_all(html.as_bytes())
+        .map_err(|error| failure_of(error, Failure::WriteFailed))?;
+    out.flush()
+        .map_err(|error| failure_of(error, Failure::WriteFailed))
+}
+
+/// Reads, renders and writes.
+fn convert<R: Read, W: Write>(alloc: Global, input: &mut R, out: &mut W) -> Result<(), Failure>
+    ensures leaves { Leaves W.contents (R.remaining input.old) out.old out.new result }
+    ensures not_text { IfSome (R.remaining input.old) (λ bytes.
+        (IsUtf8 bytes → ⊥) → (result ≢ Ok tt) × (out.new ≡ out.old)) }
+{
+    let text = read_text(alloc, input)?;
+    let html = rendered(alloc, text.as_str())?;
+    print(out, html.as_str())
+}
+
+/// Says on `err`, in one line, what failed, and answers the exit status. Where that can't be written the status is the
+/// same.
+fn report<E: Write>(outcome: Result<(), Failure>, err: &mut E) -> u8
+    ensures status { result ≡ status_of outcome }
+    ensures quiet { OnOk outcome (err.new ≡ err.old) }
+{
+    match outcome {
+        Ok(()) => 0,
+        Err(failure) => {
+            let text = failure.text();
+            let _ = writeln!(err, "{text}");
+            1
+        }
+    }
+}
+
+/// Reads all of `input` as Markdown and writes its HTML to `out`. Every word is an option that is not
+/// known. Answers the exit status: 0 where all was written; 2 where there is a word, and nothing is read
+/// or written then; else 1. What failed is said on `err`, in one line. Where that can't be written the
+/// status is the same.
+pub fn run<R: Read, W: Write, E: Write>(
+    alloc: Global,
+    words: &[String],
+    input: &mut R,
+    out: &mut W,
+    err: &mut E,
+) -> u8
+    // A word is found before anything else.
+    ensures words { 0 < length words.now → (result ≡ 2) × (out.new ≡ out.old) × (input.new ≡ input.old) }
+
+    // Without one the status follows from what came of reading, rendering and writing.
+    ensures outcome { length words.now ≡ 0 → (outcome : Result (Unit {0}) Failure)
+        × (result ≡ status_of outcome) × Leaves W.contents (R.remaining input.old) out.old out.new outcome }
+    ensures status { length words.now ≡ 0 → result ≤ 1 }
+    ensures not_text { length words.now ≡ 0 → IfSome (R.remaining input.old) (λ bytes.
+        (IsUtf8 bytes → ⊥) → (result ≡ 1) × (out.new ≡ out.old)) }
+    ensures printed { result ≡ 0 → IfSome (R.remaining input.old) (λ bytes.
+        (html : List ℕ) × IsRenderingOf bytes html × Appends (W.contents out.old) (W.contents out.new) html) }
+    ensures quiet { result ≡ 0 → err.new ≡ err.old }
+{
+    if let Some(word) = words.first() {
+        let _ = writeln!(err, "unknown option: {word}");
+        return 2;
+    }
+    let outcome = convert(alloc, input, out);
+    report(outcome, err)
+}

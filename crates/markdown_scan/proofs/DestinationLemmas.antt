@@ -1,0 +1,32 @@
+-- Steps of the scanner of a destination: what the whole has is what stands before a byte and what
+-- the rest has.
+use Rattle.std.proofs.Common.{◌≡◌, ℕ, ◌+◌, List, ◌∷◌, Bool, false, Option, Some, None, drop, refl, ◌∙◌, ap, arith}
+use Rattle.std.specs.Option.{option_map}
+use Rattle.std.proofs.lemmas.List.{drop-drop}
+use Rattle.markdown_scan.specs.Backslash.{backslash, is_bare}
+use Rattle.markdown_scan.specs.Destination.{angle_length, is_refused, bare_length, is_past_bare, is_too_deep, open_after}
+
+-- one byte more, and so many before it
+pub one_more : (at : ℕ) (o : Option ℕ) → option_map (λ n. at + n) (option_map (λ n. 1 + n) o) ≡ option_map (λ n. at + 1 + n) o
+one_more at None = refl
+one_more at (Some n) = let sum : at + (1 + n) ≡ at + 1 + n = omega arith in rw sum
+
+-- what follows the first byte of what stands at a byte stands at the next one
+pub drop_next : (bytes tail : List ℕ) (at b : ℕ) → b ∷ tail ≡ drop at bytes → tail ≡ drop (at + 1) bytes
+drop_next bytes tail at b here = ap (drop 1) here ∙ drop-drop 1 at bytes
+
+-- past a byte between angle brackets
+pub angle_step : (whole : Option ℕ) (escaped : Bool) (at b : ℕ) (tail : List ℕ)
+    → whole ≡ option_map (λ n. at + n) (angle_length escaped (b ∷ tail))
+    → is_bare escaped b 62 ≡ false → is_refused escaped b ≡ false
+    → whole ≡ option_map (λ n. at + 1 + n) (angle_length (is_bare escaped b backslash) tail)
+angle_step whole escaped at b tail was no_end not_refused =
+    rw (no_end, not_refused) at was ∙ one_more at (angle_length (is_bare escaped b backslash) tail)
+
+-- past a byte of a destination in no brackets
+pub bare_step : (max_nesting : ℕ) (whole : Option ℕ) (escaped : Bool) (opened at b : ℕ) (tail : List ℕ)
+    → whole ≡ option_map (λ n. at + n) (bare_length max_nesting escaped opened (b ∷ tail))
+    → is_past_bare escaped opened b ≡ false → is_too_deep max_nesting escaped opened b ≡ false
+    → whole ≡ option_map (λ n. at + 1 + n) (bare_length max_nesting (is_bare escaped b backslash) (open_after escaped b opened) tail)
+bare_step max_nesting whole escaped opened at b tail was no_end fits =
+    rw (no_end, fits) at was ∙ one_more at (bare_length max_nesting (is_bare escaped b backslash) (open_after escaped b opened) tail)

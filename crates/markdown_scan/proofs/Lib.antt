@@ -1,0 +1,11 @@
+pub mod BoundaryLemmas
+pub mod DestinationLemmas
+pub mod LabelLemmas
+pub mod LabelCharacterLemmas
+pub mod LabelTextLemmas
+pub mod LineStartLemmas
+pub mod LineSpaceLemmas
+pub mod BeginsWithLemmas
+pub mod EntityLemmas
+pub mod UnescapeLemmas
+pub mod ScanLawsLemmas

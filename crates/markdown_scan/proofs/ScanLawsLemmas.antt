@@ -1,0 +1,253 @@
+-- Lemmas of the laws of what is scanned.
+use Rattle.std.proofs.Common.{◌++◌, zero, ◌-◌, ◌&&◌, ◌≤◌, ◌<◌, ◌||◌, ◌⊎◌, inl, inr, nat_le, codes, lit<, lit≤, sym, ◌≡◌, suc, arith, ℕ, ◌+◌, ◌==◌, not, List, [], ◌∷◌, Bool, true, false, Option, Some, None, if◌then◌else◌, take, drop, length, get_or, refl, ap, ◌∙◌, option_and_then}
+use Rattle.std.proofs.lemmas.Bool.{and_parts, cond_both}
+use Rattle.std.proofs.lemmas.Bool.Decides.{nat_tests}
+use Rattle.std.proofs.lemmas.Str.{encode_ascii}
+use Rattle.std.specs.Char.{is_ascii_punctuation}
+use Rattle.std.specs.Prelude.{IfSome, IsTrue, take_while}
+use Rattle.std.specs.List.{list_all, position_or_len, prefix_len}
+use Rattle.std.proofs.lemmas.List.Folds.{length-prefix_len}
+use Rattle.std.specs.Option.{option_map}
+use Rattle.markdown_scan.specs.Beginnings.{begins_with, StandsBetween}
+use Rattle.markdown_scan.specs.Entity.{character_of, digits_of, entity, number_of, numbered}
+use Rattle.markdown_scan.proofs.BeginsWithLemmas.{begins_with-reads}
+use Rattle.std.proofs.lemmas.List.{get_or-drop}
+use Rattle.markdown_scan.specs.AsciiKinds.{is_control_or_space}
+use Rattle.markdown_scan.specs.Backslash.{backslash, is_bare}
+use Rattle.markdown_scan.specs.Destination.{bare_destination, bare_length, end_of_bare, is_past_bare, is_too_deep, open_after}
+use Rattle.markdown_scan.specs.Label.{LabelByte, body, dropped, fits_label, kept, label_body, label_bytes, put_before, refused, shown}
+use Rattle.markdown_scan.proofs.LabelTextLemmas.{neither}
+use Rattle.markdown_scan.proofs.LineStartLemmas.{no_space_from}
+use Rattle.markdown_scan.specs.ScanLaws.{holds_bare_bracket, is_in_bare, is_plain, TabGoesToTheNextStop}
+use Rattle.markdown_scan.specs.Unescape.{reference, unescaped}
+use Rattle.markdown_scan.proofs.UnescapeLemmas.{step_byte, step_reference}
+
+-- as many elements as pass a test from the front on pass it
+passing_first : (p : ℕ → Bool) (x : ℕ) (xs : List ℕ) (b : Bool) → p x ≡ b → list_all p (take (prefix_len p xs) xs) ≡ true → list_all p (take (prefix_len p (x ∷ xs)) (x ∷ xs)) ≡ true
+passing_first p x xs true passes rest =
+    let one : 1 + prefix_len p xs ≡ suc (prefix_len p xs) = omega arith in
+    rw (passes, one, passes) rest
+passing_first p x xs false fails rest = rw fails
+
+passing : (p : ℕ → Bool) (xs : List ℕ) → list_all p (take (prefix_len p xs) xs) ≡ true
+passing p [] = refl
+passing p (x ∷ xs) = passing_first p x xs (p x) refl (passing p xs)
+
+-- what is taken while a test passes passes it
+pub all_taken : (p : ℕ → Bool) (xs : List ℕ) → list_all p (take (length (take_while p xs)) xs) ≡ true
+all_taken p xs =
+    let size : length (take_while p xs) ≡ prefix_len p xs = length-prefix_len p xs in
+    rw size (passing p xs)
+
+-- what a clause says of the text that was found
+pub if_found : (b : Bool) (at n : ℕ) (bytes : List ℕ) (p : ℕ → Bool) → list_all p (take n bytes) ≡ true
+    → IfSome {T = ℕ × List ℕ} (option_map (λ m. (at + m + 1, take m bytes)) (if b then Some n else None)) (λ found. IsTrue (list_all p found.1))
+if_found true at n bytes p all = all
+if_found false at n bytes p all = tt
+
+-- neither an escape nor an entity begins with any other byte than a backslash or a `&`
+no_reference : (in_table : Bool) (b : ℕ) (bytes : List ℕ) → (b == 92) ≡ false
+    → (92 == b) ≡ false → (38 == b) ≡ false → reference in_table (b ∷ bytes) ≡ None
+no_reference true b [] e f g = rw (f, g) refl
+no_reference true b (c ∷ bytes) e f g = rw (e, f, g) refl
+no_reference false b [] e f g = rw g refl
+no_reference false b (c ∷ bytes) e f g = rw (e, g) refl
+
+-- a plain text stands for itself
+pub plain_stands : (in_table : Bool) (text : List ℕ) → list_all is_plain text ≡ true
+    → unescaped in_table text ≡ text
+plain_stands in_table [] h = refl
+plain_stands in_table (b ∷ text) h =
+    let parts = and_parts (is_plain b) (list_all is_plain text) h in
+    let none = no_reference in_table b text (no_escape b parts.0) (no_escape_of b parts.0)
+    (no_entity_of b parts.0) in
+    step_byte in_table b text none ∙ ap (λ rest. b ∷ rest) (plain_stands in_table text parts.1)
+  where
+    no_escape : (c : ℕ) → is_plain c ≡ true → (c == 92) ≡ false
+    no_escape c e = grind (arith, nat_tests)
+
+    no_escape_of : (c : ℕ) → is_plain c ≡ true → (92 == c) ≡ false
+    no_escape_of c e = grind (arith, nat_tests)
+
+    no_entity_of : (c : ℕ) → is_plain c ≡ true → (38 == c) ≡ false
+    no_entity_of c e = grind (arith, nat_tests)
+
+-- a backslash and punctuation stand for the punctuation
+pub escape_stands : (mark : ℕ) (text : List ℕ) → is_ascii_punctuation mark ≡ true
+    → unescaped false (92 ∷ mark ∷ text) ≡ mark ∷ unescaped false text
+escape_stands mark text e =
+    let found : reference false (92 ∷ mark ∷ text) ≡ Some (2, mark) = rw e refl in
+    step_reference false (92 ∷ mark ∷ text) 2 mark found
+    ∙ ap (λ bytes. bytes ++ unescaped false text) (encode_ascii mark (ascii mark e))
+  where
+    ascii : (c : ℕ) → is_ascii_punctuation c ≡ true → c < 128
+    ascii c h = grind (arith, nat_tests)
+
+-- before the first element that passes a test none passes it
+before_first_step : (p : ℕ → Bool) (x : ℕ) (xs : List ℕ) (b : Bool) → p x ≡ b
+    → list_all (λ y. not (p y)) (take (position_or_len p xs) xs) ≡ true
+    → list_all (λ y. not (p y)) (take (position_or_len p (x ∷ xs)) (x ∷ xs)) ≡ true
+before_first_step p x xs true passes rest = rw passes refl
+before_first_step p x xs false fails rest =
+    let one : 1 + position_or_len p xs ≡ suc (position_or_len p xs) = omega arith in
+    rw (fails, one, fails) rest
+
+pub before_first : (p : ℕ → Bool) (xs : List ℕ)
+    → list_all (λ y. not (p y)) (take (position_or_len p xs) xs) ≡ true
+before_first p [] = refl
+before_first p (x ∷ xs) = before_first_step p x xs (p x) refl (before_first p xs)
+
+-- a text that begins and ends so
+between_text : (first last : ℕ) (text bytes : List ℕ) → begins_with text bytes ≡ true
+    → 1 ≤ length text → StandsBetween first last text (length text)
+    → StandsBetween first last bytes (length text)
+between_text first last text bytes e some is =
+    let inside : length text - 1 < length text = omega (arith, some) in (
+      begins_with-reads text bytes 0 e some ∙ is.0,
+      begins_with-reads text bytes (length text - 1) e inside ∙ is.1,
+    )
+
+-- a numeric reference
+numbered_between : (start radix most : ℕ) (bytes : List ℕ) → get_or bytes 0 0 ≡ 38
+    → IfSome (numbered start radix most bytes) (λ r. StandsBetween 38 59 bytes r.0)
+numbered_between start radix most bytes first =
+    let count = length (digits_of radix (drop start bytes)) in
+    let rest = drop (start + count) bytes in
+    cond_both ((nat_le 1 count && nat_le count most) && begins_with (codes ";") rest)
+    (Some (start + count + 1, character_of (number_of radix (digits_of radix (drop start bytes)))))
+    None (λ r. IfSome r (λ r. StandsBetween 38 59 bytes r.0))
+    (λ e.
+    let close = (and_parts (nat_le 1 count && nat_le count most) (begins_with (codes ";") rest) e).1 in
+    let closing : get_or rest 0 0 ≡ 59 = begins_with-reads (codes ";") rest 0 close (lit< tt) in
+    let last : start + count + 1 - 1 ≡ start + count + 0 = omega arith in
+    let read : get_or bytes (start + count + 0) 0 ≡ 59 =
+    sym (get_or-drop (start + count) bytes 0 0) ∙ closing in
+    (first, rw last read))
+    (λ e. tt)
+
+-- an entity
+pub entity_between : (bytes : List ℕ)
+    → IfSome (entity bytes) (λ r. StandsBetween 38 59 bytes r.0)
+entity_between bytes =
+    let P = λ (o : Option (ℕ × ℕ)). IfSome o (λ r. StandsBetween 38 59 bytes r.0) in
+    cond_both _ _ _ P (λ e. between_text 38 59 (codes "&amp;") bytes e (lit≤ tt) (refl, refl))
+    (λ e. cond_both _ _ _ P (λ e. between_text 38 59 (codes "&lt;") bytes e (lit≤ tt) (refl, refl))
+    (λ e. cond_both _ _ _ P (λ e. between_text 38 59 (codes "&gt;") bytes e (lit≤ tt) (refl, refl))
+    (λ e. cond_both _ _ _ P (λ e. between_text 38 59 (codes "&quot;") bytes e (lit≤ tt) (refl, refl))
+    (λ e. cond_both (begins_with (codes "&#x") bytes || begins_with (codes "&#X") bytes)
+    (numbered 3 16 6 bytes) (if begins_with (codes "&#") bytes then numbered 2 10 7 bytes else None) P
+    (λ e. numbered_between 3 16 6 bytes (elim (or_cases _ _ e) [
+      | inl x ↦ begins_with-reads (codes "&#x") bytes 0 x (lit< tt)
+      | inr x ↦ begins_with-reads (codes "&#X") bytes 0 x (lit< tt)
+    ]))
+    (λ e. cond_both (begins_with (codes "&#") bytes) (numbered 2 10 7 bytes) None P
+    (λ e. numbered_between 2 10 7 bytes (begins_with-reads (codes "&#") bytes 0 e (lit< tt)))
+    (λ e. tt))))))
+  where
+    or_cases : (x y : Bool) → (x || y) ≡ true → (x ≡ true) ⊎ (y ≡ true)
+    or_cases true y e = inl refl
+    or_cases false y e = inr e
+
+-- one byte more of a destination
+bare_more : (b : ℕ) (bytes : List ℕ) (found : Option ℕ) → is_control_or_space b ≡ false
+    → IfSome found (λ n. list_all is_in_bare (take n bytes) ≡ true)
+    → IfSome (option_map (λ n. 1 + n) found) (λ n. list_all is_in_bare (take n (b ∷ bytes)) ≡ true)
+bare_more b bytes None kind later = tt
+bare_more b bytes (Some n) kind later =
+    let one : 1 + n ≡ suc n = omega arith in
+    rw (one, kind) later
+
+-- the bytes of a destination in no brackets
+bare_plain : (max_nesting : ℕ) (escaped : Bool) (opened : ℕ) (bytes : List ℕ)
+    → IfSome (bare_length max_nesting escaped opened bytes)
+    (λ n. list_all is_in_bare (take n bytes) ≡ true)
+bare_plain max_nesting escaped opened [] =
+    cond_both (opened == 0) (Some 0) None (λ o. IfSome o (λ n. list_all is_in_bare (take n []) ≡ true))
+    (λ e. refl) (λ e. tt)
+bare_plain max_nesting escaped opened (b ∷ bytes) =
+    let P = λ (o : Option ℕ). IfSome o (λ n. list_all is_in_bare (take n (b ∷ bytes)) ≡ true) in
+    let later = bare_length max_nesting (is_bare escaped b backslash) (open_after escaped b opened) bytes in
+    cond_both (is_past_bare escaped opened b) (end_of_bare opened)
+    (if is_too_deep max_nesting escaped opened b then None else option_map (λ n. 1 + n) later) P
+    (λ e. cond_both (opened == 0) (Some 0) None P (λ e. refl) (λ e. tt))
+    (λ e. cond_both (is_too_deep max_nesting escaped opened b) None (option_map (λ n. 1 + n) later) P
+    (λ f. tt)
+    (λ f. bare_more b bytes later (neither _ _ e).0
+    (bare_plain max_nesting (is_bare escaped b backslash) (open_after escaped b opened) bytes)))
+
+pub bare_destination_plain : (max_nesting : ℕ) (bytes : List ℕ)
+    → IfSome (bare_destination max_nesting bytes) (λ d. IsTrue (list_all is_in_bare d.1))
+bare_destination_plain max_nesting bytes =
+    taken (bare_length max_nesting false 0 bytes) (bare_plain max_nesting false 0 bytes)
+  where
+    taken : (found : Option ℕ) → IfSome found (λ n. list_all is_in_bare (take n bytes) ≡ true)
+        → IfSome {T = ℕ × List ℕ} (option_map (λ n. (n, take n bytes)) found)
+        (λ d. IsTrue (list_all is_in_bare d.1))
+    taken None h = tt
+    taken (Some n) h = h
+
+-- one byte of a line's prefix more
+bracket_dropped : (escaped : Bool) (rest : List LabelByte) (found : Option (ℕ × List ℕ))
+    → IfSome found (λ f. holds_bare_bracket escaped (take f.0 rest) ≡ false)
+    → IfSome (put_before 1 [] found)
+    (λ f. holds_bare_bracket escaped (take f.0 (dropped ∷ rest)) ≡ false)
+bracket_dropped escaped rest None h = tt
+bracket_dropped escaped rest (Some f) h =
+    let one : 1 + f.0 ≡ suc f.0 = omega arith in
+    rw one h
+
+-- one byte of the label more
+bracket_kept : (escaped : Bool) (b : ℕ) (text : List ℕ) (rest : List LabelByte)
+    (found : Option (ℕ × List ℕ)) → is_bare escaped b 93 ≡ false → is_bare escaped b 91 ≡ false
+    → IfSome found (λ f. holds_bare_bracket (is_bare escaped b backslash) (take f.0 rest) ≡ false)
+    → IfSome (put_before 1 text found)
+    (λ f. holds_bare_bracket escaped (take f.0 (kept b ∷ rest)) ≡ false)
+bracket_kept escaped b text rest None closes opens h = tt
+bracket_kept escaped b text rest (Some f) closes opens h =
+    let one : 1 + f.0 ≡ suc f.0 = omega arith in
+    rw (one, closes, opens) h
+
+-- before the closing bracket no other one stands bare
+no_bare_bracket : (in_table escaped : Bool) (bytes : List LabelByte)
+    → IfSome (body in_table escaped bytes)
+    (λ f. holds_bare_bracket escaped (take f.0 bytes) ≡ false)
+no_bare_bracket in_table escaped [] = tt
+no_bare_bracket in_table escaped (refused ∷ rest) = tt
+no_bare_bracket in_table escaped (dropped ∷ rest) =
+    bracket_dropped escaped rest (body in_table escaped rest)
+    (no_bare_bracket in_table escaped rest)
+no_bare_bracket in_table escaped (kept b ∷ rest) =
+    let P = λ (o : Option (ℕ × List ℕ)).
+    IfSome o (λ f. holds_bare_bracket escaped (take f.0 (kept b ∷ rest)) ≡ false) in
+    let later = body in_table (is_bare escaped b backslash) rest in
+    let more = put_before 1 (shown in_table escaped b) later in
+    cond_both (is_bare escaped b 93) (Some (0, [])) (if is_bare escaped b 91 then None else more) P
+    (λ e. refl)
+    (λ e. cond_both (is_bare escaped b 91) None more P (λ f. tt)
+    (λ f. bracket_kept escaped b (shown in_table escaped b) rest later e f
+    (no_bare_bracket in_table (is_bare escaped b backslash) rest)))
+
+pub label_bracket : (in_table : Bool) (bytes : List ℕ) (skipped : List ℕ → Option ℕ)
+    → IfSome (label_body skipped in_table bytes)
+    (λ f. holds_bare_bracket false (take f.0 (label_bytes skipped 0 bytes)) ≡ false)
+label_bracket in_table bytes skipped =
+    fitting (body in_table false (label_bytes skipped 0 bytes))
+    (no_bare_bracket in_table false (label_bytes skipped 0 bytes))
+  where
+    fitting : (found : Option (ℕ × List ℕ))
+        → IfSome found (λ f. holds_bare_bracket false (take f.0 (label_bytes skipped 0 bytes)) ≡ false)
+        → IfSome (option_and_then (λ f. if fits_label f.1 then Some f else None) found)
+        (λ f. holds_bare_bracket false (take f.0 (label_bytes skipped 0 bytes)) ≡ false)
+    fitting None h = tt
+    fitting (Some f) h =
+        cond_both (fits_label f.1) (Some f) None
+        (λ o. IfSome o (λ f. holds_bare_bracket false (take f.0 (label_bytes skipped 0 bytes)) ≡ false))
+        (λ e. h) (λ e. tt)
+
+-- at most three spaces and a tab
+pub tab_stop : (spaces : ℕ) (bytes : List ℕ) → TabGoesToTheNextStop spaces bytes
+tab_stop zero bytes few = rw (no_space_from 1 0 bytes) refl
+tab_stop (suc zero) bytes few = rw (no_space_from 2 0 bytes) refl
+tab_stop (suc (suc zero)) bytes few = rw (no_space_from 3 0 bytes) refl
+tab_stop (suc (suc (suc zero))) bytes few = rw (no_space_from 4 0 bytes) refl
+tab_stop (suc (suc (suc (suc n)))) bytes few = absurd (omega (arith, few))

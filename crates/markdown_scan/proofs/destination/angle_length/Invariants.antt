@@ -1,0 +1,15 @@
+use Rattle.std.proofs.Common.{◌≡◌, ◌+◌, length, drop, false}
+use Rattle.std.specs.Option.{option_map}
+use Rattle.markdown_scan.specs.Destination.{angle_length}
+use Rattle.markdown_scan.proofs.destination.angle_length.Given as goal
+
+-- what follows stands at this byte, and the whole has its bytes and these before them
+abbrev pub invariant-loop-first : goal.invariant-loop-first
+invariant-loop-first l = record {
+  sum : l.at + length l.rest ≡ length l.bytes;
+  here : l.rest ≡ drop l.at l.bytes;
+  value : angle_length false l.bytes ≡ option_map (λ n. l.at + n) (angle_length l.escaped l.rest);
+}
+
+abbrev pub decreases-loop-first : goal.decreases-loop-first
+decreases-loop-first l = length l.rest

@@ -1,0 +1,51 @@
+use Rattle.std.proofs.Common.{◌<◌, ◌+◌, length, arith, sym, drop}
+use Rattle.std.proofs.Math.Nat.{sub-zero}
+use Rattle.std.proofs.lemmas.List.{take_rest, length-drop}
+use Rattle.markdown_scan.proofs.UnescapeLemmas.{cut_after, reference_is, unescaped_changes}
+use Rattle.markdown_scan.proofs.UnescapeLemmas.{unescaped_at_byte, unescaped_at_reference}
+use Rattle.markdown_scan.proofs.unescape.split_at_reference.Goals as goal
+
+pub range_from-requires : goal.range_from-requires
+range_from-requires c =
+    let a = c.as_bytes-bytes.ensures.value in
+    let here : c.loop-at.at < length c.args.text.now = rw a at c.loop-at-test.true in
+    let found = rw (a, take_rest) at (sym c.in-Some.ensures.value) in
+    λ h. cut_after c.args.in_table c.args.text.now c.loop-at.at c.in-Some.length
+    c.in-Some.character c.utf8.text here found
+
+pub returns-in-Some-clause-some : goal.returns-in-Some-clause-some
+returns-in-Some-clause-some c =
+    let a = c.as_bytes-bytes.ensures.value in
+    let found = rw (a, take_rest) at (sym c.in-Some.ensures.value) in
+    rw (c.range.ensures.value, c.range_from.ensures.value, sub-zero) (unescaped_at_reference
+    c.args.in_table c.args.text.now c.loop-at.at c.in-Some.length c.in-Some.character found
+    c.loop-at.invariant)
+
+pub returns-in-Some-clause-changes : goal.returns-in-Some-clause-changes
+returns-in-Some-clause-changes c =
+    let a = c.as_bytes-bytes.ensures.value in
+    let here : c.loop-at.at < length c.args.text.now = rw a at c.loop-at-test.true in
+    let found = rw (a, take_rest) at (sym c.in-Some.ensures.value) in
+    unescaped_changes c.args.in_table c.args.text.now c.loop-at.at c.in-Some.length
+    c.in-Some.character here found (unescaped_at_reference c.args.in_table c.args.text.now
+    c.loop-at.at c.in-Some.length c.in-Some.character found c.loop-at.invariant)
+
+pub returns-in-Some-clause-shorter : goal.returns-in-Some-clause-shorter
+returns-in-Some-clause-shorter c =
+    let a = c.as_bytes-bytes.ensures.value in
+    let here : c.loop-at.at < length c.args.text.now = rw a at c.loop-at-test.true in
+    let found = rw (a, take_rest) at (sym c.in-Some.ensures.value) in
+    let is = reference_is c.args.in_table (drop c.loop-at.at c.args.text.now)
+    (c.in-Some.length, c.in-Some.character) found in
+    rw (c.range_from.ensures.value) (omega (
+      arith,
+      is.shorter,
+      length-drop (c.loop-at.at + c.in-Some.length) c.args.text.now,
+    ))
+
+pub loop-at-preserved : goal.loop-at-preserved
+loop-at-preserved c =
+    let a = c.as_bytes-bytes.ensures.value in
+    let here : c.loop-at.at < length c.args.text.now = rw a at c.loop-at-test.true in
+    let none = rw (a, take_rest) at (sym c.in_default.ensures.value) in
+    unescaped_at_byte c.args.in_table c.args.text.now c.loop-at.at here none c.loop-at.invariant

@@ -1,0 +1,40 @@
+-- Absolute-URI autolinks (CommonMark 6.5): a URI in angle brackets.
+use Rattle.std.specs.Prelude.{ℕ, ◌+◌, ◌==◌, Bool, false, not, ◌&&◌, ◌||◌, nat_le, List, [], ◌∷◌, length, take, drop, take_while, slice_index, Option, Some, None, if◌then◌else◌}
+use Rattle.std.specs.Option.{option_map}
+use Rattle.markdown_scan.specs.AsciiKinds.{is_letter, is_digit, is_control_or_space}
+
+-- a character of a scheme: an ASCII letter, a digit, a plus, a period or a hyphen
+abbrev pub is_scheme_byte : ℕ → Bool
+is_scheme_byte b = is_letter b || is_digit b || (b == 43) || (b == 46) || (b == 45)
+
+-- the bytes begin with an ASCII letter
+abbrev pub begins_letter : List ℕ → Bool
+begins_letter [] = false
+begins_letter (b ∷ bytes) = is_letter b
+
+-- how many characters of a scheme the bytes begin with
+abbrev pub scheme_length : List ℕ → ℕ
+scheme_length bytes = length (take_while is_scheme_byte bytes)
+
+-- the bytes begin with a scheme, which has 2 to 32 characters of which the first is a letter, and a colon
+abbrev pub begins_scheme : List ℕ → Bool
+begins_scheme bytes =
+    begins_letter bytes && nat_le 2 (scheme_length bytes) && nat_le (scheme_length bytes) 32
+    && (slice_index bytes (scheme_length bytes) == 58)
+
+-- a character of a URI: no ASCII control character, no space, no < and no >
+abbrev pub is_uri_byte : ℕ → Bool
+is_uri_byte b = not (is_control_or_space b) && not (b == 60) && not (b == 62)
+
+-- how many characters of a URI the bytes begin with
+abbrev pub uri_length : List ℕ → ℕ
+uri_length bytes = length (take_while is_uri_byte bytes)
+
+-- the length of the URI that the bytes begin with, where a > follows it
+abbrev pub closed_uri : List ℕ → Option ℕ
+closed_uri bytes =
+    if begins_scheme bytes && (slice_index bytes (uri_length bytes) == 62) then Some (uri_length bytes) else None
+
+-- the byte after the autolink of which the `<` stands before this byte, and its URI
+abbrev pub web_autolink : List ℕ → ℕ → Option (ℕ × List ℕ)
+web_autolink text at = option_map (λ n. (at + n + 1, take n (drop at text))) (closed_uri (drop at text))

@@ -1,0 +1,57 @@
+-- Link destinations (CommonMark 6.3), as they stand in the text. A backslash escapes ASCII
+-- punctuation only, and so neither a control character nor a space.
+use Rattle.std.specs.Prelude.{ℕ, ◌+◌, ◌-◌, Bool, false, ◌&&◌, ◌||◌, ◌==◌, nat_lt, List, [], ◌∷◌, take, drop, slice_index, Option, Some, None, if◌then◌else◌}
+use Rattle.std.specs.Option.{option_map}
+use Rattle.markdown_scan.specs.AsciiKinds.{is_control_or_space}
+use Rattle.markdown_scan.specs.Backslash.{backslash, is_bare}
+use Rattle.markdown_scan.specs.LineEnd.{line_feed, carriage_return}
+
+-- the byte may not stand between angle brackets: another <, or a line ending
+abbrev pub is_refused : Bool → ℕ → Bool
+is_refused escaped b = is_bare escaped b 60 || (b == line_feed) || (b == carriage_return)
+
+-- the bytes before the > that closes a destination in angle brackets
+abbrev pub angle_length : Bool → List ℕ → Option ℕ
+angle_length escaped [] = None
+angle_length escaped (b ∷ bytes) =
+    if is_bare escaped b 62 then Some 0
+    else if is_refused escaped b then None
+    else option_map (λ n. 1 + n) (angle_length (is_bare escaped b backslash) bytes)
+
+-- the parentheses that are open after this byte
+abbrev pub open_after : Bool → ℕ → ℕ → ℕ
+open_after escaped b opened =
+    if is_bare escaped b 40 then opened + 1 else if is_bare escaped b 41 then opened - 1 else opened
+
+-- a destination ends before this byte: a control character, a space, a ) that closes nothing
+abbrev pub is_past_bare : Bool → ℕ → ℕ → Bool
+is_past_bare escaped opened b = is_control_or_space b || (is_bare escaped b 41 && (opened == 0))
+
+-- a ( at which more than so many parentheses are open
+abbrev pub is_too_deep : ℕ → Bool → ℕ → ℕ → Bool
+is_too_deep max_nesting escaped opened b = is_bare escaped b 40 && nat_lt max_nesting opened
+
+-- a destination may end where no parenthesis is open
+abbrev pub end_of_bare : ℕ → Option ℕ
+end_of_bare opened = if opened == 0 then Some 0 else None
+
+-- the bytes of a destination that is in no brackets
+abbrev pub bare_length : ℕ → Bool → ℕ → List ℕ → Option ℕ
+bare_length max_nesting escaped opened [] = end_of_bare opened
+bare_length max_nesting escaped opened (b ∷ bytes) =
+    if is_past_bare escaped opened b then end_of_bare opened
+    else if is_too_deep max_nesting escaped opened b then None
+    else option_map (λ n. 1 + n) (bare_length max_nesting (is_bare escaped b backslash) (open_after escaped b opened) bytes)
+
+-- in angle brackets: the length through the closing one, and what stands between them
+abbrev pub angle_destination : List ℕ → Option (ℕ × List ℕ)
+angle_destination inside = option_map (λ n. (n + 2, take n inside)) (angle_length false inside)
+
+-- in no brackets: the length, and the bytes; none at all where a link leaves its destination out
+abbrev pub bare_destination : ℕ → List ℕ → Option (ℕ × List ℕ)
+bare_destination max_nesting bytes = option_map (λ n. (n, take n bytes)) (bare_length max_nesting false 0 bytes)
+
+-- the length and the raw text of the destination that the bytes begin with
+abbrev pub destination : ℕ → List ℕ → Option (ℕ × List ℕ)
+destination max_nesting bytes =
+    if slice_index bytes 0 == 60 then angle_destination (drop 1 bytes) else bare_destination max_nesting bytes

@@ -1,0 +1,43 @@
+-- Entities and numeric character references (CommonMark 2.5): `&amp;`, `&lt;`, `&gt;` and `&quot;`
+-- by name, and any character by its number.
+use Rattle.std.specs.Prelude.{ℕ, ◌+◌, ◌*◌, Bool, ◌&&◌, ◌||◌, ◌==◌, nat_le, List, Option, Some, None, if◌then◌else◌, length, drop, take_while, fold, codes}
+use Rattle.std.specs.Char.{digit_value, is_digit}
+use Rattle.markdown_scan.specs.Beginnings.{begins_with}
+
+-- a surrogate, or above U+10FFFF
+abbrev pub is_no_scalar : ℕ → Bool
+is_no_scalar n = (nat_le 0xD800 n && nat_le n 0xDFFF) || nat_le 0x11_0000 n
+
+-- the character of a number: U+FFFD for zero and for what is no Unicode scalar value
+abbrev pub character_of : ℕ → ℕ
+character_of n = if n == 0 || is_no_scalar n then 0xFFFD else n
+
+-- the number that digits write
+abbrev pub number_of : ℕ → List ℕ → ℕ
+number_of radix digits = fold (λ n digit. radix * n + digit_value digit) 0 digits
+
+-- the digits that the bytes begin with
+abbrev pub digits_of : ℕ → List ℕ → List ℕ
+digits_of radix bytes = take_while (λ b. is_digit b radix) bytes
+
+-- after `start` bytes one digit or more, at most `most` of them, and a semicolon: the length of all
+-- that, and the character
+abbrev pub numbered : ℕ → ℕ → ℕ → List ℕ → Option (ℕ × ℕ)
+numbered start radix most bytes =
+    let digits = digits_of radix (drop start bytes) in
+    if (nat_le 1 (length digits) && nat_le (length digits) most)
+    && begins_with (codes ";") (drop (start + length digits) bytes)
+    then Some (start + length digits + 1, character_of (number_of radix digits))
+    else None
+
+-- the length in bytes of the reference that the bytes begin with, and its character
+abbrev pub entity : List ℕ → Option (ℕ × ℕ)
+entity bytes =
+    if begins_with (codes "&amp;") bytes then Some (5, 38)
+    else if begins_with (codes "&lt;") bytes then Some (4, 60)
+    else if begins_with (codes "&gt;") bytes then Some (4, 62)
+    else if begins_with (codes "&quot;") bytes then Some (6, 34)
+    else if begins_with (codes "&#x") bytes || begins_with (codes "&#X") bytes
+    then numbered 3 16 6 bytes
+    else if begins_with (codes "&#") bytes then numbered 2 10 7 bytes
+    else None

@@ -1,0 +1,78 @@
+-- Link labels (CommonMark 6.3), from the byte after the opening bracket on. `skipped` says how many
+-- bytes of what follows a line ending are its line's prefix, if the line ending may stand there.
+use Rattle.std.specs.Prelude.{ℕ, zero, suc, ◌+◌, List, [], ◌∷◌, ◌++◌, Bool, true, false, not, ◌&&◌, ◌||◌, ◌==◌, Option, Some, None, if◌then◌else◌, unwrap_or, is_none, nat_le, nat_lt, count_by, option_and_then}
+use Rattle.std.specs.List.{list_any}
+use Rattle.std.specs.Option.{option_map}
+use Rattle.markdown_scan.specs.AsciiKinds.{is_white_space, pipe}
+use Rattle.markdown_scan.specs.Backslash.{backslash, is_bare}
+use Rattle.markdown_scan.specs.LinePrefix.{prefix_after}
+
+-- a byte of the label, a byte of a line's prefix, or a line ending that may not stand there
+pub data LabelByte : Type 0 where
+  kept : ℕ → LabelByte
+  dropped : LabelByte
+  refused : LabelByte
+
+-- the bytes, of which the first n are prefix
+abbrev pub label_bytes : (List ℕ → Option ℕ) → ℕ → List ℕ → List LabelByte
+label_bytes skipped n [] = []
+label_bytes skipped (suc n) (b ∷ bytes) = dropped ∷ label_bytes skipped n bytes
+label_bytes skipped zero (b ∷ bytes) =
+    kept b ∷ (if is_none (prefix_after skipped b bytes) then refused ∷ []
+    else label_bytes skipped (unwrap_or (prefix_after skipped b bytes) 0) bytes)
+
+-- what was found, after so many bytes more and this text
+abbrev pub put_before : ℕ → List ℕ → Option (ℕ × List ℕ) → Option (ℕ × List ℕ)
+put_before n text found = option_map (λ f. (n + f.0, text ++ f.1)) found
+
+-- what a byte adds to the text: a backslash is written with the byte after it, and in a table it is
+-- not written before a pipe
+abbrev pub shown : Bool → Bool → ℕ → List ℕ
+shown in_table true b = if in_table && (b == pipe) then b ∷ [] else backslash ∷ b ∷ []
+shown in_table false b = if b == backslash then [] else b ∷ []
+
+-- up to the first ] that is not escaped, with no [ before it that is not: its place, and the text before it
+abbrev pub body : Bool → Bool → List LabelByte → Option (ℕ × List ℕ)
+body in_table escaped [] = None
+body in_table escaped (refused ∷ rest) = None
+body in_table escaped (dropped ∷ rest) = put_before 1 [] (body in_table escaped rest)
+body in_table escaped (kept b ∷ rest) =
+    if is_bare escaped b 93 then Some (0, [])
+    else if is_bare escaped b 91 then None
+    else put_before 1 (shown in_table escaped b) (body in_table (is_bare escaped b backslash) rest)
+
+-- a bracket that is not escaped
+abbrev pub is_bracket : Bool → ℕ → Bool
+is_bracket escaped b = is_bare escaped b 93 || is_bare escaped b 91
+
+-- a space before a byte that is no white space, if white space stands between it and an earlier one
+abbrev pub gap : Bool → Bool → List ℕ
+gap begun waiting = if begun && waiting then 32 ∷ [] else []
+
+-- each inner run of white space as one space, none at the ends; `begun` once a byte was given,
+-- `waiting` after white space
+abbrev pub squeeze : Bool → Bool → List ℕ → List ℕ
+squeeze begun waiting [] = []
+squeeze begun waiting (b ∷ bytes) =
+    if is_white_space b then squeeze begun true bytes else gap begun waiting ++ b ∷ squeeze true false bytes
+
+-- the first byte of a character in UTF-8
+abbrev pub begins_character : ℕ → Bool
+begins_character b = nat_lt b 128 || nat_le 192 b
+
+abbrev pub is_no_white_space : ℕ → Bool
+is_no_white_space b = not (is_white_space b)
+
+-- at most 999 characters, and one that is no white space
+abbrev pub fits_label : List ℕ → Bool
+fits_label text = nat_le (count_by begins_character text) 999 && list_any is_no_white_space text
+
+-- the place of the closing bracket, and the text before it
+abbrev pub label_body : (List ℕ → Option ℕ) → Bool → List ℕ → Option (ℕ × List ℕ)
+label_body skipped in_table bytes =
+    option_and_then (λ f. if fits_label f.1 then Some f else None) (body in_table false (label_bytes skipped 0 bytes))
+
+-- the label that the bytes begin with: its length through the closing bracket, and its text
+abbrev pub link_label : (List ℕ → Option ℕ) → Bool → List ℕ → Option (ℕ × List ℕ)
+link_label skipped in_table bytes =
+    option_map (λ f. (f.0 + 1, squeeze false false f.1)) (label_body skipped in_table bytes)

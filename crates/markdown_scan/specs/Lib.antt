@@ -1,0 +1,21 @@
+-- what stands at a byte, by CommonMark: a file for each family of scanners
+pub mod LineEnd
+pub mod LinePrefix
+pub mod AsciiKinds
+pub mod Backslash
+pub mod Beginnings
+pub mod LineStart
+pub mod LineView
+pub mod Autolink
+pub mod Destination
+pub mod Label
+pub mod WikilinkPipe
+pub mod Entity
+pub mod Unescape
+pub mod ScanLaws
+-- for private clauses
+pub mod LabelScan
+pub mod LabelText
+pub mod LineSteps
+-- the words of the lower crate that the clauses here are written in
+pub use Rattle.markdown_base.specs.CowText

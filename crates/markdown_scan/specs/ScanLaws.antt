@@ -1,0 +1,93 @@
+-- Laws of what is scanned, in a reader's words.
+use Rattle.std.specs.Prelude.{◌+◌, ◌||◌, [], ◌∷◌, suc, zero, take, Option, ◌≤◌, false, ℕ, Bool, not, ◌&&◌, ◌==◌, ◌≡◌, List, IfSome, IsTrue}
+use Rattle.std.specs.Char.{is_ascii_punctuation}
+use Rattle.std.specs.List.{list_all}
+use Rattle.markdown_scan.specs.Autolink.{web_autolink, is_uri_byte}
+use Rattle.markdown_scan.specs.AsciiKinds.{is_control_or_space, pipe}
+use Rattle.markdown_scan.specs.Backslash.{backslash, is_bare}
+use Rattle.markdown_scan.specs.Destination.{bare_destination}
+use Rattle.markdown_scan.specs.Beginnings.{StandsBetween}
+use Rattle.markdown_scan.specs.Entity.{entity}
+use Rattle.markdown_scan.specs.Label.{LabelByte, dropped, is_bracket, kept, label_body, label_bytes, refused}
+use Rattle.markdown_scan.specs.LineStart.{LineLeft, space, wider}
+use Rattle.markdown_scan.specs.Unescape.{unescaped}
+use Rattle.markdown_scan.specs.WikilinkPipe.{wikilink_pipe}
+
+-- an autolink's text holds no space, no control character and no angle bracket
+abbrev pub AutolinkIsPlain : List ℕ → ℕ → Type 0
+AutolinkIsPlain text at = IfSome (web_autolink text at) (λ found. IsTrue (list_all is_uri_byte found.1))
+
+-- neither a backslash nor a `&`
+abbrev pub is_plain : ℕ → Bool
+is_plain b = not (b == backslash) && not (b == 38)
+
+-- a text without backslashes and `&` stands for itself
+abbrev pub UnescapingLeavesPlainText : Bool → List ℕ → Type 0
+UnescapingLeavesPlainText in_table text =
+    IsTrue (list_all is_plain text) → unescaped in_table text ≡ text
+
+-- a backslash and punctuation stand for the punctuation
+abbrev pub EscapedPunctuationStandsForItself : ℕ → List ℕ → Type 0
+EscapedPunctuationStandsForItself mark text =
+    IsTrue (is_ascii_punctuation mark)
+    → unescaped false (backslash ∷ mark ∷ text) ≡ mark ∷ unescaped false text
+
+-- no pipe
+abbrev pub is_no_pipe : ℕ → Bool
+is_no_pipe b = not (b == pipe)
+
+-- the name before a wikilink's pipe holds no pipe
+abbrev pub WikilinkNameHoldsNoPipe : List ℕ → ℕ → ℕ → Type 0
+WikilinkNameHoldsNoPipe text start size =
+    IfSome (wikilink_pipe text start size) (λ found. IsTrue (list_all is_no_pipe found.1))
+
+-- an entity begins with `&` (38) and ends with `;` (59)
+abbrev pub EntityBeginsAndEnds : List ℕ → Type 0
+EntityBeginsAndEnds bytes = IfSome (entity bytes) (λ r. StandsBetween 38 59 bytes r.0)
+
+-- neither a space nor a control character
+abbrev pub is_in_bare : ℕ → Bool
+is_in_bare b = not (is_control_or_space b)
+
+-- a destination in no brackets holds no space and no control character
+abbrev pub BareDestinationHoldsNoSpace : ℕ → List ℕ → Type 0
+BareDestinationHoldsNoSpace max_nesting bytes =
+    IfSome (bare_destination max_nesting bytes) (λ d. IsTrue (list_all is_in_bare d.1))
+
+-- a bracket stands there that no backslash escapes; `escaped` where a backslash stands before
+abbrev pub holds_bare_bracket : Bool → List LabelByte → Bool
+holds_bare_bracket escaped [] = false
+holds_bare_bracket escaped (refused ∷ rest) = holds_bare_bracket escaped rest
+holds_bare_bracket escaped (dropped ∷ rest) = holds_bare_bracket escaped rest
+holds_bare_bracket escaped (kept b ∷ rest) =
+    is_bracket escaped b || holds_bare_bracket (is_bare escaped b backslash) rest
+
+-- before the closing bracket of a label each bracket is escaped, by whatever rule for its lines
+abbrev pub LabelHoldsNoBareBracket : Bool → List ℕ → Type 0
+LabelHoldsNoBareBracket in_table bytes =
+    (skipped : List ℕ → Option ℕ) → IfSome (label_body skipped in_table bytes)
+    (λ found. holds_bare_bracket false (take found.0 (label_bytes skipped 0 bytes)) ≡ false)
+
+-- a line that begins with these bytes
+abbrev pub line_of : List ℕ → LineLeft
+line_of bytes = record { scanned = 0; owed = 0; column = 0; bytes = bytes }
+
+-- so many spaces and a tab, and then these bytes
+abbrev pub spaces_and_tab : ℕ → List ℕ → List ℕ
+spaces_and_tab zero bytes = 9 ∷ bytes
+spaces_and_tab (suc spaces) bytes = 32 ∷ spaces_and_tab spaces bytes
+
+-- at most three spaces and a tab are four columns, after which the next bytes stand at a tab stop
+abbrev pub TabGoesToTheNextStop : ℕ → List ℕ → Type 0
+TabGoesToTheNextStop spaces bytes =
+    spaces ≤ 3 → space 4 (line_of (spaces_and_tab spaces bytes))
+    ≡ record {
+      columns = 4;
+      after = record { scanned = spaces + 1; owed = 0; column = 0; bytes = bytes };
+    }
+
+-- n and then m columns of space, of what is left of any line, are n + m columns
+abbrev pub LineSpaceIsCountedByColumns : ℕ → ℕ → Type 0
+LineSpaceIsCountedByColumns n m =
+    (left : LineLeft) → space (n + m) left
+    ≡ wider (space n left).columns (space m (space n left).after)

@@ -1,0 +1,106 @@
+//! Link labels (CommonMark 6.3).
+ghost use Rattle.std.specs.Prelude.{◌≡◌, ◌≢◌, ◌≤◌, ◌<◌, ◌-◌, ◌+◌, ℕ, Bool, false, Some, None, IfSome, IfNone, IfOk, IsOk, OnErr, take, length};
+ghost use Rattle.std.specs.Option.{option_map};
+ghost use Rattle.std.specs.Str.{IsUtf8, IsCharBoundary};
+ghost use Rattle.markdown_base.specs.CowText.{text_of, IsBorrowed};
+ghost use Rattle.markdown_scan.specs.Label as label;
+ghost use Rattle.markdown_scan.specs.Label.{link_label};
+ghost use Rattle.markdown_scan.specs.LinePrefix.{prefix_after};
+ghost use Rattle.markdown_scan.specs.LabelScan.{EndsHere, GoesOn};
+
+use crate::label_end::label_end;
+use crate::label_text::{LabelText, is_bare, split_first};
+use crate::line_prefix::prefix_after;
+use crate::line_rule::LineRule;
+use markdown_base::cow_str::CowStr;
+use std::alloc::{AllocError, Global};
+
+// How many bytes of the rest are a line's prefix, where the character before it ends a line.
+fn prefix_after_character<R: LineRule>(rule: &R, c: char, rest: &str) -> Option<usize>
+    ensures value { result ≡ prefix_after (R.skipped rule.now) c rest.now }
+    ensures within { IfSome result (λ n. n ≤ length rest.now) }
+    ensures boundary { IfSome result (λ n. IsCharBoundary rest.now n) }
+{
+    if c.is_ascii() {
+        prefix_after(rule, c as u8, rest.as_bytes())
+    } else {
+        Some(0)
+    }
+}
+
+// A bracket that is not escaped.
+fn is_bracket(escaped: bool, c: char) -> bool
+    ensures { result ≡ label.is_bracket escaped c }
+{
+    is_bare(escaped, c, ']') || is_bare(escaped, c, '[')
+}
+
+// The next character of a label, and what follows it and the prefix after it.
+fn next_character<'a, R: LineRule>(
+    rule: &R,
+    escaped: bool,
+    rest: &'a str,
+) -> Option<(char, &'a str)>
+    ensures end { IfNone result ((in_table : Bool) → EndsHere (R.skipped rule.now) in_table escaped rest.now) }
+    ensures next { IfSome result (λ p. (in_table : Bool) → GoesOn (R.skipped rule.now) in_table escaped rest.now p.0 p.1.now) }
+    ensures shorter { IfSome result (λ p. length p.1.now < length rest.now) }
+    ensures text { IfSome result (λ p. IsUtf8 p.1.now) }
+{
+    let (c, tail) = split_first(rest)?;
+    if is_bracket(escaped, c) {
+        return None;
+    }
+    let skipped = prefix_after_character(rule, c, tail)?;
+    Some((c, &tail[skipped..]))
+}
+
+// The text of a label, of which the source is what stands before its closing bracket.
+fn label_text<'t, R: LineRule>(
+    alloc: Global,
+    text: &str,
+    source: &'t str,
+    rule: &R,
+    in_table: bool,
+) -> Result<CowStr<'t>, AllocError>
+    ensures value { IfOk result (λ found. IfSome (label.body in_table false (label.label_bytes (R.skipped rule.now) 0 text.now)) (λ f. text_of found ≡ label.squeeze false false f.1)) }
+    ensures borrowed { IfOk result (λ found. (n : ℕ) → text_of found ≡ take n source.now → IsBorrowed found) }
+    ensures differs { OnErr result (IfSome (label.body in_table false (label.label_bytes (R.skipped rule.now) 0 text.now)) (λ f. (n : ℕ) → label.squeeze false false f.1 ≢ take n source.now)) }
+{
+    let mut found = LabelText::new(source);
+    let mut rest = text;
+    let mut escaped = false;
+    while let Some((c, tail)) = next_character(rule, escaped, rest) {
+        found.put_shown(alloc, in_table, escaped, c)?;
+        escaped = is_bare(escaped, c, '\\');
+        rest = tail;
+    }
+    Ok(found.finish())
+}
+
+/// The length in bytes through the closing bracket, and the text, of the label of which `text` begins
+/// after the opening one: outer white space removed, each inner run of it one space, and after each
+/// line ending what the rule calls the line's prefix left out. Escapes stay as they are written, but
+/// in a table `\\|` becomes `|`. None where no label of at most 999 characters stands that has one
+/// which is no white space. A text that changes is made anew; where memory for it is refused, that
+/// is the error. Upstream: `scan_link_label_rest`.
+pub fn scan_link_label<'t, R: LineRule>(
+    alloc: Global,
+    text: &'t str,
+    rule: &R,
+    in_table: bool,
+) -> Result<Option<(usize, CowStr<'t>)>, AllocError>
+    ensures value { IfOk result (λ found. option_map (λ p. (p.0, text_of p.1)) found ≡ link_label (R.skipped rule.now) in_table text.now) }
+    // What did not change is a slice of the source, and takes no memory.
+    ensures borrowed { IfOk result (λ found. IfSome found (λ p. text_of p.1 ≡ take (p.0 - 1) text.now → IsBorrowed p.1)) }
+    ensures unchanged { (n : ℕ) → link_label (R.skipped rule.now) in_table text.now ≡ Some (n + 1, take n text.now) → IsOk result }
+    ensures refused { link_label (R.skipped rule.now) in_table text.now ≡ None → IsOk result }
+
+    ensures within { IfOk result (λ found. IfSome found (λ p. p.0 ≤ length text.now)) }
+    ensures boundary { IfOk result (λ found. IfSome found (λ p. IsCharBoundary text.now p.0)) }
+{
+    let Some(end) = label_end(text.as_bytes(), rule, in_table) else {
+        return Ok(None);
+    };
+    let label = label_text(alloc, text, &text[..end], rule, in_table)?;
+    Ok(Some((end + 1, label)))
+}

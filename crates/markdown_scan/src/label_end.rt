@@ -1,0 +1,75 @@
+//! Where a link label ends (CommonMark 6.3): the scan that takes no memory.
+ghost use Rattle.std.specs.Prelude.{◌≡◌, ◌≤◌, ◌<◌, ◌||◌, ◌∷◌, [], false, IfSome, IsTrue, take, length, slice_index, count_by};
+ghost use Rattle.std.specs.List.{list_any, list_all};
+ghost use Rattle.std.specs.Char.{is_ascii};
+ghost use Rattle.markdown_scan.specs.Label as label;
+ghost use Rattle.markdown_scan.specs.LabelScan.{end_after};
+
+use crate::ascii_kinds::is_white_space;
+use crate::backslash::is_bare;
+use crate::line_prefix::prefix_after;
+use crate::line_rule::LineRule;
+
+/// The most characters of a label.
+pub(crate) const MAX_LABEL_CHARACTERS: usize = 999;
+
+// Whether a character begins with this byte, as a number.
+fn begun_by(byte: u8) -> usize
+    ensures { result ≡ count_by label.begins_character (byte ∷ []) }
+{
+    usize::from(byte < 128 || 192 <= byte)
+}
+
+// How many characters the byte adds to the text.
+fn characters_shown(in_table: bool, escaped: bool, byte: u8) -> usize
+    ensures value { result ≡ count_by label.begins_character (label.shown in_table escaped byte) }
+    ensures few { result ≤ 2 }
+{
+    if !escaped {
+        if byte == b'\\' { 0 } else { begun_by(byte) }
+    } else if in_table && byte == b'|' {
+        begun_by(byte)
+    } else {
+        1 + begun_by(byte)
+    }
+}
+
+// Whether the text has a character that is no white space, once the byte is added.
+fn solid_after(solid: bool, in_table: bool, escaped: bool, byte: u8) -> bool
+    ensures { result ≡ (solid || list_any label.is_no_white_space (label.shown in_table escaped byte)) }
+{
+    solid || escaped || (byte != b'\\' && !is_white_space(byte))
+}
+
+/// The place of the bracket that closes a label, of which the bytes stand after its opening one.
+pub(crate) fn label_end<R: LineRule>(bytes: &[u8], rule: &R, in_table: bool) -> Option<usize>
+    ensures value { result ≡ end_after 0 0 false (label.body in_table false (label.label_bytes (R.skipped rule.now) 0 bytes.now)) }
+    ensures here { IfSome result (λ n. (n < length bytes.now) × (slice_index bytes.now n ≡ 93)) }
+{
+    let mut rest = bytes;
+    let mut at = 0;
+    let mut escaped = false;
+    let mut characters = 0;
+    let mut solid = false;
+    while let Some((first, tail)) = rest.split_first() {
+        let byte = *first;
+        if is_bare(escaped, byte, b']') {
+            return if solid { Some(at) } else { None };
+        }
+        if is_bare(escaped, byte, b'[') {
+            return None;
+        }
+        let Some(skipped) = prefix_after(rule, byte, tail) else {
+            return None;
+        };
+        characters += characters_shown(in_table, escaped, byte);
+        if characters > MAX_LABEL_CHARACTERS {
+            return None;
+        }
+        solid = solid_after(solid, in_table, escaped, byte);
+        escaped = is_bare(escaped, byte, b'\\');
+        rest = &tail[skipped..];
+        at = at + 1 + skipped;
+    }
+    None
+}

@@ -1,0 +1,18 @@
+//! What stands at a byte of a text, by CommonMark: a module for each family of scanners but raw HTML.
+#![tactic(auto)]
+
+mod ascii_kinds;
+pub mod autolink;
+mod backslash;
+pub mod destination;
+pub mod entity;
+pub mod label;
+mod label_end;
+mod label_text;
+pub mod laws;
+pub mod line_end;
+pub mod line_prefix;
+pub mod line_rule;
+pub mod line_start;
+pub mod unescape;
+pub mod wikilink_pipe;

@@ -1,0 +1,181 @@
+//! The beginning of a line, read by columns (CommonMark 2.2).
+ghost use Rattle.std.specs.Prelude.{◌≡◌, ◌≤◌, ◌<◌, ◌==◌, ◌+◌, ◌^◌, length, min, if◌then◌else◌, slice_index, IsTrue};
+ghost use Rattle.markdown_scan.specs.LineStart as spec;
+
+/// What is left of a line, of which the white space is read by columns. A tab goes to the next
+/// multiple of 4 columns; where only some of its columns are read, the others come next.
+#[derive(Drop)]
+pub struct LineStart<'t> {
+    rest: &'t [u8],
+    scanned: usize,
+    owed: usize,
+    column: usize,
+    ghost before_stop: { column < 4 },
+    ghost in_memory: { scanned + length rest.now < 2 ^ 64 },
+}
+
+// The columns of a space or a tab, and none of any other byte.
+fn space_width(column: usize, byte: u8) -> usize
+    requires { column < 4 }
+    ensures value { result ≡ spec.space_width column byte }
+    ensures few { result ≤ 4 }
+{
+    match byte {
+        b' ' => 1,
+        b'\t' => 4 - column,
+        _ => 0,
+    }
+}
+
+// The column after a byte of one column.
+fn next_column(column: usize) -> usize
+    requires { column < 4 }
+    ensures value { result ≡ spec.next_column column }
+    ensures before_stop { result < 4 }
+{
+    if column == 3 { 0 } else { column + 1 }
+}
+
+// The column after a space or a tab.
+fn column_after(column: usize, byte: u8) -> usize
+    requires { column < 4 }
+    ensures value { result ≡ spec.column_after column byte }
+    ensures before_stop { result < 4 }
+{
+    if byte == b'\t' {
+        0
+    } else {
+        next_column(column)
+    }
+}
+
+impl<'t> LineStart<'t> {
+    ghost use Rattle.markdown_scan.specs.LineView.{line_left};
+    ghost use Rattle.markdown_scan.specs.LineSteps.{width_next, past_white};
+
+    /// The whole line.
+    pub fn new(bytes: &'t [u8]) -> LineStart<'t>
+        ensures { line_left result ≡ record { scanned = 0; owed = 0; column = 0; bytes = bytes.now } }
+    {
+        LineStart {
+            rest: bytes,
+            scanned: 0,
+            owed: 0,
+            column: 0,
+        }
+    }
+
+    /// The bytes that were scanned.
+    pub fn bytes_scanned(&self) -> usize
+        ensures { result ≡ (line_left self.now).scanned }
+    {
+        self.scanned
+    }
+
+    /// The columns of space that the last tab owes.
+    pub fn remaining_space(&self) -> usize
+        ensures { result ≡ (line_left self.now).owed }
+    {
+        self.owed
+    }
+
+    /// Whether a line feed, a carriage return or no byte comes next.
+    pub fn is_at_eol(&self) -> bool
+        ensures { result ≡ spec.is_line_over (line_left self.now).bytes }
+    {
+        match self.rest.first() {
+            None => true,
+            Some(byte) => *byte == b'\n' || *byte == b'\r',
+        }
+    }
+
+    // Takes a space or a tab, of which at most so many columns are used: how many of them are.
+    fn take_white(&mut self, most: usize) -> usize
+        requires none_owed { self.old.owed ≡ 0 }
+        requires some { 0 < most }
+        ensures columns { result ≡ min most (width_next (line_left self.old)) }
+        ensures left { line_left self.new ≡ past_white most (line_left self.old) }
+    {
+        let Some((first, tail)) = self.rest.split_first() else {
+            return 0;
+        };
+        let width = space_width(self.column, *first);
+        if width == 0 {
+            return 0;
+        }
+        let columns = width.min(most);
+        self.scanned += 1;
+        self.owed = width - columns;
+        self.column = column_after(self.column, *first);
+        self.rest = tail;
+        columns
+    }
+
+    /// Takes as many columns of space as there are, at most `n`, and answers how many.
+    pub fn scan_space_upto(&mut self, n: usize) -> usize
+        ensures columns { result ≡ (spec.space n (line_left self.old)).columns }
+        ensures left { line_left self.new ≡ (spec.space n (line_left self.old)).after }
+    {
+        let mut taken = n.min(self.owed);
+        self.owed -= taken;
+        while taken < n {
+            let columns = self.take_white(n - taken);
+            if columns == 0 {
+                return taken;
+            }
+            taken += columns;
+        }
+        taken
+    }
+
+    /// Takes `n` columns of space where there are so many, and nothing else: whether there are.
+    pub fn scan_space(&mut self, n: usize) -> bool
+        ensures value { result ≡ ((spec.space n (line_left self.old)).columns == n) }
+        ensures left { line_left self.new ≡ (if result then (spec.space n (line_left self.old)).after else line_left self.old) }
+    {
+        let mut after = self.copy();
+        if after.scan_space_upto(n) != n {
+            return false;
+        }
+        *self = after;
+        true
+    }
+
+    // The same once more.
+    fn copy(&self) -> LineStart<'t>
+        ensures { line_left result ≡ line_left self.now }
+    {
+        LineStart {
+            rest: self.rest,
+            scanned: self.scanned,
+            owed: self.owed,
+            column: self.column,
+        }
+    }
+
+    /// Takes all the space.
+    pub fn scan_all_space(&mut self)
+        ensures { line_left self.new ≡ spec.past_space (line_left self.old) }
+    {
+        self.owed = 0;
+        while self.take_white(4) > 0 {}
+    }
+
+    /// Takes a block quote marker (CommonMark 5.1), a `>` and at most one column of space after it:
+    /// whether it comes next.
+    pub fn scan_blockquote_marker(&mut self) -> bool
+        ensures value { result ≡ spec.begins_marker (line_left self.old) }
+        ensures left { line_left self.new ≡ (if result then spec.past_marker (line_left self.old) else line_left self.old) }
+    {
+        match self.rest.split_first() {
+            Some((b'>', tail)) if self.owed == 0 => {
+                self.rest = tail;
+                self.scanned += 1;
+                self.column = next_column(self.column);
+                self.scan_space_upto(1);
+                true
+            }
+            _ => false,
+        }
+    }
+}

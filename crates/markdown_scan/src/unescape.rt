@@ -1,0 +1,69 @@
+//! Backslash escapes (CommonMark 2.4) and entities (2.5) in a text, replaced by what they stand for.
+ghost use Rattle.std.specs.Prelude.{◌≡◌, ◌≢◌, ◌<◌, ◌≤◌, ◌++◌, IfNone, IfOk, IfSome, IsOk, encode_utf8, length, string_bytes};
+ghost use Rattle.markdown_base.specs.CowText.{text_of, IsBorrowed};
+ghost use Rattle.markdown_scan.specs.Unescape.{reference, unescaped};
+
+use crate::entity::scan_entity;
+use markdown_base::cow_str::CowStr;
+use std::alloc::{AllocError, Global};
+
+/// The escape or entity that the bytes begin with: its length in bytes and its character.
+fn scan_reference(bytes: &[u8], in_table: bool) -> Option<(usize, char)>
+    ensures value { result ≡ reference in_table bytes.now }
+    ensures within { IfSome result (λ found. found.0 ≤ length bytes.now) }
+{
+    if in_table && bytes.starts_with(b"\\\\|") {
+        return Some((3, '|'));
+    }
+    match bytes {
+        [b'\\', mark, ..] if mark.is_ascii_punctuation() => Some((2, char::from(*mark))),
+        [b'\\', ..] => None,
+        _ => scan_entity(bytes),
+    }
+}
+
+/// What stands before the first escape or entity, its character, and what stands after it.
+fn split_at_reference<'t>(text: &'t str, in_table: bool) -> Option<(&'t str, char, &'t str)>
+    ensures none { IfNone result (unescaped in_table text.now ≡ text.now) }
+    ensures some { IfSome result (λ parts. unescaped in_table text.now
+        ≡ parts.0.now ++ (encode_utf8 parts.1 ++ unescaped in_table parts.2.now)) }
+    ensures changes { IfSome result (λ parts. unescaped in_table text.now ≢ text.now) }
+    ensures shorter { IfSome result (λ parts. length parts.2.now < length text.now) }
+{
+    let bytes = text.as_bytes();
+    for (at, _) in bytes.iter().enumerate() {
+        if let Some((length, character)) = scan_reference(&bytes[at..], in_table) {
+            return Some((&text[..at], character, &text[at + length..]));
+        }
+    }
+    None
+}
+
+/// A copy of the text with its escapes and entities replaced.
+fn unescaped_copy(alloc: Global, text: &str, in_table: bool) -> Result<String, AllocError>
+    ensures { IfOk result (λ made. string_bytes made ≡ unescaped in_table text.now) }
+{
+    let mut made = String::new(alloc);
+    let mut rest = text;
+    while let Some((before, character, after)) = split_at_reference(rest, in_table) {
+        made.push_str(before)?;
+        made.push(character)?;
+        rest = after;
+    }
+    made.push_str(rest)?;
+    Ok(made)
+}
+
+/// The text with its backslash escapes and its entities replaced by the characters that they stand
+/// for; in a table two backslashes and a pipe stand for the pipe. Where that is the text itself, it
+/// is a slice of the source, and no memory is taken; else memory can run out.
+pub fn unescape<'t>(alloc: Global, text: &'t str, in_table: bool) -> Result<CowStr<'t>, AllocError>
+    ensures value { IfOk result (λ made. text_of made ≡ unescaped in_table text.now) }
+    ensures borrowed { IfOk result (λ made. text_of made ≡ text.now → IsBorrowed made) }
+    ensures unchanged { unescaped in_table text.now ≡ text.now → IsOk result }
+{
+    match split_at_reference(text, in_table) {
+        None => Ok(CowStr::Borrowed(text)),
+        Some(_) => Ok(CowStr::from(unescaped_copy(alloc, text, in_table)?)),
+    }
+}

@@ -1,0 +1,73 @@
+//! Autolinks: the examples of CommonMark 6.5, and the bounds of a scheme.
+use markdown_scan::autolink::scan_web_autolink;
+use std::test::Fail;
+
+// What an autolink gives whose `<` is the first byte.
+fn autolink_of(text: &str) -> Option<(usize, &str)> {
+    if text.is_char_boundary(1) {
+        scan_web_autolink(text, 1)
+    } else {
+        None
+    }
+}
+
+#[test]
+fn autolinks(rt: HostRuntime) -> Result<(), Fail> {
+    for uri in [
+        "http://foo.bar.baz",
+        "https://foo.bar.baz/test?q=hello&id=22&boolean",
+        "irc://foo.bar:2233/baz",
+        "MAILTO:FOO@BAR.BAZ",
+        "a+b+c:d",
+        "made-up-scheme://foo,bar",
+        "https://../",
+        "localhost:5001/foo",
+        "https://example.com/\\[\\",
+        "https://example.com/?search=a&b=(c)#d",
+        "ab:é",
+        // schemes of 2 and of 32 characters
+        "ab:",
+        "abcdefghijklmnopqrstuvwxyz012345:x",
+    ] {
+        let text = format!(in rt.alloc(); "<{uri}> <b>")?;
+        let end = uri.as_bytes().len() + 2;
+        assert_eq!(rt; autolink_of(text.as_str()), Some((end, uri)));
+    }
+    Ok(())
+}
+
+#[test]
+fn other_texts(rt: HostRuntime) {
+    for text in [
+        "<",
+        "<>",
+        "< https://foo.bar >",
+        "<https://foo.bar/baz bim>",
+        "<m:abc>",
+        "<foo.bar.baz>",
+        "<foo@bar.example.com>",
+        "<foo+special@Bar.baz-bar0.com>",
+        "<foo\\+@bar.example.com>",
+        "<1a:b>",
+        "<+a:b>",
+        "<ab:c<d>",
+        "<ab:c\td>",
+        "<ab:c\nd>",
+        "<ab:c\u{7f}d>",
+        "<é:b>",
+        // a scheme of 33 characters
+        "<abcdefghijklmnopqrstuvwxyz0123456:x>",
+    ] {
+        assert_eq!(rt; autolink_of(text), None, "{text}");
+    }
+}
+
+#[test]
+fn fronts_of_an_autolink(rt: HostRuntime) {
+    let text = "<https://example.com/?search=a&b=(c)#d>";
+    for end in 1..38 {
+        if text.is_char_boundary(end) {
+            assert_eq!(rt; autolink_of(&text[..end]), None, "{end}");
+        }
+    }
+}

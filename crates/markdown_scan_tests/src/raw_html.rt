@@ -1,0 +1,93 @@
+//! Comments, CDATA sections, declarations and processing instructions: the examples of CommonMark
+//! 6.6 that one scan decides, each from its `<` on, with the length of what it begins with.
+use markdown_raw_html::raw_html::RawHtmlScanner;
+
+#[derive(Clone, Copy, Drop)]
+enum Kind {
+    Comment,
+    CdataSection,
+    Declaration,
+    Instruction,
+}
+
+// Where what a text begins with ends, if it is of the kind. Two bytes begin each kind.
+fn end_of(kind: Kind, text: &str) -> Option<usize> {
+    let mut scanner = RawHtmlScanner::new(text.as_bytes());
+    if scanner.text.len() < 2 {
+        return None;
+    }
+    match kind {
+        Kind::Comment => scanner.scan_comment(2),
+        Kind::CdataSection => scanner.scan_cdata_section(2),
+        Kind::Declaration => scanner.scan_declaration(2),
+        Kind::Instruction => scanner.scan_processing_instruction(2),
+    }
+}
+
+#[test]
+fn comments(rt: HostRuntime) {
+    for (text, end) in [
+        ("<!-- this is a --\ncomment - with hyphens -->", Some(44)),
+        ("<!--> foo -->", Some(5)),
+        ("<!---> foo -->", Some(6)),
+        ("<!---->", Some(7)),
+        ("<!----->", Some(8)),
+        ("<!-- a -- b --> c -->", Some(15)),
+        ("<!-- a --->", Some(11)),
+        ("<!-- é -->", Some(11)),
+        ("<!-- a -- >", None),
+        ("<!--", None),
+        ("<!---", None),
+        ("<!-", None),
+        ("<!", None),
+        ("<!- a -->", None),
+        ("<!-- a", None),
+    ] {
+        assert_eq!(rt; end_of(Kind::Comment, text), end, "{text}");
+    }
+}
+
+#[test]
+fn other_kinds(rt: HostRuntime) {
+    for (kind, text, end) in [
+        (Kind::CdataSection, "<![CDATA[>&<]]>", Some(15)),
+        (Kind::CdataSection, "<![CDATA[]]>", Some(12)),
+        (Kind::CdataSection, "<![CDATA[]]]>", Some(13)),
+        (Kind::CdataSection, "<![CDATA[ a ]> ]] > ]]> ]]>", Some(23)),
+        (Kind::CdataSection, "<![CDATA[ a ]>", None),
+        (Kind::CdataSection, "<![cdata[]]>", None),
+        (Kind::CdataSection, "<![CDATA]]>", None),
+        (Kind::CdataSection, "<![CDATA[", None),
+        (Kind::CdataSection, "<!", None),
+        (Kind::Declaration, "<!ELEMENT br EMPTY>", Some(19)),
+        (Kind::Declaration, "<!a>", Some(4)),
+        (Kind::Declaration, "<!Z \">\">", Some(6)),
+        (Kind::Declaration, "<!>", None),
+        (Kind::Declaration, "<! a>", None),
+        (Kind::Declaration, "<!1>", None),
+        (Kind::Declaration, "<!é>", None),
+        (Kind::Declaration, "<!ELEMENT", None),
+        (Kind::Declaration, "<!", None),
+        (Kind::Instruction, "<?php echo $a; ?>", Some(17)),
+        (Kind::Instruction, "<??>", Some(4)),
+        (Kind::Instruction, "<?a > b ?> c ?>", Some(10)),
+        (Kind::Instruction, "<?>", None),
+        (Kind::Instruction, "<?a>", None),
+        (Kind::Instruction, "<?", None),
+    ] {
+        assert_eq!(rt; end_of(kind, text), end, "{text}");
+    }
+}
+
+#[test]
+fn a_scan_that_failed_changes_no_other(rt: HostRuntime) {
+    let mut scanner = RawHtmlScanner::new(b"<!-- a --> <!-- b <!-- c <!a> <?x");
+    assert_eq!(rt; scanner.scan_comment(13), None);
+    assert_eq!(rt; scanner.scan_comment(20), None);
+    assert_eq!(rt; scanner.scan_comment(13), None);
+    assert_eq!(rt; scanner.scan_comment(2), Some(10));
+    assert_eq!(rt; scanner.scan_declaration(27), Some(29));
+    assert_eq!(rt; scanner.scan_processing_instruction(32), None);
+    assert_eq!(rt; scanner.scan_cdata_section(2), None);
+    assert_eq!(rt; scanner.scan_comment(33), None);
+}

@@ -1,0 +1,106 @@
+//! Escapes and entities: the examples of CommonMark 2.4 and 2.5 that a text alone decides.
+use markdown_base::cow_str::CowStr;
+use markdown_scan::unescape::unescape;
+use std::alloc::{AllocError, Global};
+use std::test::Fail;
+
+// Whether the text stands for this one, as a slice of the source where it is the same.
+fn stands_for(
+    alloc: Global,
+    text: &str,
+    in_table: bool,
+    expected: &str,
+) -> Result<bool, AllocError> {
+    let made = unescape(alloc, text, in_table)?;
+    let is_slice = matches!(&made, CowStr::Borrowed(_));
+    Ok(made.as_str() == expected && is_slice == (text == expected))
+}
+
+#[test]
+fn escapes(rt: HostRuntime) -> Result<(), Fail> {
+    for (text, expected) in [
+        // escaped punctuation, each of its 32 characters
+        (
+            "\\!\\\"\\#\\$\\%\\&\\'\\(\\)\\*\\+\\,\\-\\.\\/\\:\\;\\<\\=\\>\\?\\@\\[\\\\\\]\\^\\_\\`\\{\\|\\}\\~",
+            "!\"#$%&'()*+,-./:;<=>?@[\\]^_`{|}~",
+        ),
+        ("\\*not emphasized*", "*not emphasized*"),
+        (
+            "\\&ouml; not a character entity",
+            "&ouml; not a character entity",
+        ),
+        ("\\\\*emphasis*", "\\*emphasis*"),
+        ("foo\\+bar", "foo+bar"),
+        ("/bar\\*", "/bar*"),
+        ("ti\\*tle", "ti*tle"),
+        ("\\\\\\\\", "\\\\"),
+        ("\\&amp;", "&amp;"),
+        ("\\\\&amp;", "\\&"),
+    ] {
+        assert!(rt; stands_for(rt.alloc(), text, false, expected)?, "{text}");
+    }
+    Ok(())
+}
+
+#[test]
+fn entities(rt: HostRuntime) -> Result<(), Fail> {
+    for (text, expected) in [
+        ("a &amp; b &lt;c&gt; &quot;d&quot;", "a & b <c> \"d\""),
+        ("&#35; &#1234; &#992; &#0;", "# Ӓ Ϡ \u{FFFD}"),
+        ("&#X22; &#XD06; &#xcab;", "\" ആ ಫ"),
+        ("&#42;foo&#42;", "*foo*"),
+        ("foo&#10;&#10;bar", "foo\n\nbar"),
+        ("&#9;foo", "\tfoo"),
+        // what an entity stands for is not read again
+        ("&amp;amp;", "&amp;"),
+        ("&#92;*", "\\*"),
+        ("é\\*é&lt;é", "é*é<é"),
+        ("a\\", "a\\"),
+        ("\\*a\\", "*a\\"),
+    ] {
+        assert!(rt; stands_for(rt.alloc(), text, false, expected)?, "{text}");
+    }
+    Ok(())
+}
+
+#[test]
+fn texts_that_stay(rt: HostRuntime) -> Result<(), Fail> {
+    for text in [
+        "",
+        "a",
+        "é",
+        "\\",
+        "\\a",
+        "\\\t\\A\\a\\ \\3\\φ\\«",
+        "&nbsp &x; &#; &#x; &#87654321;",
+        "&#abcdef0; &ThisIsNotDefined; &hi?;",
+        "&copy",
+        "&MadeUpEntity;",
+        "a\r\nb\rc",
+        "\\\n",
+        "a | b",
+    ] {
+        assert!(rt; stands_for(rt.alloc(), text, false, text)?, "{text}");
+        assert!(rt;
+            stands_for(rt.alloc(), text, true, text)?,
+            "{text} in a table"
+        );
+    }
+    Ok(())
+}
+
+#[test]
+fn pipes_in_a_table(rt: HostRuntime) -> Result<(), Fail> {
+    for (text, inside, outside) in [
+        ("\\\\|", "|", "\\|"),
+        ("\\|", "|", "|"),
+        ("a\\\\|b", "a|b", "a\\|b"),
+        ("\\\\\\\\|", "\\|", "\\\\|"),
+        ("\\\\\\|", "\\|", "\\|"),
+        ("\\\\*", "\\*", "\\*"),
+    ] {
+        assert!(rt; stands_for(rt.alloc(), text, true, inside)?, "{text}");
+        assert!(rt; stands_for(rt.alloc(), text, false, outside)?, "{text}");
+    }
+    Ok(())
+}

@@ -1,0 +1,131 @@
+//! The block pass on small texts, and the items of a line.
+use crate::builders::text;
+use markdown_base::item::ItemBody;
+use markdown_base::options::Options;
+use markdown_base::tree::Tree;
+use markdown_items::items;
+use markdown_plain::blocks;
+use std::alloc::{AllocError, Global};
+use std::test::Fail;
+
+/// The name of a body that the block pass makes.
+fn name_of(body: ItemBody) -> &'static str {
+    match body {
+        ItemBody::Paragraph => "Paragraph",
+        ItemBody::Text { .. } => "Text",
+        ItemBody::SoftBreak => "SoftBreak",
+        ItemBody::HardBreak(true) => "HardBreak(true)",
+        ItemBody::HardBreak(false) => "HardBreak(false)",
+        _ => "another",
+    }
+}
+
+/// The items of a text's blocks in preorder, each with how deep it stands and its range.
+fn listed(alloc: Global, text: &str) -> Result<String, AllocError> {
+    let (mut tree, _parts) = blocks(alloc, text, Options::ENABLE_GFM)?;
+    let mut list = String::new(alloc);
+    tree.reset();
+    for _ in 0..10000 {
+        if let Some(ix) = tree.cur() {
+            let item = *tree.item(ix);
+            let depth = tree.walk_spine().len();
+            let name = name_of(item.body);
+            let row = format!(in alloc; "{depth} {name} {}..{};", item.start, item.end)?;
+            list.push_str(row.as_str())?;
+            tree.push()?;
+        } else if let Some(ix) = tree.pop() {
+            tree.next_sibling(ix);
+        } else {
+            break;
+        }
+    }
+    Ok(list)
+}
+
+#[test]
+fn paragraphs(rt: HostRuntime) -> Result<(), Fail> {
+    for (text, want) in [
+        ("", ""),
+        (" \t\r\n\n  \r \t", ""),
+        ("hello world", "0 Paragraph 0..11;1 Text 0..11;"),
+        (" \t hello \t\n", "0 Paragraph 3..11;1 Text 3..8;"),
+        ("é\n", "0 Paragraph 0..3;1 Text 0..2;"),
+        (
+            "a\n  \t\nb",
+            "0 Paragraph 0..2;1 Text 0..1;0 Paragraph 6..7;1 Text 6..7;",
+        ),
+    ] {
+        assert_eq!(rt; listed(rt.alloc(), text)?.as_str(), want, "{text:?}");
+    }
+    Ok(())
+}
+
+#[test]
+fn breaks(rt: HostRuntime) -> Result<(), Fail> {
+    for (text, want) in [
+        (
+            "a\nb",
+            "0 Paragraph 0..3;1 Text 0..1;1 SoftBreak 1..2;1 Text 2..3;",
+        ),
+        (
+            "a  \nb",
+            "0 Paragraph 0..5;1 Text 0..1;1 HardBreak(false) 1..4;1 Text 4..5;",
+        ),
+        (
+            "a\t \n b",
+            "0 Paragraph 0..6;1 Text 0..1;1 SoftBreak 3..4;1 Text 5..6;",
+        ),
+        (
+            "a\\\nb",
+            "0 Paragraph 0..4;1 Text 0..1;1 HardBreak(true) 1..3;1 Text 3..4;",
+        ),
+        (
+            "a\\\\\nb",
+            "0 Paragraph 0..5;1 Text 0..3;1 SoftBreak 3..4;1 Text 4..5;",
+        ),
+        (
+            "\\\nb",
+            "0 Paragraph 0..3;1 HardBreak(true) 0..2;1 Text 2..3;",
+        ),
+        ("a\\", "0 Paragraph 0..2;1 Text 0..2;"),
+        (
+            "a\rb\r",
+            "0 Paragraph 0..4;1 Text 0..1;1 SoftBreak 1..2;1 Text 2..3;",
+        ),
+        (
+            "a\r\nb\r\n",
+            "0 Paragraph 0..6;1 Text 0..1;1 SoftBreak 1..3;1 Text 3..4;",
+        ),
+    ] {
+        assert_eq!(rt; listed(rt.alloc(), text)?.as_str(), want, "{text:?}");
+    }
+    Ok(())
+}
+
+#[test]
+fn nothing_is_named(rt: HostRuntime) -> Result<(), Fail> {
+    let (tree, parts) = blocks(rt.alloc(), "a  \nb\\\n\nc", Options::ENABLE_GFM)?;
+    assert_eq!(rt; tree.len(), 7);
+    assert!(rt; parts.definitions.is_empty() && parts.footnotes.is_empty());
+    assert!(rt; parts.cows.is_empty() && parts.alignments.is_empty());
+    assert!(rt; parts.headings.is_empty());
+    Ok(())
+}
+
+#[test]
+fn a_line_is_one_text(rt: HostRuntime) -> Result<(), Fail> {
+    let mut tree = Tree::new(rt.alloc())?;
+    let mut cows = Vec::new(rt.alloc());
+    items(
+        rt.alloc(),
+        &mut tree,
+        "hello world",
+        6..11,
+        Options::ENABLE_GFM,
+        &mut cows,
+    )?;
+    assert_eq!(rt; tree.len(), 2);
+    assert_eq!(rt; *tree.item(1), text(6, 11));
+    assert_eq!(rt; cows.len(), 0);
+    Ok(())
+}

@@ -1,0 +1,234 @@
+//! Definitions and footnotes looked up by the folding of their names, and uses of footnotes.
+use crate::builders::no_parts;
+use markdown_base::block_parts::{BlockParts, LinkDef};
+use markdown_base::cow_str::CowStr;
+use markdown_base::fault::Fault;
+use markdown_spans::defs::{Absence, Allocations, FootnoteDef};
+use std::alloc::{AllocError, Global};
+use std::test::Fail;
+
+/// Parts with definitions, each a label and a destination.
+fn defining<'a>(
+    alloc: Global,
+    definitions: &[(&'a str, &'a str)],
+) -> Result<BlockParts<'a>, AllocError> {
+    let mut held = Vec::new(alloc);
+    for (label, dest) in definitions {
+        let definition = LinkDef {
+            dest: CowStr::from(*dest),
+            title: None,
+            span: 0..0,
+        };
+        held.push((CowStr::from(*label), definition))?;
+    }
+    let mut parts = no_parts(alloc);
+    parts.definitions = held;
+    Ok(parts)
+}
+
+/// Whether a key finds this destination among definitions, or None where it should find nothing.
+fn finds(
+    alloc: Global,
+    definitions: &[(&str, &str)],
+    key: &str,
+    dest: Option<&str>,
+) -> Result<bool, Fault> {
+    let held = Allocations::new(alloc, defining(alloc, definitions)?)?;
+    let found = held.refdefs.get(key)?;
+    Ok(found.map(|definition| definition.dest.as_str()) == dest)
+}
+
+#[test]
+fn keys_find_the_first_of_equal_folding(rt: HostRuntime) -> Result<(), Fail> {
+    let definitions = [
+        ("a B c", "http://example.com"),
+        ("ß", "/u"),
+        ("A", "/1"),
+        ("a", "/2"),
+    ];
+    let rows = [
+        ("A b C", Some("http://example.com")),
+        ("SS", Some("/u")),
+        ("ẞ", Some("/u")),
+        ("a", Some("/1")),
+        // white space is not collapsed
+        ("a  b c", None),
+        (" a b c", None),
+        ("a b c ", None),
+        ("a\tb c", None),
+        ("a\nb c", None),
+        ("abc", None),
+        ("", None),
+        ("s", None),
+    ];
+    for (key, dest) in rows {
+        let is_so = finds(rt.alloc(), &definitions, key, dest)?;
+        assert!(rt; is_so, "{key}");
+    }
+    Ok(())
+}
+
+/// Whether each of two labels finds this destination under the other.
+fn find_each_other(
+    alloc: Global,
+    one: &str,
+    other: &str,
+    dest: Option<&str>,
+) -> Result<bool, Fault> {
+    let there = finds(alloc, &[(one, "/u")], other, dest)?;
+    let back = finds(alloc, &[(other, "/u")], one, dest)?;
+    Ok(there && back)
+}
+
+/// Pairs that match, of statuses C and F of CaseFolding.txt.
+const MATCHING: [(&str, &str); 17] = [
+    ("Weiß", "WEISS"),
+    ("ﬀ", "FF"),
+    ("ﬃ", "fFi"),
+    ("ς", "Σ"),
+    ("ΜΆΪΟΣ", "μάϊος"),
+    ("\u{212A}", "k"),
+    ("\u{212B}", "å"),
+    ("\u{B5}", "\u{3BC}"),
+    ("\u{149}", "\u{2BC}N"),
+    ("\u{390}", "\u{3B9}\u{308}\u{301}"),
+    ("\u{345}", "ι"),
+    ("ᾈ", "ἀι"),
+    ("ſ", "S"),
+    ("Ａ", "ａ"),
+    ("\u{130}", "i\u{307}"),
+    ("\u{AB70}", "\u{13A0}"),
+    ("\u{10400}", "\u{10428}"),
+];
+
+/// Pairs that default matching keeps apart.
+const APART: [(&str, &str); 6] = [
+    ("\u{130}", "i"),
+    ("ı", "i"),
+    ("é", "e\u{301}"),
+    ("ﬀ", "f"),
+    ("ａ", "a"),
+    ("[", "{"),
+];
+
+#[test]
+fn foldings_are_unicodes(rt: HostRuntime) -> Result<(), Fail> {
+    for (label, key) in MATCHING {
+        assert!(rt;
+            find_each_other(rt.alloc(), label, key, Some("/u"))?,
+            "{label} and {key}"
+        );
+    }
+    for (label, key) in APART {
+        assert!(rt;
+            find_each_other(rt.alloc(), label, key, None)?,
+            "{label} and {key}"
+        );
+    }
+    Ok(())
+}
+
+/// The labels and destinations that can be found, in order.
+fn listed(alloc: Global, definitions: &[(&str, &str)]) -> Result<String, Fault> {
+    let held = Allocations::new(alloc, defining(alloc, definitions)?)?;
+    let mut seen = String::new(alloc);
+    for (label, definition) in held.refdefs.iter() {
+        seen.push_str(label)?;
+        seen.push_str(definition.dest.as_str())?;
+    }
+    Ok(seen)
+}
+
+#[test]
+fn definitions_are_listed_in_order(rt: HostRuntime) -> Result<(), Fail> {
+    let repeated = [
+        ("Z", "1"),
+        ("b", "2"),
+        ("z", "3"),
+        ("A", "4"),
+        ("B", "5"),
+        ("C", "6"),
+    ];
+    assert_eq!(rt; listed(rt.alloc(), &repeated)?.as_str(), "Z1b2A4C6");
+    assert_eq!(rt; listed(rt.alloc(), &[])?.as_str(), "");
+    Ok(())
+}
+
+/// Allocations with the footnotes `a` and `Straße`, the first of them named twice.
+fn footnotes<'a>(alloc: Global) -> Result<Allocations<'a>, Fault> {
+    let mut names = Vec::new(alloc);
+    for name in ["a", "Straße", "A"] {
+        names.push(CowStr::from(name))?;
+    }
+    let mut parts = no_parts(alloc);
+    parts.footnotes = names;
+    Allocations::new(alloc, parts)
+}
+
+/// How often a footnote is used, if it is defined.
+fn uses(held: &mut Allocations<'_>, name: &str) -> Result<Option<usize>, Fault> {
+    let found = held.footdefs.get_mut(CowStr::from(name))?;
+    Ok(found.map(|footnote| footnote.use_count))
+}
+
+/// How often a footnote is used, whether it is defined, whether one more use is counted, and how often it is used then.
+fn count_one_use(
+    held: &mut Allocations<'_>,
+    name: &str,
+) -> Result<(Option<usize>, bool, bool, Option<usize>), Fault> {
+    let before = uses(held, name)?;
+    let is_defined = held.footdefs.contains(name)?;
+    let is_counted = held.footdefs.count_use(name)?;
+    let after = uses(held, name)?;
+    Ok((before, is_defined, is_counted, after))
+}
+
+#[test]
+fn uses_of_footnotes_are_counted(rt: HostRuntime) -> Result<(), Fail> {
+    let mut held = footnotes(rt.alloc())?;
+    let rows = [
+        ("a", Some(0), Some(1)),
+        ("A", Some(1), Some(2)),
+        ("b", None, None),
+        ("a ", None, None),
+        ("STRASSE", Some(0), Some(1)),
+        ("a", Some(2), Some(3)),
+    ];
+    for (name, before, after) in rows {
+        let counted = count_one_use(&mut held, name)?;
+        assert_eq!(rt;
+            counted,
+            (before, before.is_some(), before.is_some(), after),
+            "{name}"
+        );
+    }
+    drop(held);
+    Ok(())
+}
+
+/// Writes how often a footnote is used, or tells why there is none.
+fn set_uses(held: &mut Allocations<'_>, name: &str, count: usize) -> Option<Absence> {
+    match held.footdefs.find_mut(CowStr::from(name)) {
+        Ok(footnote) => {
+            footnote.use_count = count;
+            None
+        }
+        Err(why) => Some(why),
+    }
+}
+
+#[test]
+fn a_count_stays_at_its_greatest(rt: HostRuntime) -> Result<(), Fail> {
+    let mut held = footnotes(rt.alloc())?;
+    assert_eq!(rt; set_uses(&mut held, "STRASSE", usize::MAX), None);
+    assert_eq!(rt;
+        set_uses(&mut held, "strase", usize::MAX),
+        Some(Absence::Undefined)
+    );
+    assert!(rt; held.footdefs.count_use("straße")?);
+    assert_eq!(rt; uses(&mut held, "Straße")?, Some(usize::MAX));
+    drop(held);
+    let footnote = FootnoteDef { use_count: 3 };
+    assert_eq!(rt; footnote.clone()?.use_count, 3);
+    Ok(())
+}

@@ -1,0 +1,107 @@
+//! The program's texts and statuses.
+use markdown_render::run::run;
+use std::alloc::Global;
+use std::io::{self, ErrorKind, Read, Write};
+use std::test::Fail;
+
+/// Reads nothing but an error.
+#[derive(Drop)]
+struct NoReader;
+
+impl Read for NoReader {
+    fn read(&mut self, buf: &mut [u8]) -> io::Result<usize> {
+        let _ = buf;
+        Err(io::Error::from(ErrorKind::PermissionDenied))
+    }
+}
+
+/// Takes nothing.
+#[derive(Drop)]
+struct NoWriter;
+
+impl Write for NoWriter {
+    fn write(&mut self, buf: &[u8]) -> io::Result<usize> {
+        let _ = buf;
+        Err(io::Error::from(ErrorKind::BrokenPipe))
+    }
+
+    fn flush(&mut self) -> io::Result<()> {
+        Ok(())
+    }
+}
+
+/// A run over any reader and writer: its status, and what was said.
+fn said<R: Read, W: Write>(
+    alloc: Global,
+    words: &[String],
+    input: &mut R,
+    out: &mut W,
+) -> Result<String, Fail> {
+    let mut err = Vec::new(alloc);
+    let status = run(alloc, words, input, out, &mut err);
+    let text = String::from_utf8(err)?;
+    Ok(format!(in alloc; "{status} {text}")?)
+}
+
+/// The same, and then what was printed.
+fn printed<R: Read>(alloc: Global, words: &[String], input: &mut R) -> Result<String, Fail> {
+    let mut out = Vec::new(alloc);
+    let status = said(alloc, words, input, &mut out)?;
+    let html = String::from_utf8(out)?;
+    Ok(format!(in alloc; "{status}{html}")?)
+}
+
+#[test]
+fn prints_html(rt: HostRuntime) -> Result<(), Fail> {
+    let rows = [
+        ("", "0 "),
+        ("hello world", "0 <p>hello world</p>\n"),
+        ("a\nb", "0 <p>a\nb</p>\n"),
+        ("a  \nb", "0 <p>a<br />\nb</p>\n"),
+        ("a\\\nb\n\nc", "0 <p>a<br />\nb</p>\n<p>c</p>\n"),
+        ("a<b>&\"", "0 <p>a&lt;b&gt;&amp;\"</p>\n"),
+    ];
+    for (input, wanted) in rows {
+        let found = printed(rt.alloc(), &[], &mut input.as_bytes())?;
+        assert_eq!(rt; found.as_str(), wanted);
+    }
+    Ok(())
+}
+
+/// Two words, of which none is known.
+fn two_words(alloc: Global) -> Result<Vec<String>, Fail> {
+    let mut words = Vec::new(alloc);
+    words.push(String::from_str(alloc, "tables")?)?;
+    words.push(String::from_str(alloc, "nosuch")?)?;
+    Ok(words)
+}
+
+#[test]
+fn says_what_failed(rt: HostRuntime) -> Result<(), Fail> {
+    let alloc = rt.alloc();
+    let mut bad: &[u8] = &[255];
+    let found = printed(alloc, &[], &mut bad)?;
+    assert_eq!(rt; found.as_str(), "1 input is not UTF-8\n");
+    let found = printed(alloc, &two_words(alloc)?, &mut NoReader)?;
+    assert_eq!(rt; found.as_str(), "2 unknown option: tables\n");
+    let found = printed(alloc, &[], &mut NoReader)?;
+    assert_eq!(rt; found.as_str(), "1 read failed\n");
+    let found = said(alloc, &[], &mut "a".as_bytes(), &mut NoWriter)?;
+    assert_eq!(rt; found.as_str(), "1 write failed\n");
+    Ok(())
+}
+
+#[test]
+fn answers_the_same_where_nothing_can_be_said(rt: HostRuntime) -> Result<(), Fail> {
+    let alloc = rt.alloc();
+    let mut out = Vec::new(alloc);
+    let mut bad: &[u8] = &[255];
+    assert_eq!(rt; run(alloc, &[], &mut bad, &mut out, &mut NoWriter), 1);
+    let words = two_words(alloc)?;
+    assert_eq!(rt;
+        run(alloc, &words, &mut NoReader, &mut out, &mut NoWriter),
+        2
+    );
+    assert_eq!(rt; out.len(), 0);
+    Ok(())
+}
