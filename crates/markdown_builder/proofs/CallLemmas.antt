@@ -27,9 +27,10 @@ use Rattle.markdown_builder.proofs.WrittenLemmas.{changed}
 
 -- `skip`
 pub skip_keeps : {s : State} (now : BuilderView) (to : ℕ) → IsSound s → seen s ≡ now → now.at ≤ to → IsCharBoundary now.text to
-    → (now.blocks ≡ [] → IsWhite now.text now.at to) → IsSound (record s { at = to })
+    → (now.leaf ≡ false → now.blocks ≡ [] → IsWhite now.text now.at to) → IsSound (record s { at = to })
 skip_keeps {s} now to k e =
-    subst (λ (v : BuilderView). v.at ≤ to → IsCharBoundary v.text to → (v.blocks ≡ [] → IsWhite v.text v.at to) → IsSound (record s { at = to })) e
+    subst (λ (v : BuilderView). v.at ≤ to → IsCharBoundary v.text to → (v.leaf ≡ false → v.blocks ≡ [] → IsWhite v.text v.at to)
+    → IsSound (record s { at = to })) e
     (skipped s to k)
 
 -- a block that goes into the tree with its parts

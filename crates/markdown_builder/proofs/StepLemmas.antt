@@ -114,7 +114,7 @@ covered_white text nodes definitions from to c w p l dark =
     ⊎_elim (λ (h : p < from). c p h dark) (λ (h : from ≤ p). let q = w p h l in cc (q, dark)) (cases_lt p from)
 
 -- bytes are stepped over: white space, where no block is open
-pub skipped : (s : State) (to : ℕ) → IsSound s → s.at ≤ to → IsCharBoundary s.text to → (s.blocks ≡ [] → IsWhite s.text s.at to)
+pub skipped : (s : State) (to : ℕ) → IsSound s → s.at ≤ to → IsCharBoundary s.text to → (s.leaf ≡ false → s.blocks ≡ [] → IsWhite s.text s.at to)
     → IsSound (record s { at = to })
 skipped s to k low boundary white = record {
   utf8 = k.utf8;
@@ -127,7 +127,7 @@ skipped s to k low boundary white = record {
     leaves = k.stands.leaves;
     behind = k.stands.behind;
     top = k.stands.top;
-    covered = over s.blocks k.stands.covered white;
+    covered = over s.blocks k.stands.leaves k.stands.covered white;
     boundary = boundary;
     begun = All-weaker (λ b. b.start ≤ s.at) (λ b. b.start ≤ to) (λ b h. omega (arith, h, low)) s.blocks k.stands.begun;
     brackets = k.stands.brackets;
@@ -136,10 +136,10 @@ skipped s to k low boundary white = record {
   last_run = k.last_run;
 }
   where
-    over : (blocks : List OpenBlock) → AreCovered s.text s.tree.nodes s.definitions (covered_to blocks s.at) → (blocks ≡ [] → IsWhite s.text s.at to)
-        → AreCovered s.text s.tree.nodes s.definitions (covered_to blocks to)
-    over [] c w = covered_white s.text s.tree.nodes s.definitions s.at to c (w refl)
-    over (b ∷ blocks) c w = c
+    over : (blocks : List OpenBlock) → OnlyLastIsLeaf blocks s.leaf → AreCovered s.text s.tree.nodes s.definitions (covered_to blocks s.at)
+        → (s.leaf ≡ false → blocks ≡ [] → IsWhite s.text s.at to) → AreCovered s.text s.tree.nodes s.definitions (covered_to blocks to)
+    over [] l c w = covered_white s.text s.tree.nodes s.definitions s.at to c (w l refl)
+    over (b ∷ blocks) l c w = c
 
 -- ---- an item without children
 

@@ -122,7 +122,7 @@ impl<'a> Builder<'a> {
     pub fn skip(&mut self, to: usize)
         requires low { self.old.at ≤ to }
         requires boundary { IsCharBoundary self.old.text to }
-        requires white { self.old.blocks ≡ [] → IsWhite self.old.text self.old.at to }
+        requires white { self.old.leaf ≡ false → self.old.blocks ≡ [] → IsWhite self.old.text self.old.at to }
         ensures { self.new ≡ record self.old { at = to } }
     {
         self.at = to;
