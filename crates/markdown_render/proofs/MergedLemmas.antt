@@ -1,14 +1,14 @@
 -- What `push_html` makes of a merge over a parser is the HTML of the merge of the events that were left.
 use Rattle.std.proofs.Common.{◌≡◌, ℕ, List, [], Option, false, ap, subst}
 use Rattle.std.specs.Iterator.{Count}
-use Rattle.markdown_base.specs.Document.{Question, Answer}
+use Rattle.markdown_base.specs.Questions.{Question, Answer}
 use Rattle.markdown_inline.specs.NextGives.{NextGives, IsEventOf}
 use Rattle.markdown_inline.specs.declared.walk.Parser.{Parser}
 use Rattle.markdown_inline.proofs.RunLemmas.{drained}
 use Rattle.markdown_out.specs.HtmlCorrect.{IsRendered}
 use Rattle.markdown_out.specs.MergeNext.{MergeState, item_view}
 use Rattle.markdown_out.specs.MergeState.{stream_state}
-use Rattle.markdown_out.specs.OutLaws.{StaysEnded, IsNewMerge, merge_steps, IsRenderedMerged}
+use Rattle.markdown_out.specs.OutLaws.{StaysEnded, merge_steps, IsNewMerge, IsRenderedMerged}
 use Rattle.markdown_out.specs.Places.{bare, nowhere}
 use Rattle.markdown_out.specs.declared.merge.TextMergeStream.{TextMergeStream}
 use Rattle.markdown_out.proofs.RenderedMergeLemmas.{rendered-merged}

@@ -5,6 +5,8 @@
 #[cfg(test)]
 mod allocations;
 #[cfg(test)]
+mod block_builder;
+#[cfg(test)]
 mod block_pass;
 #[cfg(test)]
 mod block_rules;
