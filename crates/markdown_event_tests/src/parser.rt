@@ -119,7 +119,7 @@ fn end_of(item: Result<(Event<'_>, Range<usize>), Fault>) -> usize {
 #[test]
 fn adapters(rt: HostRuntime) -> Result<(), Fail> {
     let alloc = rt.alloc();
-    assert_eq!(rt; Parser::new(alloc, "a\nb")?.count(), 5);
+    assert_eq!(rt; gather(Parser::new(alloc, "a\nb")?, alloc)?.len(), 5);
     let iter = Parser::new(alloc, "a  \nb")?.into_offset_iter();
     let ends: Vec<usize> = iter.map(end_of).collect(alloc)?;
     assert_eq!(rt; ends.as_slice(), [5, 1, 4, 5, 5].as_slice());
