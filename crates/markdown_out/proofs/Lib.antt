@@ -11,4 +11,5 @@ pub mod MergeNextLemmas
 pub mod MergeLawsLemmas
 pub mod MergedHtmlLemmas
 pub mod DrainedMergeLemmas
+pub mod MappedMergeLemmas
 pub mod RenderedMergeLemmas

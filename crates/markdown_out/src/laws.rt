@@ -1,13 +1,15 @@
 //! Laws of the definitions that this crate's contracts cite: functions without code, whose clauses
 //! say them.
 ghost use Rattle.std.specs.Prelude.{◌≡◌, ◌⊎◌, ℕ, List};
+ghost use Rattle.std.specs.Iterator.{CallableOnAll};
+ghost use Rattle.std.specs.Iterator.Adapters.{map_source, map_callee, map_steps};
 ghost use Rattle.std.specs.declared.ops.Range.{Range};
 ghost use Rattle.markdown_base.specs.declared.fault.Fault.{Fault};
 ghost use Rattle.markdown_base.specs.declared.fault.Fault.TheVariants.{Memory};
 ghost use Rattle.markdown_out.specs.HtmlCorrect.{IsRendered, StopsAtError};
 ghost use Rattle.markdown_out.specs.ImageHtml.{ImagesHaveParts};
 ghost use Rattle.markdown_out.specs.Merge.{Item, merged};
-ghost use Rattle.markdown_out.specs.MergeNext.{item_view};
+ghost use Rattle.markdown_out.specs.MergeNext.{CanMerge, item_view};
 ghost use Rattle.markdown_out.specs.MergeState.{stream_state, offset_state};
 ghost use Rattle.markdown_out.specs.OutLaws.{HasNoNeighbours, MergingKeepsHtml, StaysEnded};
 ghost use Rattle.markdown_out.specs.OutLaws.{IsNewMerge, GivesTheMerge, merge_steps};
@@ -17,6 +19,7 @@ ghost use Rattle.markdown_out.specs.Places.{bare, nowhere, ranged, through_range
 use crate::merge::{TextMergeStream, TextMergeWithOffset};
 use markdown_base::event::Event;
 use markdown_base::fault::Fault;
+use std::iter::Map;
 use std::ops::Range;
 
 /// The HTML of an image is that of its parts: what stands up to the alt text, what each event up to the
@@ -59,6 +62,15 @@ pub fn a_stream_with_offsets_gives_the_merge<
 >(merge: &TextMergeWithOffset<'a, I>)
     ensures { StaysEnded I.next_gives → IsNewMerge (offset_state merge.now)
         → GivesTheMerge through_ranges (item_view ranged) I.next_gives I.can_next I.remaining offset_state merge.now }
+{}
+
+/// A mapped iterator can be merged where its source stays ended and can be merged, and the closure may
+/// be called at each item that may come.
+pub fn a_mapped_iterator_can_be_merged<I: Iterator, B, F: FnMut(I::Item) -> B>(mapped: &Map<I, F>)
+    ensures { StaysEnded I.next_gives → CanMerge I.next_gives I.can_next I.remaining (map_source mapped.now)
+        → CallableOnAll I.next_gives F.FnMut (map_source mapped.now) (map_callee mapped.now)
+        → CanMerge (map_steps I.next_gives F.FnMut) (λ m. I.can_next (map_source m) × CallableOnAll I.next_gives F.FnMut (map_source m) (map_callee m))
+        (λ m. I.remaining (map_source m)) mapped.now }
 {}
 
 /// What `push_html` makes of such a merge of events: the HTML of the merge of the events; and at an

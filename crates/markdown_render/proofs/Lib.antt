@@ -1,2 +1,3 @@
 pub mod RenderingLemmas
 pub mod MergedLemmas
+pub mod MappedLemmas

@@ -1,14 +1,15 @@
 -- What `push_html` makes of a merge over a parser is the HTML of the merge of the events that were left.
 use Rattle.std.proofs.Common.{◌≡◌, ℕ, List, [], Option, false, ap, subst}
 use Rattle.std.specs.Iterator.{Count}
-use Rattle.markdown_base.specs.Document.{Question, Answer}
+use Rattle.markdown_base.specs.Questions.{Question, Answer}
 use Rattle.markdown_inline.specs.NextGives.{NextGives, IsEventOf}
 use Rattle.markdown_inline.specs.declared.walk.Parser.{Parser}
 use Rattle.markdown_inline.proofs.RunLemmas.{drained}
 use Rattle.markdown_out.specs.HtmlCorrect.{IsRendered}
-use Rattle.markdown_out.specs.MergeNext.{MergeState}
+use Rattle.markdown_out.specs.MergeNext.{MergeState, item_view}
 use Rattle.markdown_out.specs.MergeState.{stream_state}
-use Rattle.markdown_out.specs.OutLaws.{StaysEnded, MergeSteps, IsRenderedMerged}
+use Rattle.markdown_out.specs.OutLaws.{StaysEnded, merge_steps, IsNewMerge, IsRenderedMerged}
+use Rattle.markdown_out.specs.Places.{bare, nowhere}
 use Rattle.markdown_out.specs.declared.merge.TextMergeStream.{TextMergeStream}
 use Rattle.markdown_out.proofs.RenderedMergeLemmas.{rendered-merged}
 use Rattle.markdown_render.specs.Merged.{IsMergedHtmlOf}
@@ -27,10 +28,13 @@ of_events step p old html empty r =
 -- the HTML of a new merge over a parser
 pub merged : {F : Type 0} (step : F → Question → Option Answer → F → Type 0) (can : Parser F → Type 0) (rest : Parser F → Count) (m : TextMergeStream (Parser F)) (p : Parser F) (old html : List ℕ)
     → stream_state m ≡ record { iter = p; held = []; over = false } → old ≡ []
-    → IsRendered (λ (s : TextMergeStream (Parser F)) (r : _) (t : TextMergeStream (Parser F)). MergeSteps (NextGives step IsEventOf) can rest (stream_state s) r (stream_state t)) m old html
+    → IsRendered (merge_steps nowhere (item_view bare) (NextGives step IsEventOf) can rest stream_state) m old html
     → IsMergedHtmlOf p html
 merged {F} step can rest m p old html new empty r =
-    let of = rendered-merged (NextGives step IsEventOf) can rest stream_state (stays_ended step) m old html
-    (ap (λ (s : MergeState (Parser F) (Unit {0})). s.held) new) (ap (λ (s : MergeState (Parser F) (Unit {0})). s.over) new) r in
+    let begun : IsNewMerge (stream_state m) = record {
+      holds = ap (λ (s : MergeState (Parser F) (Unit {0})). s.held) new;
+      goes_on = ap (λ (s : MergeState (Parser F) (Unit {0})). s.over) new;
+    } in
+    let of = rendered-merged (NextGives step IsEventOf) can rest stream_state (stays_ended step) m old html begun r in
     of_events step p old html empty
     (subst (λ (q : Parser F). IsRenderedMerged (NextGives step IsEventOf) q old html) (ap (λ (s : MergeState (Parser F) (Unit {0})). s.iter) new) of)

@@ -1,7 +1,7 @@
 -- What a parser of a text gives, written as HTML, is the rendering of the text.
 use Rattle.std.proofs.Common.{◌≡◌, ℕ, List, [], None, Option}
 use Rattle.std.specs.Str.{IsUtf8}
-use Rattle.markdown_base.specs.Document.{Question, Answer}
+use Rattle.markdown_base.specs.Questions.{Question, Answer}
 use Rattle.markdown_inline.specs.NextGives.{NextGives, IsEventOf}
 use Rattle.markdown_inline.specs.ParserLeft.{ReadsText, no_options, parser_callback}
 use Rattle.markdown_inline.specs.declared.walk.Parser.{Parser}
@@ -17,5 +17,5 @@ rendering {F} step text old html p utf8 empty of none r =
       is_text = utf8;
       blocks = of.0;
       of_text = of.1;
-      rendered = λ answers. rw (← of.2 answers, drained_unasked step p r.events r.read none answers) (rw empty at r.stands);
+      rendered = λ answers. rw (← (rw none at (of.2 answers)), drained_unasked step p r.events r.read none answers) (rw empty at r.stands);
     }
