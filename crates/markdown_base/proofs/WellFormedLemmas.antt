@@ -22,7 +22,7 @@ some_weaker None p q h s = tt
 some_weaker (Some ix) p q h s = h ix s
 
 -- what is named is there where more parts are there
-named_more : (few many : PartCounts) (b : ItemBody) → HasMore few many → PartsAreNamed few b → PartsAreNamed many b
+pub named_more : (few many : PartCounts) (b : ItemBody) → HasMore few many → PartsAreNamed few b → PartsAreNamed many b
 named_more few many b more n = record {
   text = some_weaker _ (λ ix. ix < few.texts) (λ ix. ix < many.texts) (λ ix k. omega (arith, k, more.texts)) n.text;
   alignments = some_weaker _ (λ ix. ix < few.alignments) (λ ix. ix < many.alignments) (λ ix k. omega (arith, k, more.alignments)) n.alignments;

@@ -1,5 +1,5 @@
 //! The nine rules of a block result: trees that break one rule each, and trees that keep them all.
-use crate::builders::{item, no_parts, text};
+use crate::builders::{Outline, item, no_parts, text, tree_of};
 use markdown_base::block_parts::{BlockParts, HeadingAttributes};
 use markdown_base::cow_str::CowStr;
 use markdown_base::index::{AlignmentIndex, CowIndex, HeadingIndex, LinkIndex};
@@ -13,28 +13,6 @@ use markdown_spans::blocks::{Blocks, Fault};
 use markdown_spans::defs::DefaultBrokenLinkCallback;
 use std::alloc::{AllocError, Global};
 use std::test::Fail;
-
-/// Items in preorder, each with its depth below the root.
-type Outline<'x> = &'x [(usize, Item)];
-
-/// A tree of these items.
-fn tree_of(alloc: Global, outline: Outline<'_>) -> Result<Tree<Item>, AllocError> {
-    let mut tree = Tree::new(alloc)?;
-    let mut depth = 0;
-    for (wanted, item) in outline {
-        if *wanted > depth {
-            if let Some(_above) = tree.cur() {
-                tree.push()?;
-            }
-        }
-        for _ in *wanted..depth {
-            tree.pop();
-        }
-        depth = *wanted;
-        tree.append(*item)?;
-    }
-    Ok(tree)
-}
 
 /// Parts with one text, one list of alignments and the attributes of one heading.
 fn one_of_each<'a>(alloc: Global) -> Result<BlockParts<'a>, AllocError> {
@@ -50,7 +28,7 @@ fn one_of_each<'a>(alloc: Global) -> Result<BlockParts<'a>, AllocError> {
 }
 
 /// Whether a tree is a well-formed block result over a text.
-fn is_well_formed(alloc: Global, over: &'static str, tree: Tree<Item>) -> Result<bool, Fault> {
+pub fn is_well_formed(alloc: Global, over: &'static str, tree: Tree<Item>) -> Result<bool, Fault> {
     match Blocks::checked(alloc, over, Options::ENABLE_GFM, tree, one_of_each(alloc)?) {
         Ok(blocks) => {
             drop(blocks);
@@ -259,7 +237,7 @@ type LinkedRow<'x> = (
 #[test]
 fn numbers_and_links_keep_the_rules(rt: HostRuntime) -> Result<(), Fail> {
     let paragraph = item(0, 2, ItemBody::Paragraph);
-    let rows: [LinkedRow<'_>; 4] = [
+    let rows: [LinkedRow<'_>; 5] = [
         (
             "reached once: two parents",
             "ab",
@@ -271,6 +249,12 @@ fn numbers_and_links_keep_the_rules(rt: HostRuntime) -> Result<(), Fail> {
             "ab",
             &[(0, paragraph), (1, text(0, 2))],
             &[(2, Link::Next, Some(1))],
+        ),
+        (
+            "reached once: the root again",
+            "ab",
+            &[(0, paragraph), (1, text(0, 2))],
+            &[(1, Link::Next, Some(0))],
         ),
         (
             "inline in order: numbers fall",
@@ -311,7 +295,12 @@ fn numbers_and_links_keep_the_rules(rt: HostRuntime) -> Result<(), Fail> {
 fn whole_chains_keep_the_rules(rt: HostRuntime) -> Result<(), Fail> {
     let block = item(0, 9, ItemBody::Paragraph);
     let flags = ItemBody::MaybeEmphasis(1, true, false);
-    let rows: [(&'static str, Outline<'_>, bool); 6] = [
+    let two = item(0, 2, ItemBody::Paragraph);
+    let tight = item(0, 1, ItemBody::TightParagraph);
+    let broken_off = item(1, 2, ItemBody::HardBreak(true));
+    let rows: [(&'static str, Outline<'_>, bool); 8] = [
+        ("a\\", &[(0, two), (1, text(0, 1)), (1, broken_off)], true),
+        ("a", &[(0, tight), (1, text(0, 1))], true),
         (
             "*$\"`<[![]",
             &[

@@ -36,6 +36,28 @@ pub fn one_text(alloc: Global) -> Result<BlockParts<'static>, AllocError> {
     Ok(parts)
 }
 
+/// Items in preorder, each with its depth below the root.
+pub type Outline<'x> = &'x [(usize, Item)];
+
+/// A tree of these items.
+pub fn tree_of(alloc: Global, outline: Outline<'_>) -> Result<Tree<Item>, AllocError> {
+    let mut tree = Tree::new(alloc)?;
+    let mut depth = 0;
+    for (wanted, item) in outline {
+        if *wanted > depth {
+            if let Some(_above) = tree.cur() {
+                tree.push()?;
+            }
+        }
+        for _ in *wanted..depth {
+            tree.pop();
+        }
+        depth = *wanted;
+        tree.append(*item)?;
+    }
+    Ok(tree)
+}
+
 /// Appends a block with items in it.
 pub fn append_block(tree: &mut Tree<Item>, block: Item, inside: &[Item]) -> Result<(), AllocError> {
     tree.append(block)?;
