@@ -18,8 +18,6 @@ mod bodies;
 #[cfg(test)]
 mod callbacks;
 #[cfg(test)]
-mod chains;
-#[cfg(test)]
 mod look_ups;
 #[cfg(test)]
 mod texts;
