@@ -9,7 +9,7 @@ use Rattle.markdown_base.specs.ArenaWalk.{Reaches}
 use Rattle.markdown_base.specs.BlockTree.{item_at}
 use Rattle.markdown_base.specs.Questions.{Question, Answer, Answers}
 use Rattle.markdown_inline.specs.Setting.{Known}
-use Rattle.markdown_base.specs.Forest.{Forest, nil, node, Each}
+use Rattle.markdown_base.specs.Forest.{Forest, node, Each}
 use Rattle.markdown_base.specs.Item.{text_named}
 use Rattle.markdown_base.specs.declared.cow_str.CowStr.{CowStr}
 use Rattle.markdown_base.specs.declared.item.Item.{Item}

@@ -1,6 +1,6 @@
 -- The steps of a parser, and what they give of what was left.
-use Rattle.std.proofs.Common.{◌≡◌, ℕ, ◌<◌, ◌≤◌, List, [], ◌∷◌, ◌++◌, map, Option, Some, None, Result, Ok, Err, ◌⊎◌, inl, inr, refl, sym, ap, subst, ◌∙◌, arith, append_assoc, append-nil}
-use Rattle.std.specs.Prelude.{Bool, is_some}
+use Rattle.std.proofs.Common.{◌≡◌, ℕ, ◌<◌, ◌≤◌, List, [], ◌∷◌, ◌++◌, Option, Some, None, Result, Ok, Err, ◌⊎◌, inl, inr, refl, sym, subst, ◌∙◌, arith, append_assoc}
+use Rattle.std.specs.Prelude.{is_some}
 use Rattle.std.specs.declared.ops.Range.{Range}
 use Rattle.std.proofs.lemmas.List.{map-append}
 use Rattle.markdown_base.specs.Arena.{Arena}
@@ -9,16 +9,15 @@ use Rattle.markdown_base.specs.declared.event.Event.{Event}
 use Rattle.markdown_base.specs.declared.fault.Fault.{Fault}
 use Rattle.markdown_base.specs.declared.fault.Fault.TheVariants.{Memory}
 use Rattle.markdown_base.specs.declared.item.Item.{Item}
-use Rattle.markdown_base.specs.declared.options.Options.{Options}
 use Rattle.markdown_spans.specs.Allocations.{Allocated}
 use Rattle.markdown_inline.specs.Chains.{stage, ResolvesChain, CanResolve, StopsIn}
-use Rattle.markdown_inline.specs.Elements.{Placed, Element, question, event}
+use Rattle.markdown_inline.specs.Elements.{Placed, Element}
 use Rattle.markdown_inline.specs.Moves.{Leads, Keeps, Gave, GaveEvent, WentOn, Ended, Failed, BeginsWithEvent}
 use Rattle.markdown_inline.specs.NextGives.{NextGives, IsEventOf, IsPlacedOf, GivesItem}
-use Rattle.markdown_inline.specs.ParserLeft.{parser_text, parser_callback, parser_steps, parser_setting, elements, IsOver}
-use Rattle.markdown_inline.specs.Setting.{Setting, rules_from, setting_of}
+use Rattle.markdown_inline.specs.ParserLeft.{parser_callback, parser_steps, parser_setting, elements, IsOver}
+use Rattle.markdown_inline.specs.Setting.{Setting, rules_from}
 use Rattle.markdown_inline.specs.Walk.{left_of}
-use Rattle.markdown_inline.specs.WalkSteps.{HasEnded, TreeStands, Went, Gives, IsRefused, IsBefore, tree_left, tree_steps}
+use Rattle.markdown_inline.specs.WalkSteps.{HasEnded, TreeStands, Went, Gives, IsRefused, IsBefore, tree_left}
 use Rattle.markdown_inline.specs.declared.walk.Parser.{Parser}
 use Rattle.markdown_inline.proofs.CallbackLemmas.{Asks-append, Asks-some}
 use Rattle.markdown_inline.proofs.ChainLemmas.{ChainMoves, moves_chain, can_resolve, stops_chain}

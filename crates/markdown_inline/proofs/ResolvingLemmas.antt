@@ -1,12 +1,12 @@
 -- The laws of what a chain is resolved to that a walk rests on.
-use Rattle.std.proofs.Common.{◌≡◌, ℕ, Bool, true, false, List, [], ◌∷◌, refl, sym, ap, ◌∙◌}
+use Rattle.std.proofs.Common.{◌≡◌, ℕ, Bool, true, false, List, [], ◌∷◌, refl, ap, ◌∙◌}
 use Rattle.markdown_base.specs.Forest.{Forest, nil, node}
 use Rattle.markdown_base.specs.declared.item.ItemBody.{ItemBody}
-use Rattle.markdown_inline.specs.Document.{Shape, leaf, enclosed, plain, unresolved, Label, is_unresolved, as_text}
+use Rattle.markdown_inline.specs.Document.{Shape, leaf, enclosed, plain, unresolved, Label, is_unresolved}
 use Rattle.markdown_inline.specs.Kept.{IsQuiet, IsQuietBelow, IsKept, IsSettled, Begins}
 use Rattle.markdown_inline.specs.Pairing.{paired, as_closed, text_if}
 use Rattle.markdown_inline.specs.PassOne.{Entry, done, Progress, begun, is_quiet, text_unless, waits_for_pairing, read, read_all, trees_onto}
-use Rattle.markdown_inline.specs.Resolved.{Resolved, resolved, paired_if_open, all_paired}
+use Rattle.markdown_inline.specs.Resolved.{resolved, paired_if_open, all_paired}
 use Rattle.markdown_inline.specs.Setting.{Setting, Known}
 
 module _ {A : Type 0} where

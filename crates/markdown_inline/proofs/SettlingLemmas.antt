@@ -4,8 +4,7 @@ use Rattle.std.specs.Prelude.{IfSome, slice_range}
 use Rattle.markdown_base.specs.Arena.{Arena, child_of, sibling_of, changed_at}
 use Rattle.markdown_base.specs.ArenaForest.{links_of}
 use Rattle.markdown_base.specs.BlockTree.{item_at}
-use Rattle.markdown_base.specs.Forest.{roots}
-use Rattle.markdown_base.specs.Item.{LiesIn, is_open, text_named}
+use Rattle.markdown_base.specs.Item.{is_open, text_named}
 use Rattle.markdown_base.specs.Questions.{Question, Answer}
 use Rattle.markdown_base.specs.declared.cow_str.CowStr.{CowStr}
 use Rattle.markdown_base.specs.declared.item.Item.{Item}
@@ -14,8 +13,7 @@ use Rattle.markdown_base.specs.declared.item.ItemBody.TheVariants as body
 use Rattle.markdown_base.specs.declared.node.Node.{Node}
 use Rattle.markdown_base.proofs.ArenaForestLemmas.{opens, forest_at-none}
 use Rattle.markdown_base.proofs.ArenaLemmas.{length-changed_at}
-use Rattle.markdown_spans.specs.Allocations.{Allocated}
-use Rattle.markdown_inline.specs.Chains.{IsSameAt, Stage, stage, ResolvesFrom, ResolvesChain, CanResolve, weight_in, items_from}
+use Rattle.markdown_inline.specs.Chains.{IsSameAt, Stage, ResolvesFrom, CanResolve, weight_in, items_from}
 use Rattle.markdown_inline.specs.Document.{Plain, is_unresolved, shape_of, label_of}
 use Rattle.markdown_inline.specs.Pairing.{paired, as_closed}
 use Rattle.markdown_inline.specs.Resolved.{Resolved, resolved}

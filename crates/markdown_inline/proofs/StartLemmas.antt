@@ -1,5 +1,5 @@
 -- A walk at the start of a whole block result.
-use Rattle.std.proofs.Common.{◌≡◌, ℕ, zero, suc, ◌+◌, ◌<◌, ◌≤◌, Bool, true, false, ◌||◌, ◌&&◌, List, [], ◌∷◌, ◌++◌, length, Option, Some, None, Result, Ok, Err, ⊎_elim, refl, sym, ap, ◌∙◌, subst, arith}
+use Rattle.std.proofs.Common.{◌≡◌, ℕ, ◌+◌, ◌<◌, Bool, true, false, ◌||◌, ◌&&◌, List, [], ◌++◌, length, Option, Some, None, Result, Ok, Err, refl, ap, ◌∙◌, arith}
 use Rattle.std.specs.Prelude.{IfOk, IfSome, if◌then◌else◌, IsTrue, nat_eq, is_some, slice_range}
 use Rattle.std.proofs.Math.Path.{fun_ext}
 use Rattle.markdown_base.specs.CowText.{text_of}
@@ -10,8 +10,7 @@ use Rattle.markdown_spans.specs.Definitions.{firsts}
 use Rattle.markdown_spans.specs.Folding.{is_match}
 use Rattle.markdown_spans.specs.Footnotes.{footnote_at, unused}
 use Rattle.markdown_inline.proofs.FoundLemmas.{listed, listed-append, total-preorder, listed_once}
-use Rattle.std.specs.List.{list_any, AllByRecursion, IsDistinct, cons_option, filter_map}
-use Rattle.std.proofs.lemmas.Bool.{cases_eq, eqb-false}
+use Rattle.std.specs.List.{list_any, cons_option, filter_map}
 use Rattle.std.proofs.lemmas.List.Elements.{filter_map-append}
 use Rattle.std.proofs.lemmas.Map.Keys.{IsDistinct-tail}
 use Rattle.markdown_base.specs.Arena.{Arena, child_of}
@@ -37,7 +36,6 @@ use Rattle.markdown_inline.specs.Kept.{IsQuiet, IsQuietBelow, IsKept}
 use Rattle.markdown_inline.specs.Totals.{total, same, same_as, naming, left_total}
 use Rattle.markdown_inline.specs.Standing.{IsPlaced, Stands}
 use Rattle.markdown_inline.specs.declared.walk.Parser.{Parser}
-use Rattle.markdown_inline.proofs.FrameLemmas.{same-refl}
 use Rattle.markdown_inline.proofs.ParserLemmas.{elements-parts}
 use Rattle.markdown_base.specs.declared.item.ItemBody.TheVariants as body
 

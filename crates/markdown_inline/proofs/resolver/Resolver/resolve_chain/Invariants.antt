@@ -1,6 +1,6 @@
 -- Where the rest of the chain is resolved, the whole is, and its items are counted so far.
 use Rattle.std.proofs.Common.{◌≡◌, Some}
-use Rattle.std.specs.Prelude.{IfSome, is_some}
+use Rattle.std.specs.Prelude.{is_some}
 use Rattle.markdown_inline.specs.Chains.{stage, CanResolve, items_from, weight_in}
 use Rattle.markdown_inline.specs.Setting.{rules_from, setting_of}
 use Rattle.markdown_inline.proofs.SettlingLemmas.{Counted, Whole}

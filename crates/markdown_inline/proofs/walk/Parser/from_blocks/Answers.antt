@@ -1,6 +1,5 @@
 -- A parser of a block result stands before its first block, and all of its reading is left.
 use Rattle.std.proofs.Common.{ℕ, List, length, max, ap, ◌∙◌}
-use Rattle.markdown_base.specs.declared.block_parts.BlockParts.{BlockParts}
 use Rattle.markdown_spans.specs.Allocations.{HoldsParts}
 use Rattle.markdown_inline.proofs.StartLemmas.{starts_stands, starts_left}
 use Rattle.markdown_inline.proofs.walk.Parser.from_blocks.Goals as goal
