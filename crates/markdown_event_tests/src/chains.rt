@@ -1,7 +1,6 @@
 //! Chains of open items, which a walk resolves when it reaches them.
 ghost use Rattle.std.specs.Prelude.{◌≡◌};
 
-use crate::builders::{append_block, item, no_parts, one_text, text};
 use crate::notes::notes_of;
 use bitflags::Flags;
 use markdown_base::block_parts::{BlockParts, LinkDef};
@@ -13,6 +12,7 @@ use markdown_base::tree::Tree;
 use markdown_inline::runs::gather_offsets;
 use markdown_inline::walk::Parser;
 use markdown_spans::blocks::Blocks;
+use markdown_tests::builders::{append_block, item, no_parts, one_text, text};
 use std::alloc::{AllocError, Global};
 use std::test::Fail;
 
