@@ -1,10 +1,9 @@
 //! Chains of open items, which a walk resolves when it reaches them.
-ghost use Rattle.std.specs.Prelude.{◌≡◌};
-
 use crate::notes::notes_of;
 use bitflags::Flags;
 use markdown_base::block_parts::{BlockParts, LinkDef};
 use markdown_base::cow_str::CowStr;
+use markdown_base::event::Event;
 use markdown_base::index::CowIndex;
 use markdown_base::item::{Item, ItemBody};
 use markdown_base::options::Options;
@@ -93,6 +92,8 @@ fn named_texts(rt: HostRuntime) -> Result<(), Fail> {
     let (events, callback) = parser.into_offset_iter().into_events(alloc)?;
     assert!(rt; callback.is_none());
     assert_eq!(rt; events.len(), 4);
+    assert!(rt; events[1].0 == Event::Text(CowStr::from("a")));
+    assert!(rt; events[2].0 == Event::Text(CowStr::from("x")));
     assert_eq!(rt; events[2].1.start, 1);
     Ok(())
 }
