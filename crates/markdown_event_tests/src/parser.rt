@@ -1,7 +1,6 @@
 //! What parsers give, with ample memory.
 ghost use Rattle.std.specs.Prelude.{◌≡◌, ◌+◌, ◌%◌, ◌^◌};
 
-use crate::builders::{append_block, item, no_parts, text};
 use crate::notes::notes_of;
 use bitflags::Flags;
 use markdown_base::cow_str::CowStr;
@@ -17,6 +16,7 @@ use markdown_spans::blocks::Blocks;
 use markdown_spans::defs::{
     BoxedCallback, BrokenLink, BrokenLinkCallback, Closure, DefaultBrokenLinkCallback,
 };
+use markdown_tests::builders::{append_block, item, no_parts, text};
 use std::alloc::{AllocError, Global};
 use std::ops::Range;
 use std::test::Fail;
@@ -119,7 +119,7 @@ fn end_of(item: Result<(Event<'_>, Range<usize>), Fault>) -> usize {
 #[test]
 fn adapters(rt: HostRuntime) -> Result<(), Fail> {
     let alloc = rt.alloc();
-    assert_eq!(rt; Parser::new(alloc, "a\nb")?.count(), 5);
+    assert_eq!(rt; gather(Parser::new(alloc, "a\nb")?, alloc)?.len(), 5);
     let iter = Parser::new(alloc, "a  \nb")?.into_offset_iter();
     let ends: Vec<usize> = iter.map(end_of).collect(alloc)?;
     assert_eq!(rt; ends.as_slice(), [5, 1, 4, 5, 5].as_slice());
