@@ -2,7 +2,6 @@
 //! trees. They stand apart from the libraries, so that no library is proved a second time with its tests.
 #![tactic(auto)]
 
-pub mod builders;
 #[cfg(test)]
 mod allocations;
 #[cfg(test)]
@@ -15,6 +14,7 @@ mod block_rules;
 mod blocks;
 #[cfg(test)]
 mod bodies;
+pub mod builders;
 #[cfg(test)]
 mod callbacks;
 #[cfg(test)]
