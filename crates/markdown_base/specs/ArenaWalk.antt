@@ -1,7 +1,7 @@
 -- A walk stands in an arena at a cursor below the nodes of a spine: facts of the representation.
-use Rattle.std.specs.Prelude.{ℕ, suc, ◌+◌, ◌<◌, List, [], ◌∷◌, Option, ⊤}
+use Rattle.std.specs.Prelude.{ℕ, ◌<◌, List, [], ◌∷◌, Option, ⊤}
 use Rattle.std.specs.Coded.{Unit-prop, le_prop}
-use Rattle.markdown_base.specs.Forest.{Forest, nil, node, Each, Throughout-prop}
+use Rattle.markdown_base.specs.Forest.{Each, Throughout-prop}
 use Rattle.markdown_base.specs.ArenaForest.{Links, Spells, Spells-prop, forest_at}
 
 -- a link leads to a forest of nodes at which p holds
@@ -18,20 +18,6 @@ AllReach k p (ix ∷ deeper) = (ix < k.size) × Reaches k p (k.next ix) × AllRe
 pub record IsWalk (k : Links) (p : ℕ → Type 0) (l : Option ℕ) (spine : List ℕ) : Type 0 where
   pub here : Reaches k p l
   pub above : AllReach k p spine
-
--- a bound on the steps over a forest: in and out of each node
-abbrev pub weight : {A : Type 0} → Forest A → ℕ
-weight nil = 0
-weight (node a below after) = suc (suc (weight below + weight after))
-
--- and on those that are left above the chain at hand
-abbrev pub climb : Links → List ℕ → ℕ
-climb k [] = 0
-climb k (ix ∷ deeper) = climb k deeper + suc (weight (forest_at k (k.next ix)))
-
--- a bound on the steps of a walk
-unfoldable pub steps_of : Links → Option ℕ → List ℕ → ℕ
-steps_of k l spine = weight (forest_at k l) + climb k spine
 
 pub Reaches-prop : (k : Links) (p : ℕ → Type 0) → ((ix : ℕ) → IsProp (p ix)) → (l : Option ℕ) → IsProp (Reaches k p l)
 Reaches-prop k p h l =

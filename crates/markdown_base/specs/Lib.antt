@@ -8,8 +8,7 @@ pub mod Forest
 pub mod BlockTree
 pub mod WellFormed
 pub mod Coverage
-pub mod Document
-pub mod Walk
+pub mod Questions
 -- facts of a representation
 pub mod InlineText
 pub mod ArenaBounds

@@ -1,99 +1,243 @@
 -- The steps of a parser, and what they give of what was left.
-use Rattle.std.proofs.Common.{◌≡◌, ℕ, ◌<◌, ◌≤◌, List, [], ◌∷◌, ◌++◌, map, Option, Some, None, Result, Ok, Err, refl, sym, ap, subst, ◌∙◌, arith}
-use Rattle.std.specs.Borrow.{Bor}
+use Rattle.std.proofs.Common.{◌≡◌, ℕ, ◌<◌, ◌≤◌, List, [], ◌∷◌, ◌++◌, map, Option, Some, None, Result, Ok, Err, ◌⊎◌, inl, inr, refl, sym, ap, subst, ◌∙◌, arith, append_assoc, append-nil}
+use Rattle.std.specs.Prelude.{Bool, is_some}
 use Rattle.std.specs.declared.ops.Range.{Range}
+use Rattle.std.proofs.lemmas.List.{map-append}
 use Rattle.markdown_base.specs.Arena.{Arena}
-use Rattle.markdown_base.specs.Document.{Question, Answer, Answers, event, Placed}
-use Rattle.markdown_base.specs.Event.{event_view}
+use Rattle.markdown_base.specs.Questions.{Question, Answer, Answers}
 use Rattle.markdown_base.specs.declared.event.Event.{Event}
-use Rattle.markdown_base.specs.declared.item.Item.{Item}
 use Rattle.markdown_base.specs.declared.fault.Fault.{Fault}
 use Rattle.markdown_base.specs.declared.fault.Fault.TheVariants.{Memory}
+use Rattle.markdown_base.specs.declared.item.Item.{Item}
+use Rattle.markdown_base.specs.declared.options.Options.{Options}
+use Rattle.markdown_spans.specs.Allocations.{Allocated}
+use Rattle.markdown_inline.specs.Chains.{stage, ResolvesChain, CanResolve, StopsIn}
+use Rattle.markdown_inline.specs.Elements.{Placed, Element, question, event}
+use Rattle.markdown_inline.specs.Moves.{Leads, Keeps, Gave, GaveEvent, WentOn, Ended, Failed, BeginsWithEvent}
 use Rattle.markdown_inline.specs.NextGives.{NextGives, IsEventOf, IsPlacedOf, GivesItem}
-use Rattle.markdown_inline.specs.ParserLeft.{elements, known_at_start, parser_steps, IsOver}
-use Rattle.markdown_inline.specs.Slices.{IsSlice}
-use Rattle.markdown_inline.specs.WalkSteps.{HasEnded, Went, IsRefused, tree_left, tree_steps}
+use Rattle.markdown_inline.specs.ParserLeft.{parser_text, parser_callback, parser_steps, parser_setting, elements, IsOver}
+use Rattle.markdown_inline.specs.Setting.{Setting, rules_from, setting_of}
+use Rattle.markdown_inline.specs.Walk.{left_of}
+use Rattle.markdown_inline.specs.WalkSteps.{HasEnded, TreeStands, Went, Gives, IsRefused, IsBefore, tree_left, tree_steps}
 use Rattle.markdown_inline.specs.declared.walk.Parser.{Parser}
-use Rattle.markdown_inline.proofs.WalkStepsLemmas.{left_of_ended, steps_ended}
+use Rattle.markdown_inline.proofs.CallbackLemmas.{Asks-append, Asks-some}
+use Rattle.markdown_inline.proofs.ChainLemmas.{ChainMoves, moves_chain, can_resolve, stops_chain}
+use Rattle.markdown_inline.proofs.WalkStepsLemmas.{left_of_ended, steps_ended, steps_at_cursor}
 
--- from s to t the walk went on and gave nothing
-pub record WentOn {F : Type 0} (s t : Parser F) : Type 0 where
-  pub callback : t.callback ≡ s.callback
-  pub text : t.text ≡ s.text
-  pub left : (answers : Answers) → elements s answers ≡ elements t answers
+-- the elements that are left, by a parser's parts
+pub elements-parts : {F : Type 0} (p : Parser F) (answers : Answers)
+    → elements p answers ≡ tree_left (parser_setting p) p.resolver.tables.cows p.tree (record { limit = p.resolver.limit; answers = answers })
+unfolding elements
+elements-parts p answers = refl
+
+-- what a parser holds but for its tree and its texts
+pub record SameBut {F : Type 0} (s t : Parser F) : Type 0 where
+  pub text : t.resolver.text ≡ s.resolver.text
+  pub options : t.resolver.options ≡ s.resolver.options
+  pub callback : t.resolver.callback ≡ s.resolver.callback
+  pub limit : t.resolver.limit ≡ s.resolver.limit
+
+-- a step over the tree gives its events
+pub gave_step : {F : Type 0} (s t : Parser F) (given : List Placed) → SameBut s t
+    → Went s.resolver.text.now s.tree t.tree s.resolver.tables t.resolver.tables given → Gave s t given
+gave_step s t given k w = record {
+  callback = sym k.callback;
+  left = λ later.
+      rw (elements-parts s later, elements-parts t later, k.text, k.options, k.callback, k.limit, w.tables)
+      (w.left (rules_from s.resolver.options s.resolver.tables (is_some s.resolver.callback)) (record { limit = s.resolver.limit; answers = later }));
+}
+
+pub moved_give : {F : Type 0} (s t : Parser F) (e : Event) (range : Range ℕ) → SameBut s t
+    → Gives s.resolver.text.now s.tree t.tree s.resolver.tables t.resolver.tables e range → GaveEvent s t e range × (parser_steps t < parser_steps s)
+moved_give s t e range k g = (
+  record { placed = _; is_item = record { is_event = record { view = refl; texts = g.texts }; range = refl }; gave = gave_step s t _ k g.went },
+  g.went.falls,
+)
+
+-- one stretch after another
+pub leads_on : {C : Type 0} (step : C → Question → Option Answer → C → Type 0) (c d e : Option C) (x y z : Answers → List Element) (given : List Placed)
+    → Leads step c d x y [] → Leads step d e y z given → Leads step c e x z given
+leads_on step c d e x y z given p q =
+    record {
+      answers = p.answers ++ q.answers;
+      questions = p.questions ++ q.questions;
+      asked = Asks-append step c d e p.questions q.questions p.answers q.answers p.asked q.asked;
+      left = λ later. rw (append_assoc p.answers q.answers later, p.left (q.answers ++ later), q.left later) (simp (map-append, append_assoc));
+    }
+
+leads_gave : {F : Type 0} (step : F → Question → Option Answer → F → Type 0) (s t : Parser F) (given : List Placed) → Gave s t given
+    → Leads step (parser_callback s) (parser_callback t) (elements s) (elements t) given
+leads_gave step s t given g = record { answers = []; questions = []; asked = g.callback; left = λ later. g.left later }
+
+pub moved_skip : {F : Type 0} (step : F → Question → Option Answer → F → Type 0) (s t : Parser F) → SameBut s t
+    → Went s.resolver.text.now s.tree t.tree s.resolver.tables t.resolver.tables [] → WentOn step s t × (parser_steps t < parser_steps s)
+moved_skip step s t k w =
+    let g = gave_step s t [] k w in
+    (record { leads = leads_gave step s t [] g; asked = inl g }, w.falls)
+
+-- before a chain a resolver may be called
+pub before_chain : (source : List ℕ) (s : Arena Item) (held : Allocated) (first : ℕ) → TreeStands source held.cows s → IsBefore s first → CanResolve source held.cows s.nodes (Some first)
+before_chain source s held first w b = can_resolve source held.cows s.nodes first s.spine (rw b.cursor at w) b.is_open
+
+-- what a resolved chain is for the walk
+chain_moves : {C : Type 0} (step : C → Question → Option Answer → C → Type 0) (g : Setting) (s t : Arena Item) (held held' : Allocated) (first limit limit' : ℕ) (c d : Option C)
+    → TreeStands g.text held.cows s → IsBefore s first → (r : ResolvesChain step g first s t held held' limit limit' c d)
+    → ChainMoves g held.cows held'.cows s.nodes t.nodes first s.spine limit limit' r.chain.questions r.chain.answers
+chain_moves step g s t held held' first limit limit' c d w b r =
+    moves_chain step g first s.spine (stage s held limit c) (stage t held' limit' d) (rw b.cursor at w) b.is_open r.chain
+
+pub stands_chain : {C : Type 0} (step : C → Question → Option Answer → C → Type 0) (g : Setting) (s t : Arena Item) (held held' : Allocated) (first limit limit' : ℕ) (c d : Option C)
+    → TreeStands g.text held.cows s → IsBefore s first → ResolvesChain step g first s t held held' limit limit' c d → TreeStands g.text held'.cows t
+stands_chain step g s t held held' first limit limit' c d w b r =
+    rw (r.tree, b.cursor) (chain_moves step g s t held held' first limit limit' c d w b r).stands
+
+-- a chain that is resolved: its questions, and then an event
+pub moved_chain : {F : Type 0} (step : F → Question → Option Answer → F → Type 0) (s t : Parser F) (first : ℕ) → t.resolver.text ≡ s.resolver.text → t.resolver.options ≡ s.resolver.options
+    → TreeStands s.resolver.text.now s.resolver.tables.cows s.tree → IsBefore s.tree first
+    → ResolvesChain step (parser_setting s) first s.tree t.tree s.resolver.tables t.resolver.tables s.resolver.limit t.resolver.limit s.resolver.callback t.resolver.callback
+    → WentOn step s t × (parser_steps t < parser_steps s)
+moved_chain step s t first x o w b r =
+    let m = chain_moves step (parser_setting s) s.tree t.tree s.resolver.tables t.resolver.tables first s.resolver.limit t.resolver.limit s.resolver.callback t.resolver.callback w b r in
+    let some : is_some s.resolver.callback ≡ is_some t.resolver.callback = Asks-some step s.resolver.callback t.resolver.callback r.chain.questions r.chain.answers r.chain.asked in
+    let now : (later : Answers) → elements t later ≡ left_of (parser_setting s) t.resolver.tables.cows t.tree.nodes (Some first) s.tree.spine (record { limit = t.resolver.limit; answers = later }) =
+    λ later. elements-parts t later ∙ rw (x, o, ← some, r.tables, r.tree, b.cursor) refl in (
+      record {
+        leads = record {
+          answers = r.chain.answers;
+          questions = r.chain.questions;
+          asked = r.chain.asked;
+          left = λ later. rw (elements-parts s (r.chain.answers ++ later), b.cursor, now later) (m.left later);
+        };
+        asked = inr (λ answers. rw (now answers) (m.begins _));
+      },
+      rw (r.tree, b.cursor) m.falls,
+    )
+
+-- a walk that has ended is over
+pub over_ended : {F : Type 0} (t : Parser F) → HasEnded t.tree → IsOver t
+over_ended t e = record {
+  left = λ answers. elements-parts t answers ∙ left_of_ended (parser_setting t) t.resolver.tables.cows t.tree e (record { limit = t.resolver.limit; answers = answers });
+  steps = steps_ended t.tree e;
+}
+
+pub moved_done : {F : Type 0} (s t : Parser F) → HasEnded s.tree → t.tree ≡ s.tree → t.resolver.callback ≡ s.resolver.callback → Ended s t
+moved_done s t e same c = record { was = over_ended s e; is = over_ended t (rw same e); callback = sym c }
+
+-- a step that was refused asked nothing
+pub moved_refused : {F : Type 0} (step : F → Question → Option Answer → F → Type 0) (s t : Parser F) (after : Arena Item) → t.resolver.callback ≡ s.resolver.callback → IsRefused s.tree after → HasEnded t.tree → Failed step s t
+moved_refused step s t after c r e = record { is = over_ended t e; more = r.steps; questions = []; answers = []; asked = sym c; begins = λ later. (elements s later, refl) }
+
+-- a chain at which memory was refused
+pub moved_stopped : {F : Type 0} (step : F → Question → Option Answer → F → Type 0) (s t : Parser F) (first : ℕ)
+    → TreeStands s.resolver.text.now s.resolver.tables.cows s.tree → IsBefore s.tree first
+    → StopsIn step (parser_setting s) first (stage s.tree s.resolver.tables s.resolver.limit s.resolver.callback) t.resolver.callback → HasEnded t.tree → Failed step s t
+moved_stopped step s t first w b r e = record {
+  is = over_ended t e;
+  more = steps_at_cursor s.resolver.text.now s.resolver.tables.cows s.tree first w b.cursor;
+  questions = r.questions;
+  answers = r.answers;
+  asked = r.asked;
+  begins = λ later. rw (elements-parts s (r.answers ++ later), b.cursor)
+      (stops_chain step (parser_setting s) first s.tree.spine (stage s.tree s.resolver.tables s.resolver.limit s.resolver.callback) t.resolver.callback (rw b.cursor at w) b.is_open r later);
+}
+
+-- where a walk is over no step is made
+no_step : {F : Type 0} (s t : Parser F) → parser_steps t < parser_steps s → IsOver s → ⊥
+no_step s t l over = omega (arith, l, over.steps)
+
+-- the walk has gone on, from s on, and has given nothing
+pub record HasGone {F : Type 0} (step : F → Question → Option Answer → F → Type 0) (s t : Parser F) : Type 0 where
+  pub went : WentOn step s t
+  pub keeps : Keeps s t
+  pub over : IsOver s → IsOver t
   pub steps : parser_steps t ≤ parser_steps s
+
+pub gone_nowhere : {F : Type 0} (step : F → Question → Option Answer → F → Type 0) (s : Parser F) → HasGone step s s
+gone_nowhere step s = record {
+  went = record { leads = record { answers = []; questions = []; asked = refl; left = λ later. refl }; asked = inl (record { callback = refl; left = λ later. refl }) };
+  keeps = record { text = refl; definitions = refl };
+  over = λ over. over;
+  steps = omega arith;
+}
+
+keeps_more : {F : Type 0} (r s t : Parser F) → Keeps r s → Keeps s t → Keeps r t
+keeps_more r s t a b = record { text = b.text ∙ a.text; definitions = b.definitions ∙ a.definitions }
+
+-- quiet, and then quiet; else an event comes next
+asked_more : {F : Type 0} (r s t : Parser F) → Gave r s [] ⊎ ((answers : Answers) → BeginsWithEvent (elements s answers)) → Gave s t [] ⊎ ((answers : Answers) → BeginsWithEvent (elements t answers))
+    → Gave r t [] ⊎ ((answers : Answers) → BeginsWithEvent (elements t answers))
+asked_more r s t a (inr b) = inr b
+asked_more r s t (inl a) (inl b) = inl (record { callback = a.callback ∙ b.callback; left = λ later. a.left later ∙ b.left later })
+asked_more r s t (inr a) (inl b) = inr (λ answers. rw (← b.left answers) (a answers))
+
+pub gone_on : {F : Type 0} (step : F → Question → Option Answer → F → Type 0) (r s t : Parser F) → HasGone step r s → WentOn step s t → Keeps s t → parser_steps t < parser_steps s → HasGone step r t
+gone_on step r s t g w k l = record {
+  went = record {
+    leads = leads_on step (parser_callback r) (parser_callback s) (parser_callback t) (elements r) (elements s) (elements t) [] g.went.leads w.leads;
+    asked = asked_more r s t g.went.asked w.asked;
+  };
+  keeps = keeps_more r s t g.keeps k;
+  over = λ over. absurd (no_step s t l (g.over over));
+  steps = omega (arith, l, g.steps);
+}
+
+-- nothing is asked where nothing comes
+none_quiet : {F : Type 0} (s t : Parser F) → ((answers : Answers) → elements t answers ≡ []) → Gave s t [] ⊎ ((answers : Answers) → BeginsWithEvent (elements t answers)) → Gave s t []
+none_quiet s t n (inl a) = a
+none_quiet s t n (inr b) = absurd (cc (n [], (b []).is))
 
 -- what `advance` gives
 abbrev pub Advances : {F : Type 0} → (F → Question → Option Answer → F → Type 0) → Parser F → Option (Result (Event × Range ℕ) Fault) → Parser F → Type 0
 Advances {F} step s r t = NextGives {F = F} step IsPlacedOf s r t
 
--- the elements that are left, by a parser's text and tree
-pub elements-parts : {F : Type 0} (p : Parser F) (answers : Answers) → elements p answers ≡ tree_left p.text.now p.tree (known_at_start p.text.now answers)
-unfolding elements
-elements-parts p answers = refl
-
-pub went_nowhere : {F : Type 0} (s : Parser F) → WentOn s s
-went_nowhere s = record { callback = refl; text = refl; left = λ answers. refl; steps = omega arith }
-
--- a step over the tree, in terms of what is left
-step_left : {F : Type 0} (t u : Parser F) (given : List Placed) → u.text ≡ t.text → Went t.text.now t.tree u.tree given
-    → (answers : Answers) → elements t answers ≡ map event given ++ elements u answers
-step_left t u given x w answers = rw (elements-parts t answers, elements-parts u answers, x) (w.left (known_at_start t.text.now answers))
-
-pub went_skip : {F : Type 0} (s t u : Parser F) → WentOn s t → u.text ≡ t.text → u.callback ≡ t.callback → Went t.text.now t.tree u.tree [] → WentOn s u
-went_skip s t u o x c w = record {
-  callback = c ∙ o.callback;
-  text = x ∙ o.text;
-  left = λ answers. o.left answers ∙ step_left t u [] x w answers;
-  steps = omega (arith, w.falls, o.steps);
-}
-
--- a walk that has ended is over
-over_ended : {F : Type 0} (t : Parser F) → HasEnded t.tree → IsOver t
-over_ended t e = record {
-  left = λ answers. elements-parts t answers ∙ left_of_ended t.text.now t.tree e (known_at_start t.text.now answers);
-  steps = steps_ended t.tree e;
-}
-
--- where steps are to come the walk is not over
-more_to_come : {F : Type 0} (s : Parser F) → 0 < parser_steps s → IsOver s → ⊥
-more_to_come s more over = omega (arith, more, over.steps)
-
-pub advances_none : {F : Type 0} (step : F → Question → Option Answer → F → Type 0) (s t u : Parser F) → WentOn s t → u.tree ≡ t.tree → u.text ≡ t.text → u.callback ≡ t.callback → HasEnded t.tree → Advances step s None u
-advances_none step s t u o tr x c ended =
-    let over : IsOver u = over_ended u (rw tr ended) in
+pub advances_none : {F : Type 0} (step : F → Question → Option Answer → F → Type 0) (s t u : Parser F) → HasGone step s t → Ended t u → Keeps t u → Advances step s None u
+advances_none step s t u g e k =
+    let q = none_quiet s t e.was.left g.went.asked in
+    let keeps = keeps_more s t u g.keeps k in
     record {
-      gives = record { none_left = λ answers. o.left answers ∙ (over_ended t ended).left answers; callback = c ∙ o.callback; over = over };
-      text = ap (λ (x : Bor (List ℕ)). x.now) (x ∙ o.text);
-      stays = λ _. (refl, over);
+      gives = record { none_left = λ answers. q.left answers ∙ e.was.left answers; callback = sym (q.callback ∙ e.callback); over = e.is };
+      text = keeps.text;
+      definitions = keeps.definitions;
+      stays = λ over. (refl, e.is);
     }
 
--- a refusal asked nothing, and the callback is as before
-pub advances_fault : {F : Type 0} (step : F → Question → Option Answer → F → Type 0) (s t u : Parser F) (after : Arena Item) → WentOn s t → IsRefused t.tree after → u.text ≡ t.text → u.callback ≡ t.callback → HasEnded u.tree
-    → Advances step s (Some (Err Memory)) u
-advances_fault step s t u after o r x c ended =
-    let more : 0 < parser_steps s = omega (arith, r.steps, o.steps) in
-    record {
-      gives = record { memory = refl; questions = []; answers = []; asked = sym (c ∙ o.callback); begins = λ later. (elements s later, refl); over = over_ended u ended };
-      text = ap (λ (x : Bor (List ℕ)). x.now) (x ∙ o.text);
-      stays = λ over. absurd (more_to_come s more over);
-    }
-
-pub advances_event : {F : Type 0} (step : F → Question → Option Answer → F → Type 0) (s t u : Parser F) (e : Event) (range : Range ℕ) → WentOn s t → u.text ≡ t.text → u.callback ≡ t.callback
-    → Went t.text.now t.tree u.tree ((event_view e, range) ∷ []) → IsSlice t.text.now range e → Advances step s (Some (Ok (e, range))) u
-advances_event step s t u e range o x c w slice =
-    let more : 0 < parser_steps s = omega (arith, w.falls, o.steps) in
+pub advances_fault : {F : Type 0} (step : F → Question → Option Answer → F → Type 0) (s t u : Parser F) → HasGone step s t → Failed step t u → Keeps t u → Advances step s (Some (Err Memory)) u
+advances_fault step s t u g f k =
+    let l = g.went.leads in
+    let keeps = keeps_more s t u g.keeps k in
     record {
       gives = record {
-        questions = [];
-        answers = [];
-        asked = sym (c ∙ o.callback);
-        placed = (event_view e, range);
-        is_item = record { is_event = record { view = refl; slice = subst (λ (x : List ℕ). IsSlice x range e) (ap (λ (x : Bor (List ℕ)). x.now) o.text) slice }; range = refl };
-        left = λ later. o.left later ∙ step_left t u ((event_view e, range) ∷ []) x w later;
+        memory = refl;
+        questions = l.questions ++ f.questions;
+        answers = l.answers ++ f.answers;
+        asked = Asks-append step (parser_callback s) (parser_callback t) (parser_callback u) l.questions f.questions l.answers f.answers l.asked f.asked;
+        begins = λ later.
+            let b = f.begins later in
+            (b.0, rw (append_assoc l.answers f.answers later, l.left (f.answers ++ later), b.1) (simp (map-append, append_assoc)));
+        over = f.is;
       };
-      text = ap (λ (x : Bor (List ℕ)). x.now) (x ∙ o.text);
-      stays = λ over. absurd (more_to_come s more over);
+      text = keeps.text;
+      definitions = keeps.definitions;
+      stays = λ over. absurd (omega (arith, f.more, (g.over over).steps));
+    }
+
+pub advances_event : {F : Type 0} (step : F → Question → Option Answer → F → Type 0) (s t u : Parser F) (e : Event) (range : Range ℕ) → HasGone step s t → GaveEvent t u e range → Keeps t u
+    → parser_steps u < parser_steps t → Advances step s (Some (Ok (e, range))) u
+advances_event step s t u e range g w k f =
+    let l = leads_on step (parser_callback s) (parser_callback t) (parser_callback u) (elements s) (elements t) (elements u) (w.placed ∷ []) g.went.leads (leads_gave step t u (w.placed ∷ []) w.gave) in
+    let keeps = keeps_more s t u g.keeps k in
+    record {
+      gives = record {
+        questions = l.questions;
+        answers = l.answers;
+        asked = l.asked;
+        placed = w.placed;
+        is_item = subst (λ (source : List ℕ). IsPlacedOf source (e, range) w.placed) g.keeps.text w.is_item;
+        left = l.left;
+      };
+      text = keeps.text;
+      definitions = keeps.definitions;
+      stays = λ over. absurd (no_step t u f (g.over over));
     }
 
 -- an event with its range is an event
@@ -101,5 +245,5 @@ pub without_range : {F : Type 0} (step : F → Question → Option Answer → F 
 without_range step s e t g = record { questions = g.questions; answers = g.answers; asked = g.asked; placed = g.placed; is_item = g.is_item.is_event; left = g.left }
 
 -- a refusal ends the walk, which was not over
-pub steps_refused : {F : Type 0} (s t : Parser F) (after u : Arena Item) → WentOn s t → IsRefused t.tree after → HasEnded u → tree_steps u < parser_steps s
-steps_refused s t after u o r over = omega (arith, o.steps, r.steps, steps_ended u over)
+pub steps_failed : {F : Type 0} (step : F → Question → Option Answer → F → Type 0) (s t u : Parser F) → HasGone step s t → Failed step t u → parser_steps u < parser_steps s
+steps_failed step s t u g f = omega (arith, g.steps, f.more, f.is.steps)

@@ -1,23 +1,29 @@
 -- Calls of `next`, one after another up to None, and what was left before them.
-use Rattle.std.proofs.Common.{◌≡◌, ℕ, List, [], ◌∷◌, ◌++◌, map, Option, Some, None, Result, Ok, Err, inl, inr, ⊎_elim, refl, sym, ap, ◌∙◌, append_assoc}
+use Rattle.std.proofs.Common.{◌≡◌, ℕ, List, [], ◌∷◌, ◌++◌, map, Option, Some, None, Result, Ok, Err, inl, inr, ⊎_elim, refl, sym, ap, ◌∙◌, append_assoc, append-nil}
 use Rattle.std.proofs.Common.{Vec}
 use Rattle.std.specs.Iterator.{Drains}
 use Rattle.std.specs.Prelude.{IfOk}
 use Rattle.std.proofs.lemmas.Iterator.{IsCollectResult}
-use Rattle.markdown_base.specs.Document.{Question, Answer, Answers, Element, Placed, question, event, events_of}
+use Rattle.markdown_base.specs.Questions.{Question, Answer, Answers}
 use Rattle.markdown_base.specs.Event.{event_view}
 use Rattle.markdown_base.specs.declared.event.Event.{Event}
 use Rattle.markdown_base.specs.declared.fault.Fault.{Fault}
 use Rattle.markdown_spans.specs.Callback.{Asks}
+use Rattle.markdown_inline.specs.Elements.{Element, Placed, question, event, events_of, questions_of}
 use Rattle.markdown_inline.specs.NextGives.{NextGives, GivesItem, IsEventOf}
-use Rattle.markdown_inline.specs.ParserLeft.{elements, parser_callback}
-use Rattle.markdown_inline.specs.Runs.{GaveAll, WasRefused, IsRun}
+use Rattle.markdown_inline.specs.ParserLeft.{elements, parser_text, parser_callback}
+use Rattle.markdown_inline.specs.Runs.{AreOf, GaveAll, GaveRest, WasRefused, IsRun}
 use Rattle.markdown_inline.specs.declared.walk.Parser.{Parser}
+use Rattle.markdown_inline.proofs.CallbackLemmas.{Asks-append}
 
 -- questions are no events
 pub events_of-questions : (questions : List Question) (es : List Element) → events_of (map question questions ++ es) ≡ events_of es
 events_of-questions [] es = refl
 events_of-questions (q ∷ questions) es = events_of-questions questions es
+
+questions_of-questions : (questions : List Question) (es : List Element) → questions_of (map question questions ++ es) ≡ questions ++ questions_of es
+questions_of-questions [] es = refl
+questions_of-questions (q ∷ questions) es = ap (λ qs. q ∷ qs) (questions_of-questions questions es)
 
 module _ {S F I : Type 0} (step : F → Question → Option Answer → F → Type 0) (is_of : List ℕ → I → Placed → Type 0) (at : S → Parser F) where
   -- a call of `next`, where a parser is at work
@@ -69,6 +75,55 @@ module _ {S F I : Type 0} (step : F → Question → Option Answer → F → Typ
         begins = λ later. let b = g.begins later in (events_of b.0, ap events_of b.1 ∙ events_of-questions g.questions b.0);
       }
   only_error s t fault (x ∷ rest) h (u, (v, (j, k, y), z)) = cc ((k.stays h.gives.over).0)
+
+  -- the items so far are the first events that were left, for the answers that the callback gave to the questions
+  -- before them
+  pub record GaveFirst (s t : S) (given : List I) : Type 0 where
+    pub text : parser_text (at t) ≡ parser_text (at s)
+    pub events : List Placed
+    pub are : AreOf is_of (parser_text (at s)) given events
+    pub answers : Answers
+    pub questions : List Question
+    pub asked : Asks step (parser_callback (at s)) questions answers (parser_callback (at t))
+    pub left : (later : Answers) → events_of (elements (at s) (answers ++ later)) ≡ events ++ events_of (elements (at t) later)
+    pub asks : (later : Answers) → questions_of (elements (at s) (answers ++ later)) ≡ questions ++ questions_of (elements (at t) later)
+
+  pub gave_none : (s : S) → GaveFirst s s []
+  gave_none s = record { text = refl; events = []; are = tt; answers = []; questions = []; asked = refl; left = λ later. refl; asks = λ later. refl }
+
+  are-append : (source : List ℕ) (given : List I) (events : List Placed) (item : I) (placed : Placed) → AreOf is_of source given events → is_of source item placed
+      → AreOf is_of source (given ++ item ∷ []) (events ++ placed ∷ [])
+  are-append source [] [] item placed a h = (h, tt)
+  are-append source [] (e ∷ events) item placed a h = absurd a
+  are-append source (x ∷ given) [] item placed a h = absurd a
+  are-append source (x ∷ given) (e ∷ events) item placed a h = (a.0, are-append source given events item placed a.1 h)
+
+  pub gave_more : (s t u : S) (given : List I) (item : I) → GaveFirst s t given → Steps t (Some (Ok item)) u → GaveFirst s u (given ++ item ∷ [])
+  gave_more s t u given item r h =
+      let g = h.gives in
+      record {
+        text = h.text ∙ r.text;
+        events = r.events ++ g.placed ∷ [];
+        are = are-append (parser_text (at s)) given r.events item g.placed r.are (rw r.text at g.is_item);
+        answers = r.answers ++ g.answers;
+        questions = r.questions ++ g.questions;
+        asked = Asks-append step (parser_callback (at s)) (parser_callback (at t)) (parser_callback (at u)) r.questions g.questions r.answers g.answers r.asked g.asked;
+        left = λ later. rw (append_assoc r.answers g.answers later, r.left (g.answers ++ later), g.left later, events_of-questions g.questions (event g.placed ∷ elements (at u) later)) (simp append_assoc);
+        asks = λ later. rw (append_assoc r.answers g.answers later, r.asks (g.answers ++ later), g.left later, questions_of-questions g.questions (event g.placed ∷ elements (at u) later)) (simp append_assoc);
+      }
+
+  -- at the end they are all
+  pub gave_rest : (s t u : S) (given : List I) → GaveFirst s t given → Steps t None u → GaveRest is_of step (at s) given (parser_callback (at u))
+  gave_rest s t u given r h =
+      let n = h.gives in
+      let q : questions_of (elements (at s) r.answers) ≡ r.questions = rw (append-nil r.answers, n.none_left [], append-nil r.questions) at (r.asks []) in
+      record {
+        events = r.events;
+        are = r.are;
+        answers = r.answers;
+        asked = rw (q, n.callback) r.asked;
+        left = λ later. rw (r.left later, n.none_left later) (append-nil r.events);
+      }
 
   -- a run up to None
   pub is_run : (s : S) (all : List (Result I Fault)) → Drains Steps s all → IsRun is_of (at s) all

@@ -1,100 +1,222 @@
 -- What is left of a walk, before and after a move over, into or out of a node.
-use Rattle.std.proofs.Common.{◌≡◌, ℕ, suc, ◌+◌, ◌<◌, List, [], ◌∷◌, ◌++◌, map, Option, Some, None, refl, arith}
+use Rattle.std.proofs.Common.{◌≡◌, ℕ, ◌+◌, ◌<◌, ◌≤◌, Bool, true, false, List, [], ◌∷◌, ◌++◌, map, Option, Some, None, refl, arith}
+use Rattle.std.specs.Prelude.{slice_range}
 use Rattle.markdown_base.specs.Arena.{child_of, sibling_of}
 use Rattle.markdown_base.specs.ArenaForest.{Links, links_of, forest_at}
-use Rattle.markdown_base.specs.ArenaWalk.{Reaches, AllReach, IsWalk, weight, climb, steps_of}
-use Rattle.markdown_base.specs.Document.{leaf, enclosed, plain, Placed, Known, Reading, event, reading, nothing}
-use Rattle.markdown_base.specs.Event.{EventView, TagView, start}
-use Rattle.markdown_base.specs.Walk.{part_at, trees_from, closed, around, left_of}
+use Rattle.markdown_base.specs.ArenaWalk.{Reaches, AllReach}
+use Rattle.markdown_base.specs.BlockTree.{item_at}
+use Rattle.markdown_inline.specs.Elements.{Placed, Reading, event, nothing}
+use Rattle.markdown_inline.specs.Setting.{Known, Setting}
+use Rattle.markdown_base.specs.Event.{EventView, TagView, start, end_of}
+use Rattle.markdown_base.specs.Item.{range_of, is_open}
+use Rattle.markdown_base.specs.declared.cow_str.CowStr.{CowStr}
 use Rattle.markdown_base.specs.declared.item.Item.{Item}
+use Rattle.markdown_base.specs.declared.item.ItemBody.{ItemBody}
 use Rattle.markdown_base.specs.declared.node.Node.{Node}
 use Rattle.markdown_base.proofs.ArenaForestLemmas.{opens, forest_at-none}
+use Rattle.markdown_inline.specs.Reading.{reading}
+use Rattle.markdown_inline.specs.Walk.{ended, around, left_of, label_at, trees_from, closing}
+use Rattle.markdown_inline.specs.Totals.{total, same, naming, weight_if, weight_at, climbed, left_total, named_left, one_if, waits_at, steps_of}
+use Rattle.markdown_inline.specs.Standing.{IsPlaced, AboveKept, Stands}
+use Rattle.markdown_inline.specs.Document.{Origin, leaf, enclosed, plain, shape_of}
+use Rattle.markdown_base.specs.declared.item.ItemBody.TheVariants as body
 
 -- a walk went from l below spine to m below deeper, and gave these events
-pub record Moves (source : List ℕ) (nodes : List (Node Item)) (p : ℕ → Type 0) (l : Option ℕ) (spine : List ℕ) (m : Option ℕ) (deeper : List ℕ) (given : List Placed) : Type 0 where
-  pub walk : IsWalk (links_of nodes) p m deeper
-  pub left : (known : Known) → left_of source nodes l spine known ≡ map event given ++ left_of source nodes m deeper known
-  pub falls : steps_of (links_of nodes) m deeper < steps_of (links_of nodes) l spine
+pub record Moves (s : Setting) (cows : List CowStr) (nodes : List (Node Item)) (l : Option ℕ) (spine : List ℕ) (m : Option ℕ) (deeper : List ℕ) (given : List Placed) : Type 0 where
+  pub stands : Stands s.text cows nodes m deeper
+  pub left : (known : Known) → left_of s cows nodes l spine known ≡ map event given ++ left_of s cows nodes m deeper known
+  pub falls : steps_of nodes m deeper < steps_of nodes l spine
+
+-- a node weighs two at least
+pub some_weight : (is_open : Bool) → 2 ≤ weight_if is_open
+some_weight true = omega arith
+some_weight false = omega arith
+
+one_once : (waits : Bool) → one_if waits ≤ 1
+one_once true = omega arith
+one_once false = omega arith
+
+-- a chain that waits is one step
+waits_once : (nodes : List (Node Item)) (l : Option ℕ) → waits_at nodes l ≤ 1
+waits_once nodes None = omega arith
+waits_once nodes (Some ix) = one_once (is_open (item_at nodes ix).body)
 
 -- one more node is gone into
 AllReach-snoc : (k : Links) (p : ℕ → Type 0) (spine : List ℕ) (ix : ℕ) → AllReach k p spine → ix < k.size → Reaches k p (k.next ix) → AllReach k p (spine ++ ix ∷ [])
 AllReach-snoc k p [] ix a within follows = (within, follows, tt)
 AllReach-snoc k p (j ∷ js) ix a within follows = (a.0, a.1, AllReach-snoc k p js ix a.2 within follows)
 
+AboveKept-snoc : (source : List ℕ) (cows : List CowStr) (nodes : List (Node Item)) (spine : List ℕ) (ix : ℕ) → AboveKept source cows nodes spine
+    → AboveKept source cows nodes (ix ∷ []) → AboveKept source cows nodes (spine ++ ix ∷ [])
+AboveKept-snoc source cows nodes [] ix a h = h
+AboveKept-snoc source cows nodes (j ∷ js) ix a h = (a.0, AboveKept-snoc source cows nodes js ix a.1 h)
+
 -- the last of them is left
 AllReach-front : (k : Links) (p : ℕ → Type 0) (spine : List ℕ) (ix : ℕ) → AllReach k p (spine ++ ix ∷ []) → AllReach k p spine
 AllReach-front k p [] ix a = tt
 AllReach-front k p (j ∷ js) ix a = (a.0, a.1, AllReach-front k p js ix a.2)
+
+AboveKept-front : (source : List ℕ) (cows : List CowStr) (nodes : List (Node Item)) (spine : List ℕ) (ix : ℕ) → AboveKept source cows nodes (spine ++ ix ∷ [])
+    → AboveKept source cows nodes spine
+AboveKept-front source cows nodes [] ix a = tt
+AboveKept-front source cows nodes (j ∷ js) ix a = (a.0, AboveKept-front source cows nodes js ix a.1)
 
 -- what follows it is reached
 pub AllReach-last : (k : Links) (p : ℕ → Type 0) (spine : List ℕ) (ix : ℕ) → AllReach k p (spine ++ ix ∷ []) → (ix < k.size) × Reaches k p (k.next ix)
 AllReach-last k p [] ix a = (a.0, a.1)
 AllReach-last k p (j ∷ js) ix a = AllReach-last k p js ix a.2
 
--- the node gone into last ends first
-around-snoc : (source : List ℕ) (nodes : List (Node Item)) (spine : List ℕ) (ix : ℕ) (after : Reading)
-    → around source nodes (spine ++ ix ∷ []) after
-    ≡ closed (part_at source nodes ix).shape (part_at source nodes ix).range (reading (trees_from source nodes (sibling_of nodes ix)) (around source nodes spine after))
-around-snoc source nodes [] ix after = refl
-around-snoc source nodes (j ∷ js) ix after = around-snoc source nodes js ix _
+AboveKept-last : (source : List ℕ) (cows : List CowStr) (nodes : List (Node Item)) (spine : List ℕ) (ix : ℕ) → AboveKept source cows nodes (spine ++ ix ∷ [])
+    → AboveKept source cows nodes (ix ∷ [])
+AboveKept-last source cows nodes [] ix a = a
+AboveKept-last source cows nodes (j ∷ js) ix a = AboveKept-last source cows nodes js ix a.1
 
-climb-snoc : (k : Links) (spine : List ℕ) (ix : ℕ) → climb k (spine ++ ix ∷ []) ≡ suc (weight (forest_at k (k.next ix))) + climb k spine
-climb-snoc k [] ix = omega arith
-climb-snoc k (j ∷ js) ix = omega (arith, climb-snoc k js ix)
+-- the node gone into last ends first
+around-snoc : (s : Setting) (cows : List CowStr) (nodes : List (Node Item)) (spine : List ℕ) (ix : ℕ) (after : Reading)
+    → around s cows nodes (spine ++ ix ∷ []) after
+    ≡ ended (closing (item_at nodes ix).body) (range_of (item_at nodes ix)) (reading s (trees_from s.text cows nodes (sibling_of nodes ix)) (around s cows nodes spine after))
+around-snoc s cows nodes [] ix after = refl
+around-snoc s cows nodes (j ∷ js) ix after = around-snoc s cows nodes js ix _
+
+climbed-snoc : (gone count : ℕ → ℕ) (k : Links) (spine : List ℕ) (ix : ℕ) → climbed gone count k (spine ++ ix ∷ []) ≡ (gone ix + total count (forest_at k (k.next ix))) + climbed gone count k spine
+climbed-snoc gone count k [] ix = omega arith
+climbed-snoc gone count k (j ∷ js) ix = omega (arith, climbed-snoc gone count k js ix)
+
+-- how a tree ends is told by its body alone
+closing-enclosed : (cows : List CowStr) (source : List ℕ) (body : ItemBody) (tag : TagView) → shape_of cows source body ≡ enclosed tag → closing body ≡ Some (end_of tag)
+closing-enclosed cows source body.Paragraph tag h = cc h
+closing-enclosed cows source body.TightParagraph tag h = cc h
+closing-enclosed cows source other tag h = cc h
+
+closing-plain : (cows : List CowStr) (source : List ℕ) (body : ItemBody) → shape_of cows source body ≡ plain → closing body ≡ None
+closing-plain cows source body.Paragraph h = cc h
+closing-plain cows source body.TightParagraph h = refl
+closing-plain cows source other h = cc h
 
 -- over a node that reads as one event
-pub moves_on : (source : List ℕ) (nodes : List (Node Item)) (p : ℕ → Type 0) (ix : ℕ) (spine : List ℕ) (e : EventView)
-    → IsWalk (links_of nodes) p (Some ix) spine → (part_at source nodes ix).shape ≡ leaf e
-    → Moves source nodes p (Some ix) spine (sibling_of nodes ix) spine ((e, (part_at source nodes ix).range) ∷ [])
-unfolding left_of steps_of
-moves_on source nodes p ix spine e w h =
-    let o = opens (links_of nodes) p ix w.here in
+pub moves_on : (s : Setting) (cows : List CowStr) (nodes : List (Node Item)) (ix : ℕ) (spine : List ℕ) (e : EventView) (origins : List Origin)
+    → Stands s.text cows nodes (Some ix) spine → (label_at s.text cows nodes ix).part.shape ≡ leaf e origins
+    → Moves s cows nodes (Some ix) spine (sibling_of nodes ix) spine ((e, range_of (item_at nodes ix), origins) ∷ [])
+unfolding left_of left_total
+moves_on s cows nodes ix spine e origins w h =
+    let o = opens (links_of nodes) (IsPlaced s.text cows nodes) ix w.walk.here in
+    let two = some_weight (is_open (item_at nodes ix).body) in
     record {
-      walk = record { here = o.after; above = w.above };
+      stands = record {
+        walk = record { here = o.after; above = w.walk.above };
+        once = λ n. let x = rw o.here at (w.once n) in omega arith;
+        named_once = λ n. let x = rw o.here at (w.named_once n) in omega arith;
+        here_kept = (rw o.here at w.here_kept).2;
+        above_kept = w.above_kept;
+      };
       left = λ known. rw (o.here, h) refl;
-      falls = rw o.here (omega arith);
+      falls = let waits = waits_once nodes (sibling_of nodes ix) in rw o.here (omega arith);
     }
 
+-- no text that it names is named afterwards
+pub moves_past : (source : List ℕ) (cows : List CowStr) (nodes : List (Node Item)) (ix : ℕ) (spine : List ℕ) (n : ℕ)
+    → Stands source cows nodes (Some ix) spine → naming nodes n ix + named_left nodes (sibling_of nodes ix) spine n ≤ 1
+unfolding left_total
+moves_past source cows nodes ix spine n w =
+    let o = opens (links_of nodes) (IsPlaced source cows nodes) ix w.walk.here in
+    let x = rw o.here at (w.named_once n) in
+    omega arith
+
+pub moves_past_in : (source : List ℕ) (cows : List CowStr) (nodes : List (Node Item)) (ix : ℕ) (spine : List ℕ) (n : ℕ)
+    → Stands source cows nodes (Some ix) spine → naming nodes n ix + named_left nodes (child_of nodes ix) (spine ++ ix ∷ []) n ≤ 1
+unfolding left_total
+moves_past_in source cows nodes ix spine n w =
+    let o = opens (links_of nodes) (IsPlaced source cows nodes) ix w.walk.here in
+    rw (climbed-snoc (λ ix. 0) (naming nodes n) (links_of nodes) spine ix) (let x = rw o.here at (w.named_once n) in omega arith)
+
 -- into a node that reads as a Start, its children and an End
-pub moves_in : (source : List ℕ) (nodes : List (Node Item)) (p : ℕ → Type 0) (ix : ℕ) (spine : List ℕ) (tag : TagView)
-    → IsWalk (links_of nodes) p (Some ix) spine → (part_at source nodes ix).shape ≡ enclosed tag
-    → Moves source nodes p (Some ix) spine (child_of nodes ix) (spine ++ ix ∷ []) ((start tag, (part_at source nodes ix).range) ∷ [])
-unfolding left_of steps_of
-moves_in source nodes p ix spine tag w h =
-    let o = opens (links_of nodes) p ix w.here in
+pub moves_in : (s : Setting) (cows : List CowStr) (nodes : List (Node Item)) (ix : ℕ) (spine : List ℕ) (tag : TagView)
+    → Stands s.text cows nodes (Some ix) spine → (label_at s.text cows nodes ix).part.shape ≡ enclosed tag
+    → Moves s cows nodes (Some ix) spine (child_of nodes ix) (spine ++ ix ∷ []) ((start tag, range_of (item_at nodes ix), []) ∷ [])
+unfolding left_of left_total
+moves_in s cows nodes ix spine tag w h =
+    let o = opens (links_of nodes) (IsPlaced s.text cows nodes) ix w.walk.here in
+    let kept = rw o.here at w.here_kept in
+    let two = some_weight (is_open (item_at nodes ix).body) in
+    let c = closing-enclosed cows (slice_range s.text (item_at nodes ix).start (item_at nodes ix).end) (item_at nodes ix).body tag h in
     record {
-      walk = record { here = o.below; above = AllReach-snoc (links_of nodes) p spine ix w.above o.within o.after };
-      left = λ known. rw (o.here, around-snoc source nodes spine ix nothing, h) refl;
-      falls = rw (o.here, climb-snoc (links_of nodes) spine ix) (omega arith);
+      stands = record {
+        walk = record { here = o.below; above = AllReach-snoc (links_of nodes) (IsPlaced s.text cows nodes) spine ix w.walk.above o.within o.after };
+        once = λ n. rw (climbed-snoc (same n) (same n) (links_of nodes) spine ix) (let x = rw o.here at (w.once n) in omega arith);
+        named_once = λ n. rw (climbed-snoc (λ ix. 0) (naming nodes n) (links_of nodes) spine ix) (let x = rw o.here at (w.named_once n) in omega arith);
+        here_kept = kept.1;
+        above_kept = AboveKept-snoc s.text cows nodes spine ix w.above_kept (kept.2, tt);
+      };
+      left = λ known. rw (o.here, around-snoc s cows nodes spine ix nothing, c, h) refl;
+      falls = let waits = waits_once nodes (child_of nodes ix) in rw (o.here, climbed-snoc (λ ix. 1) (weight_at nodes) (links_of nodes) spine ix) (omega arith);
     }
 
 -- into a node that reads as its children alone
-pub moves_in_plain : (source : List ℕ) (nodes : List (Node Item)) (p : ℕ → Type 0) (ix : ℕ) (spine : List ℕ)
-    → IsWalk (links_of nodes) p (Some ix) spine → (part_at source nodes ix).shape ≡ plain
-    → Moves source nodes p (Some ix) spine (child_of nodes ix) (spine ++ ix ∷ []) []
-unfolding left_of steps_of
-moves_in_plain source nodes p ix spine w h =
-    let o = opens (links_of nodes) p ix w.here in
+pub moves_in_plain : (s : Setting) (cows : List CowStr) (nodes : List (Node Item)) (ix : ℕ) (spine : List ℕ)
+    → Stands s.text cows nodes (Some ix) spine → (label_at s.text cows nodes ix).part.shape ≡ plain
+    → Moves s cows nodes (Some ix) spine (child_of nodes ix) (spine ++ ix ∷ []) []
+unfolding left_of left_total
+moves_in_plain s cows nodes ix spine w h =
+    let o = opens (links_of nodes) (IsPlaced s.text cows nodes) ix w.walk.here in
+    let kept = rw o.here at w.here_kept in
+    let two = some_weight (is_open (item_at nodes ix).body) in
+    let c = closing-plain cows (slice_range s.text (item_at nodes ix).start (item_at nodes ix).end) (item_at nodes ix).body h in
     record {
-      walk = record { here = o.below; above = AllReach-snoc (links_of nodes) p spine ix w.above o.within o.after };
-      left = λ known. rw (o.here, around-snoc source nodes spine ix nothing, h) refl;
-      falls = rw (o.here, climb-snoc (links_of nodes) spine ix) (omega arith);
+      stands = record {
+        walk = record { here = o.below; above = AllReach-snoc (links_of nodes) (IsPlaced s.text cows nodes) spine ix w.walk.above o.within o.after };
+        once = λ n. rw (climbed-snoc (same n) (same n) (links_of nodes) spine ix) (let x = rw o.here at (w.once n) in omega arith);
+        named_once = λ n. rw (climbed-snoc (λ ix. 0) (naming nodes n) (links_of nodes) spine ix) (let x = rw o.here at (w.named_once n) in omega arith);
+        here_kept = kept.1;
+        above_kept = AboveKept-snoc s.text cows nodes spine ix w.above_kept (kept.2, tt);
+      };
+      left = λ known. rw (o.here, around-snoc s cows nodes spine ix nothing, c, h) refl;
+      falls = let waits = waits_once nodes (child_of nodes ix) in rw (o.here, climbed-snoc (λ ix. 1) (weight_at nodes) (links_of nodes) spine ix) (omega arith);
     }
 
 -- out of a node, whose end reads so
-pub moves_out : (source : List ℕ) (nodes : List (Node Item)) (p : ℕ → Type 0) (ix : ℕ) (spine : List ℕ) (given : List Placed)
-    → IsWalk (links_of nodes) p None (spine ++ ix ∷ [])
-    → ((after : Reading) (known : Known) → closed (part_at source nodes ix).shape (part_at source nodes ix).range after known ≡ map event given ++ after known)
-    → Moves source nodes p None (spine ++ ix ∷ []) (sibling_of nodes ix) spine given
-unfolding left_of steps_of
-moves_out source nodes p ix spine given w h =
+pub moves_out : (s : Setting) (cows : List CowStr) (nodes : List (Node Item)) (ix : ℕ) (spine : List ℕ) (given : List Placed)
+    → Stands s.text cows nodes None (spine ++ ix ∷ [])
+    → ((after : Reading) (known : Known) → ended (closing (item_at nodes ix).body) (range_of (item_at nodes ix)) after known ≡ map event given ++ after known)
+    → Moves s cows nodes None (spine ++ ix ∷ []) (sibling_of nodes ix) spine given
+unfolding left_of left_total
+moves_out s cows nodes ix spine given w h =
     record {
-      walk = record { here = (AllReach-last (links_of nodes) p spine ix w.above).1; above = AllReach-front (links_of nodes) p spine ix w.above };
-      left = λ known. rw (forest_at-none (links_of nodes), around-snoc source nodes spine ix nothing) (h (reading (trees_from source nodes (sibling_of nodes ix)) (around source nodes spine nothing)) known);
-      falls = rw (forest_at-none (links_of nodes), climb-snoc (links_of nodes) spine ix) (omega arith);
+      stands = record {
+        walk = record { here = (AllReach-last (links_of nodes) (IsPlaced s.text cows nodes) spine ix w.walk.above).1; above = AllReach-front (links_of nodes) (IsPlaced s.text cows nodes) spine ix w.walk.above };
+        once = λ n. let x = rw (climbed-snoc (same n) (same n) (links_of nodes) spine ix) at (w.once n) in omega arith;
+        named_once = λ n. let x = rw (climbed-snoc (λ ix. 0) (naming nodes n) (links_of nodes) spine ix) at (w.named_once n) in omega arith;
+        here_kept = (AboveKept-last s.text cows nodes spine ix w.above_kept).0;
+        above_kept = AboveKept-front s.text cows nodes spine ix w.above_kept;
+      };
+      left = λ known. rw (forest_at-none (links_of nodes), around-snoc s cows nodes spine ix nothing) (h (reading s (trees_from s.text cows nodes (sibling_of nodes ix)) (around s cows nodes spine nothing)) known);
+      falls = let waits = waits_once nodes (sibling_of nodes ix) in rw (forest_at-none (links_of nodes), climbed-snoc (λ ix. 1) (weight_at nodes) (links_of nodes) spine ix) (omega arith);
     }
 
 -- at the end nothing is left
-pub left_of-end : (source : List ℕ) (nodes : List (Node Item)) (known : Known) → left_of source nodes None [] known ≡ []
+pub left_of-end : (s : Setting) (cows : List CowStr) (nodes : List (Node Item)) (known : Known) → left_of s cows nodes None [] known ≡ []
 unfolding left_of
-left_of-end source nodes known = rw (forest_at-none (links_of nodes)) refl
+left_of-end s cows nodes known = rw (forest_at-none (links_of nodes)) refl
+
+-- a node in focus takes steps
+pub steps-some : (source : List ℕ) (cows : List CowStr) (nodes : List (Node Item)) (ix : ℕ) (spine : List ℕ) → Stands source cows nodes (Some ix) spine → 0 < steps_of nodes (Some ix) spine
+unfolding left_total
+steps-some source cows nodes ix spine w =
+    let o = opens (links_of nodes) (IsPlaced source cows nodes) ix w.walk.here in
+    let two = some_weight (is_open (item_at nodes ix).body) in
+    rw o.here (omega arith)
+
+pub steps-end : (nodes : List (Node Item)) → steps_of nodes None [] ≡ 0
+unfolding left_total
+steps-end nodes = rw (forest_at-none (links_of nodes)) (omega arith)
+
+pub stands-end : (source : List ℕ) (cows : List CowStr) (nodes : List (Node Item)) → Stands source cows nodes None []
+unfolding left_total
+stands-end source cows nodes =
+    let e = forest_at-none (links_of nodes) in
+    record {
+      walk = record { here = record { spelled = rw e refl; each = rw e tt }; above = tt };
+      once = λ n. rw e (omega arith);
+      named_once = λ n. rw e (omega arith);
+      here_kept = rw e tt;
+      above_kept = tt;
+    }

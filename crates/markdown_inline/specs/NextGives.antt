@@ -1,20 +1,21 @@
 -- What a call of `next` gives of what was left of a parser.
 use Rattle.std.specs.Prelude.{◌≡◌, ℕ, List, [], ◌∷◌, ◌++◌, map, Option, None, Result, MatchOption, MatchResult}
 use Rattle.std.specs.declared.ops.Range.{Range}
-use Rattle.markdown_base.specs.Document.{Question, Answer, Answers, Placed, Element, question, event}
 use Rattle.markdown_base.specs.Event.{event_view}
+use Rattle.markdown_base.specs.Questions.{Question, Answer, Answers}
 use Rattle.markdown_base.specs.declared.event.Event.{Event}
 use Rattle.markdown_base.specs.declared.fault.Fault.{Fault}
 use Rattle.markdown_base.specs.declared.fault.Fault.TheVariants.{Memory}
 use Rattle.markdown_spans.specs.Callback.{Asks}
-use Rattle.markdown_inline.specs.ParserLeft.{parser_text, parser_callback, elements, IsOver}
-use Rattle.markdown_inline.specs.Slices.{IsSlice}
+use Rattle.markdown_inline.specs.Elements.{Placed, Element, question, event}
+use Rattle.markdown_inline.specs.ParserLeft.{parser_text, parser_definitions, parser_callback, elements, IsOver}
+use Rattle.markdown_inline.specs.Slices.{texts_of, AreFrom}
 use Rattle.markdown_inline.specs.declared.walk.Parser.{Parser}
 
--- an event is one of a reading of the source: by the bytes of its texts, and a Text is a slice over its range
+-- an event is one of a reading of the source: by the bytes of its texts, and each text is of the origin that is read
 pub record IsEventOf (source : List ℕ) (e : Event) (placed : Placed) : Type 0 where
   pub view : placed.0 ≡ event_view e
-  pub slice : IsSlice source placed.1 e
+  pub texts : AreFrom source placed.2 (texts_of e)
 
 -- so is an event with its range
 pub record IsPlacedOf (source : List ℕ) (e : Event × Range ℕ) (placed : Placed) : Type 0 where
@@ -48,9 +49,10 @@ pub record GivesNone {F : Type 0} (s t : Parser F) : Type 0 where
   pub callback : parser_callback t ≡ parser_callback s
   pub over : IsOver t
 
--- the whole: beside this the text stays, and where the walk is over None comes, and it stays over
+-- the whole: beside this the text and its definitions stay, and where the walk is over None comes, and it stays over
 pub record NextGives {F I : Type 0} (step : F → Question → Option Answer → F → Type 0) (is_of : List ℕ → I → Placed → Type 0)
     (s : Parser F) (r : Option (Result I Fault)) (t : Parser F) : Type 0 where
   pub gives : MatchOption r (GivesNone s t) (λ item. MatchResult item (λ e. GivesItem step is_of s e t) (λ fault. GivesError step s fault t))
   pub text : parser_text t ≡ parser_text s
+  pub definitions : parser_definitions t ≡ parser_definitions s
   pub stays : IsOver s → (r ≡ None) × IsOver t

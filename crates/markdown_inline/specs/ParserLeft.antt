@@ -1,15 +1,22 @@
 -- What a parser holds, and what is left of it: the elements of its reading that it has not given yet, for
 -- the answers that its callback will give.
-use Rattle.std.specs.Prelude.{◌≡◌, ℕ, max, List, [], length, Option}
-use Rattle.markdown_base.specs.ArenaForest.{links_of}
-use Rattle.markdown_base.specs.ArenaWalk.{steps_of}
-use Rattle.markdown_base.specs.Document.{Answers, Known, Element, document, reading, nothing}
-use Rattle.markdown_base.specs.Walk.{left_of}
+use Rattle.std.specs.Prelude.{◌≡◌, ℕ, max, Bool, List, [], length, Option, is_some}
+use Rattle.std.specs.List.{list_any}
+use Rattle.markdown_base.specs.CowText.{text_of}
+use Rattle.markdown_base.specs.Questions.{Answers}
 use Rattle.markdown_base.specs.declared.options.Options.{Options}
-use Rattle.markdown_spans.specs.Blocks.{block_text, block_tree, IsOfText}
+use Rattle.markdown_spans.specs.Blocks.{block_text, block_options, block_tree, block_parts, IsOfText}
+use Rattle.markdown_spans.specs.Definitions.{Labelled, firsts}
+use Rattle.markdown_spans.specs.Folding.{is_match}
 use Rattle.markdown_spans.specs.declared.blocks.Blocks.{Blocks}
+use Rattle.markdown_inline.specs.Document.{document}
+use Rattle.markdown_inline.specs.Elements.{Element, nothing}
+use Rattle.markdown_inline.specs.Reading.{reading}
+use Rattle.markdown_inline.specs.Setting.{Rules, Setting, Known, rules_from, setting_of}
+use Rattle.markdown_inline.specs.WalkSteps.{tree_left, tree_steps}
 use Rattle.markdown_inline.specs.declared.walk.Parser.{Parser}
 use Rattle.markdown_inline.specs.declared.walk.OffsetIter.{OffsetIter}
+use Rattle.markdown_inline.specs.declared.work.Work.{Work}
 
 -- no extension is on
 abbrev pub no_options : Options
@@ -23,25 +30,47 @@ expansion_limit source = max (length source) 100000
 abbrev pub known_at_start : List ℕ → Answers → Known
 known_at_start source answers = record { limit = expansion_limit source; answers = answers }
 
--- the reading of a block result, for these answers
-abbrev pub reading_of : Blocks → Answers → List Element
-reading_of blocks answers = reading (document (block_text blocks) (block_tree blocks).nodes) nothing (known_at_start (block_text blocks) answers)
+-- what the rules of a chain go by in a block result, where there is somebody to ask and where not
+abbrev pub rules_of : Blocks → Bool → Rules
+rules_of blocks asks = record {
+  options = block_options blocks;
+  definitions = firsts (block_parts blocks).definitions.items;
+  is_footnote = λ name. list_any (λ n. is_match (text_of n) name) (block_parts blocks).footnotes.items;
+  asks = asks;
+}
+
+-- the reading of a block result, for these answers, where there is somebody to ask and where not
+abbrev pub reading_of : Blocks → Bool → Answers → List Element
+reading_of blocks asks answers =
+    reading (setting_of (block_text blocks) (rules_of blocks asks)) (document (block_text blocks) (block_parts blocks).cows.items (block_tree blocks).nodes) nothing (known_at_start (block_text blocks) answers)
 
 -- the text that a parser reads
 abbrev pub parser_text : {F : Type 0} → Parser F → List ℕ
-parser_text p = p.text.now
+parser_text p = p.resolver.text.now
+
+-- the definitions that its chains can find
+abbrev pub parser_definitions : {F : Type 0} → Parser F → List Labelled
+parser_definitions p = p.resolver.tables.refdefs
 
 -- the callback that it holds
 abbrev pub parser_callback : {F : Type 0} → Parser F → Option F
-parser_callback p = p.callback
+parser_callback p = p.resolver.callback
+
+-- the counts of the work that it has done
+abbrev pub parser_work : {F : Type 0} → Parser F → Work
+parser_work p = p.resolver.work
+
+-- what the rules of its chains go by
+abbrev pub parser_setting : {F : Type 0} → Parser F → Setting
+parser_setting p = setting_of p.resolver.text.now (rules_from p.resolver.options p.resolver.tables (is_some p.resolver.callback))
 
 -- the elements that are left of it
 unfoldable pub elements : {F : Type 0} → Parser F → Answers → List Element
-elements p answers = left_of p.text.now p.tree.nodes p.tree.cursor p.tree.spine (known_at_start p.text.now answers)
+elements p answers = tree_left (parser_setting p) p.resolver.tables.cows p.tree (record { limit = p.resolver.limit; answers = answers })
 
 -- all of the reading of a block result is left, for every list of answers
 abbrev pub ReadsBlocks : {F : Type 0} → Blocks → Parser F → Type 0
-ReadsBlocks blocks p = (answers : Answers) → elements p answers ≡ reading_of blocks answers
+ReadsBlocks blocks p = (answers : Answers) → elements p answers ≡ reading_of blocks (is_some (parser_callback p)) answers
 
 -- the same of some block result of a text and options: one that is well formed and covers the text
 abbrev pub ReadsText : {F : Type 0} → List ℕ → Options → Parser F → Type 0
@@ -49,7 +78,7 @@ ReadsText text options p = (blocks : Blocks) × IsOfText text options blocks × 
 
 -- a bound on the steps to come, and so on the items
 abbrev pub parser_steps : {F : Type 0} → Parser F → ℕ
-parser_steps p = steps_of (links_of p.tree.nodes) p.tree.cursor p.tree.spine
+parser_steps p = tree_steps p.tree
 
 -- the walk is over: nothing is left, and no step is to come
 pub record IsOver {F : Type 0} (p : Parser F) : Type 0 where

@@ -1,9 +1,11 @@
 -- What all items of a parser are, from a call of `next` on to its None.
-use Rattle.std.specs.Prelude.{◌≡◌, ◌⊎◌, ℕ, List, [], ◌∷◌, ◌++◌, map, Ok, Err, Result}
-use Rattle.markdown_base.specs.Document.{Answers, Placed, events_of}
+use Rattle.std.specs.Prelude.{◌≡◌, ◌⊎◌, ℕ, List, [], ◌∷◌, ◌++◌, map, Ok, Err, Option, Result}
+use Rattle.markdown_base.specs.Questions.{Question, Answer, Answers}
 use Rattle.markdown_base.specs.declared.fault.Fault.{Fault}
 use Rattle.markdown_base.specs.declared.fault.Fault.TheVariants.{Memory}
-use Rattle.markdown_inline.specs.ParserLeft.{parser_text, elements}
+use Rattle.markdown_spans.specs.Callback.{Asks}
+use Rattle.markdown_inline.specs.Elements.{Placed, events_of, questions_of}
+use Rattle.markdown_inline.specs.ParserLeft.{parser_text, parser_callback, elements}
 use Rattle.markdown_inline.specs.declared.walk.Parser.{Parser}
 
 module _ {I : Type 0} (is_of : List ℕ → I → Placed → Type 0) where
@@ -36,3 +38,11 @@ module _ {I : Type 0} (is_of : List ℕ → I → Placed → Type 0) where
   -- there is no third way
   abbrev pub IsRun : {F : Type 0} → Parser F → List (Result I Fault) → Type 0
   IsRun p all = GaveAll p all ⊎ WasRefused p all
+
+  -- the items are all events that were left, for the answers that the callback gave to all questions that were left
+  pub record GaveRest {F : Type 0} (step : F → Question → Option Answer → F → Type 0) (p : Parser F) (given : List I) (callback : Option F) : Type 0 where
+    pub events : List Placed
+    pub are : AreOf (parser_text p) given events
+    pub answers : Answers
+    pub asked : Asks step (parser_callback p) (questions_of (elements p answers)) answers callback
+    pub left : (later : Answers) → events_of (elements p (answers ++ later)) ≡ events

@@ -1,12 +1,35 @@
--- Texts that are slices of the source.
-use Rattle.std.specs.Prelude.{◌≡◌, ℕ, List, slice_range}
+-- Texts of events that are slices of the source.
+use Rattle.std.specs.Prelude.{◌≡◌, ℕ, List, [], ◌∷◌, slice_range}
 use Rattle.std.specs.declared.ops.Range.{Range}
+use Rattle.markdown_base.specs.declared.cow_str.CowStr.{CowStr}
 use Rattle.markdown_base.specs.declared.cow_str.CowStr.TheVariants.{Borrowed}
 use Rattle.markdown_base.specs.declared.event.Event.{Event}
 use Rattle.markdown_base.specs.declared.event.Event.TheVariants as step
+use Rattle.markdown_inline.specs.Document.{Origin, sliced, made}
 
--- a Text is borrowed, and is the source's bytes over its range
-abbrev pub IsSlice : List ℕ → Range ℕ → Event → Type 0
-IsSlice source range (step.Text (Borrowed slice)) = slice.now ≡ slice_range source range.start range.end
-IsSlice source range (step.Text owned) = ⊥
-IsSlice source range other = Unit {0}
+-- a text is borrowed, and is the source's bytes over some range
+abbrev pub IsSliceOf : List ℕ → CowStr → Type 0
+IsSliceOf source (Borrowed slice) = (range : Range ℕ) × (slice.now ≡ slice_range source range.start range.end)
+IsSliceOf source owned = ⊥
+
+-- the texts of an event that is one leaf
+abbrev pub texts_of : Event → List CowStr
+texts_of (step.Text c) = c ∷ []
+texts_of (step.Code c) = c ∷ []
+texts_of (step.InlineMath c) = c ∷ []
+texts_of (step.DisplayMath c) = c ∷ []
+texts_of (step.Html c) = c ∷ []
+texts_of (step.InlineHtml c) = c ∷ []
+texts_of (step.FootnoteReference c) = c ∷ []
+texts_of other = []
+
+-- a text is of an origin
+abbrev pub IsFrom : List ℕ → Origin → CowStr → Type 0
+IsFrom source sliced c = IsSliceOf source c
+IsFrom source made c = Unit {0}
+
+-- so is each of some texts
+abbrev pub AreFrom : List ℕ → List Origin → List CowStr → Type 0
+AreFrom source (origin ∷ origins) (c ∷ cows) = IsFrom source origin c × AreFrom source origins cows
+AreFrom source (origin ∷ origins) [] = Unit {0}
+AreFrom source [] cows = Unit {0}

@@ -1,6 +1,9 @@
-//! The walk over a checked block result: a parser whose events are the reading of its tree.
+//! The walk over a checked block result: a parser whose events are the reading of its tree. A chain of inline items
+//! is resolved when the walk reaches it.
 #![tactic(auto)]
 
+mod resolver;
 pub mod runs;
 mod step;
 pub mod walk;
+pub mod work;

@@ -1,14 +1,15 @@
-//! One step of a walk over a tree of items.
-ghost use Rattle.std.specs.Prelude.{◌≡◌, None, Some, MatchResult, slice_range};
-ghost use Rattle.markdown_base.specs.Document.{shape_of};
-ghost use Rattle.markdown_base.specs.Item.{LiesIn, range_of};
-ghost use Rattle.markdown_inline.specs.WalkSteps.{StepGives, TreeWalks, IsRefused, OpensTo, OpensBySlice, ClosesTo};
+//! One step of a walk over a tree of items, with what they name.
+ghost use Rattle.std.specs.Prelude.{◌≡◌, ◌<◌, None, Some, false, MatchResult, IfSome, length, slice_range};
+ghost use Rattle.markdown_base.specs.Item.{LiesIn, is_open, text_named};
+ghost use Rattle.markdown_inline.specs.Document.{shape_of};
+ghost use Rattle.markdown_inline.specs.WalkSteps.{StepGives, TreeStands, IsRefused, OpensTo, ClosesTo, TakesOnly};
 
 use markdown_base::cow_str::CowStr;
 use markdown_base::event::Event;
 use markdown_base::item::{Item, ItemBody};
 use markdown_base::tag::{Tag, TagEnd};
 use markdown_base::tree::Tree;
+use markdown_spans::defs::Allocations;
 use std::alloc::AllocError;
 use std::ops::Range;
 
@@ -20,6 +21,8 @@ pub enum Step<'a> {
     /// It went into a node or out of one that gives no event.
     Skip,
     Give(Event<'a>, Range<usize>),
+    /// It stands before an open item, from which on the chain is to be resolved.
+    Chain(usize),
 }
 
 /// How an item begins.
@@ -41,11 +44,13 @@ fn slice_of<'a>(text: &'a str, item: Item) -> Event<'a>
     Event::Text(CowStr::Borrowed(&text[item.start..item.end]))
 }
 
-/// How an item begins, by its body.
-pub fn open_item<'a>(text: &'a str, item: Item) -> Opening<'a>
-    requires { LiesIn text.now item }
-    ensures opens { OpensTo (shape_of (slice_range text.entry.now item.start item.end) item.body) result }
-    ensures slice { OpensBySlice text.entry.now (range_of item) result }
+/// How an item that is not open begins, by its body. The text that it names is taken.
+pub fn open_item<'a>(text: &'a str, tables: &mut Allocations<'a>, item: Item) -> Opening<'a>
+    requires lies { LiesIn text.now item }
+    requires settled { is_open item.body ≡ false }
+    requires named { IfSome (text_named item.body) (λ n. n < length tables.old.cows) }
+    ensures opens { OpensTo text.entry.now (shape_of tables.old.cows (slice_range text.entry.now item.start item.end) item.body) result }
+    ensures taken { TakesOnly item.body tables.old tables.new }
 {
     match item.body {
         ItemBody::Paragraph => Opening::Start(Tag::Paragraph),
@@ -53,6 +58,7 @@ pub fn open_item<'a>(text: &'a str, item: Item) -> Opening<'a>
         ItemBody::Text { .. } => Opening::Leaf(slice_of(text, item)),
         ItemBody::SoftBreak => Opening::Leaf(Event::SoftBreak),
         ItemBody::HardBreak(_) => Opening::Leaf(Event::HardBreak),
+        ItemBody::SynthesizeText(ix) => Opening::Leaf(Event::Text(tables.take_cow(ix))),
         other => {
             if other.is_inline() || other.is_resolved() {
                 Opening::Leaf(slice_of(text, item))
@@ -73,11 +79,11 @@ pub fn close_item(body: ItemBody) -> Option<TagEnd>
     }
 }
 
-/// A step out of the node gone into last.
-pub fn step_out<'a>(text: &'a str, tree: &mut Tree<Item>) -> Step<'a>
-    requires walks { TreeWalks text.now tree.old }
+/// A step out of the node gone into last. The tables are as they were.
+pub fn step_out<'a>(text: &'a str, tables: &Allocations<'a>, tree: &mut Tree<Item>) -> Step<'a>
+    requires stands { TreeStands text.now tables.now.cows tree.old }
     requires at_end { tree.old.cursor ≡ None }
-    ensures { StepGives text.entry.now tree.old tree.new result }
+    ensures { StepGives text.entry.now tree.old tree.new tables.now tables.now result }
 {
     match tree.pop() {
         None => Step::Done,
@@ -93,13 +99,22 @@ pub fn step_out<'a>(text: &'a str, tree: &mut Tree<Item>) -> Step<'a>
 }
 
 /// A step at the node in focus.
-pub fn step_at<'a>(text: &'a str, tree: &mut Tree<Item>, ix: usize) -> Result<Step<'a>, AllocError>
-    requires walks { TreeWalks text.now tree.old }
+pub fn step_at<'a>(
+    text: &'a str,
+    tables: &mut Allocations<'a>,
+    tree: &mut Tree<Item>,
+    ix: usize,
+) -> Result<Step<'a>, AllocError>
+    requires stands { TreeStands text.now tables.old.cows tree.old }
     requires at_ix { tree.old.cursor ≡ Some ix }
-    ensures { MatchResult result (StepGives text.entry.now tree.old tree.new) (λ _. IsRefused tree.old tree.new) }
+    ensures given { MatchResult result (StepGives text.entry.now tree.old tree.new tables.old tables.new) (λ _. IsRefused tree.old tree.new) }
+    ensures definitions { tables.new.refdefs ≡ tables.old.refdefs }
 {
     let item = *tree.item(ix);
-    match open_item(text, item) {
+    if item.body.is_open() {
+        return Ok(Step::Chain(ix));
+    }
+    match open_item(text, tables, item) {
         Opening::Leaf(event) => {
             tree.next_sibling(ix);
             Ok(Step::Give(event, item.start..item.end))
@@ -116,12 +131,17 @@ pub fn step_at<'a>(text: &'a str, tree: &mut Tree<Item>, ix: usize) -> Result<St
 }
 
 /// One step of the walk over a tree. After a refusal the tree is as before.
-pub fn take_step<'a>(text: &'a str, tree: &mut Tree<Item>) -> Result<Step<'a>, AllocError>
-    requires { TreeWalks text.now tree.old }
-    ensures { MatchResult result (StepGives text.entry.now tree.old tree.new) (λ _. IsRefused tree.old tree.new) }
+pub fn take_step<'a>(
+    text: &'a str,
+    tables: &mut Allocations<'a>,
+    tree: &mut Tree<Item>,
+) -> Result<Step<'a>, AllocError>
+    requires { TreeStands text.now tables.old.cows tree.old }
+    ensures given { MatchResult result (StepGives text.entry.now tree.old tree.new tables.old tables.new) (λ _. IsRefused tree.old tree.new) }
+    ensures definitions { tables.new.refdefs ≡ tables.old.refdefs }
 {
     match tree.cur() {
-        None => Ok(step_out(text, tree)),
-        Some(ix) => step_at(text, tree, ix),
+        None => Ok(step_out(text, tables, tree)),
+        Some(ix) => step_at(text, tables, tree, ix),
     }
 }

@@ -1,29 +1,37 @@
-//! The walk over a block result that gives its events.
-ghost use Rattle.std.specs.Prelude.{◌≡◌, ◌<◌, IfOk, IfErr, IfSome, None};
-ghost use Rattle.markdown_base.specs.ArenaForest.{links_of};
-ghost use Rattle.markdown_base.specs.ArenaWalk.{IsWalk, IsWalk-prop};
-ghost use Rattle.markdown_inline.specs.Placing.{LiesAt, LiesAt-prop};
+//! The walk over a block result that gives its events, and resolves each chain when it stands before it.
+ghost use Rattle.std.specs.Prelude.{◌≡◌, ◌<◌, ◌++◌, ◌∷◌, [], IfOk, IfErr, IfSome, IsTrue, None};
+ghost use Rattle.markdown_inline.specs.Standing.{Stands, Stands-prop};
 
+use crate::resolver::Resolver;
 use crate::step::{Step, take_step};
+use crate::work::Work;
 use bitflags::Flags;
 use markdown_base::event::Event;
 use markdown_base::item::Item;
 use markdown_base::options::Options;
 use markdown_base::tree::Tree;
 use markdown_spans::blocks::{Blocks, Fault};
-use markdown_spans::defs::{BrokenLinkCallback, DefaultBrokenLinkCallback};
+use markdown_spans::defs::{Allocations, BrokenLinkCallback, DefaultBrokenLinkCallback, RefDefs};
 use std::alloc::Global;
 use std::iter::FusedIterator;
 use std::ops::Range;
+
+/// What one step of a parser did.
+#[derive(Drop)]
+pub enum Move<'a> {
+    Done,
+    Again,
+    Give(Event<'a>, Range<usize>),
+    Failed,
+}
 
 /// The events of a text, as an iterator. Its items are errors where memory is refused; after one nothing
 /// comes.
 #[derive(Drop)]
 pub struct Parser<'input, F = DefaultBrokenLinkCallback> {
-    text: &'input str,
     tree: Tree<Item>,
-    callback: Option<F>,
-    ghost walks: { IsWalk (links_of tree.nodes) (LiesAt text.now tree.nodes) tree.cursor tree.spine } by { IsWalk-prop (links_of tree.nodes) (LiesAt text.now tree.nodes) (LiesAt-prop text.now tree.nodes) tree.cursor tree.spine },
+    resolver: Resolver<'input, F>,
+    ghost stands: { Stands resolver.text.now resolver.tables.cows tree.nodes tree.cursor tree.spine } by { Stands-prop resolver.text.now resolver.tables.cows tree.nodes tree.cursor tree.spine },
 }
 
 /// The same events, each with the bytes of the source that it stands over.
@@ -33,26 +41,53 @@ pub struct OffsetIter<'input, F = DefaultBrokenLinkCallback> {
 }
 
 impl<'input, F: BrokenLinkCallback<'input>> Parser<'input, F> {
-    ghost use Rattle.std.specs.Prelude.{◌<◌, IfSome};
+    ghost use Rattle.std.specs.Prelude.{◌≡◌, ◌<◌, IfSome};
+    ghost use Rattle.markdown_inline.specs.Moves.{Moved, Keeps};
     ghost use Rattle.markdown_inline.specs.NextGives.{NextGives, IsPlacedOf};
-    ghost use Rattle.markdown_inline.specs.ParserLeft.{parser_steps};
+    ghost use Rattle.markdown_inline.specs.ParserLeft.{parser_callback, parser_steps};
+
+    /// One step of the walk.
+    fn advance_once(&mut self) -> Move<'input>
+        requires { IfSome (parser_callback self.old) F.can_ask }
+        ensures askable { IfSome (parser_callback self.new) F.can_ask }
+        ensures moves { Moved F.answers self.old self.new result }
+        ensures keeps { Keeps self.old self.new }
+    {
+        match take_step(
+            self.resolver.text,
+            &mut self.resolver.tables,
+            &mut self.tree,
+        ) {
+            Ok(Step::Done) => Move::Done,
+            Ok(Step::Skip) => Move::Again,
+            Ok(Step::Give(event, range)) => Move::Give(event, range),
+            Ok(Step::Chain(first)) => match self.resolver.resolve_chain(&mut self.tree, first) {
+                Ok(()) => Move::Again,
+                Err(_) => {
+                    self.tree.stop();
+                    Move::Failed
+                }
+            },
+            Err(_) => {
+                self.tree.stop();
+                Move::Failed
+            }
+        }
+    }
 
     /// The next event with its range.
     fn advance(&mut self) -> Option<Result<(Event<'input>, Range<usize>), Fault>>
-        requires { IfSome self.old.callback F.can_ask }
+        requires { IfSome (parser_callback self.old) F.can_ask }
         ensures gives { NextGives F.answers IsPlacedOf self.old result self.new }
-        ensures askable { IfSome self.new.callback F.can_ask }
+        ensures askable { IfSome (parser_callback self.new) F.can_ask }
         ensures falls { IfSome result (λ _. parser_steps self.new < parser_steps self.old) }
     {
         'walk: loop {
-            match take_step(self.text, &mut self.tree) {
-                Ok(Step::Done) => return None,
-                Ok(Step::Skip) => {}
-                Ok(Step::Give(event, range)) => return Some(Ok((event, range))),
-                Err(_) => {
-                    self.tree.stop();
-                    return Some(Err(Fault::Memory));
-                }
+            match self.advance_once() {
+                Move::Done => return None,
+                Move::Again => {}
+                Move::Give(event, range) => return Some(Ok((event, range))),
+                Move::Failed => return Some(Err(Fault::Memory)),
             }
         }
     }
@@ -115,15 +150,14 @@ impl<'input, F: BrokenLinkCallback<'input>> Iterator for OffsetIter<'input, F> {
 impl<'input, F: BrokenLinkCallback<'input>> FusedIterator for OffsetIter<'input, F> {}
 
 impl<'input> Parser<'input, DefaultBrokenLinkCallback> {
-    ghost use Rattle.std.specs.Prelude.{◌≡◌, ◌<◌, ◌^◌, IfOk, IfErr};
-    ghost use Rattle.markdown_inline.specs.ParserLeft.{ReadsText, parser_text, parser_callback, parser_steps, no_options};
+    ghost use Rattle.std.specs.Prelude.{◌≡◌, IfOk, IfErr};
+    ghost use Rattle.markdown_inline.specs.ParserLeft.{ReadsText, parser_text, parser_callback, no_options};
 
     /// A parser of a text, with no extension.
     pub fn new(alloc: Global, text: &'input str) -> Result<Self, Fault>
         ensures left { IfOk result (ReadsText text.entry.now no_options) }
         ensures text { IfOk result (λ p. parser_text p ≡ text.entry.now) }
         ensures callback { IfOk result (λ p. parser_callback p ≡ None) }
-        ensures countable { IfOk result (λ p. parser_steps p < 2 ^ 64) }
         ensures refused { IfErr result (λ fault. fault ≡ Fault.Memory) }
     {
         Parser::new_ext(alloc, text, Options::empty())
@@ -134,7 +168,6 @@ impl<'input> Parser<'input, DefaultBrokenLinkCallback> {
         ensures left { IfOk result (ReadsText text.entry.now options) }
         ensures text { IfOk result (λ p. parser_text p ≡ text.entry.now) }
         ensures callback { IfOk result (λ p. parser_callback p ≡ None) }
-        ensures countable { IfOk result (λ p. parser_steps p < 2 ^ 64) }
         ensures refused { IfErr result (λ fault. fault ≡ Fault.Memory) }
     {
         Parser::new_with_broken_link_callback(alloc, text, options, None)
@@ -142,9 +175,10 @@ impl<'input> Parser<'input, DefaultBrokenLinkCallback> {
 }
 
 impl<'input, F: BrokenLinkCallback<'input>> Parser<'input, F> {
-    ghost use Rattle.std.specs.Prelude.{◌≡◌, ◌<◌, ◌^◌, IfOk, IfErr, IfSome};
-    ghost use Rattle.markdown_spans.specs.Blocks.{block_text};
-    ghost use Rattle.markdown_inline.specs.ParserLeft.{ReadsText, ReadsBlocks, parser_text, parser_callback, parser_steps, offset_parser};
+    ghost use Rattle.std.specs.Prelude.{◌≡◌, IfOk, IfErr, IfSome};
+    ghost use Rattle.markdown_spans.specs.Blocks.{block_text, block_parts};
+    ghost use Rattle.markdown_spans.specs.Definitions.{firsts};
+    ghost use Rattle.markdown_inline.specs.ParserLeft.{ReadsText, ReadsBlocks, parser_text, parser_callback, parser_definitions, parser_work, offset_parser};
 
     /// A parser of a text, which asks `callback`, where there is one, about each link label that is
     /// defined nowhere.
@@ -157,7 +191,6 @@ impl<'input, F: BrokenLinkCallback<'input>> Parser<'input, F> {
         ensures left { IfOk result (ReadsText text.entry.now options) }
         ensures text { IfOk result (λ p. parser_text p ≡ text.entry.now) }
         ensures callback { IfOk result (λ p. parser_callback p ≡ callback) }
-        ensures countable { IfOk result (λ p. parser_steps p < 2 ^ 64) }
         ensures refused { IfErr result (λ fault. fault ≡ Fault.Memory) }
     {
         let blocks = Blocks::of_text(alloc, text, options)?;
@@ -172,20 +205,24 @@ impl<'input, F: BrokenLinkCallback<'input>> Parser<'input, F> {
     ) -> Result<Self, Fault>
         ensures left { IfOk result (ReadsBlocks blocks.entry) }
         ensures text { IfOk result (λ p. parser_text p ≡ block_text blocks.entry) }
+        ensures definitions { IfOk result (λ p. parser_definitions p ≡ firsts (block_parts blocks.entry).definitions.items) }
         ensures callback { IfOk result (λ p. parser_callback p ≡ callback) }
-        ensures countable { IfOk result (λ p. parser_steps p < 2 ^ 64) }
         ensures refused { IfErr result (λ fault. fault ≡ Fault.Memory) }
     {
-        let _ = alloc;
-        let (text, _, tree, _) = blocks.into_parts();
+        let (text, options, tree, parts) = blocks.into_parts();
+        let tables = Allocations::new(alloc, parts)?;
         let mut tree = tree;
         tree.reset();
-        // bounds the steps to come
-        let _nodes = tree.len();
         Ok(Parser {
-            text,
             tree,
-            callback,
+            resolver: Resolver {
+                text,
+                options,
+                tables,
+                limit: text.len().max(100000),
+                callback,
+                work: Work::none(),
+            },
         })
     }
 
@@ -195,4 +232,74 @@ impl<'input, F: BrokenLinkCallback<'input>> Parser<'input, F> {
     {
         OffsetIter { inner: self }
     }
+
+    /// The definitions that references find, at any moment of the walk.
+    pub fn reference_definitions(&self) -> &RefDefs<'input>
+        ensures { result.now ≡ parser_definitions self.now }
+    {
+        &self.resolver.tables.refdefs
+    }
+
+    /// The counts of the work done so far.
+    pub fn work(&self) -> Work
+        ensures { result ≡ parser_work self.now }
+    {
+        self.resolver.work
+    }
+}
+
+impl<'input, F: BrokenLinkCallback<'input>> OffsetIter<'input, F> {
+    ghost use Rattle.std.specs.Prelude.{◌≡◌, ◌++◌, ◌∷◌, [], IfOk, IfErr, IfSome, IsTrue};
+    ghost use Rattle.markdown_inline.specs.NextGives.{IsPlacedOf};
+    ghost use Rattle.markdown_inline.specs.ParserLeft.{parser_callback, parser_definitions, parser_work, offset_parser};
+    ghost use Rattle.markdown_inline.specs.Runs.{GaveRest};
+
+    /// The definitions that references find, at any moment of the walk.
+    pub fn reference_definitions(&self) -> &RefDefs<'input>
+        ensures { result.now ≡ parser_definitions (offset_parser self.now) }
+    {
+        self.inner.reference_definitions()
+    }
+
+    /// The counts of the work done so far.
+    pub fn work(&self) -> Work
+        ensures { result ≡ parser_work (offset_parser self.now) }
+    {
+        self.inner.work()
+    }
+
+    /// All that is left, and the callback, which was asked all questions that were left. After a refusal both are
+    /// gone.
+    pub fn into_events(
+        self,
+        alloc: Global,
+    ) -> Result<(Vec<(Event<'input>, Range<usize>)>, Option<F>), Fault>
+        requires { IfSome (parser_callback (offset_parser self)) F.can_ask }
+        ensures all { IfOk result (λ given. GaveRest IsPlacedOf F.answers (offset_parser self.entry) given.0.items given.1) }
+        ensures refused { IfErr result (λ fault. fault ≡ Fault.Memory) }
+    {
+        let OffsetIter { inner } = self;
+        let mut parser = inner;
+        let mut events = Vec::new(alloc);
+        'walk: while let Some(item) = parser.advance() {
+            match item {
+                Err(fault) => return Err(fault),
+                Ok(event) => {
+                    if !add(&mut events, event) {
+                        return Err(Fault::Memory);
+                    }
+                }
+            }
+        }
+        let Parser { resolver, .. } = parser;
+        let Resolver { callback, .. } = resolver;
+        Ok((events, callback))
+    }
+}
+
+/// Adds an item, if there is memory for it.
+fn add<T: Drop>(items: &mut Vec<T>, item: T) -> bool
+    ensures { IsTrue result → items.new.items ≡ items.old.items ++ item ∷ [] }
+{
+    items.push(item).is_ok()
 }

@@ -1,10 +1,2 @@
-pub mod LayoutLemmas
-pub mod ReadingLemmas
 pub mod LinesLemmas
 pub mod LineBreakLemmas
-pub mod RuleLemmas
-pub mod BesideLemmas
-pub mod PassLemmas
-pub mod OutsideLemmas
-pub mod FinishLemmas
-pub mod ParagraphLemmas

@@ -1,8 +1,8 @@
 -- What stands between two lines of a paragraph, by the bytes at the first one's end.
 use Rattle.std.specs.Prelude.{◌≡◌, ℕ, ◌-◌, ◌%◌, Bool, true, false, cond, ◌==◌, List, nat_lt, ◌≤◌}
 use Rattle.std.specs.Str.{IsCharBoundary}
-use Rattle.markdown_base.specs.declared.item.ItemBody.{ItemBody}
 use Rattle.markdown_base.specs.declared.item.ItemBody.TheVariants as body
+use Rattle.markdown_builder.specs.Bodies.{is_settled}
 use Rattle.markdown_plain.specs.declared.line_break.LineBreak.{LineBreak}
 use Rattle.markdown_plain.specs.Lines.{is_space_or_tab, IsRunBefore}
 
@@ -27,12 +27,6 @@ pub record IsLineBreak (text : List ℕ) (from stop : ℕ) (between : LineBreak)
   pub content_run : IsRunBefore is_space_or_tab text from spaces content
   pub value : between ≡ break_after stop backslashes spaces content
 
--- a soft or a hard break
-abbrev pub is_break : ItemBody → Bool
-is_break body.SoftBreak = true
-is_break (body.HardBreak backslash) = true
-is_break other = false
-
 -- a break behind a line's text, at the end of the line's content
 pub record BreakFits (text : List ℕ) (from stop : ℕ) (between : LineBreak) : Type 0 where
   pub low : from ≤ between.text_end
@@ -40,4 +34,4 @@ pub record BreakFits (text : List ℕ) (from stop : ℕ) (between : LineBreak) :
   pub high : between.start ≤ stop
   pub text_end : IsCharBoundary text between.text_end
   pub start : IsCharBoundary text between.start
-  pub body : is_break between.body ≡ true
+  pub body : is_settled between.body ≡ true

@@ -1,37 +1,32 @@
 //! The blocks of a text.
-ghost use Rattle.std.specs.Prelude.{IfOk};
+ghost use Rattle.std.specs.Prelude.{◌≡◌, [], false, length, IfOk};
 ghost use Rattle.markdown_base.specs.Coverage.{Covers};
 ghost use Rattle.markdown_base.specs.WellFormed.{IsWellFormed};
-ghost use Rattle.markdown_plain.specs.BlockPass.{HasRead};
 
 use crate::line::next_content;
-use crate::made::Made;
-use crate::paragraph::{add_paragraph, paragraph_end};
+use crate::paragraph::add_paragraph;
 use markdown_base::block_parts::BlockParts;
 use markdown_base::item::Item;
 use markdown_base::options::Options;
 use markdown_base::tree::Tree;
+use markdown_builder::builder::Builder;
 use std::alloc::{AllocError, Global};
 
-/// Reads the paragraphs of a text.
-fn read_paragraphs<'a>(
-    alloc: Global,
-    text: &'a str,
-    options: Options,
-) -> Result<Made<'a>, AllocError>
-    ensures { IfOk result (HasRead text.now) }
+/// Appends the paragraphs of a text.
+fn add_paragraphs(builder: &mut Builder<'_>, options: Options) -> Result<(), AllocError>
+    requires closed { builder.old.blocks ≡ [] }
+    requires outside { builder.old.leaf ≡ false }
+    ensures text { IfOk result (λ _. builder.new.text ≡ builder.old.text) }
+    ensures closed { IfOk result (λ _. builder.new.blocks ≡ []) }
+    ensures read { IfOk result (λ _. builder.new.at ≡ length builder.old.text) }
 {
-    let mut made = Made {
-        tree: Tree::new(alloc)?,
-        cows: Vec::new(alloc),
-    };
-    let mut from = 0;
-    'paragraphs: while let Some(first) = next_content(text, from) {
-        let end = paragraph_end(text, first);
-        add_paragraph(alloc, text, options, &mut made, first, end)?;
-        from = end;
+    let text = builder.text();
+    'paragraphs: while let Some(first) = next_content(text, builder.at()) {
+        builder.skip(first);
+        add_paragraph(builder, options)?;
     }
-    Ok(made)
+    builder.skip(text.as_bytes().len());
+    Ok(())
 }
 
 /// The tree of a text's blocks, and the parts that its items name.
@@ -52,13 +47,7 @@ pub fn blocks<'a>(
     ensures formed { IfOk result (λ made. IsWellFormed text.now made.0.nodes made.1) }
     ensures covered { IfOk result (λ made. Covers text.now made.0.nodes made.1) }
 {
-    let made = read_paragraphs(alloc, text, options)?;
-    let parts = BlockParts {
-        definitions: Vec::new(alloc),
-        footnotes: Vec::new(alloc),
-        cows: made.cows,
-        alignments: Vec::new(alloc),
-        headings: Vec::new(alloc),
-    };
-    Ok((made.tree, parts))
+    let mut builder = Builder::new(alloc, text)?;
+    add_paragraphs(&mut builder, options)?;
+    Ok(builder.finish())
 }

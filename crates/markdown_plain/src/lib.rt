@@ -4,7 +4,6 @@
 mod block_pass;
 mod line;
 mod line_break;
-mod made;
 mod paragraph;
 
 pub use block_pass::blocks;

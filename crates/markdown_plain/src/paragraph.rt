@@ -1,141 +1,74 @@
 //! A paragraph: its lines, and the breaks between them (CommonMark 4.8).
-ghost use Rattle.std.specs.Prelude.{◌<◌, ◌≤◌, length, IfOk};
+ghost use Rattle.std.specs.Prelude.{◌≡◌, ◌<◌, ◌≤◌, [], true, false, length, IfOk};
 ghost use Rattle.std.specs.Str.{IsCharBoundary};
-ghost use Rattle.markdown_items.specs.LineItems.{IsLine};
-ghost use Rattle.markdown_plain.specs.BlockPass.{StandsOutside, StandsBeforeParagraph, StandsBeforeLine, StandsBehindLines, AddsItems, AddsBrokenLine};
-ghost use Rattle.markdown_plain.specs.Paragraphs.{IsParagraphEnd};
-ghost use Rattle.markdown_plain.specs.Lines.{IsLineFrom};
 
-use crate::line::{Line, content_end, content_start, is_blank_line, line_from};
+use crate::line::{content_end, content_start, is_blank_line, line_from};
 use crate::line_break::line_break;
-use crate::made::Made;
-use markdown_base::item::{Item, ItemBody};
+use markdown_base::item::ItemBody;
 use markdown_base::options::Options;
+use markdown_builder::builder::Builder;
 use markdown_items::items;
-use std::alloc::{AllocError, Global};
-use std::ops::Range;
+use std::alloc::AllocError;
 
-/// Where the paragraph ends whose first line goes on at `first`: before a blank line, or at the end of
-/// the text.
-pub fn paragraph_end(text: &str, first: usize) -> usize
-    requires more { first < length text.now }
-    requires boundary { IsCharBoundary text.now first }
-    ensures end { IsParagraphEnd text.now first result }
-    ensures past { first < result }
-    ensures boundary { IsCharBoundary text.now result }
+/// Whether a paragraph ends where its next line would begin: before a blank line, or at the end of the text.
+fn ends_paragraph(text: &str, next: usize) -> bool
+    requires { IsCharBoundary text.now next }
 {
-    let mut end = line_from(text, first).next;
-    'lines: while end < text.as_bytes().len() && !is_blank_line(text, end) {
-        end = line_from(text, end).next;
-    }
-    end
+    next == text.as_bytes().len() || is_blank_line(text, next)
 }
 
-/// Appends a paragraph and goes into it.
-fn open_paragraph(
-    text: &str,
-    made: &mut Made<'_>,
-    first: usize,
-    end: usize,
-) -> Result<(), AllocError>
-    requires ordered { first ≤ end }
-    requires start { IsCharBoundary text.now first }
-    requires end { IsCharBoundary text.now end }
-    requires outside { StandsBeforeParagraph text.now made.old first }
-    requires ends { IsParagraphEnd text.now first end }
-    ensures { IfOk result (λ _. StandsBeforeLine text.now made.new first end first) }
+/// Appends the line that goes on here, with the break behind it if the paragraph goes on. Answers whether
+/// it does.
+#[tactic(auto, using(crate::proofs::LineBreakLemmas::break_fits, crate::proofs::LinesLemmas::line_goes_on))]
+fn add_line(builder: &mut Builder<'_>, options: Options) -> Result<bool, AllocError>
+    requires inside { builder.old.leaf ≡ true }
+    requires more { builder.old.at < length builder.old.text }
+    ensures stays { IfOk result (λ _. builder.new ≡ record builder.old { at = builder.new.at; run = builder.new.run }) }
+    ensures past { IfOk result (λ _. builder.old.at < builder.new.at) }
 {
-    made.tree.append(Item {
-        start: first,
-        end,
-        body: ItemBody::Paragraph,
-    })?;
-    made.tree.push()?;
+    let text = builder.text();
+    let from = builder.at();
+    let line = line_from(text, from);
+    if ends_paragraph(text, line.next) {
+        items(builder, content_end(text, from, line.stop), options)?;
+        builder.skip(line.next);
+        return Ok(false);
+    }
+    let between = line_break(text, from, line.stop);
+    items(builder, between.text_end, options)?;
+    builder.skip(between.start);
+    builder.inline(between.body, line.next)?;
+    builder.skip(content_start(text, line.next));
+    Ok(true)
+}
+
+/// Appends the lines of the paragraph that is open.
+fn add_lines(builder: &mut Builder<'_>, options: Options) -> Result<(), AllocError>
+    requires { builder.old.leaf ≡ true }
+    ensures stays { IfOk result (λ _. builder.new ≡ record builder.old { at = builder.new.at; run = builder.new.run }) }
+    ensures past { IfOk result (λ _. builder.old.at < length builder.old.text → builder.old.at < builder.new.at) }
+{
+    let end = builder.text().as_bytes().len();
+    'lines: while builder.at() < end {
+        if !add_line(builder, options)? {
+            break;
+        }
+    }
     Ok(())
 }
 
-/// Appends the items of a line's content.
-fn add_items<'a>(
-    alloc: Global,
-    text: &'a str,
-    options: Options,
-    made: &mut Made<'a>,
-    line: Range<usize>,
-) -> Result<(), AllocError>
-    requires { IsLine text.now line }
-    ensures { IfOk result (λ _. AddsItems text.now line made.old made.new) }
+/// Appends the paragraph that begins here.
+pub fn add_paragraph(builder: &mut Builder<'_>, options: Options) -> Result<(), AllocError>
+    requires closed { builder.old.blocks ≡ [] }
+    requires outside { builder.old.leaf ≡ false }
+    requires more { builder.old.at < length builder.old.text }
+    ensures text { IfOk result (λ _. builder.new.text ≡ builder.old.text) }
+    ensures closed { IfOk result (λ _. builder.new.blocks ≡ []) }
+    ensures outside { IfOk result (λ _. builder.new.leaf ≡ false) }
+    ensures past { IfOk result (λ _. builder.old.at < builder.new.at) }
 {
-    items(alloc, &mut made.tree, text, line, options, &mut made.cows)
-}
-
-/// Appends a line whose content goes on at `from`, and the break behind it, and answers where the content
-/// of the next line begins.
-fn add_broken_line<'a>(
-    alloc: Global,
-    text: &'a str,
-    options: Options,
-    made: &mut Made<'a>,
-    from: usize,
-    line: Line,
-) -> Result<usize, AllocError>
-    requires start { IsCharBoundary text.now from }
-    requires line { IsLineFrom text.now from line }
-    ensures past { IfOk result (λ next. line.next ≤ next) }
-    ensures boundary { IfOk result (λ next. IsCharBoundary text.now next) }
-    ensures adds { IfOk result (λ next. AddsBrokenLine text.now from line next made.old made.new) }
-{
-    let between = line_break(text, from, line.stop);
-    add_items(alloc, text, options, made, from..between.text_end)?;
-    made.tree.append(Item {
-        start: between.start,
-        end: line.next,
-        body: between.body,
-    })?;
-    Ok(content_start(text, line.next))
-}
-
-/// Appends the lines of a paragraph from `first` up to `end`.
-fn add_lines<'a>(
-    alloc: Global,
-    text: &'a str,
-    options: Options,
-    made: &mut Made<'a>,
-    first: usize,
-    end: usize,
-) -> Result<(), AllocError>
-    requires start { IsCharBoundary text.now first }
-    requires end { IsCharBoundary text.now end }
-    requires stands { StandsBeforeLine text.now made.old first end first }
-    ensures { IfOk result (λ _. StandsBehindLines text.now made.new first end) }
-{
-    let mut from = first;
-    let mut line = line_from(text, from);
-    'lines: while line.next < end {
-        from = add_broken_line(alloc, text, options, made, from, line)?;
-        line = line_from(text, from);
-    }
-    let stop = content_end(text, from, line.stop);
-    add_items(alloc, text, options, made, from..stop)
-}
-
-/// Appends the paragraph from `first` up to `end`.
-pub fn add_paragraph<'a>(
-    alloc: Global,
-    text: &'a str,
-    options: Options,
-    made: &mut Made<'a>,
-    first: usize,
-    end: usize,
-) -> Result<(), AllocError>
-    requires ordered { first ≤ end }
-    requires start { IsCharBoundary text.now first }
-    requires end { IsCharBoundary text.now end }
-    requires outside { StandsBeforeParagraph text.now made.old first }
-    requires ends { IsParagraphEnd text.now first end }
-    ensures { IfOk result (λ _. StandsOutside text.now made.new end) }
-{
-    open_paragraph(text, made, first, end)?;
-    add_lines(alloc, text, options, made, first, end)?;
-    made.tree.pop();
+    builder.open(ItemBody::Paragraph)?;
+    add_lines(builder, options)?;
+    builder.close();
     Ok(())
 }

@@ -3,10 +3,9 @@ use Rattle.std.proofs.Common.{◌≡◌, ℕ, suc, zero, ◌+◌, ◌-◌, ◌<�
 use Rattle.std.proofs.lemmas.Bool.{cond_both, cond-true}
 use Rattle.std.proofs.lemmas.List.{drop-drop, length-drop, get_or-drop}
 use Rattle.std.specs.List.{slice_index}
-use Rattle.std.specs.Char.{is_ascii_alphabetic}
 use Rattle.std.specs.Option.{option_map}
-use Rattle.markdown_scan.specs.Beginnings.{begins_with}
-use Rattle.markdown_raw_html.specs.RawHtml.{begins_with_letter, cdata_section, comment, declaration, end_from, processing_instruction, through_first, through_first_after}
+use Rattle.markdown_scan.specs.Beginnings.{begins_with, begins_with_letter}
+use Rattle.markdown_raw_html.specs.RawHtml.{cdata_section, comment, declaration, end_from, processing_instruction, through_first, through_first_after}
 use Rattle.markdown_scan.proofs.BeginsWithLemmas.{begins_with-fits, begins_with-reads}
 
 -- where they stand nowhere, they stand nowhere further on
@@ -57,11 +56,6 @@ end_if closing text start n begins e =
     end_after closing text start n
     ∙ ap (option_map (λ k. start + k))
     (sym (cond-true begins (through_first_after n closing (drop start text)) None e))
-
--- a letter begins the bytes
-pub letter_begins : (first : ℕ) (bytes tail : List ℕ) → bytes ≡ first ∷ tail
-    → begins_with_letter bytes ≡ is_ascii_alphabetic first
-letter_begins first bytes tail e = ap begins_with_letter e
 
 -- so many bytes, of which the last is this one
 pub record EndsWith (mark : ℕ) (bytes : List ℕ) (n : ℕ) : Type 0 where

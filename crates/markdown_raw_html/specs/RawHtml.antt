@@ -1,10 +1,9 @@
 -- Raw HTML that ends at the first place where its closing bytes stand (CommonMark 6.6): comments,
 -- CDATA sections, declarations and processing instructions. Each is read from the byte after its
 -- `<!` or `<?` on, and answers how many bytes it takes from there.
-use Rattle.std.specs.Prelude.{ℕ, ◌+◌, Bool, false, List, [], ◌∷◌, Option, Some, None, if◌then◌else◌, length, drop, codes}
+use Rattle.std.specs.Prelude.{ℕ, ◌+◌, List, [], ◌∷◌, Option, Some, None, if◌then◌else◌, length, drop, codes}
 use Rattle.std.specs.Option.{option_map}
-use Rattle.std.specs.Char.{is_ascii_alphabetic}
-use Rattle.markdown_scan.specs.Beginnings.{begins_with}
+use Rattle.markdown_scan.specs.Beginnings.{begins_with, begins_with_letter}
 
 -- up to the first place where these bytes stand, and through them
 abbrev pub through_first : List ℕ → List ℕ → Option ℕ
@@ -29,11 +28,6 @@ comment bytes =
 abbrev pub cdata_section : List ℕ → Option ℕ
 cdata_section bytes =
     if begins_with (codes "[CDATA[") bytes then through_first_after 7 (codes "]]>") bytes else None
-
--- the bytes begin with an ASCII letter
-abbrev pub begins_with_letter : List ℕ → Bool
-begins_with_letter [] = false
-begins_with_letter (b ∷ bytes) = is_ascii_alphabetic b
 
 -- `<!`, an ASCII letter, and then all up to the first `>`
 abbrev pub declaration : List ℕ → Option ℕ

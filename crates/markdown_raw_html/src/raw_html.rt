@@ -3,6 +3,7 @@ ghost use Rattle.std.specs.Prelude.{◌≡◌, ◌-◌, ◌≤◌, IfSome, codes
 ghost use Rattle.markdown_raw_html.specs.RawHtml.{cdata_section, comment, declaration, end_from, processing_instruction};
 
 use crate::closing::ClosingGuard;
+use markdown_scan::ascii_kinds::begins_with_letter;
 
 /// The comments, CDATA sections, declarations and processing instructions of a text, which is that
 /// of one block up to its end. It remembers from where on none of a kind ends, so that the scans of
@@ -84,8 +85,7 @@ impl<'t> RawHtmlScanner<'t> {
         ensures closed { IfSome result (λ end. slice_index self.old.text.now (end - 1) ≡ 62) }
         ensures text { self.new.text ≡ self.old.text }
     {
-        let (first, _) = self.text[start..].split_first()?;
-        if !first.is_ascii_alphabetic() {
+        if !begins_with_letter(&self.text[start..]) {
             return None;
         }
         self.declarations.end(start + 1)

@@ -1,7 +1,7 @@
 -- What `push_html` makes of a merge over a parser is the HTML of the merge of the events that were left.
 use Rattle.std.proofs.Common.{◌≡◌, ℕ, List, [], Option, false, ap, subst}
 use Rattle.std.specs.Iterator.{Count}
-use Rattle.markdown_base.specs.Document.{Question, Answer}
+use Rattle.markdown_base.specs.Questions.{Question, Answer}
 use Rattle.markdown_inline.specs.NextGives.{NextGives, IsEventOf}
 use Rattle.markdown_inline.specs.declared.walk.Parser.{Parser}
 use Rattle.markdown_inline.proofs.RunLemmas.{drained}

@@ -1,7 +1,8 @@
 -- The HTML of what is left of a parser, neighbouring texts as one; and the calls of a parser, as a merge
 -- reads them.
 use Rattle.std.specs.Prelude.{◌≡◌, ℕ, List, ◌++◌, map}
-use Rattle.markdown_base.specs.Document.{Answers, events_of}
+use Rattle.markdown_base.specs.Questions.{Answers}
+use Rattle.markdown_inline.specs.Elements.{events_of}
 use Rattle.markdown_inline.specs.ParserLeft.{elements}
 use Rattle.markdown_inline.specs.declared.walk.Parser.{Parser}
 use Rattle.markdown_out.specs.EventHtml.{html_of}

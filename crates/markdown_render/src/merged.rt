@@ -4,6 +4,7 @@ ghost use Rattle.std.specs.Iterator.{at_most};
 ghost use Rattle.markdown_inline.specs.NextGives.{NextGives, IsEventOf, IsPlacedOf};
 ghost use Rattle.markdown_inline.specs.ParserLeft.{parser_callback, parser_steps, offset_parser};
 ghost use Rattle.markdown_out.specs.MergeNext.{CanMerge};
+ghost use Rattle.markdown_out.specs.OutLaws.{StaysEnded};
 ghost use Rattle.markdown_render.specs.Merged.{IsMergedHtmlOf};
 
 use markdown_inline::walk::{OffsetIter, Parser};
@@ -13,17 +14,20 @@ use markdown_spans::blocks::Fault;
 use markdown_spans::defs::BrokenLinkCallback;
 use std::alloc::Global;
 
-/// A parser may be merged: after `None` it may be called again, and has no more items left.
+/// A parser may be merged: it stays ended, and after `None` it may be called again and has no more items left. So, by
+/// `a_mapped_iterator_can_be_merged`, may a mapped one.
 pub fn parsers_can_be_merged<'input, F: BrokenLinkCallback<'input>>(parser: &Parser<'input, F>)
     requires { IfSome (parser_callback parser.now) F.can_ask }
-    ensures { CanMerge (NextGives F.answers IsEventOf) (λ p. IfSome (parser_callback p) F.can_ask)
+    ensures stays_ended { StaysEnded (NextGives F.answers IsEventOf) }
+    ensures merges { CanMerge (NextGives F.answers IsEventOf) (λ p. IfSome (parser_callback p) F.can_ask)
         (λ p. at_most (parser_steps p)) parser.now }
 {}
 
 /// So may its events with their ranges.
 pub fn offsets_can_be_merged<'input, F: BrokenLinkCallback<'input>>(iter: &OffsetIter<'input, F>)
     requires { IfSome (parser_callback (offset_parser iter.now)) F.can_ask }
-    ensures { CanMerge (λ o r t. NextGives F.answers IsPlacedOf (offset_parser o) r (offset_parser t))
+    ensures stays_ended { StaysEnded (λ o r t. NextGives F.answers IsPlacedOf (offset_parser o) r (offset_parser t)) }
+    ensures merges { CanMerge (λ o r t. NextGives F.answers IsPlacedOf (offset_parser o) r (offset_parser t))
         (λ o. IfSome (parser_callback (offset_parser o)) F.can_ask) (λ o. at_most (parser_steps (offset_parser o))) iter.now }
 {}
 

@@ -1,5 +1,5 @@
 -- A label's definitions at a whole character.
-use Rattle.std.proofs.Common.{◌≡◌, ℕ, suc, ◌+◌, ◌≤◌, ◌<◌, List, [], ◌∷◌, ◌++◌, Bool, true, false, not, Option, Some, if◌then◌else◌, length, drop, get_or, inl, inr, refl, sym, ◌∙◌, ap, arith, ◌==◌}
+use Rattle.std.proofs.Common.{◌≡◌, ℕ, suc, ◌+◌, ◌≤◌, ◌<◌, List, [], ◌∷◌, ◌++◌, Bool, true, false, Option, Some, None, length, drop, get_or, inl, inr, refl, sym, ◌∙◌, ap, arith, ◌==◌}
 use Rattle.std.specs.Prelude.{encode_utf8}
 use Rattle.std.proofs.lemmas.List.{append-nil}
 use Rattle.std.proofs.lemmas.Str.{encode_ascii, inside_one, length-encode, len_utf8_bounds}
@@ -7,10 +7,10 @@ use Rattle.std.proofs.lemmas.Option.{same_Some}
 use Rattle.std.proofs.lemmas.Bool.Decides.{nat_tests, leb_tells}
 use Rattle.markdown_scan.specs.AsciiKinds.{is_white_space}
 use Rattle.markdown_scan.specs.Backslash.{backslash, is_bare}
-use Rattle.markdown_scan.specs.Label.{label_bytes, body, put_before, shown, squeeze, gap}
+use Rattle.markdown_scan.specs.Label.{label_bytes, body, put_before, shown, with_shown, squeeze, gap}
 use Rattle.markdown_scan.specs.LinePrefix.{prefix_after}
-use Rattle.markdown_scan.specs.LabelScan.{character_shown}
-use Rattle.markdown_scan.proofs.LabelLemmas.{body_step, put_before_twice, put_before_none}
+use Rattle.markdown_scan.specs.LabelScan.{character_shown, found_in}
+use Rattle.markdown_scan.proofs.LabelLemmas.{body_step, found_step, put_before_twice, put_before_none}
 
 -- no byte is ASCII
 abbrev pub IsHigh : List ℕ → Type 0
@@ -77,80 +77,63 @@ high_ends_no_line skipped x rest high =
     let return : (x == 13) ≡ false = high_is_not x 13 high (omega arith) in
     rw (feed, return)
 
-shown_high : (in_table escaped : Bool) (x : ℕ) → 128 ≤ x → shown in_table escaped x ≡ (if escaped then backslash ∷ x ∷ [] else x ∷ [])
-shown_high true true x high = rw (high_is_not x 124 high (omega arith))
-shown_high false true x high = refl
-shown_high in_table false x high = rw (high_is_not x 92 high (omega arith))
+shown_high : (in_table : Bool) (xs rest : List ℕ) → IsHigh xs → shown in_table (xs ++ rest) ≡ xs ++ shown in_table rest
+shown_high in_table [] rest high = refl
+shown_high in_table (x ∷ xs) rest high = rw (high_is_not x 92 high.0 (omega arith)) (ap (λ (ys : List ℕ). x ∷ ys) (shown_high in_table xs rest high.1))
 
-character_shown_high : (in_table escaped : Bool) (c : ℕ) → 128 ≤ c → character_shown in_table escaped c ≡ (if escaped then backslash ∷ encode_utf8 c else encode_utf8 c)
-character_shown_high true true c high = rw (high_is_not c 124 high (omega arith))
-character_shown_high false true c high = refl
-character_shown_high in_table false c high = rw (high_is_not c 92 high (omega arith))
+with_shown_high : (in_table : Bool) (m : ℕ) (xs : List ℕ) (o : Option (ℕ × List ℕ)) → IsHigh xs → with_shown in_table (put_before m xs o) ≡ put_before m xs (with_shown in_table o)
+with_shown_high in_table m xs None high = refl
+with_shown_high in_table m xs (Some f) high = rw (shown_high in_table xs f.1 high)
 
-unless : (b : Bool) (xs ys : List ℕ) → (if not b then xs else ys) ≡ (if b then ys else xs)
-unless true xs ys = refl
-unless false xs ys = refl
-
-character_shown_low : (in_table escaped : Bool) (c : ℕ) → c < 128 → character_shown in_table escaped c ≡ shown in_table escaped c
-character_shown_low true true c low = rw (encode_ascii c low) (unless (c == 124) (backslash ∷ c ∷ []) (c ∷ []))
-character_shown_low false true c low = rw (encode_ascii c low)
-character_shown_low in_table false c low = rw (encode_ascii c low)
+character_shown_high : (in_table : Bool) (c : ℕ) (next : List ℕ) → 128 ≤ c → character_shown in_table c next ≡ encode_utf8 c
+character_shown_high in_table c next high = rw (high_is_not c 92 high (omega arith))
 
 -- a byte of a label that is not ASCII
-high_step : (skipped : List ℕ → Option ℕ) (in_table escaped : Bool) (x : ℕ) (rest : List ℕ) → 128 ≤ x
-    → body in_table escaped (label_bytes skipped 0 (x ∷ rest)) ≡ put_before 1 (if escaped then backslash ∷ x ∷ [] else x ∷ []) (body in_table false (label_bytes skipped 0 rest))
-high_step skipped in_table escaped x rest high =
-    let step = body_step skipped in_table escaped x rest 0 (high_is_not_bare escaped x 93 high (omega arith)) (high_is_not_bare escaped x 91 high (omega arith)) (high_ends_no_line skipped x rest high) (omega arith) in
-    step
-    ∙ ap (λ (e : Bool). put_before 1 (shown in_table escaped x) (body in_table e (label_bytes skipped 0 rest))) (high_is_not_bare escaped x 92 high (omega arith))
-    ∙ ap (λ (text : List ℕ). put_before 1 text (body in_table false (label_bytes skipped 0 rest))) (shown_high in_table escaped x high)
+high_step : (skipped : List ℕ → Option ℕ) (escaped : Bool) (x : ℕ) (rest : List ℕ) → 128 ≤ x
+    → body escaped (label_bytes skipped 0 (x ∷ rest)) ≡ put_before 1 (x ∷ []) (body false (label_bytes skipped 0 rest))
+high_step skipped escaped x rest high =
+    let step = body_step skipped escaped x rest 0 (high_is_not_bare escaped x 93 high (omega arith)) (high_is_not_bare escaped x 91 high (omega arith)) (high_ends_no_line skipped x rest high) (omega arith) in
+    step ∙ ap (λ (e : Bool). put_before 1 (x ∷ []) (body e (label_bytes skipped 0 rest))) (high_is_not_bare escaped x 92 high (omega arith))
 
 -- bytes of a label of which none is ASCII
-high_run : (skipped : List ℕ → Option ℕ) (in_table : Bool) (xs rest : List ℕ) → IsHigh xs
-    → body in_table false (label_bytes skipped 0 (xs ++ rest)) ≡ put_before (length xs) xs (body in_table false (label_bytes skipped 0 rest))
-high_run skipped in_table [] rest high = sym (put_before_none (body in_table false (label_bytes skipped 0 rest)))
-high_run skipped in_table (x ∷ xs) rest high =
+high_run : (skipped : List ℕ → Option ℕ) (xs rest : List ℕ) → IsHigh xs
+    → body false (label_bytes skipped 0 (xs ++ rest)) ≡ put_before (length xs) xs (body false (label_bytes skipped 0 rest))
+high_run skipped [] rest high = sym (put_before_none (body false (label_bytes skipped 0 rest)))
+high_run skipped (x ∷ xs) rest high =
     let one : 1 + length xs ≡ suc (length xs) = omega arith in
-    high_step skipped in_table false x (xs ++ rest) high.0
-    ∙ ap (put_before 1 (x ∷ [])) (high_run skipped in_table xs rest high.1)
-    ∙ rw one at (put_before_twice 1 (length xs) (x ∷ []) xs (body in_table false (label_bytes skipped 0 rest)))
+    high_step skipped false x (xs ++ rest) high.0
+    ∙ ap (put_before 1 (x ∷ [])) (high_run skipped xs rest high.1)
+    ∙ rw one at (put_before_twice 1 (length xs) (x ∷ []) xs (body false (label_bytes skipped 0 rest)))
 
-high_word : (skipped : List ℕ → Option ℕ) (in_table escaped : Bool) (xs rest : List ℕ) → IsHigh xs → 0 < length xs
-    → (m : ℕ) × (body in_table escaped (label_bytes skipped 0 (xs ++ rest)) ≡ put_before m (if escaped then backslash ∷ xs else xs) (body in_table false (label_bytes skipped 0 rest)))
-high_word skipped in_table escaped [] rest high some = absurd (omega arith)
-high_word skipped in_table true (x ∷ xs) rest high some = (
+high_word : (skipped : List ℕ → Option ℕ) (escaped : Bool) (xs rest : List ℕ) → IsHigh xs → 0 < length xs
+    → (m : ℕ) × (body escaped (label_bytes skipped 0 (xs ++ rest)) ≡ put_before m xs (body false (label_bytes skipped 0 rest)))
+high_word skipped escaped [] rest high some = absurd (omega arith)
+high_word skipped escaped (x ∷ xs) rest high some = (
   1 + length xs,
-  high_step skipped in_table true x (xs ++ rest) high.0
-      ∙ ap (put_before 1 (backslash ∷ x ∷ [])) (high_run skipped in_table xs rest high.1)
-      ∙ put_before_twice 1 (length xs) (backslash ∷ x ∷ []) xs (body in_table false (label_bytes skipped 0 rest)),
-)
-high_word skipped in_table false (x ∷ xs) rest high some = (
-  1 + length xs,
-  high_step skipped in_table false x (xs ++ rest) high.0
-      ∙ ap (put_before 1 (x ∷ [])) (high_run skipped in_table xs rest high.1)
-      ∙ put_before_twice 1 (length xs) (x ∷ []) xs (body in_table false (label_bytes skipped 0 rest)),
+  high_step skipped escaped x (xs ++ rest) high.0
+      ∙ ap (put_before 1 (x ∷ [])) (high_run skipped xs rest high.1)
+      ∙ put_before_twice 1 (length xs) (x ∷ []) xs (body false (label_bytes skipped 0 rest)),
 )
 
 -- a character that is no bracket, and the prefix after it
 pub character_step : (skipped : List ℕ → Option ℕ) (in_table escaped : Bool) (c : ℕ) (tail : List ℕ) (n : ℕ)
     → is_bare escaped c 93 ≡ false → is_bare escaped c 91 ≡ false → prefix_after skipped c tail ≡ Some n → n ≤ length tail
-    → (m : ℕ) × (body in_table escaped (label_bytes skipped 0 (encode_utf8 c ++ tail))
-    ≡ put_before m (character_shown in_table escaped c) (body in_table (is_bare escaped c backslash) (label_bytes skipped 0 (drop n tail))))
+    → (m : ℕ) × (found_in skipped in_table escaped (encode_utf8 c ++ tail)
+    ≡ put_before m (character_shown in_table c (drop n tail)) (found_in skipped in_table (is_bare escaped c backslash) (drop n tail)))
 character_step skipped in_table escaped c tail n no_end no_start after within = elim (leb_tells 128 c) [
   | inl high ↦
       let none : n ≡ 0 = same_Some n 0 (sym after ∙ high_ends_no_line skipped c tail high.1) in
-      let word = high_word skipped in_table escaped (encode_utf8 c) tail (high_encode c high.1) (encode_nonempty c) in
-      let text : List ℕ = character_shown in_table escaped c in (
+      let bytes = high_encode c high.1 in
+      let word = high_word skipped escaped (encode_utf8 c) tail bytes (encode_nonempty c) in (
         word.0,
-        word.1
-            ∙ ap (λ (xs : List ℕ). put_before word.0 xs (body in_table false (label_bytes skipped 0 tail))) (sym (character_shown_high in_table escaped c high.1))
-            ∙ ap (λ (e : Bool). put_before word.0 text (body in_table e (label_bytes skipped 0 tail))) (sym (high_is_not_bare escaped c 92 high.1 (omega arith)))
-            ∙ ap (λ (k : ℕ). put_before word.0 text (body in_table (is_bare escaped c backslash) (label_bytes skipped 0 (drop k tail)))) (sym none),
+        ap (with_shown in_table) word.1
+            ∙ with_shown_high in_table word.0 (encode_utf8 c) (body false (label_bytes skipped 0 tail)) bytes
+            ∙ rw (none, high_is_not_bare escaped c 92 high.1 (omega arith), character_shown_high in_table c tail high.1),
       )
   | inr low ↦ (
     1 + n,
-    ap (λ (xs : List ℕ). body in_table escaped (label_bytes skipped 0 (xs ++ tail))) (encode_ascii c low.1)
-        ∙ body_step skipped in_table escaped c tail n no_end no_start after within
-        ∙ ap (λ (xs : List ℕ). put_before (1 + n) xs (body in_table (is_bare escaped c backslash) (label_bytes skipped 0 (drop n tail)))) (sym (character_shown_low in_table escaped c low.1)),
+    ap (λ (xs : List ℕ). found_in skipped in_table escaped (xs ++ tail)) (encode_ascii c low.1)
+        ∙ found_step skipped in_table escaped c tail n no_end no_start after within
+        ∙ rw (encode_ascii c low.1),
   )
 ]

@@ -1,14 +1,15 @@
 -- Steps of the scans of a label.
-use Rattle.std.proofs.Common.{◌≡◌, ℕ, suc, zero, ◌+◌, ◌≤◌, ◌<◌, List, [], ◌∷◌, ◌++◌, Bool, true, false, ◌&&◌, ◌||◌, Option, Some, None, if◌then◌else◌, length, drop, refl, sym, ◌∙◌, ap, arith, append_assoc, count_by, nat_le}
+use Rattle.std.proofs.Common.{◌≡◌, ℕ, suc, zero, ◌+◌, ◌≤◌, ◌<◌, List, [], ◌∷◌, ◌++◌, Bool, true, false, ◌&&◌, ◌||◌, Option, Some, None, if◌then◌else◌, length, drop, refl, sym, ◌∙◌, ap, arith, append_assoc, count_by, nat_le, ◌==◌, is_none, unwrap_or, IfSome}
 use Rattle.std.specs.List.{list_any}
-use Rattle.std.proofs.lemmas.List.{append-nil}
 use Rattle.std.proofs.lemmas.List.Sums.{sum_by-append}
 use Rattle.std.proofs.lemmas.List.Folds.{list_any-append}
+use Rattle.std.proofs.lemmas.Bool.{cond_both}
 use Rattle.std.proofs.lemmas.Bool.Decides.{nat_tests}
-use Rattle.markdown_scan.specs.Backslash.{backslash, is_bare}
-use Rattle.markdown_scan.specs.Label.{label_bytes, body, put_before, shown, begins_character, is_no_white_space}
+use Rattle.markdown_scan.specs.AsciiKinds.{pipe}
+use Rattle.markdown_scan.specs.Backslash.{backslash, begins_pipe, escapes_pipe, is_bare}
+use Rattle.markdown_scan.specs.Label.{LabelByte, kept, refused, label_bytes, body, put_before, shown, with_shown, begins_character, is_no_white_space}
 use Rattle.markdown_scan.specs.LinePrefix.{prefix_after}
-use Rattle.markdown_scan.specs.LabelScan.{end_after}
+use Rattle.markdown_scan.specs.LabelScan.{byte_shown, end_after, found_in}
 
 -- what stands before what stands before
 pub put_before_twice : (n m : ℕ) (xs ys : List ℕ) (o : Option (ℕ × List ℕ)) → put_before n xs (put_before m ys o) ≡ put_before (n + m) (xs ++ ys) o
@@ -24,24 +25,68 @@ put_before_none None = refl
 put_before_none (Some r) = let sum : 0 + r.0 ≡ r.0 = omega arith in rw sum
 
 -- bytes of a prefix add nothing to the text
-pub body_past_prefix : (skipped : List ℕ → Option ℕ) (in_table escaped : Bool) (n : ℕ) (rest : List ℕ) → n ≤ length rest
-    → body in_table escaped (label_bytes skipped n rest) ≡ put_before n [] (body in_table escaped (label_bytes skipped 0 (drop n rest)))
-body_past_prefix skipped in_table escaped zero rest h = sym (put_before_none (body in_table escaped (label_bytes skipped 0 rest)))
-body_past_prefix skipped in_table escaped (suc n) [] h = absurd (omega arith)
-body_past_prefix skipped in_table escaped (suc n) (b ∷ bs) h =
+pub body_past_prefix : (skipped : List ℕ → Option ℕ) (escaped : Bool) (n : ℕ) (rest : List ℕ) → n ≤ length rest
+    → body escaped (label_bytes skipped n rest) ≡ put_before n [] (body escaped (label_bytes skipped 0 (drop n rest)))
+body_past_prefix skipped escaped zero rest h = sym (put_before_none (body escaped (label_bytes skipped 0 rest)))
+body_past_prefix skipped escaped (suc n) [] h = absurd (omega arith)
+body_past_prefix skipped escaped (suc n) (b ∷ bs) h =
     let shorter : n ≤ length bs = omega arith in
-    let later = body_past_prefix skipped in_table escaped n bs shorter in
+    let later = body_past_prefix skipped escaped n bs shorter in
     let one : 1 + n ≡ suc n = omega arith in
-    ap (put_before 1 []) later ∙ rw one at (put_before_twice 1 n [] [] (body in_table escaped (label_bytes skipped 0 (drop n bs))))
+    ap (put_before 1 []) later ∙ rw one at (put_before_twice 1 n [] [] (body escaped (label_bytes skipped 0 (drop n bs))))
 
 -- a byte that is no bracket, and the prefix after it
-pub body_step : (skipped : List ℕ → Option ℕ) (in_table escaped : Bool) (b : ℕ) (tail : List ℕ) (n : ℕ)
+pub body_step : (skipped : List ℕ → Option ℕ) (escaped : Bool) (b : ℕ) (tail : List ℕ) (n : ℕ)
     → is_bare escaped b 93 ≡ false → is_bare escaped b 91 ≡ false → prefix_after skipped b tail ≡ Some n → n ≤ length tail
-    → body in_table escaped (label_bytes skipped 0 (b ∷ tail)) ≡ put_before (1 + n) (shown in_table escaped b) (body in_table (is_bare escaped b backslash) (label_bytes skipped 0 (drop n tail)))
-body_step skipped in_table escaped b tail n no_end no_start after within =
-    let past = body_past_prefix skipped in_table (is_bare escaped b backslash) n tail within in
-    let joined = put_before_twice 1 n (shown in_table escaped b) [] (body in_table (is_bare escaped b backslash) (label_bytes skipped 0 (drop n tail))) in
-    rw (no_end, no_start, after, past, joined, append-nil)
+    → body escaped (label_bytes skipped 0 (b ∷ tail)) ≡ put_before (1 + n) (b ∷ []) (body (is_bare escaped b backslash) (label_bytes skipped 0 (drop n tail)))
+body_step skipped escaped b tail n no_end no_start after within =
+    let past = body_past_prefix skipped (is_bare escaped b backslash) n tail within in
+    let joined = put_before_twice 1 n (b ∷ []) [] (body (is_bare escaped b backslash) (label_bytes skipped 0 (drop n tail))) in
+    rw (no_end, no_start, after, past, joined)
+
+closing_is_no_pipe : (escaped : Bool) (x : ℕ) → is_bare escaped x 93 ≡ true → false ≡ (x == pipe)
+closing_is_no_pipe true x is = cc
+closing_is_no_pipe false x is = grind (arith, nat_tests, is)
+
+put_begins_pipe : (x : ℕ) (o : Option (ℕ × List ℕ)) → IfSome (put_before 1 (x ∷ []) o) (λ f. begins_pipe f.1 ≡ (x == pipe))
+put_begins_pipe x None = tt
+put_begins_pipe x (Some f) = refl
+
+kept_begins_pipe : (escaped : Bool) (x : ℕ) (rest : List LabelByte) → IfSome (body escaped (kept x ∷ rest)) (λ f. begins_pipe f.1 ≡ (x == pipe))
+kept_begins_pipe escaped x rest =
+    let P = λ (o : Option (ℕ × List ℕ)). IfSome o (λ f. begins_pipe f.1 ≡ (x == pipe)) in
+    let later = body (is_bare escaped x backslash) rest in
+    let more = put_before 1 (x ∷ []) later in
+    cond_both (is_bare escaped x 93) (Some (0, [])) (if is_bare escaped x 91 then None else more) P
+    (closing_is_no_pipe escaped x)
+    (λ e. cond_both (is_bare escaped x 91) None more P (λ f. tt) (λ f. put_begins_pipe x later))
+
+-- the text of a label begins with a pipe where its bytes do
+pub begins_pipe_alike : (skipped : List ℕ → Option ℕ) (escaped : Bool) (bytes : List ℕ)
+    → IfSome (body escaped (label_bytes skipped 0 bytes)) (λ f. begins_pipe f.1 ≡ begins_pipe bytes)
+begins_pipe_alike skipped escaped [] = tt
+begins_pipe_alike skipped escaped (x ∷ xs) =
+    kept_begins_pipe escaped x (if is_none (prefix_after skipped x xs) then refused ∷ [] else label_bytes skipped (unwrap_or (prefix_after skipped x xs) 0) xs)
+
+one_shown : (goes : Bool) (b : ℕ) (text : List ℕ) → (if goes then text else b ∷ text) ≡ (if goes then [] else b ∷ []) ++ text
+one_shown true b text = refl
+one_shown false b text = refl
+
+-- a byte before a text that begins with a pipe where these bytes do, as it is shown
+shown_before : (in_table : Bool) (m b : ℕ) (bytes : List ℕ) (o : Option (ℕ × List ℕ)) → IfSome o (λ f. begins_pipe f.1 ≡ begins_pipe bytes)
+    → with_shown in_table (put_before m (b ∷ []) o) ≡ put_before m (byte_shown in_table b bytes) (with_shown in_table o)
+shown_before in_table m b bytes None same = refl
+shown_before in_table m b bytes (Some f) same = rw (same, one_shown (escapes_pipe in_table b bytes) b (shown in_table f.1))
+
+-- the same of the text as it is shown
+pub found_step : (skipped : List ℕ → Option ℕ) (in_table escaped : Bool) (b : ℕ) (tail : List ℕ) (n : ℕ)
+    → is_bare escaped b 93 ≡ false → is_bare escaped b 91 ≡ false → prefix_after skipped b tail ≡ Some n → n ≤ length tail
+    → found_in skipped in_table escaped (b ∷ tail) ≡ put_before (1 + n) (byte_shown in_table b (drop n tail)) (found_in skipped in_table (is_bare escaped b backslash) (drop n tail))
+found_step skipped in_table escaped b tail n no_end no_start after within =
+    let later = is_bare escaped b backslash in
+    let rest = drop n tail in
+    ap (with_shown in_table) (body_step skipped escaped b tail n no_end no_start after within)
+    ∙ shown_before in_table (1 + n) b rest (body later (label_bytes skipped 0 rest)) (begins_pipe_alike skipped later rest)
 
 or_assoc : (a b c : Bool) → (a || (b || c)) ≡ ((a || b) || c)
 or_assoc true b c = refl
@@ -61,15 +106,15 @@ end_of_put at characters n solid text (Some f) =
 
 -- the invariant of the scan for the end, after a byte
 pub end_step : (whole : Option ℕ) (skipped : List ℕ → Option ℕ) (in_table escaped solid : Bool) (at characters b : ℕ) (tail : List ℕ) (n : ℕ)
-    → whole ≡ end_after at characters solid (body in_table escaped (label_bytes skipped 0 (b ∷ tail)))
+    → whole ≡ end_after at characters solid (found_in skipped in_table escaped (b ∷ tail))
     → is_bare escaped b 93 ≡ false → is_bare escaped b 91 ≡ false → prefix_after skipped b tail ≡ Some n → n ≤ length tail
-    → whole ≡ end_after (at + 1 + n) (characters + count_by begins_character (shown in_table escaped b)) (solid || list_any is_no_white_space (shown in_table escaped b))
-    (body in_table (is_bare escaped b backslash) (label_bytes skipped 0 (drop n tail)))
+    → whole ≡ end_after (at + 1 + n) (characters + count_by begins_character (byte_shown in_table b (drop n tail))) (solid || list_any is_no_white_space (byte_shown in_table b (drop n tail)))
+    (found_in skipped in_table (is_bare escaped b backslash) (drop n tail))
 end_step whole skipped in_table escaped solid at characters b tail n was no_end no_start after within =
-    let later = body in_table (is_bare escaped b backslash) (label_bytes skipped 0 (drop n tail)) in
+    let later = found_in skipped in_table (is_bare escaped b backslash) (drop n tail) in
     let sum : at + (1 + n) ≡ at + 1 + n = omega arith in
-    was ∙ ap (end_after at characters solid) (body_step skipped in_table escaped b tail n no_end no_start after within)
-    ∙ rw sum at (end_of_put at characters (1 + n) solid (shown in_table escaped b) later)
+    was ∙ ap (end_after at characters solid) (found_step skipped in_table escaped b tail n no_end no_start after within)
+    ∙ rw sum at (end_of_put at characters (1 + n) solid (byte_shown in_table b (drop n tail)) later)
 
 too_many : (n : ℕ) (b : Bool) (x : Option ℕ) → 999 < n → None ≡ (if nat_le n 999 && b then x else None)
 too_many n b x more = grind (arith, nat_tests)

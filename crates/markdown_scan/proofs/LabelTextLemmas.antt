@@ -4,8 +4,8 @@ use Rattle.std.specs.Prelude.{encode_utf8, Result, Ok, Err, OnErr, IfSome, ◌||
 use Rattle.std.specs.Option.{option_map}
 use Rattle.std.proofs.lemmas.Option.{none-some, same_Some}
 use Rattle.std.proofs.lemmas.List.{append-nil, take-append-drop, append_cancel_left, length-take-le, take_at}
-use Rattle.std.proofs.lemmas.Str.{encode_ascii, encode_same, length-encode, len_utf8_bounds}
-use Rattle.markdown_scan.specs.LabelScan.{IsNoBeginning, own_or, keeps_backslash, character_shown}
+use Rattle.std.proofs.lemmas.Str.{encode_same, length-encode, len_utf8_bounds}
+use Rattle.markdown_scan.specs.LabelScan.{IsNoBeginning, own_or}
 use Rattle.markdown_scan.specs.AsciiKinds.{is_white_space}
 use Rattle.markdown_scan.specs.Label.{squeeze, gap, put_before}
 use Rattle.markdown_scan.proofs.LabelCharacterLemmas.{squeeze_character, encode_nonempty}
@@ -69,11 +69,6 @@ pub put_differs : (so mid source : List ℕ) (begun waiting : Bool) (c : ℕ) �
     → (rest : List ℕ) (n : ℕ) → so ++ squeeze begun waiting (encode_utf8 c ++ rest) ≢ take n source
 put_differs so mid source begun waiting c solid first differs rest n e =
     differs (squeeze true false rest) n (put_text so mid (mid ++ encode_utf8 c) begun waiting c solid first refl rest ∙ e)
-
--- an escape that stays as it is written
-pub shown_kept : (in_table escaped : Bool) (c : ℕ) (rest : List ℕ) → keeps_backslash in_table escaped c ≡ true
-    → character_shown in_table escaped c ++ rest ≡ encode_utf8 92 ++ (encode_utf8 c ++ rest)
-shown_kept in_table escaped c rest keeps = let low : 92 < 128 = omega arith in rw (keeps, encode_ascii 92 low)
 
 -- a text of its own is no beginning of the source
 pub borrowed_if_same : (own : Option (String Global)) (same source text : List ℕ) (B : Type 0)

@@ -15,7 +15,7 @@ use Rattle.std.proofs.lemmas.List.{get_or-drop}
 use Rattle.markdown_scan.specs.AsciiKinds.{is_control_or_space}
 use Rattle.markdown_scan.specs.Backslash.{backslash, is_bare}
 use Rattle.markdown_scan.specs.Destination.{bare_destination, bare_length, end_of_bare, is_past_bare, is_too_deep, open_after}
-use Rattle.markdown_scan.specs.Label.{LabelByte, body, dropped, fits_label, kept, label_body, label_bytes, put_before, refused, shown}
+use Rattle.markdown_scan.specs.Label.{LabelByte, body, dropped, fits_label, kept, label_body, label_bytes, put_before, refused, shown, with_shown}
 use Rattle.markdown_scan.proofs.LabelTextLemmas.{neither}
 use Rattle.markdown_scan.proofs.LineStartLemmas.{no_space_from}
 use Rattle.markdown_scan.specs.ScanLaws.{holds_bare_bracket, is_in_bare, is_plain, TabGoesToTheNextStop}
@@ -208,39 +208,40 @@ bracket_kept escaped b text rest (Some f) closes opens h =
     rw (one, closes, opens) h
 
 -- before the closing bracket no other one stands bare
-no_bare_bracket : (in_table escaped : Bool) (bytes : List LabelByte)
-    → IfSome (body in_table escaped bytes)
+no_bare_bracket : (escaped : Bool) (bytes : List LabelByte)
+    → IfSome (body escaped bytes)
     (λ f. holds_bare_bracket escaped (take f.0 bytes) ≡ false)
-no_bare_bracket in_table escaped [] = tt
-no_bare_bracket in_table escaped (refused ∷ rest) = tt
-no_bare_bracket in_table escaped (dropped ∷ rest) =
-    bracket_dropped escaped rest (body in_table escaped rest)
-    (no_bare_bracket in_table escaped rest)
-no_bare_bracket in_table escaped (kept b ∷ rest) =
+no_bare_bracket escaped [] = tt
+no_bare_bracket escaped (refused ∷ rest) = tt
+no_bare_bracket escaped (dropped ∷ rest) =
+    bracket_dropped escaped rest (body escaped rest)
+    (no_bare_bracket escaped rest)
+no_bare_bracket escaped (kept b ∷ rest) =
     let P = λ (o : Option (ℕ × List ℕ)).
     IfSome o (λ f. holds_bare_bracket escaped (take f.0 (kept b ∷ rest)) ≡ false) in
-    let later = body in_table (is_bare escaped b backslash) rest in
-    let more = put_before 1 (shown in_table escaped b) later in
+    let later = body (is_bare escaped b backslash) rest in
+    let more = put_before 1 (b ∷ []) later in
     cond_both (is_bare escaped b 93) (Some (0, [])) (if is_bare escaped b 91 then None else more) P
     (λ e. refl)
     (λ e. cond_both (is_bare escaped b 91) None more P (λ f. tt)
-    (λ f. bracket_kept escaped b (shown in_table escaped b) rest later e f
-    (no_bare_bracket in_table (is_bare escaped b backslash) rest)))
+    (λ f. bracket_kept escaped b (b ∷ []) rest later e f
+    (no_bare_bracket (is_bare escaped b backslash) rest)))
 
 pub label_bracket : (in_table : Bool) (bytes : List ℕ) (skipped : List ℕ → Option ℕ)
     → IfSome (label_body skipped in_table bytes)
     (λ f. holds_bare_bracket false (take f.0 (label_bytes skipped 0 bytes)) ≡ false)
 label_bracket in_table bytes skipped =
-    fitting (body in_table false (label_bytes skipped 0 bytes))
-    (no_bare_bracket in_table false (label_bytes skipped 0 bytes))
+    fitting (body false (label_bytes skipped 0 bytes))
+    (no_bare_bracket false (label_bytes skipped 0 bytes))
   where
     fitting : (found : Option (ℕ × List ℕ))
         → IfSome found (λ f. holds_bare_bracket false (take f.0 (label_bytes skipped 0 bytes)) ≡ false)
-        → IfSome (option_and_then (λ f. if fits_label f.1 then Some f else None) found)
+        → IfSome (option_and_then (λ f. if fits_label f.1 then Some f else None) (with_shown in_table found))
         (λ f. holds_bare_bracket false (take f.0 (label_bytes skipped 0 bytes)) ≡ false)
     fitting None h = tt
     fitting (Some f) h =
-        cond_both (fits_label f.1) (Some f) None
+        let text = shown in_table f.1 in
+        cond_both (fits_label text) (Some (f.0, text)) None
         (λ o. IfSome o (λ f. holds_bare_bracket false (take f.0 (label_bytes skipped 0 bytes)) ≡ false))
         (λ e. h) (λ e. tt)
 

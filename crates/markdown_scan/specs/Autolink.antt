@@ -1,16 +1,13 @@
 -- Absolute-URI autolinks (CommonMark 6.5): a URI in angle brackets.
-use Rattle.std.specs.Prelude.{ℕ, ◌+◌, ◌==◌, Bool, false, not, ◌&&◌, ◌||◌, nat_le, List, [], ◌∷◌, length, take, drop, take_while, slice_index, Option, Some, None, if◌then◌else◌}
+use Rattle.std.specs.Prelude.{ℕ, ◌+◌, ◌==◌, Bool, not, ◌&&◌, ◌||◌, nat_le, List, length, take, drop, take_while, slice_index, Option, Some, None, if◌then◌else◌}
 use Rattle.std.specs.Option.{option_map}
-use Rattle.markdown_scan.specs.AsciiKinds.{is_letter, is_digit, is_control_or_space}
+use Rattle.std.specs.Char.{is_ascii_alphanumeric}
+use Rattle.markdown_scan.specs.AsciiKinds.{is_control_or_space}
+use Rattle.markdown_scan.specs.Beginnings.{begins_with_letter}
 
 -- a character of a scheme: an ASCII letter, a digit, a plus, a period or a hyphen
 abbrev pub is_scheme_byte : ℕ → Bool
-is_scheme_byte b = is_letter b || is_digit b || (b == 43) || (b == 46) || (b == 45)
-
--- the bytes begin with an ASCII letter
-abbrev pub begins_letter : List ℕ → Bool
-begins_letter [] = false
-begins_letter (b ∷ bytes) = is_letter b
+is_scheme_byte b = is_ascii_alphanumeric b || (b == 43) || (b == 46) || (b == 45)
 
 -- how many characters of a scheme the bytes begin with
 abbrev pub scheme_length : List ℕ → ℕ
@@ -19,7 +16,7 @@ scheme_length bytes = length (take_while is_scheme_byte bytes)
 -- the bytes begin with a scheme, which has 2 to 32 characters of which the first is a letter, and a colon
 abbrev pub begins_scheme : List ℕ → Bool
 begins_scheme bytes =
-    begins_letter bytes && nat_le 2 (scheme_length bytes) && nat_le (scheme_length bytes) 32
+    begins_with_letter bytes && nat_le 2 (scheme_length bytes) && nat_le (scheme_length bytes) 32
     && (slice_index bytes (scheme_length bytes) == 58)
 
 -- a character of a URI: no ASCII control character, no space, no < and no >

@@ -1,5 +1,7 @@
--- Backslash escapes (CommonMark 2.4), where all that matters is which brackets and backslashes count.
-use Rattle.std.specs.Prelude.{ℕ, Bool, not, ◌&&◌, ◌==◌}
+-- Backslash escapes (CommonMark 2.4), where all that matters is which brackets and backslashes count,
+-- and those of a table's pipes.
+use Rattle.std.specs.Prelude.{ℕ, Bool, false, not, ◌&&◌, ◌==◌, List, [], ◌∷◌}
+use Rattle.markdown_scan.specs.AsciiKinds.{pipe}
 
 -- a backslash
 abbrev pub backslash : ℕ
@@ -8,3 +10,12 @@ backslash = 92
 -- the byte is this punctuation character, and no backslash escapes it
 abbrev pub is_bare : Bool → ℕ → ℕ → Bool
 is_bare escaped b what = not escaped && (b == what)
+
+-- the bytes begin with a pipe
+abbrev pub begins_pipe : List ℕ → Bool
+begins_pipe [] = false
+begins_pipe (b ∷ bytes) = b == pipe
+
+-- in a table, a backslash directly before a pipe
+abbrev pub escapes_pipe : Bool → ℕ → List ℕ → Bool
+escapes_pipe in_table b bytes = (b == backslash) && in_table && begins_pipe bytes

@@ -1,10 +1,16 @@
--- Bytes that begin with a text, or begin and end with a byte.
-use Rattle.std.specs.Prelude.{◌≡◌, ℕ, ◌-◌, Bool, List, nat_eq, slice_index}
+-- Bytes that begin with a text or a letter, or begin and end with a byte.
+use Rattle.std.specs.Prelude.{◌≡◌, ℕ, ◌-◌, Bool, false, List, [], ◌∷◌, nat_eq, slice_index}
+use Rattle.std.specs.Char.{is_ascii_alphabetic}
 use Rattle.std.specs.List.{starts_with}
 
 -- the bytes begin with this text
 abbrev pub begins_with : List ℕ → List ℕ → Bool
 begins_with text bytes = starts_with nat_eq bytes text
+
+-- the bytes begin with an ASCII letter
+abbrev pub begins_with_letter : List ℕ → Bool
+begins_with_letter [] = false
+begins_with_letter (b ∷ bytes) = is_ascii_alphabetic b
 
 -- of the first n bytes the first is this one, and the last that one
 abbrev pub StandsBetween : ℕ → ℕ → List ℕ → ℕ → Type 0

@@ -1,10 +1,10 @@
 -- Link labels (CommonMark 6.3), from the byte after the opening bracket on. `skipped` says how many
 -- bytes of what follows a line ending are its line's prefix, if the line ending may stand there.
-use Rattle.std.specs.Prelude.{ℕ, zero, suc, ◌+◌, List, [], ◌∷◌, ◌++◌, Bool, true, false, not, ◌&&◌, ◌||◌, ◌==◌, Option, Some, None, if◌then◌else◌, unwrap_or, is_none, nat_le, nat_lt, count_by, option_and_then}
+use Rattle.std.specs.Prelude.{ℕ, zero, suc, ◌+◌, List, [], ◌∷◌, ◌++◌, Bool, true, false, not, ◌&&◌, ◌||◌, Option, Some, None, if◌then◌else◌, unwrap_or, is_none, nat_le, nat_lt, count_by, option_and_then}
 use Rattle.std.specs.List.{list_any}
 use Rattle.std.specs.Option.{option_map}
-use Rattle.markdown_scan.specs.AsciiKinds.{is_white_space, pipe}
-use Rattle.markdown_scan.specs.Backslash.{backslash, is_bare}
+use Rattle.markdown_scan.specs.AsciiKinds.{is_white_space}
+use Rattle.markdown_scan.specs.Backslash.{backslash, escapes_pipe, is_bare}
 use Rattle.markdown_scan.specs.LinePrefix.{prefix_after}
 
 -- a byte of the label, a byte of a line's prefix, or a line ending that may not stand there
@@ -25,21 +25,25 @@ label_bytes skipped zero (b ∷ bytes) =
 abbrev pub put_before : ℕ → List ℕ → Option (ℕ × List ℕ) → Option (ℕ × List ℕ)
 put_before n text found = option_map (λ f. (n + f.0, text ++ f.1)) found
 
--- what a byte adds to the text: a backslash is written with the byte after it, and in a table it is
--- not written before a pipe
-abbrev pub shown : Bool → Bool → ℕ → List ℕ
-shown in_table true b = if in_table && (b == pipe) then b ∷ [] else backslash ∷ b ∷ []
-shown in_table false b = if b == backslash then [] else b ∷ []
-
--- up to the first ] that is not escaped, with no [ before it that is not: its place, and the text before it
-abbrev pub body : Bool → Bool → List LabelByte → Option (ℕ × List ℕ)
-body in_table escaped [] = None
-body in_table escaped (refused ∷ rest) = None
-body in_table escaped (dropped ∷ rest) = put_before 1 [] (body in_table escaped rest)
-body in_table escaped (kept b ∷ rest) =
+-- up to the first ] that is not escaped, with no [ before it that is not: its place, and the bytes before it
+abbrev pub body : Bool → List LabelByte → Option (ℕ × List ℕ)
+body escaped [] = None
+body escaped (refused ∷ rest) = None
+body escaped (dropped ∷ rest) = put_before 1 [] (body escaped rest)
+body escaped (kept b ∷ rest) =
     if is_bare escaped b 93 then Some (0, [])
     else if is_bare escaped b 91 then None
-    else put_before 1 (shown in_table escaped b) (body in_table (is_bare escaped b backslash) rest)
+    else put_before 1 (b ∷ []) (body (is_bare escaped b backslash) rest)
+
+-- in a table, without each backslash directly before a pipe, whatever stands before that backslash
+abbrev pub shown : Bool → List ℕ → List ℕ
+shown in_table [] = []
+shown in_table (b ∷ bytes) =
+    if escapes_pipe in_table b bytes then shown in_table bytes else b ∷ shown in_table bytes
+
+-- what was found, its text as it is shown
+abbrev pub with_shown : Bool → Option (ℕ × List ℕ) → Option (ℕ × List ℕ)
+with_shown in_table found = option_map (λ f. (f.0, shown in_table f.1)) found
 
 -- a bracket that is not escaped
 abbrev pub is_bracket : Bool → ℕ → Bool
@@ -70,7 +74,7 @@ fits_label text = nat_le (count_by begins_character text) 999 && list_any is_no_
 -- the place of the closing bracket, and the text before it
 abbrev pub label_body : (List ℕ → Option ℕ) → Bool → List ℕ → Option (ℕ × List ℕ)
 label_body skipped in_table bytes =
-    option_and_then (λ f. if fits_label f.1 then Some f else None) (body in_table false (label_bytes skipped 0 bytes))
+    option_and_then (λ f. if fits_label f.1 then Some f else None) (with_shown in_table (body false (label_bytes skipped 0 bytes)))
 
 -- the label that the bytes begin with: its length through the closing bracket, and its text
 abbrev pub link_label : (List ℕ → Option ℕ) → Bool → List ℕ → Option (ℕ × List ℕ)

@@ -5,13 +5,13 @@ ghost use Rattle.std.specs.Str.{IsCharBoundary};
 ghost use Rattle.markdown_scan.specs.Autolink.{web_autolink, closed_uri};
 ghost use Rattle.markdown_scan.specs.Autolink as autolink;
 
-use crate::ascii_kinds::is_control_or_space;
+use crate::ascii_kinds::{begins_with_letter, is_control_or_space};
 
 // A letter, a digit, `+`, `.` or `-`.
 fn is_scheme_byte(byte: u8) -> bool
     ensures { result ≡ autolink.is_scheme_byte byte }
 {
-    matches!(byte, b'a'..=b'z' | b'A'..=b'Z' | b'0'..=b'9' | b'+' | b'.' | b'-')
+    byte.is_ascii_alphanumeric() || b"+.-".contains(&byte)
 }
 
 // No control character, no space and no angle bracket.
@@ -38,18 +38,12 @@ fn uri_length(bytes: &[u8]) -> usize
     bytes.iter().take_while(|byte| is_uri_byte(**byte)).count()
 }
 
-fn begins_letter(bytes: &[u8]) -> bool
-    ensures { result ≡ autolink.begins_letter bytes.now }
-{
-    matches!(bytes.first(), Some(b'a'..=b'z' | b'A'..=b'Z'))
-}
-
 // Whether a scheme of 2 to 32 characters and a colon begin the bytes.
 fn begins_scheme(bytes: &[u8]) -> bool
     ensures { result ≡ autolink.begins_scheme bytes.now }
 {
     let length = scheme_length(bytes);
-    begins_letter(bytes) && 2 <= length && length <= 32 && bytes.get(length) == Some(&b':')
+    begins_with_letter(bytes) && 2 <= length && length <= 32 && bytes.get(length) == Some(&b':')
 }
 
 // The length of the URI that the bytes begin with, where `>` follows it.

@@ -6,7 +6,7 @@ ghost use Rattle.markdown_base.specs.CowText.{text_of, IsBorrowed};
 ghost use Rattle.markdown_scan.specs.Label as label;
 ghost use Rattle.markdown_scan.specs.Label.{link_label};
 ghost use Rattle.markdown_scan.specs.LinePrefix.{prefix_after};
-ghost use Rattle.markdown_scan.specs.LabelScan.{EndsHere, GoesOn};
+ghost use Rattle.markdown_scan.specs.LabelScan.{EndsHere, GoesOn, found_in};
 
 use crate::label_end::label_end;
 use crate::label_text::{LabelText, is_bare, split_first};
@@ -62,15 +62,15 @@ fn label_text<'t, R: LineRule>(
     rule: &R,
     in_table: bool,
 ) -> Result<CowStr<'t>, AllocError>
-    ensures value { IfOk result (λ found. IfSome (label.body in_table false (label.label_bytes (R.skipped rule.now) 0 text.now)) (λ f. text_of found ≡ label.squeeze false false f.1)) }
+    ensures value { IfOk result (λ found. IfSome (found_in (R.skipped rule.now) in_table false text.now) (λ f. text_of found ≡ label.squeeze false false f.1)) }
     ensures borrowed { IfOk result (λ found. (n : ℕ) → text_of found ≡ take n source.now → IsBorrowed found) }
-    ensures differs { OnErr result (IfSome (label.body in_table false (label.label_bytes (R.skipped rule.now) 0 text.now)) (λ f. (n : ℕ) → label.squeeze false false f.1 ≢ take n source.now)) }
+    ensures differs { OnErr result (IfSome (found_in (R.skipped rule.now) in_table false text.now) (λ f. (n : ℕ) → label.squeeze false false f.1 ≢ take n source.now)) }
 {
     let mut found = LabelText::new(source);
     let mut rest = text;
     let mut escaped = false;
     while let Some((c, tail)) = next_character(rule, escaped, rest) {
-        found.put_shown(alloc, in_table, escaped, c)?;
+        found.put_shown(alloc, in_table, c, tail)?;
         escaped = is_bare(escaped, c, '\\');
         rest = tail;
     }
@@ -80,9 +80,9 @@ fn label_text<'t, R: LineRule>(
 /// The length in bytes through the closing bracket, and the text, of the label of which `text` begins
 /// after the opening one: outer white space removed, each inner run of it one space, and after each
 /// line ending what the rule calls the line's prefix left out. Escapes stay as they are written, but
-/// in a table `\\|` becomes `|`. None where no label of at most 999 characters stands that has one
-/// which is no white space. A text that changes is made anew; where memory for it is refused, that
-/// is the error. Upstream: `scan_link_label_rest`.
+/// in a table each backslash directly before a `|` goes. None where no label of at most 999
+/// characters stands that has one which is no white space. A text that changes is made anew; where
+/// memory for it is refused, that is the error. Upstream: `scan_link_label_rest`.
 pub fn scan_link_label<'t, R: LineRule>(
     alloc: Global,
     text: &'t str,

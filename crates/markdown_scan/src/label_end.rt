@@ -3,10 +3,11 @@ ghost use Rattle.std.specs.Prelude.{◌≡◌, ◌≤◌, ◌<◌, ◌||◌, ◌
 ghost use Rattle.std.specs.List.{list_any, list_all};
 ghost use Rattle.std.specs.Char.{is_ascii};
 ghost use Rattle.markdown_scan.specs.Label as label;
+ghost use Rattle.markdown_scan.specs.LabelScan as scan;
 ghost use Rattle.markdown_scan.specs.LabelScan.{end_after};
 
 use crate::ascii_kinds::is_white_space;
-use crate::backslash::is_bare;
+use crate::backslash::{escapes_pipe, is_bare};
 use crate::line_prefix::prefix_after;
 use crate::line_rule::LineRule;
 
@@ -20,30 +21,28 @@ fn begun_by(byte: u8) -> usize
     usize::from(byte < 128 || 192 <= byte)
 }
 
-// How many characters the byte adds to the text.
-fn characters_shown(in_table: bool, escaped: bool, byte: u8) -> usize
-    ensures value { result ≡ count_by label.begins_character (label.shown in_table escaped byte) }
-    ensures few { result ≤ 2 }
+// How many characters the byte adds to the text, before the next bytes.
+fn characters_shown(in_table: bool, byte: u8, next: &[u8]) -> usize
+    ensures value { result ≡ count_by label.begins_character (scan.byte_shown in_table byte next.now) }
+    ensures few { result ≤ 1 }
 {
-    if !escaped {
-        if byte == b'\\' { 0 } else { begun_by(byte) }
-    } else if in_table && byte == b'|' {
-        begun_by(byte)
+    if escapes_pipe(in_table, byte, next) {
+        0
     } else {
-        1 + begun_by(byte)
+        begun_by(byte)
     }
 }
 
-// Whether the text has a character that is no white space, once the byte is added.
-fn solid_after(solid: bool, in_table: bool, escaped: bool, byte: u8) -> bool
-    ensures { result ≡ (solid || list_any label.is_no_white_space (label.shown in_table escaped byte)) }
+// Whether the text has a character that is no white space, once the byte before the next ones is added.
+fn solid_after(solid: bool, in_table: bool, byte: u8, next: &[u8]) -> bool
+    ensures { result ≡ (solid || list_any label.is_no_white_space (scan.byte_shown in_table byte next.now)) }
 {
-    solid || escaped || (byte != b'\\' && !is_white_space(byte))
+    solid || !(escapes_pipe(in_table, byte, next) || is_white_space(byte))
 }
 
 /// The place of the bracket that closes a label, of which the bytes stand after its opening one.
 pub(crate) fn label_end<R: LineRule>(bytes: &[u8], rule: &R, in_table: bool) -> Option<usize>
-    ensures value { result ≡ end_after 0 0 false (label.body in_table false (label.label_bytes (R.skipped rule.now) 0 bytes.now)) }
+    ensures value { result ≡ end_after 0 0 false (scan.found_in (R.skipped rule.now) in_table false bytes.now) }
     ensures here { IfSome result (λ n. (n < length bytes.now) × (slice_index bytes.now n ≡ 93)) }
 {
     let mut rest = bytes;
@@ -62,13 +61,13 @@ pub(crate) fn label_end<R: LineRule>(bytes: &[u8], rule: &R, in_table: bool) -> 
         let Some(skipped) = prefix_after(rule, byte, tail) else {
             return None;
         };
-        characters += characters_shown(in_table, escaped, byte);
+        rest = &tail[skipped..];
+        characters += characters_shown(in_table, byte, rest);
         if characters > MAX_LABEL_CHARACTERS {
             return None;
         }
-        solid = solid_after(solid, in_table, escaped, byte);
+        solid = solid_after(solid, in_table, byte, rest);
         escaped = is_bare(escaped, byte, b'\\');
-        rest = &tail[skipped..];
         at = at + 1 + skipped;
     }
     None

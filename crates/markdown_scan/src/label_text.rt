@@ -57,11 +57,11 @@ pub(crate) fn is_bare(escaped: bool, c: char, what: char) -> bool
     !escaped && c == what
 }
 
-// Whether the backslash before the character is part of the text.
-fn keeps_backslash(in_table: bool, escaped: bool, c: char) -> bool
-    ensures { result ≡ scan.keeps_backslash in_table escaped c }
+// Whether, in a table, the character is a backslash and a pipe stands directly after it.
+fn escapes_pipe(in_table: bool, c: char, next: &str) -> bool
+    ensures { result ≡ backslash.escapes_pipe in_table c next.now }
 {
-    escaped && !(in_table && c == '|')
+    c == '\\' && in_table && next.as_bytes().first() == Some(&b'|')
 }
 
 // A text of its own: this one and a character.
@@ -149,23 +149,20 @@ impl<'t> LabelText<'t> {
         Ok(())
     }
 
-    /// Adds a character of the source, as `shown` says.
+    /// Adds a character of the source that stands before the next ones, but for a backslash that in a
+    /// table stands directly before a pipe.
     pub(crate) fn put_shown(
         &mut self,
         alloc: Global,
         in_table: bool,
-        escaped: bool,
         c: char,
+        next: &str,
     ) -> Result<(), AllocError>
-        ensures text { OnOk result ((rest : List ℕ) → completed self.new rest ≡ completed self.old (scan.character_shown in_table escaped c ++ rest)) }
+        ensures text { OnOk result ((rest : List ℕ) → completed self.new rest ≡ completed self.old (scan.character_shown in_table c next.now ++ rest)) }
         ensures source { self.new.source ≡ self.old.source }
-        ensures differs { OnErr result ((rest : List ℕ) (n : ℕ) → completed self.old (scan.character_shown in_table escaped c ++ rest) ≢ take n self.old.source.now) }
+        ensures differs { OnErr result ((rest : List ℕ) (n : ℕ) → completed self.old (scan.character_shown in_table c next.now ++ rest) ≢ take n self.old.source.now) }
     {
-        if keeps_backslash(in_table, escaped, c) {
-            self.put(alloc, '\\')?;
-            return self.put(alloc, c);
-        }
-        if is_bare(escaped, c, '\\') {
+        if escapes_pipe(in_table, c, next) {
             return Ok(());
         }
         self.put(alloc, c)

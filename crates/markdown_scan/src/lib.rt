@@ -1,7 +1,7 @@
 //! What stands at a byte of a text, by CommonMark: a module for each family of scanners but raw HTML.
 #![tactic(auto)]
 
-mod ascii_kinds;
+pub mod ascii_kinds;
 pub mod autolink;
 mod backslash;
 pub mod destination;

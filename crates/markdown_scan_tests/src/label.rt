@@ -57,7 +57,10 @@ fn labels_in_a_table(rt: HostRuntime) -> Result<(), Fail> {
     for (text, length, label) in [
         ("a\\|b]", 5, "a|b"),
         ("a\\*b]", 5, "a\\*b"),
-        ("a\\\\|b]", 6, "a\\\\|b"),
+        ("a\\\\|b]", 6, "a\\|b"),
+        ("a\\\\\\|b]", 7, "a\\\\|b"),
+        ("\\|\\|]", 5, "||"),
+        ("\\\\]", 3, "\\\\"),
     ] {
         assert!(rt; has_label(rt.alloc(), text, true, length, label)?, "{text}");
     }
@@ -98,6 +101,12 @@ fn labels_of_999_characters(rt: HostRuntime) -> Result<(), Fail> {
             is_none,
             "{length}"
         );
+    }
+    // 997 letters, two backslashes and a pipe are 999 characters in a table, and else 1000.
+    let text = format!(in rt.alloc(); "{}\\\\|]", "a".repeat(rt.alloc(), 997)?)?;
+    for in_table in [true, false] {
+        let found = scan_link_label(rt.alloc(), text.as_str(), &NoPrefix, in_table)?;
+        assert_eq!(rt; found.is_some(), in_table);
     }
     Ok(())
 }

@@ -2,7 +2,7 @@
 use Rattle.std.specs.Prelude.{◌≡◌, List, [], ◌∷◌, Option, Some, None}
 use Rattle.markdown_base.specs.declared.cow_str.CowStr.{CowStr}
 use Rattle.markdown_base.specs.CowText.{text_of}
-use Rattle.markdown_base.specs.Document.{Question, Answer, Answers}
+use Rattle.markdown_base.specs.Questions.{Question, Answer, Answers}
 use Rattle.markdown_spans.specs.declared.defs.callback.BrokenLink.{BrokenLink}
 
 -- the question that a broken link asks: its label by its bytes

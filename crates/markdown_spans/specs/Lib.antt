@@ -19,5 +19,5 @@ pub use Rattle.caseless.specs.Caseless
 pub use Rattle.markdown_base.specs.Arena
 pub use Rattle.markdown_base.specs.CowText
 pub use Rattle.markdown_base.specs.Coverage
-pub use Rattle.markdown_base.specs.Document
+pub use Rattle.markdown_base.specs.Questions
 pub use Rattle.markdown_base.specs.WellFormed

@@ -2,7 +2,7 @@
 use crate::builders::text;
 use markdown_base::item::ItemBody;
 use markdown_base::options::Options;
-use markdown_base::tree::Tree;
+use markdown_builder::builder::Builder;
 use markdown_items::items;
 use markdown_plain::blocks;
 use std::alloc::{AllocError, Global};
@@ -114,18 +114,14 @@ fn nothing_is_named(rt: HostRuntime) -> Result<(), Fail> {
 
 #[test]
 fn a_line_is_one_text(rt: HostRuntime) -> Result<(), Fail> {
-    let mut tree = Tree::new(rt.alloc())?;
-    let mut cows = Vec::new(rt.alloc());
-    items(
-        rt.alloc(),
-        &mut tree,
-        "hello world",
-        6..11,
-        Options::ENABLE_GFM,
-        &mut cows,
-    )?;
-    assert_eq!(rt; tree.len(), 2);
-    assert_eq!(rt; *tree.item(1), text(6, 11));
-    assert_eq!(rt; cows.len(), 0);
+    let mut builder = Builder::new(rt.alloc(), "hello world")?;
+    builder.open(ItemBody::Paragraph)?;
+    builder.skip(6);
+    items(&mut builder, 11, Options::ENABLE_GFM)?;
+    builder.close();
+    let (tree, parts) = builder.finish();
+    assert_eq!(rt; tree.len(), 3);
+    assert_eq!(rt; *tree.item(2), text(6, 11));
+    assert_eq!(rt; parts.cows.len(), 0);
     Ok(())
 }

@@ -1,7 +1,7 @@
 //! What is asked where a link label is defined nowhere, and who answers.
 ghost use Rattle.std.specs.Prelude.{◌≡◌, ◌≤◌, length, IfOk, IfErr, IsOk, Option};
 ghost use Rattle.markdown_base.specs.CowText.{text_of};
-ghost use Rattle.markdown_base.specs.Document.{Question, Answer};
+ghost use Rattle.markdown_base.specs.Questions.{Question, Answer};
 ghost use Rattle.markdown_base.specs.declared.fault.Fault.{Fault};
 ghost use Rattle.markdown_spans.specs.Callback.{question_of, answer_of};
 

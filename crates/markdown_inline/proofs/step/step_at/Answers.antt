@@ -1,50 +1,58 @@
 -- Each move is that of the shape that the item opens to.
-use Rattle.std.proofs.Common.{◌≡◌, rules}
+use Rattle.std.proofs.Common.{◌≡◌, [], rules}
 use Rattle.markdown_base.specs.BlockTree.{no_item}
 use Rattle.markdown_inline.specs.WalkSteps.{IsRefused}
-use Rattle.markdown_inline.proofs.WalkStepsLemmas.{cursor_within, cursor_lies, went_on, went_in, went_in_plain, refused_at}
+use Rattle.markdown_inline.proofs.WalkStepsLemmas.{cursor_within, cursor_placed, went_on, went_in, went_in_plain, refused_at}
 use Rattle.markdown_inline.proofs.step.step_at.Goals as goal
 
 pub item-item-requires : goal.item-item-requires
-item-item-requires c = cursor_within c.args.text.now c.args.tree.now c.args.ix c.requires.walks c.requires.at_ix
+item-item-requires c = cursor_within c.args.text.now c.args.tables.now.cows c.args.tree.now c.args.ix c.requires.stands c.requires.at_ix
 
 pub next_sibling-requires : goal.next_sibling-requires
-next_sibling-requires c = cursor_within c.args.text.now c.args.tree.now c.args.ix c.requires.walks c.requires.at_ix
+next_sibling-requires c = cursor_within c.args.text.now c.args.tables.now.cows c.args.tree.now c.args.ix c.requires.stands c.requires.at_ix
 
-pub open_item-requires : goal.open_item-requires
-open_item-requires c = cursor_lies c.args.text.now c.args.tree.now c.args.ix _ c.requires.walks c.requires.at_ix (c.item-item.ensures no_item)
+pub open_item-requires-clause-lies : goal.open_item-requires-clause-lies
+open_item-requires-clause-lies c = rw (c.item-item.ensures no_item) (cursor_placed c.args.text.now c.args.tables.now.cows c.args.tree.now c.args.ix c.requires.stands c.requires.at_ix).lies
 
-pub returns-in-Leaf : goal.returns-in-Leaf
-returns-in-Leaf c = (
-  went_on c.args.text.now c.args.tree.now c.next_sibling.new.self c.args.ix c.item-item.result.now _ c.requires.walks c.requires.at_ix (c.item-item.ensures no_item)
-      c.in-Leaf.ensures.opens c.next_sibling.ensures.goes,
-  c.in-Leaf.ensures.slice,
-)
+pub open_item-requires-clause-named : goal.open_item-requires-clause-named
+open_item-requires-clause-named c = rw (c.item-item.ensures no_item) (cursor_placed c.args.text.now c.args.tables.now.cows c.args.tree.now c.args.ix c.requires.stands c.requires.at_ix).named
 
-pub returns-in_ok-push-in-Start : goal.returns-in_ok-push-in-Start
-returns-in_ok-push-in-Start c =
+pub returns-in-Leaf-clause-given : goal.returns-in-Leaf-clause-given
+returns-in-Leaf-clause-given c =
+    let opened = c.in-Leaf.ensures.opens in
+    record {
+      origins = opened.origins;
+      texts = opened.texts;
+      went = went_on c.args.text.now c.args.tree.now c.next_sibling.new.self c.args.tables.now c.open_item.new.tables c.args.ix c.item-item.result.now _ opened.origins c.requires.stands c.requires.at_ix
+          (c.item-item.ensures no_item) opened.is_leaf c.in-Leaf.ensures.taken c.next_sibling.ensures.goes;
+    }
+
+pub returns-in_ok-push-in-Start-clause-given : goal.returns-in_ok-push-in-Start-clause-given
+returns-in_ok-push-in-Start-clause-given c =
     let went = c.in_ok-push-in-Start.ensures.goes in
-    let e : c.in_ok-push-in-Start.field-0 ≡ c.args.ix = cc (went.0, c.requires.at_ix) in (
-      went_in c.args.text.now c.args.tree.now c.push.new.self c.args.ix c.item-item.result.now _ c.requires.walks c.requires.at_ix (c.item-item.ensures no_item)
-          c.in-Start.ensures.opens (rw e at went.1),
-      tt,
-    )
+    let e : c.in_ok-push-in-Start.field-0 ≡ c.args.ix = cc (went.0, c.requires.at_ix) in
+    record {
+      origins = [];
+      texts = tt;
+      went = went_in c.args.text.now c.args.tree.now c.push.new.self c.args.tables.now c.open_item.new.tables c.args.ix c.item-item.result.now _ c.requires.stands c.requires.at_ix
+          (c.item-item.ensures no_item) c.in-Start.ensures.opens c.in-Start.ensures.taken (rw e at went.1);
+    }
 
-pub returns-in_ok-push-in-Plain : goal.returns-in_ok-push-in-Plain
-returns-in_ok-push-in-Plain c =
+pub returns-in_ok-push-in-Plain-clause-given : goal.returns-in_ok-push-in-Plain-clause-given
+returns-in_ok-push-in-Plain-clause-given c =
     let went = c.in_ok-push-in-Plain.ensures.goes in
     let e : c.in_ok-push-in-Plain.field-0 ≡ c.args.ix = cc (went.0, c.requires.at_ix) in
-    went_in_plain c.args.text.now c.args.tree.now c.push-in-Plain.new.self c.args.ix c.item-item.result.now c.requires.walks c.requires.at_ix (c.item-item.ensures no_item)
-    c.in-Plain.ensures.opens (rw e at went.1)
+    went_in_plain c.args.text.now c.args.tree.now c.push-in-Plain.new.self c.args.tables.now c.open_item.new.tables c.args.ix c.item-item.result.now c.requires.stands c.requires.at_ix
+    (c.item-item.ensures no_item) c.in-Plain.ensures.opens c.in-Plain.ensures.taken (rw e at went.1)
 
-pub returns-in_err-push-in-Start : goal.returns-in_err-push-in-Start
-returns-in_err-push-in-Start c =
+pub returns-in_err-push-in-Start-clause-given : goal.returns-in_err-push-in-Start-clause-given
+returns-in_err-push-in-Start-clause-given c =
     let refused : IsRefused c.args.tree.now c.push.new.self =
-    refused_at c.args.text.now c.args.tree.now c.push.new.self c.args.ix c.requires.walks c.requires.at_ix c.in_err-push-in-Start.ensures.refused in
+    refused_at c.args.text.now c.args.tables.now.cows c.args.tree.now c.push.new.self c.args.ix c.requires.stands c.requires.at_ix c.in_err-push-in-Start.ensures.refused in
     search rules
 
-pub returns-in_err-push-in-Plain : goal.returns-in_err-push-in-Plain
-returns-in_err-push-in-Plain c =
+pub returns-in_err-push-in-Plain-clause-given : goal.returns-in_err-push-in-Plain-clause-given
+returns-in_err-push-in-Plain-clause-given c =
     let refused : IsRefused c.args.tree.now c.push-in-Plain.new.self =
-    refused_at c.args.text.now c.args.tree.now c.push-in-Plain.new.self c.args.ix c.requires.walks c.requires.at_ix c.in_err-push-in-Plain.ensures.refused in
+    refused_at c.args.text.now c.args.tables.now.cows c.args.tree.now c.push-in-Plain.new.self c.args.ix c.requires.stands c.requires.at_ix c.in_err-push-in-Plain.ensures.refused in
     search rules

@@ -1,7 +1,7 @@
-use Rattle.std.proofs.Common.{◌+◌, ◌<◌, count_by, sym, ◌∙◌, arith, false, length-drop}
+use Rattle.std.proofs.Common.{◌+◌, ◌<◌, count_by, drop, sym, ◌∙◌, arith, false, length-drop}
 use Rattle.std.proofs.lemmas.List.{take_rest, drop-drop}
-use Rattle.markdown_scan.specs.Label.{label_bytes, body, begins_character, shown}
-use Rattle.markdown_scan.specs.LabelScan.{end_after}
+use Rattle.markdown_scan.specs.Label.{begins_character}
+use Rattle.markdown_scan.specs.LabelScan.{byte_shown, end_after, found_in}
 use Rattle.markdown_scan.proofs.DestinationLemmas.{drop_next}
 use Rattle.markdown_scan.proofs.LabelLemmas.{end_step, too_long}
 use Rattle.markdown_scan.proofs.label_end.label_end.Goals as goal
@@ -12,9 +12,9 @@ returns-then-characters-gt-MAX_LABEL_CHARACTERS-clause-value g c =
     let split = c.in-Some.ensures.cases in
     let skipped = g.R.LineRule.skipped c.args.rule.now in
     let many : 999 < c.loop-first.characters + c.characters_shown-characters.result = omega arith in
-    let more = rw c.characters_shown-characters.ensures.value at many in
-    too_long (c.loop-first.at + 1 + c.in-Some-prefix_after.skipped) (c.loop-first.characters + count_by begins_character (shown c.args.in_table c.loop-first.escaped c.in-Some.first.now)) _ _ more
-    ∙ sym (end_step (end_after 0 0 false (body c.args.in_table false (label_bytes skipped 0 c.args.bytes.now)))
+    let more = rw (c.characters_shown-characters.ensures.value, take_rest) at many in
+    too_long (c.loop-first.at + 1 + c.in-Some-prefix_after.skipped) (c.loop-first.characters + count_by begins_character (byte_shown c.args.in_table c.in-Some.first.now (drop c.in-Some-prefix_after.skipped c.in-Some.tail.now))) _ _ more
+    ∙ sym (end_step (end_after 0 0 false (found_in skipped c.args.in_table false c.args.bytes.now))
     skipped c.args.in_table c.loop-first.escaped c.loop-first.solid c.loop-first.at c.loop-first.characters c.in-Some.first.now c.in-Some.tail.now c.in-Some-prefix_after.skipped
     (rw split.0 at c.loop-first.invariant.value) (sym c.is_bare.ensures ∙ c.if-is_bare.false) (sym c.is_bare-in-Some.ensures ∙ c.if-is_bare-2.false) (sym c.in-Some-prefix_after.ensures.value) within)
 
@@ -28,8 +28,8 @@ loop-first-preserved g c =
       sum = rw (take_rest, length-drop) (omega (arith, within, split.1, invariant.sum));
       here = rw (take_rest, next) (drop-drop c.in-Some-prefix_after.skipped (c.loop-first.at + 1) c.args.bytes.now);
       few = omega arith;
-      value = rw (take_rest, c.characters_shown-characters.ensures.value, c.solid_after-solid.ensures, c.is_bare-escaped.ensures) (
-          end_step (end_after 0 0 false (body c.args.in_table false (label_bytes (g.R.LineRule.skipped c.args.rule.now) 0 c.args.bytes.now)))
+      value = rw (c.characters_shown-characters.ensures.value, c.solid_after-solid.ensures, c.is_bare-escaped.ensures, take_rest) (
+          end_step (end_after 0 0 false (found_in (g.R.LineRule.skipped c.args.rule.now) c.args.in_table false c.args.bytes.now))
           (g.R.LineRule.skipped c.args.rule.now) c.args.in_table c.loop-first.escaped c.loop-first.solid c.loop-first.at c.loop-first.characters c.in-Some.first.now c.in-Some.tail.now c.in-Some-prefix_after.skipped
           (rw split.0 at invariant.value) (sym c.is_bare.ensures ∙ c.if-is_bare.false) (sym c.is_bare-in-Some.ensures ∙ c.if-is_bare-2.false) (sym c.in-Some-prefix_after.ensures.value) within);
     }

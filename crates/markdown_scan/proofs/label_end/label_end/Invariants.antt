@@ -1,6 +1,5 @@
 use Rattle.std.proofs.Common.{◌≡◌, ◌≤◌, ◌+◌, length, drop, false}
-use Rattle.markdown_scan.specs.Label.{label_bytes, body}
-use Rattle.markdown_scan.specs.LabelScan.{end_after}
+use Rattle.markdown_scan.specs.LabelScan.{end_after, found_in}
 use Rattle.markdown_scan.proofs.label_end.label_end.Given as goal
 
 -- what follows stands at this byte, and the whole has its end after what was read
@@ -9,8 +8,8 @@ invariant-loop-first g l = record {
   sum : l.at + length l.rest ≡ length l.bytes;
   here : l.rest ≡ drop l.at l.bytes;
   few : l.characters ≤ 999;
-  value : end_after 0 0 false (body l.in_table false (label_bytes (g.R.LineRule.skipped l.rule) 0 l.bytes))
-      ≡ end_after l.at l.characters l.solid (body l.in_table l.escaped (label_bytes (g.R.LineRule.skipped l.rule) 0 l.rest));
+  value : end_after 0 0 false (found_in (g.R.LineRule.skipped l.rule) l.in_table false l.bytes)
+      ≡ end_after l.at l.characters l.solid (found_in (g.R.LineRule.skipped l.rule) l.in_table l.escaped l.rest);
 }
 
 abbrev pub decreases-loop-first : goal.decreases-loop-first

@@ -1,32 +1,28 @@
--- Each step of the tree is one of the parser.
-use Rattle.std.proofs.Common.{refl}
-use Rattle.markdown_inline.proofs.ParserLemmas.{went_nowhere, went_skip, advances_none, advances_fault, advances_event, steps_refused}
-use Rattle.markdown_inline.proofs.WalkStepsLemmas.{walks_ended, stopped}
+-- One step after another, up to an event, an error or the end.
+use Rattle.markdown_inline.proofs.ParserLemmas.{gone_nowhere, gone_on, advances_none, advances_fault, advances_event, steps_failed}
 use Rattle.markdown_inline.proofs.walk.Parser.advance.Goals as goal
 
 pub walk-init : goal.walk-init
-walk-init g c = went_nowhere c.args.self.now
+walk-init g c = record { askable = c.requires; gone = gone_nowhere g.F.BrokenLinkCallback.answers c.args.self.now }
 
 pub walk-preserved : goal.walk-preserved
-walk-preserved g c = went_skip c.args.self.now c.walk.self _ c.walk.invariant refl refl (rw c.in-Ok-Skip.field-0-is at c.in-Ok-Skip.ensures)
+walk-preserved g c = record {
+  askable = c.advance_once.ensures.askable;
+  gone = gone_on g.F.BrokenLinkCallback.answers c.args.self.now c.walk.self c.advance_once.new.self c.walk.invariant.gone c.in-Again.ensures.moves.0 c.advance_once.ensures.keeps c.in-Again.ensures.moves.1;
+}
 
-pub returns-in-Ok-Done-clause-gives : goal.returns-in-Ok-Done-clause-gives
-returns-in-Ok-Done-clause-gives g c =
-    let done = rw c.in-Ok-Done.field-0-is at c.in-Ok-Done.ensures in
-    advances_none g.F.BrokenLinkCallback.answers c.args.self.now c.walk.self _ c.walk.invariant done.1 refl refl done.0
+pub returns-in-Done-clause-gives : goal.returns-in-Done-clause-gives
+returns-in-Done-clause-gives g c =
+    advances_none g.F.BrokenLinkCallback.answers c.args.self.now c.walk.self c.advance_once.new.self c.walk.invariant.gone c.in-Done.ensures.moves c.advance_once.ensures.keeps
 
-pub returns-in-Ok-Give-clause-gives : goal.returns-in-Ok-Give-clause-gives
-returns-in-Ok-Give-clause-gives g c =
-    let given = rw c.in-Ok-Give.field-0-is at c.in-Ok-Give.ensures in
-    rw c.in-Ok-Give.field-0-is (advances_event g.F.BrokenLinkCallback.answers c.args.self.now c.walk.self _ c.in-Ok-Give.event c.in-Ok-Give.range c.walk.invariant refl refl given.0 given.1)
+pub returns-in-Give-clause-gives : goal.returns-in-Give-clause-gives
+returns-in-Give-clause-gives g c =
+    advances_event g.F.BrokenLinkCallback.answers c.args.self.now c.walk.self c.advance_once.new.self c.in-Give.event c.in-Give.range c.walk.invariant.gone c.in-Give.ensures.moves.0 c.advance_once.ensures.keeps c.in-Give.ensures.moves.1
 
-pub invariant_of-self-in-Err : goal.invariant_of-self-in-Err
-invariant_of-self-in-Err g c = record { walks = walks_ended c.walk.self.text.now c.stop.new.self (stopped c.take_step.new.tree c.stop.new.self c.stop.ensures) }
+pub returns-in-Failed-clause-gives : goal.returns-in-Failed-clause-gives
+returns-in-Failed-clause-gives g c =
+    advances_fault g.F.BrokenLinkCallback.answers c.args.self.now c.walk.self c.advance_once.new.self c.walk.invariant.gone c.in-Failed.ensures.moves c.advance_once.ensures.keeps
 
-pub returns-in-Err-clause-gives : goal.returns-in-Err-clause-gives
-returns-in-Err-clause-gives g c =
-    advances_fault g.F.BrokenLinkCallback.answers c.args.self.now c.walk.self _ c.take_step.new.tree c.walk.invariant c.in-Err.ensures refl refl (stopped c.take_step.new.tree c.stop.new.self c.stop.ensures)
-
-pub returns-in-Err-clause-falls : goal.returns-in-Err-clause-falls
-returns-in-Err-clause-falls g c =
-    steps_refused c.args.self.now c.walk.self c.take_step.new.tree c.stop.new.self c.walk.invariant c.in-Err.ensures (stopped c.take_step.new.tree c.stop.new.self c.stop.ensures)
+pub returns-in-Failed-clause-falls : goal.returns-in-Failed-clause-falls
+returns-in-Failed-clause-falls g c =
+    steps_failed g.F.BrokenLinkCallback.answers c.args.self.now c.walk.self c.advance_once.new.self c.walk.invariant.gone c.in-Failed.ensures.moves

@@ -1,0 +1,276 @@
+-- What the rules ask of a body alone, for the bodies that a builder places.
+use Rattle.std.proofs.Common.{◌≡◌, ℕ, ◌+◌, ◌<◌, ◌≤◌, List, Option, Some, None, true, false, refl, arith}
+use Rattle.std.specs.Prelude.{IfSome}
+use Rattle.markdown_base.specs.declared.index.AlignmentIndex.{AlignmentIndex}
+use Rattle.markdown_base.specs.declared.index.CowIndex.{CowIndex}
+use Rattle.markdown_base.specs.declared.index.HeadingIndex.{HeadingIndex}
+use Rattle.markdown_base.specs.declared.item.Item.{Item}
+use Rattle.markdown_base.specs.declared.item.ItemBody.{ItemBody}
+use Rattle.markdown_base.specs.declared.item.ItemBody.TheVariants as body
+use Rattle.markdown_base.specs.declared.tag.HeadingLevel.{HeadingLevel}
+use Rattle.markdown_base.specs.Item.{LiesIn, is_open, is_inline, is_childless, is_resolved, is_tight_paragraph, is_unplaced, text_named, alignments_named, attributes_named}
+use Rattle.markdown_base.specs.WellFormed.{MarkupIsThere, StandsOverMarkup, run_character, PartCounts, PartsAreNamed}
+use Rattle.markdown_base.proofs.WellFormedLemmas.{HasMore}
+use Rattle.markdown_builder.specs.Bodies.{is_leaf, is_plain_block, is_settled}
+use Rattle.markdown_builder.specs.NodeRules.{ItemFits, NamesNew}
+
+-- a body that names nothing
+pub record IsPlain (b : ItemBody) : Type 0 where
+  pub unresolved : is_resolved b ≡ false
+  pub no_run : run_character b ≡ None
+  pub placed : is_unplaced b ≡ false
+  pub texts : text_named b ≡ None
+  pub alignments : alignments_named b ≡ None
+  pub attributes : attributes_named b ≡ None
+
+pub plain : {b : ItemBody} → is_resolved b ≡ false → run_character b ≡ None → is_unplaced b ≡ false → text_named b ≡ None → alignments_named b ≡ None
+    → attributes_named b ≡ None → IsPlain b
+plain unresolved no_run placed texts alignments attributes = record {
+  unresolved = unresolved;
+  no_run = no_run;
+  placed = placed;
+  texts = texts;
+  alignments = alignments;
+  attributes = attributes;
+}
+
+-- a block that may have children
+pub record IsParent (b : ItemBody) : Type 0 where
+  pub inline : is_inline b ≡ false
+  pub childless : is_childless b ≡ false
+
+-- blocks that are opened as they are are plain
+pub block_plain : (b : ItemBody) → is_plain_block b ≡ true → IsPlain b
+block_plain body.Paragraph h = plain refl refl refl refl refl refl
+block_plain (body.Heading level None) h = plain refl refl refl refl refl refl
+block_plain body.IndentCodeBlock h = plain refl refl refl refl refl refl
+block_plain body.HtmlBlock h = plain refl refl refl refl refl refl
+block_plain (body.BlockQuote kind) h = plain refl refl refl refl refl refl
+block_plain (body.List tight marker first) h = plain refl refl refl refl refl refl
+block_plain (body.ListItem indent) h = plain refl refl refl refl refl refl
+block_plain (body.MetadataBlock kind) h = plain refl refl refl refl refl refl
+block_plain (body.DefinitionList tight) h = plain refl refl refl refl refl refl
+block_plain body.DefinitionListTitle h = plain refl refl refl refl refl refl
+block_plain (body.DefinitionListDefinition indent) h = plain refl refl refl refl refl refl
+block_plain body.TableHead h = plain refl refl refl refl refl refl
+block_plain body.TableRow h = plain refl refl refl refl refl refl
+block_plain body.TableCell h = plain refl refl refl refl refl refl
+block_plain other h = cc (h)
+
+-- and may have children
+pub block_parent : (b : ItemBody) → is_plain_block b ≡ true → IsParent b
+block_parent body.Paragraph h = record { inline = refl; childless = refl }
+block_parent (body.Heading level None) h = record { inline = refl; childless = refl }
+block_parent body.IndentCodeBlock h = record { inline = refl; childless = refl }
+block_parent body.HtmlBlock h = record { inline = refl; childless = refl }
+block_parent (body.BlockQuote kind) h = record { inline = refl; childless = refl }
+block_parent (body.List tight marker first) h = record { inline = refl; childless = refl }
+block_parent (body.ListItem indent) h = record { inline = refl; childless = refl }
+block_parent (body.MetadataBlock kind) h = record { inline = refl; childless = refl }
+block_parent (body.DefinitionList tight) h = record { inline = refl; childless = refl }
+block_parent body.DefinitionListTitle h = record { inline = refl; childless = refl }
+block_parent (body.DefinitionListDefinition indent) h = record { inline = refl; childless = refl }
+block_parent body.TableHead h = record { inline = refl; childless = refl }
+block_parent body.TableRow h = record { inline = refl; childless = refl }
+block_parent body.TableCell h = record { inline = refl; childless = refl }
+block_parent other h = cc (h)
+
+-- settled inline items are plain
+pub settled_plain : (b : ItemBody) → is_settled b ≡ true → IsPlain b
+settled_plain (body.TaskListMarker done) h = plain refl refl refl refl refl refl
+settled_plain body.InlineHtml h = plain refl refl refl refl refl refl
+settled_plain body.Html h = plain refl refl refl refl refl refl
+settled_plain (body.SynthesizeChar c) h = plain refl refl refl refl refl refl
+settled_plain (body.Text escaped) h = plain refl refl refl refl refl refl
+settled_plain body.SoftBreak h = plain refl refl refl refl refl refl
+settled_plain (body.HardBreak backslash) h = plain refl refl refl refl refl refl
+settled_plain other h = cc (h)
+
+-- and inline
+pub settled_inline : (b : ItemBody) → is_settled b ≡ true → is_inline b ≡ true
+settled_inline (body.TaskListMarker done) h = refl
+settled_inline body.InlineHtml h = refl
+settled_inline body.Html h = refl
+settled_inline (body.SynthesizeChar c) h = refl
+settled_inline (body.Text escaped) h = refl
+settled_inline body.SoftBreak h = refl
+settled_inline (body.HardBreak backslash) h = refl
+settled_inline other h = cc (h)
+
+-- and need no markup
+pub settled_markup : (b : ItemBody) (source : List ℕ) → is_settled b ≡ true → StandsOverMarkup source b
+settled_markup (body.TaskListMarker done) source h = tt
+settled_markup body.InlineHtml source h = tt
+settled_markup body.Html source h = tt
+settled_markup (body.SynthesizeChar c) source h = tt
+settled_markup (body.Text escaped) source h = tt
+settled_markup body.SoftBreak source h = tt
+settled_markup (body.HardBreak backslash) source h = tt
+settled_markup other source h = cc (h)
+
+-- a block is not open
+pub not_open : (b : ItemBody) → is_inline b ≡ false → is_open b ≡ false
+not_open (body.MaybeEmphasis count opens closes) h = h
+not_open (body.MaybeMath opens closes context) h = h
+not_open (body.MaybeSmartQuote quote opens closes) h = h
+not_open (body.MaybeCode count escaped) h = h
+not_open body.MaybeHtml h = h
+not_open body.MaybeLinkOpen h = h
+not_open (body.MaybeLinkClose reference) h = h
+not_open body.MaybeImage h = h
+not_open other h = refl
+
+-- nor a character of a run
+pub block_no_run : (b : ItemBody) → is_inline b ≡ false → run_character b ≡ None
+block_no_run (body.MaybeEmphasis count opens closes) h = cc (h)
+block_no_run other h = refl
+
+-- and needs no markup
+pub block_markup : (b : ItemBody) (source : List ℕ) → is_inline b ≡ false → StandsOverMarkup source b
+block_markup (body.MaybeMath opens closes context) source h = cc (h)
+block_markup (body.MaybeSmartQuote quote opens closes) source h = cc (h)
+block_markup (body.MaybeCode count escaped) source h = cc (h)
+block_markup body.MaybeHtml source h = cc (h)
+block_markup body.MaybeLinkOpen source h = cc (h)
+block_markup (body.MaybeLinkClose reference) source h = cc (h)
+block_markup body.MaybeImage source h = cc (h)
+block_markup other source h = tt
+
+-- a leaf is no character of a run
+pub leaf_no_run : (b : ItemBody) → is_leaf b ≡ true → run_character b ≡ None
+leaf_no_run (body.MaybeEmphasis count opens closes) h = cc (h)
+leaf_no_run other h = refl
+
+-- an inline item is no tight paragraph
+pub inline_loose : (b : ItemBody) → is_inline b ≡ true → is_tight_paragraph b ≡ false
+inline_loose body.TightParagraph h = cc (h)
+inline_loose other h = refl
+
+-- a tight paragraph is a leaf
+pub tight_leaf : (b : ItemBody) → is_tight_paragraph b ≡ true → is_leaf b ≡ true
+tight_leaf body.TightParagraph h = refl
+tight_leaf other h = cc (h)
+
+-- whatever is said of a name that there is not
+pub no_name : {A : Type 0} (o : Option A) (P : A → Type 0) → o ≡ None → IfSome o P
+no_name o P e = rw e tt
+
+-- an item over a range
+abbrev pub item_over : ℕ → ℕ → ItemBody → Item
+item_over start end b = record { start = start; end = end; body = b }
+
+-- a body may be placed, over its markup, where some parts were there before, and more are there now
+pub record MayBePlaced (few many : PartCounts) (b : ItemBody) : Type 0 where
+  pub more : HasMore few many
+  pub unresolved : is_resolved b ≡ false
+  pub no_run : run_character b ≡ None
+  pub placed : is_unplaced b ≡ false
+  pub named : PartsAreNamed many b
+  pub texts : IfSome (text_named b) (λ ix. few.texts ≤ ix)
+  pub alignments : IfSome (alignments_named b) (λ ix. few.alignments ≤ ix)
+
+-- no parts are lost
+pub same_parts : (counts : PartCounts) → HasMore counts counts
+same_parts counts = record { texts = omega arith; alignments = omega arith; attributes = omega arith }
+
+-- a plain body
+pub plain_placed : (counts : PartCounts) (b : ItemBody) → IsPlain b → MayBePlaced counts counts b
+plain_placed counts b p = record {
+  more = same_parts counts;
+  unresolved = p.unresolved;
+  no_run = p.no_run;
+  placed = p.placed;
+  named = record {
+    text = no_name (text_named b) (λ ix. ix < counts.texts) p.texts;
+    alignments = no_name (alignments_named b) (λ ix. ix < counts.alignments) p.alignments;
+    attributes = no_name (attributes_named b) (λ ix. (1 ≤ ix) × (ix ≤ counts.attributes)) p.attributes;
+  };
+  texts = no_name (text_named b) (λ ix. counts.texts ≤ ix) p.texts;
+  alignments = no_name (alignments_named b) (λ ix. counts.alignments ≤ ix) p.alignments;
+}
+
+-- it fits wherever it lies in the text, over its markup
+pub placed_fits : (text : List ℕ) (few many : PartCounts) (start end : ℕ) (b : ItemBody) → MayBePlaced few many b → MarkupIsThere text (item_over start end b)
+    → LiesIn text (item_over start end b) → ItemFits text many (item_over start end b)
+placed_fits text few many start end b p markup range = record {
+  range = range;
+  unresolved = p.unresolved;
+  markup = markup;
+  named = p.named;
+  placed = p.placed;
+}
+
+-- and names what is new
+pub placed_new : (few many : PartCounts) (start end : ℕ) (b : ItemBody) → MayBePlaced few many b → NamesNew few (item_over start end b)
+placed_new few many start end b p = record { texts = p.texts; alignments = p.alignments }
+
+-- the parts with one text more
+abbrev pub one_text_more : PartCounts → PartCounts → Type 0
+one_text_more few many = (many.texts ≡ few.texts + 1) × (many.alignments ≡ few.alignments) × (many.attributes ≡ few.attributes)
+
+-- a body that names the text of a number, and nothing else
+pub record NamesText (b : ItemBody) (ix : ℕ) : Type 0 where
+  pub unresolved : is_resolved b ≡ false
+  pub no_run : run_character b ≡ None
+  pub placed : is_unplaced b ≡ false
+  pub text : text_named b ≡ Some ix
+  pub alignments : alignments_named b ≡ None
+  pub attributes : attributes_named b ≡ None
+
+-- the newest text may be named
+pub text_placed : (few many : PartCounts) (b : ItemBody) (ix : ℕ) → ix ≡ few.texts → one_text_more few many → NamesText b ix → MayBePlaced few many b
+text_placed few many b ix e more n = record {
+  more = record { texts = omega (arith, more.0); alignments = omega (arith, more.1); attributes = omega (arith, more.2) };
+  unresolved = n.unresolved;
+  no_run = n.no_run;
+  placed = n.placed;
+  named = record {
+    text = rw n.text (omega (arith, more.0, e));
+    alignments = no_name (alignments_named b) (λ ix. ix < many.alignments) n.alignments;
+    attributes = no_name (attributes_named b) (λ ix. (1 ≤ ix) × (ix ≤ many.attributes)) n.attributes;
+  };
+  texts = rw n.text (omega (arith, e));
+  alignments = no_name (alignments_named b) (λ ix. few.alignments ≤ ix) n.alignments;
+}
+
+pub fenced_names : (ix : CowIndex) → NamesText (body.FencedCodeBlock ix) ix.0
+fenced_names ix =
+    record { unresolved = refl; no_run = refl; placed = refl; text = refl; alignments = refl; attributes = refl }
+
+pub footnote_names : (ix : CowIndex) → NamesText (body.FootnoteDefinition ix) ix.0
+footnote_names ix =
+    record { unresolved = refl; no_run = refl; placed = refl; text = refl; alignments = refl; attributes = refl }
+
+pub synthesized_names : (ix : CowIndex) → NamesText (body.SynthesizeText ix) ix.0
+synthesized_names ix =
+    record { unresolved = refl; no_run = refl; placed = refl; text = refl; alignments = refl; attributes = refl }
+
+-- the newest alignments may be named by a table
+pub table_placed : (few many : PartCounts) (ix : AlignmentIndex) → ix.0 ≡ few.alignments → many.alignments ≡ few.alignments + 1 → many.texts ≡ few.texts
+    → many.attributes ≡ few.attributes → MayBePlaced few many (body.Table ix)
+table_placed few many ix e alignments texts attributes = record {
+  more = record { texts = omega (arith, texts); alignments = omega (arith, alignments); attributes = omega (arith, attributes) };
+  unresolved = refl;
+  no_run = refl;
+  placed = refl;
+  named = record { text = tt; alignments = omega (arith, e, alignments); attributes = tt };
+  texts = tt;
+  alignments = omega (arith, e);
+}
+
+-- the newest attributes may be named by a heading
+pub heading_placed : (few many : PartCounts) (level : HeadingLevel) (ix : HeadingIndex) → ix.0 ≡ many.attributes → many.attributes ≡ few.attributes + 1
+    → many.texts ≡ few.texts → many.alignments ≡ few.alignments → MayBePlaced few many (body.Heading level (Some ix))
+heading_placed few many level ix e attributes texts alignments = record {
+  more = record { texts = omega (arith, texts); alignments = omega (arith, alignments); attributes = omega (arith, attributes) };
+  unresolved = refl;
+  no_run = refl;
+  placed = refl;
+  named = record { text = tt; alignments = tt; attributes = (omega (arith, e, attributes), omega (arith, e)) };
+  texts = tt;
+  alignments = tt;
+}
+
+-- a thematic break is plain
+pub rule_plain : IsPlain body.Rule
+rule_plain = plain refl refl refl refl refl refl

@@ -1,0 +1,253 @@
+-- What each call of a builder keeps, by what its caller sees.
+use Rattle.std.specs.Prelude.{slice_index}
+use Rattle.std.proofs.Common.{◌≡◌, ℕ, ◌+◌, ◌-◌, ◌<◌, ◌≤◌, List, [], ◌∷◌, ◌++◌, Option, Some, None, Bool, true, false, length, refl, sym, ap, ◌∙◌, subst, arith, ◌⊎◌, ⊎_elim}
+use Rattle.std.specs.Str.{IsCharBoundary}
+use Rattle.std.proofs.lemmas.Str.{IsCharBoundary-after_ascii}
+use Rattle.markdown_base.specs.declared.block_parts.LinkDef.{LinkDef}
+use Rattle.markdown_base.specs.declared.cow_str.CowStr.{CowStr}
+use Rattle.markdown_base.specs.declared.index.AlignmentIndex.{AlignmentIndex}
+use Rattle.markdown_base.specs.declared.index.CowIndex.{CowIndex}
+use Rattle.markdown_base.specs.declared.index.HeadingIndex.{HeadingIndex}
+use Rattle.markdown_base.specs.declared.item.Item.{Item}
+use Rattle.markdown_base.specs.declared.item.ItemBody.{ItemBody}
+use Rattle.markdown_base.specs.declared.item.ItemBody.TheVariants as body
+use Rattle.markdown_base.specs.declared.node.Node.{Node}
+use Rattle.markdown_base.specs.declared.tag.HeadingLevel.{HeadingLevel}
+use Rattle.markdown_base.specs.Arena.{Arena, appended, changed_at}
+use Rattle.markdown_base.specs.WellFormed.{PartCounts, source_of}
+use Rattle.markdown_builder.specs.declared.open_block.OpenBlock.{OpenBlock}
+use Rattle.markdown_builder.specs.Bodies.{is_leaf, is_plain_block, is_settled, mark_byte}
+use Rattle.markdown_builder.specs.BuilderView.{BuilderView, IsWhite, IsRunOf, LastHasBody}
+use Rattle.markdown_builder.specs.Standing.{State, seen, with_item, AreOpen, IsSound}
+use Rattle.markdown_builder.specs.TreeSteps.{LastRenamed}
+use Rattle.markdown_builder.proofs.BodiesLemmas.{item_over, IsParent, MayBePlaced, plain_placed, placed_fits, placed_new, same_parts, block_plain, block_parent, settled_plain, settled_inline, settled_markup, rule_plain, plain, table_placed, heading_placed, one_text_more, text_placed, fenced_names, footnote_names, synthesized_names}
+use Rattle.markdown_builder.proofs.MarkLemmas.{mark_facts, one_source, two_source, run_source, run_boundary}
+use Rattle.markdown_builder.proofs.StepLemmas.{skipped, added, after_item, opened, opened_alone, after_opening, more_parts, closed, defined}
+use Rattle.markdown_builder.proofs.WrittenLemmas.{changed}
+
+-- `skip`
+pub skip_keeps : {s : State} (now : BuilderView) (to : ℕ) → IsSound s → seen s ≡ now → now.at ≤ to → IsCharBoundary now.text to
+    → (now.leaf ≡ false → now.blocks ≡ [] → IsWhite now.text now.at to) → IsSound (record s { at = to })
+skip_keeps {s} now to k e =
+    subst (λ (v : BuilderView). v.at ≤ to → IsCharBoundary v.text to → (v.leaf ≡ false → v.blocks ≡ [] → IsWhite v.text v.at to)
+    → IsSound (record s { at = to })) e
+    (skipped s to k)
+
+-- a block that goes into the tree with its parts
+pub placed_keeps : {s : State} (now : BuilderView) (many : PartCounts) (b : ItemBody) → IsSound s → seen s ≡ now → now.leaf ≡ false → MayBePlaced s.counts many b
+    → IsParent b → IsSound (after_opening s many b)
+placed_keeps {s} now many b k e outside placed parent = opened s many b k (ap (λ (v : BuilderView). v.leaf) e ∙ outside) placed parent
+
+-- a block whose parts were pushed, and that was not gone into
+pub refused_keeps : {s : State} (now : BuilderView) (many : PartCounts) (b : ItemBody) (tree : Arena Item) → IsSound s → seen s ≡ now → now.leaf ≡ false
+    → MayBePlaced s.counts many b → IsParent b → (tree ≡ s.tree) ⊎ (tree ≡ appended s.tree (item_over s.at s.at b))
+    → IsSound (record s { counts = many; tree = tree })
+refused_keeps {s} now many b tree k e outside placed parent =
+    ⊎_elim (λ (q : tree ≡ s.tree). subst (λ (t : Arena Item). IsSound (record s { counts = many; tree = t })) (sym q) (more_parts s many placed.more k))
+    (λ (q : tree ≡ appended s.tree (item_over s.at s.at b)). subst (λ (t : Arena Item). IsSound (record s { counts = many; tree = t })) (sym q)
+    (opened_alone s many b s.run k (ap (λ (v : BuilderView). v.leaf) e ∙ outside) placed parent))
+
+-- `open`
+pub open_keeps : {s : State} (now : BuilderView) (b : ItemBody) → IsSound s → seen s ≡ now → is_plain_block b ≡ true → now.leaf ≡ false
+    → IsSound (after_opening s s.counts b)
+open_keeps {s} now b k e h outside = placed_keeps now s.counts b k e outside (plain_placed s.counts b (block_plain b h)) (block_parent b h)
+
+pub open_refused : {s : State} (now : BuilderView) (b : ItemBody) (tree : Arena Item) → IsSound s → seen s ≡ now → is_plain_block b ≡ true → now.leaf ≡ false
+    → (tree ≡ s.tree) ⊎ (tree ≡ appended s.tree (item_over s.at s.at b)) → IsSound (record s { tree = tree })
+open_refused {s} now b tree k e h outside = refused_keeps now s.counts b tree k e outside (plain_placed s.counts b (block_plain b h)) (block_parent b h)
+
+-- `inline`
+pub inline_keeps : {s : State} (now : BuilderView) (end : ℕ) (b : ItemBody) → IsSound s → seen s ≡ now → is_settled b ≡ true → now.leaf ≡ true → now.at ≤ end
+    → IsCharBoundary now.text end → IsSound (after_item s s.counts end b None)
+inline_keeps {s} now end b k e h =
+    subst (λ (v : BuilderView). v.leaf ≡ true → v.at ≤ end → IsCharBoundary v.text end → IsSound (after_item s s.counts end b None)) e (λ within low boundary.
+    let placed = plain_placed s.counts b (settled_plain b h) in
+    added s s.counts end b None k placed.more
+    (placed_fits s.text s.counts s.counts s.at end b placed (settled_markup b (source_of s.text (item_over s.at end b)) h) (record { ordered = low; start = k.stands.boundary; end = boundary }))
+    (placed_new s.counts s.counts s.at end b placed) (settled_inline b h ∙ sym within) placed.no_run)
+
+-- a spine that open blocks stand on ends with a number
+spine_last : (nodes : List (Node Item)) (spine : List ℕ) (blocks : List OpenBlock) (block : OpenBlock) → AreOpen nodes spine (blocks ++ block ∷ [])
+    → (outer : List ℕ) × (n : ℕ) × (spine ≡ outer ++ n ∷ [])
+spine_last nodes [] [] block o = absurd o
+spine_last nodes [] (b ∷ blocks) block o = absurd o
+spine_last nodes (s ∷ []) [] block o = ([], s, refl)
+spine_last nodes (s ∷ t ∷ spine) [] block o = absurd o.2
+spine_last nodes (s ∷ spine) (b ∷ blocks) block o =
+    let r = spine_last nodes spine blocks block o.2 in (s ∷ r.0, r.1, ap (λ (x : List ℕ). s ∷ x) r.2)
+
+-- the number of the innermost open block
+pub innermost_open : (s : State) (rest : List OpenBlock) (block : OpenBlock) → IsSound s → s.blocks ≡ rest ++ block ∷ []
+    → (outer : List ℕ) × (n : ℕ) × (s.tree.spine ≡ outer ++ n ∷ [])
+innermost_open s rest block k e =
+    spine_last s.tree.nodes s.tree.spine rest block (subst (λ (x : List OpenBlock). AreOpen s.tree.nodes s.tree.spine x) e k.stands.are_open)
+
+-- `close`
+pub close_keeps : {s : State} (rest : List OpenBlock) (block : OpenBlock) (new : Arena Item) → IsSound s → s.blocks ≡ rest ++ block ∷ []
+    → ((outer : List ℕ) (ix : ℕ) → s.tree.spine ≡ outer ++ ix ∷ []
+    → new ≡ record { nodes = changed_at ix (λ m. record m { item = item_over block.start s.at block.body }) s.tree.nodes; spine = outer; cursor = Some ix })
+    → IsSound (record s { tree = new; blocks = rest; leaf = false; run = None })
+close_keeps {s} rest block new k e left =
+    let l = innermost_open s rest block k e in
+    subst (λ (t : Arena Item). IsSound (record s { tree = t; blocks = rest; leaf = false; run = None })) (sym (left l.0 l.1 l.2))
+    (closed s l.0 rest l.1 block k e l.2)
+
+-- `rule`
+pub rule_keeps : {s : State} (now : BuilderView) (end : ℕ) → IsSound s → seen s ≡ now → now.leaf ≡ false → now.at ≤ end → IsCharBoundary now.text end
+    → IsSound (after_item s s.counts end body.Rule None)
+rule_keeps {s} now end k e =
+    subst (λ (v : BuilderView). v.leaf ≡ false → v.at ≤ end → IsCharBoundary v.text end → IsSound (after_item s s.counts end body.Rule None)) e
+    (λ outside low boundary. let placed = plain_placed s.counts body.Rule rule_plain in
+    added s s.counts end body.Rule None k placed.more
+    (placed_fits s.text s.counts s.counts s.at end body.Rule placed tt (record { ordered = low; start = k.stands.boundary; end = boundary }))
+    (placed_new s.counts s.counts s.at end body.Rule placed) (sym outside) refl)
+
+-- `synthesize`
+pub synthesize_keeps : {s : State} (now : BuilderView) (many : PartCounts) (end : ℕ) (ix : CowIndex) → IsSound s → seen s ≡ now → ix.0 ≡ s.counts.texts
+    → one_text_more s.counts many → now.leaf ≡ true → now.at ≤ end → IsCharBoundary now.text end → IsSound (after_item s many end (body.SynthesizeText ix) None)
+synthesize_keeps {s} now many end ix k e n more =
+    subst (λ (v : BuilderView). v.leaf ≡ true → v.at ≤ end → IsCharBoundary v.text end → IsSound (after_item s many end (body.SynthesizeText ix) None)) e
+    (λ within low boundary. let placed = text_placed s.counts many (body.SynthesizeText ix) ix.0 n more (synthesized_names ix) in
+    added s many end (body.SynthesizeText ix) None k placed.more
+    (placed_fits s.text s.counts many s.at end (body.SynthesizeText ix) placed tt (record { ordered = low; start = k.stands.boundary; end = boundary }))
+    (placed_new s.counts many s.at end (body.SynthesizeText ix) placed) (sym within) refl)
+
+-- a text that was pushed, and is not named
+pub pushed_keeps : {s : State} (many : PartCounts) → IsSound s → one_text_more s.counts many → IsSound (record s { counts = many })
+pushed_keeps {s} many k more =
+    more_parts s many (record { texts = omega (arith, more.0); alignments = omega (arith, more.1); attributes = omega (arith, more.2) }) k
+
+-- `open_fenced` and `open_footnote`
+pub fenced_keeps : {s : State} (now : BuilderView) (many : PartCounts) (ix : CowIndex) → IsSound s → seen s ≡ now → now.leaf ≡ false → ix.0 ≡ s.counts.texts
+    → one_text_more s.counts many → IsSound (after_opening s many (body.FencedCodeBlock ix))
+fenced_keeps {s} now many ix k e outside n more =
+    placed_keeps now many (body.FencedCodeBlock ix) k e outside (text_placed s.counts many (body.FencedCodeBlock ix) ix.0 n more (fenced_names ix))
+    (record { inline = refl; childless = refl })
+
+pub fenced_refused : {s : State} (now : BuilderView) (many : PartCounts) (ix : CowIndex) (tree : Arena Item) → IsSound s → seen s ≡ now → now.leaf ≡ false
+    → ix.0 ≡ s.counts.texts → one_text_more s.counts many → (tree ≡ s.tree) ⊎ (tree ≡ appended s.tree (item_over s.at s.at (body.FencedCodeBlock ix)))
+    → IsSound (record s { counts = many; tree = tree })
+fenced_refused {s} now many ix tree k e outside n more =
+    refused_keeps now many (body.FencedCodeBlock ix) tree k e outside (text_placed s.counts many (body.FencedCodeBlock ix) ix.0 n more (fenced_names ix))
+    (record { inline = refl; childless = refl })
+
+pub footnote_keeps : {s : State} (now : BuilderView) (many : PartCounts) (ix : CowIndex) → IsSound s → seen s ≡ now → now.leaf ≡ false → ix.0 ≡ s.counts.texts
+    → one_text_more s.counts many → IsSound (after_opening s many (body.FootnoteDefinition ix))
+footnote_keeps {s} now many ix k e outside n more =
+    placed_keeps now many (body.FootnoteDefinition ix) k e outside (text_placed s.counts many (body.FootnoteDefinition ix) ix.0 n more (footnote_names ix))
+    (record { inline = refl; childless = refl })
+
+pub footnote_refused : {s : State} (now : BuilderView) (many : PartCounts) (ix : CowIndex) (tree : Arena Item) → IsSound s → seen s ≡ now → now.leaf ≡ false
+    → ix.0 ≡ s.counts.texts → one_text_more s.counts many → (tree ≡ s.tree) ⊎ (tree ≡ appended s.tree (item_over s.at s.at (body.FootnoteDefinition ix)))
+    → IsSound (record s { counts = many; tree = tree })
+footnote_refused {s} now many ix tree k e outside n more =
+    refused_keeps now many (body.FootnoteDefinition ix) tree k e outside (text_placed s.counts many (body.FootnoteDefinition ix) ix.0 n more (footnote_names ix))
+    (record { inline = refl; childless = refl })
+
+-- `open_table`
+pub table_keeps : {s : State} (now : BuilderView) (many : PartCounts) (ix : AlignmentIndex) → IsSound s → seen s ≡ now → now.leaf ≡ false
+    → ix.0 ≡ s.counts.alignments → many.alignments ≡ s.counts.alignments + 1 → many.texts ≡ s.counts.texts → many.attributes ≡ s.counts.attributes
+    → IsSound (after_opening s many (body.Table ix))
+table_keeps {s} now many ix k e outside n a t h =
+    placed_keeps now many (body.Table ix) k e outside (table_placed s.counts many ix n a t h) (record { inline = refl; childless = refl })
+
+pub table_refused : {s : State} (now : BuilderView) (many : PartCounts) (ix : AlignmentIndex) (tree : Arena Item) → IsSound s → seen s ≡ now → now.leaf ≡ false
+    → ix.0 ≡ s.counts.alignments → many.alignments ≡ s.counts.alignments + 1 → many.texts ≡ s.counts.texts → many.attributes ≡ s.counts.attributes
+    → (tree ≡ s.tree) ⊎ (tree ≡ appended s.tree (item_over s.at s.at (body.Table ix))) → IsSound (record s { counts = many; tree = tree })
+table_refused {s} now many ix tree k e outside n a t h =
+    refused_keeps now many (body.Table ix) tree k e outside (table_placed s.counts many ix n a t h) (record { inline = refl; childless = refl })
+
+-- `open_heading`
+pub heading_keeps : {s : State} (now : BuilderView) (many : PartCounts) (level : HeadingLevel) (ix : HeadingIndex) → IsSound s → seen s ≡ now
+    → now.leaf ≡ false → ix.0 ≡ many.attributes → many.attributes ≡ s.counts.attributes + 1 → many.texts ≡ s.counts.texts
+    → many.alignments ≡ s.counts.alignments → IsSound (after_opening s many (body.Heading level (Some ix)))
+heading_keeps {s} now many level ix k e outside n h t a =
+    placed_keeps now many (body.Heading level (Some ix)) k e outside (heading_placed s.counts many level ix n h t a) (record { inline = refl; childless = refl })
+
+pub heading_refused : {s : State} (now : BuilderView) (many : PartCounts) (level : HeadingLevel) (ix : HeadingIndex) (tree : Arena Item) → IsSound s
+    → seen s ≡ now → now.leaf ≡ false → ix.0 ≡ many.attributes → many.attributes ≡ s.counts.attributes + 1 → many.texts ≡ s.counts.texts
+    → many.alignments ≡ s.counts.alignments → (tree ≡ s.tree) ⊎ (tree ≡ appended s.tree (item_over s.at s.at (body.Heading level (Some ix))))
+    → IsSound (record s { counts = many; tree = tree })
+heading_refused {s} now many level ix tree k e outside n h t a =
+    refused_keeps now many (body.Heading level (Some ix)) tree k e outside (heading_placed s.counts many level ix n h t a)
+    (record { inline = refl; childless = refl })
+
+-- `mark`
+pub mark_keeps : {s : State} (now : BuilderView) (b : ItemBody) → IsSound s → seen s ≡ now → now.leaf ≡ true → now.at < length now.text
+    → mark_byte b ≡ Some (slice_index now.text now.at) → IsSound (after_item s s.counts (s.at + 1) b None)
+mark_keeps {s} now b k e =
+    subst (λ (v : BuilderView). v.leaf ≡ true → v.at < length v.text → mark_byte b ≡ Some (slice_index v.text v.at) → IsSound (after_item s s.counts (s.at + 1) b None)) e
+    (λ within low byte. let m = mark_facts b (slice_index s.text s.at) byte in
+    let placed = plain_placed s.counts b m.plain in
+    added s s.counts (s.at + 1) b None k placed.more
+    (placed_fits s.text s.counts s.counts s.at (s.at + 1) b placed (rw (one_source s.text s.at low) m.markup)
+    (record { ordered = omega arith; start = k.stands.boundary; end = IsCharBoundary-after_ascii s.text s.at k.utf8 low m.ascii }))
+    (placed_new s.counts s.counts s.at (s.at + 1) b placed) (m.inline ∙ sym within) m.plain.no_run)
+
+-- `image`
+pub image_keeps : {s : State} (now : BuilderView) → IsSound s → seen s ≡ now → now.leaf ≡ true → now.at + 1 < length now.text
+    → slice_index now.text now.at ≡ 33 → slice_index now.text (now.at + 1) ≡ 91 → IsSound (after_item s s.counts (s.at + 2) body.MaybeImage None)
+image_keeps {s} now k e =
+    subst (λ (v : BuilderView). v.leaf ≡ true → v.at + 1 < length v.text → slice_index v.text v.at ≡ 33 → slice_index v.text (v.at + 1) ≡ 91
+    → IsSound (after_item s s.counts (s.at + 2) body.MaybeImage None)) e (λ within low first second.
+    let placed = plain_placed s.counts body.MaybeImage (plain refl refl refl refl refl refl) in
+    let end : IsCharBoundary s.text ((s.at + 1) + 1) = IsCharBoundary-after_ascii s.text (s.at + 1) k.utf8 low (omega (arith, second)) in
+    let two : (s.at + 1) + 1 ≡ s.at + 2 = omega arith in
+    added s s.counts (s.at + 2) body.MaybeImage None k placed.more
+    (placed_fits s.text s.counts s.counts s.at (s.at + 2) body.MaybeImage placed (two_source s.text s.at low ∙ rw (first, second) refl)
+    (record { ordered = omega arith; start = k.stands.boundary; end = subst (λ (p : ℕ). IsCharBoundary s.text p) two end }))
+    (placed_new s.counts s.counts s.at (s.at + 2) body.MaybeImage placed) (sym within) refl)
+
+-- `backticks`
+pub backticks_keeps : {s : State} (now : BuilderView) (end : ℕ) (escaped : Bool) → IsSound s → seen s ≡ now → now.leaf ≡ true → IsRunOf 96 now.text now.at end
+    → IsSound (after_item s s.counts end (body.MaybeCode (end - s.at) escaped) None)
+backticks_keeps {s} now end escaped k e =
+    subst (λ (v : BuilderView). v.leaf ≡ true → IsRunOf 96 v.text v.at end → IsSound (after_item s s.counts end (body.MaybeCode (end - s.at) escaped) None)) e
+    (λ within run. let b = body.MaybeCode (end - s.at) escaped in
+    let placed = plain_placed s.counts b (plain refl refl refl refl refl refl) in
+    added s s.counts end b None k placed.more
+    (placed_fits s.text s.counts s.counts s.at end b placed (run_source s.text s.at end 96 run, omega (arith, run.more))
+    (record { ordered = omega (arith, run.more); start = k.stands.boundary; end = run_boundary s.text s.at end 96 k.utf8 run (omega arith) end run.more (omega arith) }))
+    (placed_new s.counts s.counts s.at end b placed) (sym within) refl)
+
+-- `define`
+pub define_keeps : {s : State} (now : BuilderView) (to : ℕ) (d : CowStr × LinkDef) → IsSound s → seen s ≡ now → now.at ≤ to → IsCharBoundary now.text to
+    → slice_index now.text now.at ≡ 91 → d.1.span ≡ record { start = s.at; end = to } → IsSound (record s { definitions = s.definitions ++ d ∷ []; at = to })
+define_keeps {s} now to d k e =
+    subst (λ (v : BuilderView). v.at ≤ to → IsCharBoundary v.text to → slice_index v.text v.at ≡ 91 → d.1.span ≡ record { start = s.at; end = to }
+    → IsSound (record s { definitions = s.definitions ++ d ∷ []; at = to })) e (defined s to d k)
+
+-- `change`
+pub change_keeps : {s : State} (now : BuilderView) (b : ItemBody) (start : ℕ) (blocks : List OpenBlock) (new : Arena Item) → IsSound s → seen s ≡ now
+    → is_plain_block b ≡ true → is_leaf b ≡ now.leaf → LastRenamed s.blocks blocks start b
+    → ((outer : List ℕ) (ix : ℕ) → s.tree.spine ≡ outer ++ ix ∷ []
+    → new ≡ record s.tree { nodes = changed_at ix (λ m. record m { item = item_over start start b }) s.tree.nodes })
+    → IsSound (record s { tree = new; blocks = blocks })
+change_keeps {s} now b start blocks new k e h leaf r write =
+    let l = innermost_open s r.outer r.block k r.was in
+    let p = block_plain b h in
+    let whole : blocks ≡ r.outer ++ record { start = r.block.start; body = b } ∷ [] = r.now ∙ rw r.begins refl in
+    let tree : new ≡ with_item s.tree l.1 (item_over r.block.start r.block.start b) = write l.0 l.1 l.2 ∙ rw r.begins refl in
+    rw (whole, tree)
+    (changed s l.0 r.outer l.1 r.block b k r.was l.2 (leaf ∙ sym (ap (λ (v : BuilderView). v.leaf) e)) (plain_placed s.counts b p) p.texts p.alignments
+    (block_parent b h))
+
+-- two lists that end with a block are one
+last_same : (xs ys : List OpenBlock) (x y : OpenBlock) → xs ++ x ∷ [] ≡ ys ++ y ∷ [] → (xs ≡ ys) × (x ≡ y)
+last_same [] [] x y e = (refl, cc (e))
+last_same [] (z ∷ []) x y e = cc (e)
+last_same [] (z ∷ w ∷ ys) x y e = cc (e)
+last_same (z ∷ []) [] x y e = cc (e)
+last_same (z ∷ w ∷ xs) [] x y e = cc (e)
+last_same (z ∷ xs) (w ∷ ys) x y e =
+    let tail : xs ++ x ∷ [] ≡ ys ++ y ∷ [] = cc (e) in
+    let head : z ≡ w = cc (e) in
+    let r = last_same xs ys x y tail in
+    (rw (head, r.0) refl, r.1)
+
+-- the block that is renamed is the innermost
+pub renamed_last : (old new seen_before : List OpenBlock) (start : ℕ) (b : ItemBody) → old ≡ seen_before → LastRenamed old new start b
+    → LastHasBody seen_before new b
+renamed_last old new seen_before start b e r outer block h =
+    let both = last_same r.outer outer r.block block (sym r.was ∙ (e ∙ h)) in
+    r.now ∙ rw (r.begins, ← both.0, ← both.1) refl

@@ -1,0 +1,12 @@
+pub mod RisingLemmas
+pub mod NodeWriteLemmas
+pub mod BodiesLemmas
+pub mod MarkLemmas
+pub mod NodeRulesLemmas
+pub mod RunLemmas
+pub mod FormedLemmas
+pub mod StandingLemmas
+pub mod StepLemmas
+pub mod WrittenLemmas
+pub mod CoveredLemmas
+pub mod CallLemmas

@@ -1,0 +1,172 @@
+-- What an append and a written item make of a list of nodes, number by number.
+use Rattle.std.proofs.Common.{◌≡◌, ℕ, zero, suc, ◌+◌, ◌<◌, ◌≤◌, List, [], ◌∷◌, ◌++◌, Option, Some, None, Bool, true, false, map, length, refl, ap, ◌∙◌, arith}
+use Rattle.std.specs.Prelude.{slice_index_or}
+use Rattle.std.proofs.lemmas.List.{length-append}
+use Rattle.markdown_base.specs.declared.item.Item.{Item}
+use Rattle.markdown_base.specs.declared.node.Node.{Node}
+use Rattle.markdown_base.specs.Arena.{innermost, changed_at, follower, appended}
+use Rattle.markdown_base.specs.ArenaForest.{links_of}
+use Rattle.markdown_base.specs.BlockTree.{item_at, no_item}
+use Rattle.markdown_base.proofs.ArenaLemmas.{length-changed_at}
+use Rattle.markdown_builder.specs.Rising.{link_of, place_down, place_at}
+
+-- ---- one field of the nodes
+
+-- a new node whose field is the default changes nothing
+field_more : {X : Type 0} (g : Node Item → X) (x : Node Item) (d : X) → g x ≡ d → (nodes : List (Node Item)) (i : ℕ)
+    → slice_index_or (map g (nodes ++ x ∷ [])) i d ≡ slice_index_or (map g nodes) i d
+field_more g x d e [] zero = e
+field_more g x d e [] (suc i) = refl
+field_more g x d e (n ∷ nodes) zero = refl
+field_more g x d e (n ∷ nodes) (suc i) = field_more g x d e nodes i
+
+-- the old nodes' fields stay
+field_old : {X : Type 0} (g : Node Item → X) (x : Node Item) (d : X) (nodes : List (Node Item)) (i : ℕ) → i < length nodes
+    → slice_index_or (map g (nodes ++ x ∷ [])) i d ≡ slice_index_or (map g nodes) i d
+field_old g x d [] i h = absurd (omega (arith, h))
+field_old g x d (n ∷ nodes) zero h = refl
+field_old g x d (n ∷ nodes) (suc i) h = field_old g x d nodes i (omega (arith, h))
+
+-- the new node's field
+field_new : {X : Type 0} (g : Node Item → X) (x : Node Item) (d : X) (nodes : List (Node Item))
+    → slice_index_or (map g (nodes ++ x ∷ [])) (length nodes) d ≡ g x
+field_new g x d [] = refl
+field_new g x d (n ∷ nodes) = field_new g x d nodes
+
+-- there is nothing at larger numbers
+field_none : {X : Type 0} (g : Node Item → X) (d : X) (nodes : List (Node Item)) (i : ℕ) → length nodes ≤ i
+    → slice_index_or (map g nodes) i d ≡ d
+field_none g d [] i h = refl
+field_none g d (n ∷ nodes) zero h = absurd (omega (arith, h))
+field_none g d (n ∷ nodes) (suc i) h = field_none g d nodes i (omega (arith, h))
+
+-- a change elsewhere
+field_elsewhere : {X : Type 0} (g : Node Item → X) (d : X) (change : Node Item → Node Item) (ix i : ℕ) (nodes : List (Node Item)) → (i ≡ ix → ⊥)
+    → slice_index_or (map g (changed_at ix change nodes)) i d ≡ slice_index_or (map g nodes) i d
+field_elsewhere g d change ix i [] h = refl
+field_elsewhere g d change zero zero (n ∷ nodes) h = absurd (h refl)
+field_elsewhere g d change zero (suc i) (n ∷ nodes) h = refl
+field_elsewhere g d change (suc ix) zero (n ∷ nodes) h = refl
+field_elsewhere g d change (suc ix) (suc i) (n ∷ nodes) h = field_elsewhere g d change ix i nodes (λ e. h (ap suc e))
+
+-- a change of other fields
+field_kept : {X : Type 0} (g : Node Item → X) (d : X) (change : Node Item → Node Item) → ((n : Node Item) → g (change n) ≡ g n)
+    → (ix i : ℕ) (nodes : List (Node Item))
+    → slice_index_or (map g (changed_at ix change nodes)) i d ≡ slice_index_or (map g nodes) i d
+field_kept g d change k ix i [] = refl
+field_kept g d change k zero zero (n ∷ nodes) = k n
+field_kept g d change k zero (suc i) (n ∷ nodes) = refl
+field_kept g d change k (suc ix) zero (n ∷ nodes) = refl
+field_kept g d change k (suc ix) (suc i) (n ∷ nodes) = field_kept g d change k ix i nodes
+
+-- a change here
+field_here : {X : Type 0} (g : Node Item → X) (d v : X) (change : Node Item → Node Item) → ((n : Node Item) → g (change n) ≡ v)
+    → (ix : ℕ) (nodes : List (Node Item)) → ix < length nodes
+    → slice_index_or (map g (changed_at ix change nodes)) ix d ≡ v
+field_here g d v change k ix [] h = absurd (omega (arith, h))
+field_here g d v change k zero (n ∷ nodes) h = k n
+field_here g d v change k (suc ix) (n ∷ nodes) h = field_here g d v change k ix nodes (omega (arith, h))
+
+-- ---- an append
+
+-- what an append behind a free place does
+pub record Grows (old new : List (Node Item)) (down : Bool) (at : ℕ) (item : Item) : Type 0 where
+  pub size : length new ≡ suc (length old)
+  pub old_items : (i : ℕ) → i < length old → item_at new i ≡ item_at old i
+  pub new_item : item_at new (length old) ≡ item
+  pub other_links : (d : Bool) (i : ℕ) → ((d ≡ down) × (i ≡ at) → ⊥) → link_of (links_of new) d i ≡ link_of (links_of old) d i
+  pub new_link : link_of (links_of new) down at ≡ Some (length old)
+
+-- what stands at a place
+pub place_follower : (nodes : List (Node Item)) (spine : List ℕ) (cursor : Option ℕ)
+    → follower nodes spine cursor ≡ link_of (links_of nodes) (place_down cursor) (place_at spine cursor)
+place_follower nodes spine None = refl
+place_follower nodes spine (Some before) = refl
+
+-- an append behind the node in focus
+grows_after : (old : List (Node Item)) (before : ℕ) (item : Item) → before < length old
+    → Grows old (changed_at before (λ n. record n { next = Some (length old) }) (old ++ record { item = item; child = None; next = None } ∷ [])) false before item
+grows_after old before item h =
+    let x : Node Item = record { item = item; child = None; next = None } in
+    let change : Node Item → Node Item = λ n. record n { next = Some (length old) } in
+    let more = old ++ x ∷ [] in
+    let l : length more ≡ length old + 1 = length-append old (x ∷ []) in
+    record {
+      size = length-changed_at before change more ∙ omega (arith, l);
+      old_items = λ i k. field_kept (λ n. n.item) no_item change (λ n. refl) before i more ∙ field_old (λ n. n.item) x no_item old i k;
+      new_item = field_kept (λ n. n.item) no_item change (λ n. refl) before (length old) more ∙ field_new (λ n. n.item) x no_item old;
+      other_links = others old before item;
+      new_link = field_here (λ n. n.next) None (Some (length old)) change (λ n. refl) before more (omega (arith, l, h));
+    }
+  where
+    others : (old : List (Node Item)) (before : ℕ) (item : Item) (d : Bool) (i : ℕ) → ((d ≡ false) × (i ≡ before) → ⊥)
+        → link_of (links_of (changed_at before (λ n. record n { next = Some (length old) }) (old ++ record { item = item; child = None; next = None } ∷ []))) d i
+        ≡ link_of (links_of old) d i
+    others old before item true i k =
+        field_kept (λ n. n.child) None (λ n. record n { next = Some (length old) }) (λ n. refl) before i (old ++ record { item = item; child = None; next = None } ∷ [])
+        ∙ field_more (λ n. n.child) (record { item = item; child = None; next = None }) None refl old i
+    others old before item false i k =
+        field_elsewhere (λ n. n.next) None (λ n. record n { next = Some (length old) }) before i (old ++ record { item = item; child = None; next = None } ∷ [])
+        (λ e. k (refl, e))
+        ∙ field_more (λ n. n.next) (record { item = item; child = None; next = None }) None refl old i
+
+-- an append below the node gone into last
+grows_below : (old : List (Node Item)) (parent : ℕ) (item : Item) → parent < length old
+    → Grows old (changed_at parent (λ n. record n { child = Some (length old) }) (old ++ record { item = item; child = None; next = None } ∷ [])) true parent item
+grows_below old parent item h =
+    let x : Node Item = record { item = item; child = None; next = None } in
+    let change : Node Item → Node Item = λ n. record n { child = Some (length old) } in
+    let more = old ++ x ∷ [] in
+    let l : length more ≡ length old + 1 = length-append old (x ∷ []) in
+    record {
+      size = length-changed_at parent change more ∙ omega (arith, l);
+      old_items = λ i k. field_kept (λ n. n.item) no_item change (λ n. refl) parent i more ∙ field_old (λ n. n.item) x no_item old i k;
+      new_item = field_kept (λ n. n.item) no_item change (λ n. refl) parent (length old) more ∙ field_new (λ n. n.item) x no_item old;
+      other_links = others old parent item;
+      new_link = field_here (λ n. n.child) None (Some (length old)) change (λ n. refl) parent more (omega (arith, l, h));
+    }
+  where
+    others : (old : List (Node Item)) (parent : ℕ) (item : Item) (d : Bool) (i : ℕ) → ((d ≡ true) × (i ≡ parent) → ⊥)
+        → link_of (links_of (changed_at parent (λ n. record n { child = Some (length old) }) (old ++ record { item = item; child = None; next = None } ∷ []))) d i
+        ≡ link_of (links_of old) d i
+    others old parent item false i k =
+        field_kept (λ n. n.next) None (λ n. record n { child = Some (length old) }) (λ n. refl) parent i (old ++ record { item = item; child = None; next = None } ∷ [])
+        ∙ field_more (λ n. n.next) (record { item = item; child = None; next = None }) None refl old i
+    others old parent item true i k =
+        field_elsewhere (λ n. n.child) None (λ n. record n { child = Some (length old) }) parent i (old ++ record { item = item; child = None; next = None } ∷ [])
+        (λ e. k (refl, e))
+        ∙ field_more (λ n. n.child) (record { item = item; child = None; next = None }) None refl old i
+
+-- an append at a free place
+pub append_grows : (nodes : List (Node Item)) (spine : List ℕ) (cursor : Option ℕ) (item : Item)
+    → place_at spine cursor < length nodes → link_of (links_of nodes) (place_down cursor) (place_at spine cursor) ≡ None
+    → Grows nodes (appended (record { nodes = nodes; spine = spine; cursor = cursor }) item).nodes (place_down cursor) (place_at spine cursor) item
+append_grows nodes spine (Some before) item h free = rw free (grows_after nodes before item h)
+append_grows nodes spine None item h free = rw free (grows_below nodes (innermost spine) item h)
+
+-- ---- a written item
+
+-- what a written item does
+pub record Writes (old new : List (Node Item)) (at : ℕ) (item : Item) : Type 0 where
+  pub size : length new ≡ length old
+  pub old_items : (i : ℕ) → (i ≡ at → ⊥) → item_at new i ≡ item_at old i
+  pub new_item : item_at new at ≡ item
+  pub all_links : (d : Bool) (i : ℕ) → link_of (links_of new) d i ≡ link_of (links_of old) d i
+
+pub item_writes : (nodes : List (Node Item)) (at : ℕ) (item : Item) → at < length nodes
+    → Writes nodes (changed_at at (λ n. record n { item = item }) nodes) at item
+item_writes nodes at item h = record {
+  size = length-changed_at at (λ n. record n { item = item }) nodes;
+  old_items = λ i k. field_elsewhere (λ n. n.item) no_item (λ n. record n { item = item }) at i nodes k;
+  new_item = field_here (λ n. n.item) no_item item (λ n. record n { item = item }) (λ n. refl) at nodes h;
+  all_links = links nodes at item;
+}
+  where
+    links : (nodes : List (Node Item)) (at : ℕ) (item : Item) (d : Bool) (i : ℕ)
+        → link_of (links_of (changed_at at (λ n. record n { item = item }) nodes)) d i ≡ link_of (links_of nodes) d i
+    links nodes at item true i = field_kept (λ n. n.child) None (λ n. record n { item = item }) (λ n. refl) at i nodes
+    links nodes at item false i = field_kept (λ n. n.next) None (λ n. record n { item = item }) (λ n. refl) at i nodes
+
+-- no item stands at a number that no node has
+pub item_beyond : (nodes : List (Node Item)) (i : ℕ) → length nodes ≤ i → item_at nodes i ≡ no_item
+item_beyond nodes i h = field_none (λ n. n.item) no_item nodes i h

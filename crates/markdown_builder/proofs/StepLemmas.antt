@@ -1,0 +1,472 @@
+-- The steps of a builder: how it begins, what each step makes of it, and what it has made in the end.
+use Rattle.std.proofs.Common.{◌≡◌, ℕ, zero, suc, ◌+◌, ◌<◌, ◌≤◌, List, [], ◌∷◌, ◌++◌, Option, Some, None, Bool, true, false, length, refl, sym, ap, ◌∙◌, subst, arith, ◌⊎◌, inl, inr, ⊎_elim}
+use Rattle.std.specs.Prelude.{IfSome, IsTrue, ⊤, ◌||◌, slice_index}
+use Rattle.std.specs.List.{AllByRecursion, list_any}
+use Rattle.std.specs.Str.{IsCharBoundary, IsUtf8}
+use Rattle.std.proofs.lemmas.Bool.{cases_lt}
+use Rattle.std.proofs.lemmas.List.Folds.{list_any-append}
+use Rattle.std.proofs.lemmas.Str.{IsCharBoundary-start}
+use Rattle.markdown_base.specs.declared.block_parts.LinkDef.{LinkDef}
+use Rattle.markdown_base.specs.declared.cow_str.CowStr.{CowStr}
+use Rattle.markdown_base.specs.declared.item.Item.{Item}
+use Rattle.markdown_base.specs.declared.item.ItemBody.{ItemBody}
+use Rattle.markdown_base.specs.declared.item.ItemBody.TheVariants as body
+use Rattle.markdown_base.specs.declared.node.Node.{Node}
+use Rattle.markdown_base.specs.Arena.{Arena, child_of, single, appended, changed_at}
+use Rattle.markdown_base.specs.ArenaForest.{links_of}
+use Rattle.markdown_base.specs.ArenaRules.{next_at}
+use Rattle.markdown_base.specs.BlockTree.{Numbered, item_at, numbered}
+use Rattle.markdown_base.specs.Coverage.{is_inside}
+use Rattle.markdown_base.specs.Item.{LiesIn, range_of, is_inline, is_childless, text_named, alignments_named}
+use Rattle.markdown_base.specs.WellFormed.{source_of, PartCounts, run_character, RunsAreWhole}
+use Rattle.markdown_base.proofs.ArenaLemmas.{innermost-snoc, All-snoc, All-front, All-last}
+use Rattle.markdown_base.proofs.ForestLemmas.{All-weaker}
+use Rattle.markdown_base.proofs.WellFormedLemmas.{HasMore}
+use Rattle.markdown_builder.specs.declared.open_block.OpenBlock.{OpenBlock}
+use Rattle.markdown_builder.specs.Bodies.{is_leaf}
+use Rattle.markdown_builder.specs.BuilderView.{IsWhite}
+use Rattle.markdown_builder.specs.Rising.{link_of, IsOnTop, place_down, place_at}
+use Rattle.markdown_builder.specs.NodeRules.{ItemFits, LinkFits, NamesNew, MayReplace, KeepsNodes}
+use Rattle.markdown_builder.specs.Standing.{State, open_item, entered, with_item, IsOpenAt, AreOpen, OnlyLastIsLeaf, IsTopPlace, IsUnderTop, is_in_definition, covered_to, AreCovered, Stands, LastRun, IsSound}
+use Rattle.markdown_builder.proofs.BodiesLemmas.{item_over, IsParent, MayBePlaced, placed_fits, placed_new, block_markup, block_no_run, same_parts}
+use Rattle.markdown_builder.proofs.NodeRulesLemmas.{same_or_not, fits_more, fits_from, write_keeps}
+use Rattle.markdown_builder.proofs.NodeWriteLemmas.{Writes, item_writes}
+use Rattle.markdown_builder.proofs.RunLemmas.{runs_appended, runs_written, ends_run}
+use Rattle.markdown_builder.proofs.StandingLemmas.{Appended, appended_fits, IsInnermost, open_snoc, open_unsnoc, open_map, top_stays, not_inside, inside, covered_stays}
+
+-- of two tests one passes
+pub either_passes : (a b : Bool) → (a ≡ true) ⊎ IsTrue b → IsTrue (a || b)
+either_passes true b h = refl
+either_passes false true h = refl
+either_passes false false h = ⊎_elim (λ (e : false ≡ true). cc (e)) (λ (e : IsTrue false). cc (e)) h
+
+-- ---- the beginning
+
+-- the root alone
+abbrev pub root_nodes : List (Node Item)
+root_nodes = single (record { start = 0; end = 0; body = body.Root }) ∷ []
+
+root_links : (d : Bool) (i : ℕ) → link_of (links_of root_nodes) d i ≡ None
+root_links true zero = refl
+root_links true (suc i) = refl
+root_links false zero = refl
+root_links false (suc i) = refl
+
+root_item : (i : ℕ) → (item_at root_nodes i).body ≡ body.Root
+root_item zero = refl
+root_item (suc i) = refl
+
+no_root_link : (d : Bool) (i j : ℕ) → link_of (links_of root_nodes) d i ≡ Some j → ⊥
+no_root_link d i j e = let h = root_links d i in cc (h, e)
+
+root_names : (name : ItemBody → Option ℕ) → name body.Root ≡ None → (i t : ℕ) → name (item_at root_nodes i).body ≡ Some t → ⊥
+root_names name n i t e = let h : name (item_at root_nodes i).body ≡ None = rw (root_item i) n in cc (h, e)
+
+-- a builder before its first step
+abbrev pub beginning : List ℕ → PartCounts → Arena Item → State
+beginning text counts tree =
+    record { text = text; counts = counts; tree = tree; definitions = []; blocks = []; leaf = false; run = None; at = 0 }
+
+-- it begins with the root alone
+pub begun : (text : List ℕ) (counts : PartCounts) (tree : Arena Item) → IsUtf8 text → tree ≡ record { nodes = root_nodes; spine = []; cursor = None }
+    → IsSound (beginning text counts tree)
+begun text counts tree utf8 e = subst (λ (t : Arena Item). IsSound (beginning text counts t)) (sym e) (record {
+  utf8 = utf8;
+  stands = record {
+    nodes = record {
+      rising = record {
+        rises = λ d i j e. absurd (no_root_link d i j e);
+        once = λ d b i h j e f. absurd (no_root_link d i j e);
+      };
+      rooted = omega arith;
+      root = refl;
+      items = λ i a b. absurd (omega (arith, a, b));
+      links = λ d i j e. absurd (no_root_link d i j e);
+      texts = λ i j t e f. absurd (root_names text_named refl i t e);
+      alignments = λ i j t e f. absurd (root_names alignments_named refl i t e);
+    };
+    low = omega arith;
+    free = refl;
+    fits = λ x k l. record { kind = k; parent = refl };
+    are_open = tt;
+    leaves = refl;
+    behind = tt;
+    top = tt;
+    covered = λ p l dark. absurd (omega (arith, l));
+    boundary = IsCharBoundary-start text utf8;
+    begun = tt;
+    brackets = tt;
+  };
+  runs = λ i. no_run_at i;
+  last_run = tt;
+})
+  where
+    no_run_at : (i : ℕ) → RunsAreWhole text (numbered root_nodes i) (next_at root_nodes i)
+    no_run_at zero = tt
+    no_run_at (suc i) = tt
+
+-- ---- a step over bytes
+
+-- what is covered up to a place is covered over white space behind it
+covered_white : (text : List ℕ) (nodes : List (Node Item)) (definitions : List (CowStr × LinkDef)) (from to : ℕ) → AreCovered text nodes definitions from
+    → IsWhite text from to → AreCovered text nodes definitions to
+covered_white text nodes definitions from to c w p l dark =
+    ⊎_elim (λ (h : p < from). c p h dark) (λ (h : from ≤ p). let q = w p h l in cc (q, dark)) (cases_lt p from)
+
+-- bytes are stepped over: white space, where no block is open
+pub skipped : (s : State) (to : ℕ) → IsSound s → s.at ≤ to → IsCharBoundary s.text to → (s.leaf ≡ false → s.blocks ≡ [] → IsWhite s.text s.at to)
+    → IsSound (record s { at = to })
+skipped s to k low boundary white = record {
+  utf8 = k.utf8;
+  stands = record {
+    nodes = k.stands.nodes;
+    low = k.stands.low;
+    free = k.stands.free;
+    fits = λ x e l. k.stands.fits x e (omega (arith, l, low));
+    are_open = k.stands.are_open;
+    leaves = k.stands.leaves;
+    behind = k.stands.behind;
+    top = k.stands.top;
+    covered = over s.blocks k.stands.leaves k.stands.covered white;
+    boundary = boundary;
+    begun = All-weaker (λ b. b.start ≤ s.at) (λ b. b.start ≤ to) (λ b h. omega (arith, h, low)) s.blocks k.stands.begun;
+    brackets = k.stands.brackets;
+  };
+  runs = k.runs;
+  last_run = k.last_run;
+}
+  where
+    over : (blocks : List OpenBlock) → OnlyLastIsLeaf blocks s.leaf → AreCovered s.text s.tree.nodes s.definitions (covered_to blocks s.at)
+        → (s.leaf ≡ false → blocks ≡ [] → IsWhite s.text s.at to) → AreCovered s.text s.tree.nodes s.definitions (covered_to blocks to)
+    over [] l c w = covered_white s.text s.tree.nodes s.definitions s.at to c (w l refl)
+    over (b ∷ blocks) l c w = c
+
+-- ---- an item without children
+
+-- what is covered, with a new item on top or inside a block
+covered_added : (text : List ℕ) (nodes : List (Node Item)) (definitions : List (CowStr × LinkDef)) (spine : List ℕ) (blocks : List OpenBlock) (number at to : ℕ) (b : ItemBody)
+    → AreOpen nodes spine blocks → IsTopPlace nodes spine (Some number) → item_at nodes number ≡ item_over at to b
+    → AreCovered text nodes definitions (covered_to blocks at) → AreCovered text nodes definitions (covered_to blocks to)
+covered_added text nodes definitions [] [] number at to b o t e c =
+    λ p l dark. ⊎_elim (λ (h : p < at). c p h dark)
+    (λ (h : at ≤ p). inl (record { number = number; top = t; inside = rw e (inside p at to h l) }))
+    (cases_lt p at)
+covered_added text nodes definitions (s ∷ spine) [] number at to b o t e c = absurd o
+covered_added text nodes definitions spine (x ∷ blocks) number at to b o t e c = c
+
+-- the state with an item appended, which ends at a place
+abbrev pub after_item : State → PartCounts → ℕ → ItemBody → Option ℕ → State
+after_item s many to b run = record s { counts = many; tree = appended s.tree (item_over s.at to b); run = run; at = to }
+
+-- an item that has no children is appended
+pub added : (s : State) (many : PartCounts) (to : ℕ) (b : ItemBody) (run : Option ℕ) → IsSound s → HasMore s.counts many
+    → ItemFits s.text many (item_over s.at to b) → NamesNew s.counts (item_over s.at to b) → is_inline b ≡ s.leaf → run_character b ≡ None
+    → IsSound (after_item s many to b run)
+added s many to b run k more fits names kind no_run =
+    let x : Item = item_over s.at to b in
+    let a = appended_fits s many x k.stands more fits names kind (omega arith) in
+    let low : s.at ≤ to = fits.range.ordered in
+    let n = length s.tree.nodes in
+    let none : run_character (item_at (appended s.tree x).nodes n).body ≡ None = ap (λ (y : Item). run_character y.body) a.grows.new_item ∙ no_run in
+    record {
+      utf8 = k.utf8;
+      stands = record {
+        nodes = a.nodes;
+        low = omega (arith, a.grows.size);
+        free = a.free false;
+        fits = λ y e l. rw a.grows.new_item (record { kind = e ∙ sym kind; order = λ h. l });
+        are_open = a.are_open;
+        leaves = k.stands.leaves;
+        behind = a.behind;
+        top = a.top;
+        covered = covered_added s.text (appended s.tree x).nodes s.definitions s.tree.spine s.blocks n s.at to b a.are_open a.top a.grows.new_item a.covered;
+        boundary = fits.range.end;
+        begun = All-weaker (λ q. q.start ≤ s.at) (λ q. q.start ≤ to) (λ q h. omega (arith, h, low)) s.blocks k.stands.begun;
+        brackets = k.stands.brackets;
+      };
+      runs = runs_appended s.text s.tree.nodes (appended s.tree x).nodes (place_down s.tree.cursor) (place_at s.tree.spine s.tree.cursor) x k.stands.nodes.rising
+          a.grows k.stands.free no_run k.runs;
+      last_run = rw none tt;
+    }
+
+-- ---- a block is opened
+
+-- with another open block, as much is covered
+covered_open : (blocks : List OpenBlock) (block : OpenBlock) → covered_to (blocks ++ block ∷ []) block.start ≡ covered_to blocks block.start
+covered_open [] block = refl
+covered_open (b ∷ blocks) block = refl
+
+-- the outermost open block is on top
+top_open : (nodes : List (Node Item)) (spine : List ℕ) (n : ℕ) → IsTopPlace nodes spine (Some n) → IsTopPlace nodes (spine ++ n ∷ []) None
+top_open nodes [] n t = t
+top_open nodes (s ∷ spine) n t = t
+
+-- a block is open inside blocks that are no leaves
+leaves_open : (blocks : List OpenBlock) (block : OpenBlock) → OnlyLastIsLeaf blocks false → OnlyLastIsLeaf (blocks ++ block ∷ []) (is_leaf block.body)
+leaves_open [] block h = refl
+leaves_open (b ∷ []) block h = (sym h, refl)
+leaves_open (b ∷ c ∷ blocks) block h = (h.0, leaves_open (c ∷ blocks) block h.1)
+
+-- the state with a block that begins here gone into
+abbrev pub after_opening : State → PartCounts → ItemBody → State
+after_opening s many b =
+    let block : OpenBlock = record { start = s.at; body = b } in
+    record s { counts = many; tree = entered s.tree (open_item block); blocks = s.blocks ++ block ∷ []; leaf = is_leaf b; run = None }
+
+-- a block is appended and gone into
+pub opened : (s : State) (many : PartCounts) (b : ItemBody) → IsSound s → s.leaf ≡ false → MayBePlaced s.counts many b → IsParent b
+    → IsSound (after_opening s many b)
+opened s many b k outside placed parent =
+    let block : OpenBlock = record { start = s.at; body = b } in
+    let x : Item = open_item block in
+    let n = length s.tree.nodes in
+    let fits = placed_fits s.text s.counts many s.at s.at b placed (block_markup b (source_of s.text (item_over s.at s.at b)) parent.inline) (record { ordered = omega arith; start = k.stands.boundary; end = k.stands.boundary }) in
+    let a = appended_fits s many x k.stands placed.more fits (placed_new s.counts many s.at s.at b placed) (parent.inline ∙ sym outside) (omega arith) in
+    let i = innermost-snoc s.tree.spine n in
+    let new = (appended s.tree x).nodes in
+    let below : child_of new n ≡ None = a.free true in
+    rw below (record {
+      utf8 = k.utf8;
+      stands = record {
+        nodes = a.nodes;
+        low = rw i (omega (arith, a.grows.size));
+        free = rw i (a.free true);
+        fits = λ y e l. rw (i, a.grows.new_item) (record { kind = e; parent = parent.childless });
+        are_open = open_snoc new n block s.tree.spine s.blocks a.are_open a.behind (record {
+          positive = k.stands.nodes.rooted;
+          low = omega (arith, a.grows.size);
+          last = a.free false;
+          item = a.grows.new_item;
+          inline = parent.inline;
+          childless = parent.childless;
+        });
+        leaves = leaves_open s.blocks block (subst (λ (l : Bool). OnlyLastIsLeaf s.blocks l) outside k.stands.leaves);
+        behind = tt;
+        top = top_open new s.tree.spine n a.top;
+        covered = subst (λ (to : ℕ). AreCovered s.text new s.definitions to) (sym (covered_open s.blocks block)) a.covered;
+        boundary = k.stands.boundary;
+        begun = All-snoc (λ q. q.start ≤ s.at) s.blocks block k.stands.begun (omega arith);
+        brackets = k.stands.brackets;
+      };
+      runs = runs_appended s.text s.tree.nodes new (place_down s.tree.cursor) (place_at s.tree.spine s.tree.cursor) x k.stands.nodes.rising
+          a.grows k.stands.free placed.no_run k.runs;
+      last_run = tt;
+    })
+
+-- a block is appended alone
+pub opened_alone : (s : State) (many : PartCounts) (b : ItemBody) (run : Option ℕ) → IsSound s → s.leaf ≡ false → MayBePlaced s.counts many b → IsParent b
+    → IsSound (after_item s many s.at b run)
+opened_alone s many b run k outside placed parent =
+    added s many s.at b run k placed.more
+    (placed_fits s.text s.counts many s.at s.at b placed (block_markup b (source_of s.text (item_over s.at s.at b)) parent.inline) (record { ordered = omega arith; start = k.stands.boundary; end = k.stands.boundary }))
+    (placed_new s.counts many s.at s.at b placed) (parent.inline ∙ sym outside) placed.no_run
+
+-- with more parts all stands as before
+pub more_parts : (s : State) (many : PartCounts) → HasMore s.counts many → IsSound s → IsSound (record s { counts = many })
+more_parts s many more k = record {
+  utf8 = k.utf8;
+  stands = record {
+    nodes = record {
+      rising = k.stands.nodes.rising;
+      rooted = k.stands.nodes.rooted;
+      root = k.stands.nodes.root;
+      items = λ i a b. fits_more s.text s.counts many (item_at s.tree.nodes i) more (k.stands.nodes.items i a b);
+      links = k.stands.nodes.links;
+      texts = k.stands.nodes.texts;
+      alignments = k.stands.nodes.alignments;
+    };
+    low = k.stands.low;
+    free = k.stands.free;
+    fits = k.stands.fits;
+    are_open = k.stands.are_open;
+    leaves = k.stands.leaves;
+    behind = k.stands.behind;
+    top = k.stands.top;
+    covered = k.stands.covered;
+    boundary = k.stands.boundary;
+    begun = k.stands.begun;
+    brackets = k.stands.brackets;
+  };
+  runs = k.runs;
+  last_run = k.last_run;
+}
+
+-- ---- a block is closed
+
+-- a block with another end or body in place of the open one
+pub block_replaces : (a b : Item) → is_inline a.body ≡ false → is_inline b.body ≡ false → is_leaf b.body ≡ is_leaf a.body → is_childless b.body ≡ is_childless a.body
+    → ((t : ℕ) → text_named b.body ≡ Some t → text_named a.body ≡ Some t) → ((t : ℕ) → alignments_named b.body ≡ Some t → alignments_named a.body ≡ Some t)
+    → MayReplace a b
+block_replaces a b was inline leaf childless texts alignments = record {
+  inline = inline ∙ sym was;
+  leaf = leaf;
+  childless = childless;
+  texts = texts;
+  alignments = alignments;
+  start = λ e. cc (was, e);
+  end = λ e. cc (was, e);
+}
+
+-- it fits where the open one did
+closed_fits : (text : List ℕ) (counts : PartCounts) (b : ItemBody) (start end : ℕ) → is_inline b ≡ false → start ≤ end → IsCharBoundary text end
+    → ItemFits text counts (item_over start start b) → ItemFits text counts (item_over start end b)
+closed_fits text counts b start end h low boundary f = record {
+  range = record { ordered = low; start = f.range.start; end = boundary };
+  unresolved = f.unresolved;
+  markup = block_markup b (source_of text (item_over start end b)) h;
+  named = f.named;
+  placed = f.placed;
+}
+
+-- the outermost open block, or the one that was left, is on top
+top_closed : (old new : List (Node Item)) (spine : List ℕ) (n : ℕ) → ((d : Bool) (i j : ℕ) → link_of (links_of old) d i ≡ Some j → link_of (links_of new) d i ≡ Some j)
+    → IsTopPlace old (spine ++ n ∷ []) None → IsTopPlace new spine (Some n)
+top_closed old new [] n h t = top_stays old new h n t
+top_closed old new (s ∷ spine) n h t = top_stays old new h s t
+
+-- what is covered where a block was closed
+covered_closed : (text : List ℕ) (nodes : List (Node Item)) (definitions : List (CowStr × LinkDef)) (spine : List ℕ) (blocks : List OpenBlock) (n at : ℕ) (block : OpenBlock)
+    → AreOpen nodes spine blocks → IsTopPlace nodes spine (Some n) → item_at nodes n ≡ item_over block.start at block.body
+    → AreCovered text nodes definitions (covered_to (blocks ++ block ∷ []) at) → AreCovered text nodes definitions (covered_to blocks at)
+covered_closed text nodes definitions [] [] n at block o t e c =
+    covered_added text nodes definitions [] [] n block.start at block.body o t e c
+covered_closed text nodes definitions (s ∷ spine) [] n at block o t e c = absurd o
+covered_closed text nodes definitions spine (x ∷ blocks) n at block o t e c = c
+
+-- outside the innermost block no leaf is open
+leaves_closed : (blocks : List OpenBlock) (block : OpenBlock) (leaf : Bool) → OnlyLastIsLeaf (blocks ++ block ∷ []) leaf → OnlyLastIsLeaf blocks false
+leaves_closed [] block leaf h = refl
+leaves_closed (b ∷ []) block leaf h = sym h.0
+leaves_closed (b ∷ c ∷ blocks) block leaf h = (h.0, leaves_closed (c ∷ blocks) block leaf h.1)
+
+-- what stands on top with the innermost block's number apart
+whole_top : (old : List (Node Item)) (all spine : List ℕ) (n : ℕ) (cursor : Option ℕ) → all ≡ spine ++ n ∷ [] → IsTopPlace old all cursor
+    → IsTopPlace old (spine ++ n ∷ []) None
+whole_top old [] [] n cursor e t = cc (e)
+whole_top old [] (s ∷ spine) n cursor e t = cc (e)
+whole_top old (a ∷ all) [] n cursor e t = let q : a ≡ n = cc (e) in subst (λ (y : ℕ). IsOnTop (links_of old) y) q t
+whole_top old (a ∷ all) (s ∷ spine) n cursor e t = let q : a ≡ s = cc (e) in subst (λ (y : ℕ). IsOnTop (links_of old) y) q t
+
+-- the state with a block left, whose end is written
+abbrev pub after_closing : State → List ℕ → List OpenBlock → ℕ → OpenBlock → State
+after_closing s spine blocks n block =
+    record s {
+      tree = record { nodes = changed_at n (λ m. record m { item = item_over block.start s.at block.body }) s.tree.nodes; spine = spine; cursor = Some n };
+      blocks = blocks;
+      leaf = false;
+      run = None;
+    }
+
+-- the innermost block is left, and its end is written
+pub closed : (s : State) (spine : List ℕ) (blocks : List OpenBlock) (n : ℕ) (block : OpenBlock) → IsSound s → s.blocks ≡ blocks ++ block ∷ []
+    → s.tree.spine ≡ spine ++ n ∷ [] → IsSound (after_closing s spine blocks n block)
+closed s spine blocks n block k whole split =
+    let at = s.at in
+    let x : Item = item_over block.start at block.body in
+    let old = s.tree.nodes in
+    let made = changed_at n (λ m. record m { item = x }) old in
+    let both : AreOpen old (spine ++ n ∷ []) (blocks ++ block ∷ []) =
+    subst (λ (y : List ℕ). AreOpen old y (blocks ++ block ∷ [])) split (subst (λ (y : List OpenBlock). AreOpen old s.tree.spine y) whole k.stands.are_open) in
+    let o : IsInnermost old n block spine blocks = open_unsnoc old n block spine blocks both in
+    let h = o.here in
+    let w : Writes old made n x = item_writes old n x h.low in
+    let begun_all : AllByRecursion (λ b. b.start ≤ at) (blocks ++ block ∷ []) = subst (λ (y : List OpenBlock). AllByRecursion (λ b. b.start ≤ at) y) whole k.stands.begun in
+    let start : block.start ≤ at = All-last (λ b. b.start ≤ at) blocks block begun_all in
+    let fit : ItemFits s.text s.counts (open_item block) = subst (λ (y : Item). ItemFits s.text s.counts y) h.item (k.stands.nodes.items n h.positive h.low) in
+    let nodes : KeepsNodes s.text s.counts made = write_keeps s.text s.counts old made n x k.stands.nodes w h.positive
+    (closed_fits s.text s.counts block.body block.start at h.inline start k.stands.boundary fit)
+    (rw h.item (block_replaces (open_item block) x h.inline h.inline refl refl (λ t e. e) (λ t e. e))) in
+    let links : (d : Bool) (i j : ℕ) → link_of (links_of old) d i ≡ Some j → link_of (links_of made) d i ≡ Some j = λ d i j q. w.all_links d i ∙ q in
+    let opens : AreOpen made spine blocks = open_map (λ t. t < n) old made (λ t b l q. record {
+      positive = q.positive;
+      low = omega (arith, q.low, w.size);
+      last = w.all_links false t ∙ q.last;
+      item = w.old_items t (λ z. absurd (omega (arith, z, l))) ∙ q.item;
+      inline = q.inline;
+      childless = q.childless;
+    }) spine blocks o.above o.others in
+    let top_was : IsTopPlace old (spine ++ n ∷ []) None = whole_top old s.tree.spine spine n s.tree.cursor split k.stands.top in
+    let top : IsTopPlace made spine (Some n) = top_closed old made spine n links top_was in
+    let covered_was : AreCovered s.text old s.definitions (covered_to (blocks ++ block ∷ []) at) =
+    subst (λ (y : List OpenBlock). AreCovered s.text old s.definitions (covered_to y at)) whole k.stands.covered in
+    let none : run_character x.body ≡ None = block_no_run block.body h.inline in
+    let none_was : run_character (item_at old n).body ≡ None = ap (λ (y : Item). run_character y.body) h.item ∙ none in
+    let none_now : run_character (item_at made n).body ≡ None = ap (λ (y : Item). run_character y.body) w.new_item ∙ none in
+    record {
+      utf8 = k.utf8;
+      stands = record {
+        nodes = nodes;
+        low = omega (arith, h.low, w.size);
+        free = w.all_links false n ∙ h.last;
+        fits = λ y q l. rw w.new_item (record { kind = q ∙ sym h.inline; order = λ z. let i = h.inline in cc (z, i) });
+        are_open = opens;
+        leaves = leaves_closed blocks block s.leaf (subst (λ (y : List OpenBlock). OnlyLastIsLeaf y s.leaf) whole k.stands.leaves);
+        behind = o.above;
+        top = top;
+        covered = covered_closed s.text made s.definitions spine blocks n at block opens top w.new_item
+            (covered_stays s.text old made s.definitions (covered_to (blocks ++ block ∷ []) at) (λ p b. record {
+              number = b.number;
+              top = top_stays old made links b.number b.top;
+              inside = ⊎_elim
+                  (λ (q : b.number ≡ n). absurd (not_inside p block.start (subst (λ (y : Item). is_inside p (range_of y) ≡ true)
+                  (ap (λ (m : ℕ). item_at old m) q ∙ h.item) b.inside)))
+                  (λ (q : b.number ≡ n → ⊥). rw (w.old_items b.number q) b.inside)
+                  (same_or_not b.number n);
+            }) covered_was);
+        boundary = k.stands.boundary;
+        begun = All-front (λ b. b.start ≤ at) blocks block begun_all;
+        brackets = k.stands.brackets;
+      };
+      runs = runs_written s.text old made n x k.stands.nodes.rising w none_was (λ i e. ends_run s.text (numbered old i) (record { number = n; item = x }) none)
+          (rw none tt) k.runs;
+      last_run = rw none_now tt;
+    }
+
+-- ---- definitions
+
+-- a byte in one of some definitions, or in one more
+in_more : (definitions : List (CowStr × LinkDef)) (d : CowStr × LinkDef) (p : ℕ) → IsTrue (is_in_definition definitions p)
+    → IsTrue (is_in_definition (definitions ++ d ∷ []) p)
+in_more definitions d p h =
+    rw (list_any-append (λ (x : CowStr × LinkDef). is_inside p x.1.span) definitions (d ∷ []))
+    (either_passes (is_in_definition definitions p) (is_in_definition (d ∷ []) p) (inl h))
+
+in_last : (definitions : List (CowStr × LinkDef)) (d : CowStr × LinkDef) (p : ℕ) → is_inside p d.1.span ≡ true
+    → IsTrue (is_in_definition (definitions ++ d ∷ []) p)
+in_last definitions d p h =
+    let here : is_in_definition (d ∷ []) p ≡ true = rw h refl in
+    rw (list_any-append (λ (x : CowStr × LinkDef). is_inside p x.1.span) definitions (d ∷ []))
+    (either_passes (is_in_definition definitions p) (is_in_definition (d ∷ []) p) (inr here))
+
+-- a definition is added, which stands from here up to a place
+pub defined : (s : State) (to : ℕ) (d : CowStr × LinkDef) → IsSound s → s.at ≤ to → IsCharBoundary s.text to → slice_index s.text s.at ≡ 91
+    → d.1.span ≡ record { start = s.at; end = to } → IsSound (record s { definitions = s.definitions ++ d ∷ []; at = to })
+defined s to d k low boundary bracket span = record {
+  utf8 = k.utf8;
+  stands = record {
+    nodes = k.stands.nodes;
+    low = k.stands.low;
+    free = k.stands.free;
+    fits = λ x e l. k.stands.fits x e (omega (arith, l, low));
+    are_open = k.stands.are_open;
+    leaves = k.stands.leaves;
+    behind = k.stands.behind;
+    top = k.stands.top;
+    covered = over s.blocks k.stands.covered;
+    boundary = boundary;
+    begun = All-weaker (λ b. b.start ≤ s.at) (λ b. b.start ≤ to) (λ b h. omega (arith, h, low)) s.blocks k.stands.begun;
+    brackets = All-snoc (λ x. slice_index s.text x.1.span.start ≡ 91) s.definitions d k.stands.brackets (rw span bracket);
+  };
+  runs = k.runs;
+  last_run = k.last_run;
+}
+  where
+    widened : (end : ℕ) → AreCovered s.text s.tree.nodes s.definitions end → AreCovered s.text s.tree.nodes (s.definitions ++ d ∷ []) end
+    widened end c p l dark = ⊎_elim (λ (b : IsUnderTop s.tree.nodes p). inl b)
+        (λ (h : IsTrue (is_in_definition s.definitions p)). inr (in_more s.definitions d p h)) (c p l dark)
+
+    over : (blocks : List OpenBlock) → AreCovered s.text s.tree.nodes s.definitions (covered_to blocks s.at)
+        → AreCovered s.text s.tree.nodes (s.definitions ++ d ∷ []) (covered_to blocks to)
+    over [] c = λ p l dark. ⊎_elim (λ (h : p < s.at). widened s.at c p h dark)
+        (λ (h : s.at ≤ p). inr (in_last s.definitions d p (rw span (inside p s.at to h l)))) (cases_lt p s.at)
+    over (b ∷ blocks) c = widened b.start c

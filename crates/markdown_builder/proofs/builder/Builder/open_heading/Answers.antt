@@ -1,0 +1,31 @@
+-- The heading is gone into, or stands alone.
+use Rattle.std.proofs.Common.{◌≡◌, ◌+◌, Some, length, refl, ap, ◌∙◌, arith}
+use Rattle.std.proofs.lemmas.List.{length-append}
+use Rattle.markdown_base.specs.declared.index.HeadingIndex.{HeadingIndex}
+use Rattle.markdown_base.specs.declared.item.ItemBody.TheVariants as body
+use Rattle.markdown_builder.proofs.CallLemmas.{heading_keeps, heading_refused}
+use Rattle.markdown_builder.proofs.builder.Builder.open_heading.Goals as goal
+
+pub invariant_of-self-in_err-enter : goal.invariant_of-self-in_err-enter
+invariant_of-self-in_err-enter c =
+    let ix : HeadingIndex = record { 0 = c.len.result } in
+    let more : length c.push.new.self.items ≡ length c.self.inside.headings.items + 1 = ap length c.in_ok-push.ensures.items ∙ length-append c.self.inside.headings.items _ in
+    let last : ix.0 ≡ length c.push.new.self.items = omega (arith, c.len.ensures, c.push.new.self.ok.0) in
+    rw c.in_err-enter.ensures.stays
+    (heading_refused c.args.self.now _ c.args.level ix c.enter.new.tree c.self.invariant c.self.view_is c.requires last more refl refl
+    c.in_err-enter.ensures.refused)
+
+pub invariant_of-self-2 : goal.invariant_of-self-2
+invariant_of-self-2 c =
+    let ix : HeadingIndex = record { 0 = c.len.result } in
+    let more : length c.push.new.self.items ≡ length c.self.inside.headings.items + 1 = ap length c.in_ok-push.ensures.items ∙ length-append c.self.inside.headings.items _ in
+    let last : ix.0 ≡ length c.push.new.self.items = omega (arith, c.len.ensures, c.push.new.self.ok.0) in
+    rw (c.in_ok-enter.ensures.entered, c.in_ok-enter.ensures.opened)
+    (heading_keeps c.args.self.now _ c.args.level ix c.self.invariant c.self.view_is c.requires last more refl refl)
+
+pub returns : goal.returns
+returns c =
+    rw (← c.self.view_is) (record {
+      block = record { start = c.self.inside.at; body = body.Heading c.args.level (Some (record { 0 = c.len.result })) };
+      now = rw c.in_ok-enter.ensures.opened refl;
+    })

@@ -1,0 +1,59 @@
+-- Which bodies a builder places, and by which of its calls.
+use Rattle.std.specs.Prelude.{ℕ, Bool, true, false, cond, ◌==◌, ◌||◌, Option, Some, None}
+use Rattle.markdown_base.specs.declared.item.ItemBody.{ItemBody}
+use Rattle.markdown_base.specs.declared.item.ItemBody.TheVariants as body
+
+-- a block in which inline items stand, and nothing else
+abbrev pub is_leaf : ItemBody → Bool
+is_leaf body.Paragraph = true
+is_leaf body.TightParagraph = true
+is_leaf (body.Heading level ix) = true
+is_leaf (body.FencedCodeBlock ix) = true
+is_leaf body.IndentCodeBlock = true
+is_leaf body.HtmlBlock = true
+is_leaf (body.MetadataBlock kind) = true
+is_leaf body.DefinitionListTitle = true
+is_leaf body.TableCell = true
+is_leaf other = false
+
+-- a block that is opened as it is: it names no part, and may have children
+abbrev pub is_plain_block : ItemBody → Bool
+is_plain_block body.Paragraph = true
+is_plain_block (body.Heading level None) = true
+is_plain_block body.IndentCodeBlock = true
+is_plain_block body.HtmlBlock = true
+is_plain_block (body.BlockQuote kind) = true
+is_plain_block (body.List tight marker first) = true
+is_plain_block (body.ListItem indent) = true
+is_plain_block (body.MetadataBlock kind) = true
+is_plain_block (body.DefinitionList tight) = true
+is_plain_block body.DefinitionListTitle = true
+is_plain_block (body.DefinitionListDefinition indent) = true
+is_plain_block body.TableHead = true
+is_plain_block body.TableRow = true
+is_plain_block body.TableCell = true
+is_plain_block other = false
+
+-- an inline item that is appended as it is: it is settled, and names no part
+abbrev pub is_settled : ItemBody → Bool
+is_settled (body.TaskListMarker done) = true
+is_settled body.InlineHtml = true
+is_settled body.Html = true
+is_settled (body.SynthesizeChar c) = true
+is_settled (body.Text escaped) = true
+is_settled body.SoftBreak = true
+is_settled (body.HardBreak backslash) = true
+is_settled other = false
+
+-- a quotation mark, where it is one
+abbrev pub quote_byte : ℕ → Option ℕ
+quote_byte quote = cond ((quote == 34) || (quote == 39)) (Some quote) None
+
+-- the byte that an open item of one byte stands over
+abbrev pub mark_byte : ItemBody → Option ℕ
+mark_byte (body.MaybeMath opens closes context) = Some 36
+mark_byte (body.MaybeSmartQuote quote opens closes) = quote_byte quote
+mark_byte body.MaybeHtml = Some 60
+mark_byte body.MaybeLinkOpen = Some 91
+mark_byte (body.MaybeLinkClose reference) = Some 93
+mark_byte other = None

@@ -1,0 +1,41 @@
+-- What callers see of a builder, and what its calls ask of the text.
+use Rattle.std.specs.Prelude.{◌≡◌, ℕ, ◌<◌, ◌≤◌, Bool, true, false, ◌==◌, List, [], ◌∷◌, ◌++◌, Option, Some, None, length, slice_index}
+use Rattle.std.specs.Char.{is_ascii_whitespace}
+use Rattle.markdown_base.specs.declared.item.ItemBody.{ItemBody}
+use Rattle.markdown_builder.specs.declared.open_block.OpenBlock.{OpenBlock}
+
+pub record BuilderView : Type 0 where
+  -- the text
+  pub text : List ℕ
+  -- up to here all is placed, or is white space, or stands in a definition
+  pub at : ℕ
+  -- the open blocks, the outermost first
+  pub blocks : List OpenBlock
+  -- the innermost of them is a leaf: inline items come, and nothing else
+  pub leaf : Bool
+  -- the character of the delimiter run that was appended last, if no item came after it
+  pub run : Option ℕ
+
+-- each byte from one place up to another is white space
+abbrev pub IsWhite : List ℕ → ℕ → ℕ → Type 0
+IsWhite text from to = (p : ℕ) → from ≤ p → p < to → is_ascii_whitespace (slice_index text p) ≡ true
+
+-- there are bytes from one place up to another, and each is a given one
+pub record IsRunOf (byte : ℕ) (text : List ℕ) (from to : ℕ) : Type 0 where
+  pub more : from < to
+  pub within : to ≤ length text
+  pub same : (p : ℕ) → from ≤ p → p < to → slice_index text p ≡ byte
+
+-- a run of this character would follow one of the same character directly
+abbrev pub follows_run : Option ℕ → ℕ → Bool
+follows_run None byte = false
+follows_run (Some before) byte = byte == before
+
+-- a block that begins here is open, inside those that were; whether it is a leaf
+pub record GoesInto (old new : BuilderView) (leaf : Bool) : Type 0 where
+  pub block : OpenBlock
+  pub now : new ≡ record old { blocks = old.blocks ++ block ∷ []; leaf = leaf; run = None }
+
+-- the innermost open block, where there is one, has another body
+abbrev pub LastHasBody : List OpenBlock → List OpenBlock → ItemBody → Type 0
+LastHasBody old new body = (outer : List OpenBlock) (block : OpenBlock) → old ≡ outer ++ block ∷ [] → new ≡ outer ++ record block { body = body } ∷ []

@@ -1,0 +1,8 @@
+-- what contracts speak of
+pub mod Bodies
+pub mod BuilderView
+-- facts of a representation
+pub mod Rising
+pub mod NodeRules
+pub mod Standing
+pub mod TreeSteps

@@ -1,0 +1,65 @@
+-- The rules of a block result, said of each number and of each link: what a builder keeps, whatever the tree.
+use Rattle.std.specs.Prelude.{◌≡◌, ℕ, ◌<◌, ◌≤◌, Bool, true, false, List, Some, None, IfSome, length}
+use Rattle.markdown_base.specs.declared.item.Item.{Item}
+use Rattle.markdown_base.specs.declared.item.ItemBody.TheVariants as body
+use Rattle.markdown_base.specs.declared.node.Node.{Node}
+use Rattle.markdown_base.specs.ArenaForest.{links_of}
+use Rattle.markdown_base.specs.ArenaRules.{next_at}
+use Rattle.markdown_base.specs.BlockTree.{item_at, numbered}
+use Rattle.markdown_base.specs.Item.{LiesIn, is_inline, is_childless, is_resolved, is_unplaced, text_named, alignments_named}
+use Rattle.markdown_base.specs.WellFormed.{MarkupIsThere, PartCounts, PartsAreNamed, RunsAreWhole}
+use Rattle.markdown_builder.specs.Bodies.{is_leaf}
+use Rattle.markdown_builder.specs.Rising.{link_of, AreRising}
+
+-- what the rules say of one item alone
+pub record ItemFits (text : List ℕ) (counts : PartCounts) (item : Item) : Type 0 where
+  pub range : LiesIn text item
+  pub unresolved : is_resolved item.body ≡ false
+  pub markup : MarkupIsThere text item
+  pub named : PartsAreNamed counts item.body
+  pub placed : is_unplaced item.body ≡ false
+
+-- the first item below another: inline items stand in leaves alone
+pub record StandsUnder (a b : Item) : Type 0 where
+  pub kind : is_inline b.body ≡ is_leaf a.body
+  pub parent : is_childless a.body ≡ false
+
+-- the item after another: of one kind, and inline items in order
+pub record StandsAfter (a b : Item) : Type 0 where
+  pub kind : is_inline b.body ≡ is_inline a.body
+  pub order : is_inline a.body ≡ true → a.end ≤ b.start
+
+-- what the rules say of a link
+abbrev pub LinkFits : Bool → Item → Item → Type 0
+LinkFits true a b = StandsUnder a b
+LinkFits false a b = StandsAfter a b
+
+-- the rules at each number and link, but for delimiter runs
+pub record KeepsNodes (text : List ℕ) (counts : PartCounts) (nodes : List (Node Item)) : Type 0 where
+  pub rising : AreRising (links_of nodes)
+  pub rooted : 0 < length nodes
+  pub root : (item_at nodes 0).body ≡ body.Root
+  pub items : (i : ℕ) → 0 < i → i < length nodes → ItemFits text counts (item_at nodes i)
+  pub links : (down : Bool) (i j : ℕ) → link_of (links_of nodes) down i ≡ Some j → LinkFits down (item_at nodes i) (item_at nodes j)
+  pub texts : (i j t : ℕ) → text_named (item_at nodes i).body ≡ Some t → text_named (item_at nodes j).body ≡ Some t → i ≡ j
+  pub alignments : (i j t : ℕ) → alignments_named (item_at nodes i).body ≡ Some t → alignments_named (item_at nodes j).body ≡ Some t → i ≡ j
+
+-- and the rule of delimiter runs
+abbrev pub KeepsRuns : List ℕ → List (Node Item) → Type 0
+KeepsRuns text nodes = (i : ℕ) → RunsAreWhole text (numbered nodes i) (next_at nodes i)
+
+-- what an item names is new
+pub record NamesNew (counts : PartCounts) (item : Item) : Type 0 where
+  pub texts : IfSome (text_named item.body) (λ ix. counts.texts ≤ ix)
+  pub alignments : IfSome (alignments_named item.body) (λ ix. counts.alignments ≤ ix)
+
+-- an item may be written in the place of another: of the same kind, naming no other parts, and over the same bytes
+-- where it is inline
+pub record MayReplace (a b : Item) : Type 0 where
+  pub inline : is_inline b.body ≡ is_inline a.body
+  pub leaf : is_leaf b.body ≡ is_leaf a.body
+  pub childless : is_childless b.body ≡ is_childless a.body
+  pub texts : (t : ℕ) → text_named b.body ≡ Some t → text_named a.body ≡ Some t
+  pub alignments : (t : ℕ) → alignments_named b.body ≡ Some t → alignments_named a.body ≡ Some t
+  pub start : is_inline a.body ≡ true → b.start ≡ a.start
+  pub end : is_inline a.body ≡ true → b.end ≡ a.end

@@ -1,0 +1,422 @@
+//! The builder: the state of a block result under way, and the calls that go on with it.
+ghost use Rattle.std.specs.Prelude.{◌≡◌};
+ghost use Rattle.markdown_builder.specs.Bodies.{is_leaf};
+
+use crate::open_block::OpenBlock;
+use crate::tight::tighten_items;
+use crate::tree_steps::{enter, leave, push_text, rename_last, rewrite};
+use markdown_base::block_parts::{BlockParts, HeadingAttributes, LinkDef};
+use markdown_base::cow_str::CowStr;
+use markdown_base::index::{AlignmentIndex, HeadingIndex};
+use markdown_base::item::{Item, ItemBody};
+use markdown_base::tag::{Alignment, HeadingLevel};
+use markdown_base::tree::Tree;
+use std::alloc::{AllocError, Global};
+use std::marker::Model;
+
+/// A block result under way: the tree, the parts that its items name, and the blocks that are open.
+#[derive(Drop)]
+pub struct Builder<'a> {
+    text: &'a str,
+    tree: Tree<Item>,
+    cows: Vec<CowStr<'a>>,
+    alignments: Vec<Vec<Alignment>>,
+    headings: Vec<HeadingAttributes<'a>>,
+    definitions: Vec<(CowStr<'a>, LinkDef<'a>)>,
+    footnotes: Vec<CowStr<'a>>,
+    blocks: Vec<OpenBlock>,
+    leaf: bool,
+    run: Option<u8>,
+    at: usize,
+}
+
+impl<'a> Model for Builder<'a> {
+    ghost use Rattle.std.specs.Prelude.{length};
+    ghost use Rattle.markdown_builder.specs.BuilderView.{BuilderView};
+    ghost use Rattle.markdown_builder.specs.Standing.{IsSound};
+
+    ghost Value = { BuilderView };
+
+    ghost view = { λ b. record { text = b.text.now; at = b.at; blocks = b.blocks.items; leaf = b.leaf; run = b.run } };
+
+    ghost invariant = { λ b. IsSound (record {
+      text = b.text.now;
+      counts = record { texts = length b.cows.items; alignments = length b.alignments.items; attributes = length b.headings.items };
+      tree = b.tree;
+      definitions = b.definitions.items;
+      blocks = b.blocks.items;
+      leaf = b.leaf;
+      run = b.run;
+      at = b.at;
+    }) };
+}
+
+impl<'a> Builder<'a> {
+    ghost use Rattle.std.specs.Prelude.{◌≡◌, ℕ, ◌+◌, ◌≤◌, ◌<◌, ◌++◌, ◌∷◌, [], true, false, Some, None, length, slice_index, slice_get, IfOk, MatchOption};
+    ghost use Rattle.std.specs.Str.{IsCharBoundary};
+    ghost use Rattle.markdown_base.specs.Coverage.{Covers};
+    ghost use Rattle.markdown_base.specs.WellFormed.{IsWellFormed, is_delimiter};
+    ghost use Rattle.markdown_builder.specs.declared.open_block.OpenBlock.{OpenBlock};
+    ghost use Rattle.markdown_builder.specs.Bodies.{is_leaf, is_plain_block, is_settled, mark_byte};
+    ghost use Rattle.markdown_builder.specs.BuilderView.{IsWhite, IsRunOf, follows_run, GoesInto, LastHasBody};
+
+    /// Nothing is made yet.
+    pub fn new(alloc: Global, text: &'a str) -> Result<Builder<'a>, AllocError>
+        ensures { IfOk result (λ made. made ≡ record { text = text.now; at = 0; blocks = []; leaf = false; run = None }) }
+    {
+        Ok(Builder {
+            text,
+            tree: Tree::new(alloc)?,
+            cows: Vec::new(alloc),
+            alignments: Vec::new(alloc),
+            headings: Vec::new(alloc),
+            definitions: Vec::new(alloc),
+            footnotes: Vec::new(alloc),
+            blocks: Vec::new(alloc),
+            leaf: false,
+            run: None,
+            at: 0,
+        })
+    }
+
+    /// The text.
+    pub fn text(&self) -> &'a str
+        ensures { result.now ≡ self.now.text }
+    {
+        self.text
+    }
+
+    /// Up to where all is placed, or is white space, or stands in a definition.
+    pub fn at(&self) -> usize
+        ensures value { result ≡ self.now.at }
+        ensures boundary { IsCharBoundary self.now.text result }
+    {
+        self.at
+    }
+
+    /// The open blocks, the outermost first.
+    pub fn open_blocks(&self) -> &[OpenBlock]
+        ensures { result.now ≡ self.now.blocks }
+    {
+        &self.blocks
+    }
+
+    /// Whether the innermost open block is a leaf: inline items come, and nothing else.
+    pub fn is_in_leaf(&self) -> bool
+        ensures { result ≡ self.now.leaf }
+    {
+        self.leaf
+    }
+
+    /// Whether a run of this character would follow one of the same character directly.
+    pub fn follows_run(&self, byte: u8) -> bool
+        ensures { result ≡ follows_run self.now.run byte }
+    {
+        match self.run {
+            Some(before) => byte == before,
+            None => false,
+        }
+    }
+
+    /// Steps over bytes: white space, where no block is open.
+    pub fn skip(&mut self, to: usize)
+        requires low { self.old.at ≤ to }
+        requires boundary { IsCharBoundary self.old.text to }
+        requires white { self.old.leaf ≡ false → self.old.blocks ≡ [] → IsWhite self.old.text self.old.at to }
+        ensures { self.new ≡ record self.old { at = to } }
+    {
+        self.at = to;
+    }
+
+    /// Opens a block here.
+    pub fn open(&mut self, body: ItemBody) -> Result<(), AllocError>
+        requires block { is_plain_block body ≡ true }
+        requires outside { self.old.leaf ≡ false }
+        ensures { IfOk result (λ _. self.new ≡ record self.old { blocks = self.old.blocks ++ record { start = self.old.at; body = body } ∷ []; leaf = is_leaf body; run = None }) }
+    {
+        let block = OpenBlock {
+            start: self.at,
+            body,
+        };
+        enter(&mut self.tree, &mut self.blocks, block)?;
+        self.leaf = is_leaf(body);
+        self.run = None;
+        Ok(())
+    }
+
+    /// Closes the innermost open block, which ends here.
+    pub fn close(&mut self) -> Option<OpenBlock>
+        ensures { MatchOption result
+            ((self.old.blocks ≡ []) × (self.new ≡ self.old))
+            (λ block. (outer : _) × (self.old.blocks ≡ outer ++ block ∷ []) × (self.new ≡ record self.old { blocks = outer; leaf = false; run = None })) }
+    {
+        let block = self.blocks.pop()?;
+        let item = Item {
+            start: block.start,
+            end: self.at,
+            body: block.body,
+        };
+        leave(&mut self.tree, item);
+        self.leaf = false;
+        self.run = None;
+        Some(block)
+    }
+
+    /// Appends a settled inline item up to a place.
+    pub fn inline(&mut self, body: ItemBody, end: usize) -> Result<(), AllocError>
+        requires settled { is_settled body ≡ true }
+        requires inside { self.old.leaf ≡ true }
+        requires low { self.old.at ≤ end }
+        requires boundary { IsCharBoundary self.old.text end }
+        ensures { IfOk result (λ _. self.new ≡ record self.old { at = end; run = None }) }
+    {
+        self.tree.append(Item {
+            start: self.at,
+            end,
+            body,
+        })?;
+        self.at = end;
+        self.run = None;
+        Ok(())
+    }
+
+    /// Opens a fenced code block with an info string.
+    pub fn open_fenced(&mut self, info: CowStr<'a>) -> Result<(), AllocError>
+        requires { self.old.leaf ≡ false }
+        ensures { IfOk result (λ _. GoesInto self.old self.new true) }
+    {
+        let ix = push_text(&mut self.cows, info)?;
+        let block = OpenBlock {
+            start: self.at,
+            body: ItemBody::FencedCodeBlock(ix),
+        };
+        enter(&mut self.tree, &mut self.blocks, block)?;
+        self.leaf = true;
+        self.run = None;
+        Ok(())
+    }
+
+    /// Opens a footnote definition with a name, which is listed as defined.
+    pub fn open_footnote(&mut self, name: CowStr<'a>, listed: CowStr<'a>) -> Result<(), AllocError>
+        requires { self.old.leaf ≡ false }
+        ensures { IfOk result (λ _. GoesInto self.old self.new false) }
+    {
+        self.footnotes.push(listed)?;
+        let ix = push_text(&mut self.cows, name)?;
+        let block = OpenBlock {
+            start: self.at,
+            body: ItemBody::FootnoteDefinition(ix),
+        };
+        enter(&mut self.tree, &mut self.blocks, block)?;
+        self.leaf = false;
+        self.run = None;
+        Ok(())
+    }
+
+    /// Opens a heading with attributes.
+    pub fn open_heading(
+        &mut self,
+        level: HeadingLevel,
+        attributes: HeadingAttributes<'a>,
+    ) -> Result<(), AllocError>
+        requires { self.old.leaf ≡ false }
+        ensures { IfOk result (λ _. GoesInto self.old self.new true) }
+    {
+        self.headings.push(attributes)?;
+        let ix = HeadingIndex(self.headings.len());
+        let block = OpenBlock {
+            start: self.at,
+            body: ItemBody::Heading(level, Some(ix)),
+        };
+        enter(&mut self.tree, &mut self.blocks, block)?;
+        self.leaf = true;
+        self.run = None;
+        Ok(())
+    }
+
+    /// Opens a table with the alignments of its columns.
+    pub fn open_table(&mut self, alignments: Vec<Alignment>) -> Result<(), AllocError>
+        requires { self.old.leaf ≡ false }
+        ensures { IfOk result (λ _. GoesInto self.old self.new false) }
+    {
+        let ix = AlignmentIndex(self.alignments.len());
+        self.alignments.push(alignments)?;
+        let block = OpenBlock {
+            start: self.at,
+            body: ItemBody::Table(ix),
+        };
+        enter(&mut self.tree, &mut self.blocks, block)?;
+        self.leaf = false;
+        self.run = None;
+        Ok(())
+    }
+
+    /// Gives the innermost open block another body of the same kind, as a heading's for a paragraph's.
+    pub fn change(&mut self, body: ItemBody)
+        requires block { is_plain_block body ≡ true }
+        requires same { is_leaf body ≡ self.old.leaf }
+        ensures same { self.new ≡ record self.old { blocks = self.new.blocks } }
+        ensures changed { LastHasBody self.old.blocks self.new.blocks body }
+    {
+        if let Some(start) = rename_last(&mut self.blocks, body) {
+            let item = Item {
+                start,
+                end: start,
+                body,
+            };
+            rewrite(&mut self.tree, item);
+        }
+    }
+
+    /// Makes the paragraphs tight that stand directly in the items of a list, where it was closed last.
+    pub fn tighten(&mut self)
+        ensures { self.new ≡ self.old }
+    {
+        if let Some(list) = self.tree.cur() {
+            tighten_items(&mut self.tree, list);
+        }
+    }
+
+    /// Appends a thematic break up to a place.
+    pub fn rule(&mut self, end: usize) -> Result<(), AllocError>
+        requires outside { self.old.leaf ≡ false }
+        requires low { self.old.at ≤ end }
+        requires boundary { IsCharBoundary self.old.text end }
+        ensures { IfOk result (λ _. self.new ≡ record self.old { at = end; run = None }) }
+    {
+        self.tree.append(Item {
+            start: self.at,
+            end,
+            body: ItemBody::Rule,
+        })?;
+        self.at = end;
+        self.run = None;
+        Ok(())
+    }
+
+    /// Appends a text that stands for the bytes up to a place.
+    pub fn synthesize(&mut self, text: CowStr<'a>, end: usize) -> Result<(), AllocError>
+        requires inside { self.old.leaf ≡ true }
+        requires low { self.old.at ≤ end }
+        requires boundary { IsCharBoundary self.old.text end }
+        ensures { IfOk result (λ _. self.new ≡ record self.old { at = end; run = None }) }
+    {
+        let ix = push_text(&mut self.cows, text)?;
+        self.tree.append(Item {
+            start: self.at,
+            end,
+            body: ItemBody::SynthesizeText(ix),
+        })?;
+        self.at = end;
+        self.run = None;
+        Ok(())
+    }
+
+    /// Appends an open item over one byte: a `$`, a quotation mark, a `<`, a `[` or a `]`.
+    pub fn mark(&mut self, body: ItemBody) -> Result<(), AllocError>
+        requires inside { self.old.leaf ≡ true }
+        requires more { self.old.at < length self.old.text }
+        requires byte { mark_byte body ≡ Some (slice_index self.old.text self.old.at) }
+        ensures { IfOk result (λ _. self.new ≡ record self.old { at = self.old.at + 1; run = None }) }
+    {
+        let end = self.at + 1;
+        self.tree.append(Item {
+            start: self.at,
+            end,
+            body,
+        })?;
+        self.at = end;
+        self.run = None;
+        Ok(())
+    }
+
+    /// Appends the open item over a `![`.
+    pub fn image(&mut self) -> Result<(), AllocError>
+        requires inside { self.old.leaf ≡ true }
+        requires more { self.old.at + 1 < length self.old.text }
+        requires first { slice_index self.old.text self.old.at ≡ 33 }
+        requires second { slice_index self.old.text (self.old.at + 1) ≡ 91 }
+        ensures { IfOk result (λ _. self.new ≡ record self.old { at = self.old.at + 2; run = None }) }
+    {
+        let end = self.at + 2;
+        self.tree.append(Item {
+            start: self.at,
+            end,
+            body: ItemBody::MaybeImage,
+        })?;
+        self.at = end;
+        self.run = None;
+        Ok(())
+    }
+
+    /// Appends the open item over backticks up to a place; whether a backslash stands before them.
+    pub fn backticks(&mut self, end: usize, escaped: bool) -> Result<(), AllocError>
+        requires inside { self.old.leaf ≡ true }
+        requires run { IsRunOf 96 self.old.text self.old.at end }
+        ensures { IfOk result (λ _. self.new ≡ record self.old { at = end; run = None }) }
+    {
+        self.tree.append(Item {
+            start: self.at,
+            end,
+            body: ItemBody::MaybeCode(end - self.at, escaped),
+        })?;
+        self.at = end;
+        self.run = None;
+        Ok(())
+    }
+
+    /// Adds a link reference definition, which stands from here, at a `[`, up to a place.
+    pub fn define(
+        &mut self,
+        label: CowStr<'a>,
+        dest: CowStr<'a>,
+        title: Option<CowStr<'a>>,
+        end: usize,
+    ) -> Result<(), AllocError>
+        requires low { self.old.at ≤ end }
+        requires boundary { IsCharBoundary self.old.text end }
+        requires bracket { slice_index self.old.text self.old.at ≡ 91 }
+        ensures { IfOk result (λ _. self.new ≡ record self.old { at = end }) }
+    {
+        let span = self.at..end;
+        self.definitions
+            .push((label, LinkDef { dest, title, span }))?;
+        self.at = end;
+        Ok(())
+    }
+
+    /// What was made, when the whole text is read and all blocks are closed.
+    pub fn finish(self) -> (Tree<Item>, BlockParts<'a>)
+        requires closed { self.blocks ≡ [] }
+        requires read { self.at ≡ length self.text }
+        ensures formed { IsWellFormed self.entry.text result.0.nodes result.1 }
+        ensures covered { Covers self.entry.text result.0.nodes result.1 }
+    {
+        let parts = BlockParts {
+            definitions: self.definitions,
+            footnotes: self.footnotes,
+            cows: self.cows,
+            alignments: self.alignments,
+            headings: self.headings,
+        };
+        (self.tree, parts)
+    }
+}
+
+/// Whether a body is a leaf's.
+fn is_leaf(body: ItemBody) -> bool
+    ensures { result ≡ is_leaf body }
+{
+    match body {
+        ItemBody::Paragraph
+        | ItemBody::TightParagraph
+        | ItemBody::Heading(_, _)
+        | ItemBody::FencedCodeBlock(_)
+        | ItemBody::IndentCodeBlock
+        | ItemBody::HtmlBlock
+        | ItemBody::MetadataBlock(_)
+        | ItemBody::DefinitionListTitle
+        | ItemBody::TableCell => true,
+        _ => false,
+    }
+}

@@ -1,0 +1,130 @@
+//! What a builder does to its tree, a step at a time.
+ghost use Rattle.std.specs.Prelude.{◌≡◌, ℕ, ◌+◌, ◌-◌, ◌<◌, ◌≤◌, ◌⊎◌, List, ◌++◌, ◌∷◌, [], Some, length, IfOk, IfSome, IfNone, OnErr};
+ghost use Rattle.markdown_base.specs.Arena.{appended, changed_at};
+ghost use Rattle.markdown_builder.specs.Standing.{entered, open_item};
+ghost use Rattle.markdown_builder.specs.TreeSteps.{LastRenamed, texts_appended, run_marked};
+
+use crate::open_block::OpenBlock;
+use markdown_base::cow_str::CowStr;
+use markdown_base::index::CowIndex;
+use markdown_base::item::{Item, ItemBody};
+use markdown_base::tree::Tree;
+use std::alloc::AllocError;
+
+/// Appends an item and goes into it. After a refusal it may have been appended alone.
+fn go_into(tree: &mut Tree<Item>, item: Item) -> Result<(), AllocError>
+    ensures entered { IfOk result (λ _. tree.new ≡ entered tree.old item) }
+    ensures refused { OnErr result ((tree.new ≡ tree.old) ⊎ (tree.new ≡ appended tree.old item)) }
+{
+    tree.append(item)?;
+    tree.push()?;
+    Ok(())
+}
+
+/// Appends a block and goes into it. After a refusal it may have been appended alone.
+pub fn enter(
+    tree: &mut Tree<Item>,
+    blocks: &mut Vec<OpenBlock>,
+    block: OpenBlock,
+) -> Result<(), AllocError>
+    ensures entered { IfOk result (λ _. tree.new ≡ entered tree.old (open_item block)) }
+    ensures opened { IfOk result (λ _. blocks.new.items ≡ blocks.old.items ++ block ∷ []) }
+    ensures refused { OnErr result ((tree.new ≡ tree.old) ⊎ (tree.new ≡ appended tree.old (open_item block))) }
+    ensures stays { OnErr result (blocks.new.items ≡ blocks.old.items) }
+{
+    let item = Item {
+        start: block.start,
+        end: block.start,
+        body: block.body,
+    };
+    go_into(tree, item)?;
+    match blocks.push(block) {
+        Ok(()) => Ok(()),
+        Err(refused) => {
+            tree.pop();
+            Err(refused.into())
+        }
+    }
+}
+
+/// Goes out of the node gone into last, and writes its item.
+pub fn leave(tree: &mut Tree<Item>, item: Item)
+    ensures { (outer : List ℕ) (ix : ℕ) → tree.old.spine ≡ outer ++ ix ∷ [] → tree.new ≡ record { nodes = changed_at ix (λ n. record n { item = item }) tree.old.nodes; spine = outer; cursor = Some ix } }
+{
+    match tree.pop() {
+        Some(number) => tree.set_item(number, item),
+        None => {}
+    }
+}
+
+/// Writes the item of the node gone into last.
+pub fn rewrite(tree: &mut Tree<Item>, item: Item)
+    ensures { (outer : List ℕ) (ix : ℕ) → tree.old.spine ≡ outer ++ ix ∷ [] → tree.new ≡ record tree.old { nodes = changed_at ix (λ n. record n { item = item }) tree.old.nodes } }
+{
+    match tree.peek_up() {
+        Some(number) => tree.set_item(number, item),
+        None => {}
+    }
+}
+
+/// Gives the last block another body, and answers where it begins.
+pub fn rename_last(blocks: &mut Vec<OpenBlock>, body: ItemBody) -> Option<usize>
+    ensures none { IfNone result ((blocks.old.items ≡ []) × (blocks.new.items ≡ blocks.old.items)) }
+    ensures renamed { IfSome result (λ start. LastRenamed blocks.old.items blocks.new.items start body) }
+{
+    let depth = blocks.len();
+    if depth == 0 {
+        return None;
+    }
+    let start = blocks[depth - 1].start;
+    blocks[depth - 1] = OpenBlock { start, body };
+    Some(start)
+}
+
+/// Adds a text, and answers its number.
+pub fn push_text<'a>(texts: &mut Vec<CowStr<'a>>, text: CowStr<'a>) -> Result<CowIndex, AllocError>
+    ensures number { IfOk result (λ ix. ix.0 ≡ length texts.old.items) }
+    ensures more { IfOk result (λ _. length texts.new.items ≡ length texts.old.items + 1) }
+    ensures refused { OnErr result (texts.new.items ≡ texts.old.items) }
+{
+    let ix = CowIndex(texts.len());
+    texts.push(text)?;
+    Ok(ix)
+}
+
+/// Appends a Text over each byte of a range. After a refusal some of them are appended.
+pub fn append_texts(tree: &mut Tree<Item>, start: usize, end: usize) -> Result<(), AllocError>
+    requires { start ≤ end }
+    ensures appended { IfOk result (λ _. tree.new ≡ texts_appended tree.old start (end - start)) }
+    ensures refused { OnErr result ((count : ℕ) × (start + count ≤ end) × (tree.new ≡ texts_appended tree.old start count)) }
+{
+    'bytes: for at in start..end {
+        let text = Item {
+            start: at,
+            end: at + 1,
+            body: ItemBody::Text {
+                backslash_escaped: false,
+            },
+        };
+        tree.append(text)?;
+    }
+    Ok(())
+}
+
+/// Makes the last items, one a byte, the characters of a delimiter run that stops at a place.
+pub fn mark_run(tree: &mut Tree<Item>, stop: usize, count: usize, opens: bool, closes: bool)
+    requires nodes { count ≤ length tree.old.nodes }
+    requires bytes { count ≤ stop }
+    ensures { tree.new ≡ run_marked tree.old stop opens closes count }
+{
+    let end = tree.len();
+    'characters: for marked in 0..count {
+        let start = stop - marked - 1;
+        let item = Item {
+            start,
+            end: start + 1,
+            body: ItemBody::MaybeEmphasis(marked + 1, opens, closes),
+        };
+        tree.set_item(end - marked - 1, item);
+    }
+}

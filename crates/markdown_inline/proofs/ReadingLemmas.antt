@@ -1,0 +1,57 @@
+-- A forest that a chain is resolved to reads as itself, with the chains of children in it paired: what the
+-- walk does later, when it is there, is what the definition does at once.
+use Rattle.std.proofs.Common.{◌≡◌, ℕ, Bool, true, false, [], refl, ap, ◌∙◌}
+use Rattle.std.proofs.Math.Path.{fun_ext}
+use Rattle.std.specs.declared.ops.Range.{Range}
+use Rattle.markdown_inline.specs.Elements.{Reading, then_reads}
+use Rattle.markdown_base.specs.Event.{start, end, end_of}
+use Rattle.markdown_base.specs.Forest.{Forest, nil, node}
+use Rattle.markdown_inline.specs.Reading.{opened, settled_reading, chain_reading, reading}
+use Rattle.markdown_inline.specs.Setting.{Setting}
+use Rattle.markdown_inline.specs.Pairing.{paired}
+use Rattle.markdown_inline.specs.Resolved.{paired_from, paired_if_open, all_paired}
+use Rattle.markdown_inline.specs.Document.{is_unresolved, Shape, leaf, enclosed, plain, unresolved}
+use Rattle.markdown_inline.specs.Document.{Plain}
+use Rattle.markdown_inline.specs.Kept.{IsQuiet, IsSettled}
+use Rattle.markdown_inline.proofs.ResolvingLemmas.{resolved-quiet, all_paired-paired}
+
+-- a quiet chain that begins with an open item reads as its pairing
+chain-quiet : (s : Setting) (chain : Forest Plain) (after : Reading) → IsQuiet chain → chain_reading s chain after ≡ settled_reading (paired s (all_paired s chain)) after
+chain-quiet s chain after q = fun_ext (λ known. rw (resolved-quiet s chain known q, all_paired-paired s chain) refl)
+
+pub opened-open : (shape : Shape) (range : Range ℕ) (inside : Reading → Reading) (after whole : Reading) → is_unresolved shape ≡ true → opened shape range inside after whole ≡ whole
+opened-open (leaf e origins) range inside after whole h = cc h
+opened-open (enclosed tag) range inside after whole h = cc h
+opened-open plain range inside after whole h = cc h
+opened-open (unresolved b) range inside after whole h = refl
+
+opened-settled : (shape : Shape) (range : Range ℕ) (inside inside' : Reading → Reading) (after after' whole whole' : Reading) → is_unresolved shape ≡ false
+    → ((inner : Reading) → inside inner ≡ inside' inner) → after ≡ after' → opened shape range inside after whole ≡ opened shape range inside' after' whole'
+opened-settled (leaf e origins) range inside inside' after after' whole whole' h i a = ap (λ (r : Reading). then_reads (e, range, origins) r) a
+opened-settled (enclosed tag) range inside inside' after after' whole whole' h i a =
+    ap (λ (r : Reading). then_reads (start tag, range, []) r) (i _ ∙ ap (λ (r : Reading). inside' (then_reads (end (end_of tag), range, []) r)) a)
+opened-settled plain range inside inside' after after' whole whole' h i a = i after ∙ ap inside' a
+opened-settled (unresolved b) range inside inside' after after' whole whole' h i a = cc h
+
+-- of a tree of a quiet chain: open, or not
+quiet_tree : (s : Setting) (a : Plain) (below later : Forest Plain) (after : Reading) (is_open : Bool) → is_unresolved a.part.shape ≡ is_open
+    → ((inner : Reading) → reading s below inner ≡ settled_reading (paired_if_open s (all_paired s below)) inner)
+    → reading s later after ≡ settled_reading (paired_if_open s (all_paired s later)) after
+    → chain_reading s (node a below later) after ≡ settled_reading (paired s (all_paired s (node a below later))) after
+    → reading s (node a below later) after
+    ≡ settled_reading (paired_from s is_open a (paired_if_open s (all_paired s below)) (all_paired s later) (paired_if_open s (all_paired s later))) after
+quiet_tree s a below later after true e inside follows whole = opened-open a.part.shape a.part.range _ _ _ e ∙ whole
+quiet_tree s a below later after false e inside follows whole = opened-settled a.part.shape a.part.range _ _ _ _ _ _ e inside follows
+
+-- a chain of children reads as its pairing
+pub reading-quiet : (s : Setting) (chain : Forest Plain) (after : Reading) → IsQuiet chain → reading s chain after ≡ settled_reading (paired_if_open s (all_paired s chain)) after
+reading-quiet s nil after q = refl
+reading-quiet s (node a below later) after q =
+    quiet_tree s a below later after (is_unresolved a.part.shape) refl (λ inner. reading-quiet s below inner q.1) (reading-quiet s later after q.2)
+    (chain-quiet s (node a below later) after q)
+
+-- a resolved forest reads as itself, with the chains of children in it paired
+pub reading-settled : (s : Setting) (f : Forest Plain) (after : Reading) → IsSettled f → reading s f after ≡ settled_reading (all_paired s f) after
+reading-settled s nil after h = refl
+reading-settled s (node a below later) after h =
+    opened-settled a.part.shape a.part.range _ _ _ _ _ _ h.0 (λ inner. reading-quiet s below inner h.1) (reading-settled s later after h.2)

@@ -1,0 +1,96 @@
+-- The laws of what a chain is resolved to that a walk rests on.
+use Rattle.std.proofs.Common.{◌≡◌, ℕ, Bool, true, false, List, [], ◌∷◌, refl, sym, ap, ◌∙◌}
+use Rattle.markdown_base.specs.Forest.{Forest, nil, node}
+use Rattle.markdown_base.specs.declared.item.ItemBody.{ItemBody}
+use Rattle.markdown_inline.specs.Document.{Shape, leaf, enclosed, plain, unresolved, Label, is_unresolved, as_text}
+use Rattle.markdown_inline.specs.Kept.{IsQuiet, IsQuietBelow, IsKept, IsSettled, Begins}
+use Rattle.markdown_inline.specs.Pairing.{paired, as_closed, text_if}
+use Rattle.markdown_inline.specs.PassOne.{Entry, done, Progress, begun, is_quiet, text_unless, waits_for_pairing, read, read_all, trees_onto}
+use Rattle.markdown_inline.specs.Resolved.{Resolved, resolved, paired_if_open, all_paired}
+use Rattle.markdown_inline.specs.Setting.{Setting, Known}
+
+module _ {A : Type 0} where
+  -- what pass one makes of a label is the same to pairing
+  closed_text : (source : List ℕ) (a : Label A) (b : ItemBody) (waits : Bool) → a.part.shape ≡ unresolved b → waits_for_pairing b ≡ waits → as_closed source (text_unless waits source a) ≡ as_closed source a
+  closed_text source a b true e h = refl
+  closed_text source a b false e h = rw e refl
+
+  closed_unless : (source : List ℕ) (a : Label A) (shape : Shape) → a.part.shape ≡ shape → as_closed source (text_unless (is_quiet shape) source a) ≡ as_closed source a
+  closed_unless source a (leaf x origins) e = refl
+  closed_unless source a (enclosed tag) e = refl
+  closed_unless source a plain e = refl
+  closed_unless source a (unresolved b) e = closed_text source a b (waits_for_pairing b) e refl
+
+  -- forests that pair to the same do so behind a left list
+  paired-onto : (s : Setting) (left : List (Entry A)) (f g : Forest (Label A)) → paired s f ≡ paired s g → paired s (trees_onto left f) ≡ paired s (trees_onto left g)
+  unfolding paired
+  paired-onto s [] f g h = h
+  paired-onto s (done a below ∷ left) f g h = paired-onto s left (node a below f) (node a below g) (ap (λ (t : Forest (Label A)). node (as_closed s.text a) below t) h)
+
+  -- pass one leaves to pairing what it is given
+  paired-read : (s : Setting) (chain : Forest (Label A)) (p : Progress A) → paired s (trees_onto (read_all s chain p).left nil) ≡ paired s (trees_onto p.left chain)
+  unfolding paired read_all
+  paired-read s nil p = refl
+  paired-read s (node a below rest) p =
+      paired-read s rest (read s a below p)
+      ∙ paired-onto s p.left (node (text_unless (is_quiet a.part.shape) s.text a) below rest) (node a below rest)
+      (ap (λ (b : Label A). node b below (paired s rest)) (closed_unless s.text a a.part.shape refl))
+
+  asked-read : (s : Setting) (chain : Forest (Label A)) (p : Progress A) → (read_all s chain p).asked ≡ p.asked
+  unfolding read_all
+  asked-read s nil p = refl
+  asked-read s (node a below rest) p = asked-read s rest (read s a below p)
+
+  known-read : (s : Setting) (chain : Forest (Label A)) (p : Progress A) → (read_all s chain p).known ≡ p.known
+  unfolding read_all
+  known-read s nil p = refl
+  known-read s (node a below rest) p = known-read s rest (read s a below p)
+
+  -- a chain asks nothing, and what is open in it is a Text
+  pub resolved-texts : (s : Setting) (chain : Forest (Label A)) (known : Known) → resolved s chain known ≡ record { questions = []; forest = paired s chain; known = known }
+  unfolding resolved
+  resolved-texts s chain known = rw (asked-read s chain (begun known), known-read s chain (begun known), paired-read s chain (begun known)) refl
+
+  -- so does a chain that waits for pairing alone, and it keeps what is known
+  pub resolved-quiet : (s : Setting) (chain : Forest (Label A)) (known : Known) → IsQuiet chain → resolved s chain known ≡ record { questions = []; forest = paired s chain; known = known }
+  resolved-quiet s chain known q = resolved-texts s chain known
+
+  -- pairing a chain and the chains below it may be done in either order
+  pub all_paired-paired : (s : Setting) (chain : Forest (Label A)) → all_paired s (paired s chain) ≡ paired s (all_paired s chain)
+  unfolding paired
+  all_paired-paired s nil = refl
+  all_paired-paired s (node a below after) =
+      ap (λ (f : Forest (Label A)). node (as_closed s.text a) (paired_if_open s (all_paired s below)) f) (all_paired-paired s after)
+
+  quiet_below : (f : Forest (Label A)) → IsQuiet f → IsQuietBelow f
+  quiet_below nil q = tt
+  quiet_below (node a below after) q = (q.1, quiet_below after q.2)
+
+  -- what is quiet or settled keeps its chains
+  pub IsKept-from_IsQuiet : (f : Forest (Label A)) → IsQuiet f → IsKept f
+  IsKept-from_IsQuiet nil q = tt
+  IsKept-from_IsQuiet (node a below after) q = (λ h. quiet_below (node a below after) q, IsKept-from_IsQuiet below q.1, IsKept-from_IsQuiet after q.2)
+
+  pub IsKept-from_IsSettled : (f : Forest (Label A)) → IsSettled f → IsKept f
+  IsKept-from_IsSettled nil h = tt
+  IsKept-from_IsSettled (node a below after) h = (λ e. cc (e, h.0), IsKept-from_IsQuiet below h.1, IsKept-from_IsSettled after h.2)
+
+  -- what is closed is not open
+  closed_if : (source : List ℕ) (a : Label A) (is_open : Bool) → is_unresolved a.part.shape ≡ is_open → is_unresolved (text_if is_open source a).part.shape ≡ false
+  closed_if source a true e = refl
+  closed_if source a false e = e
+
+  -- a paired chain is settled
+  paired-settled : (s : Setting) (chain : Forest (Label A)) → IsQuietBelow chain → IsSettled (paired s chain)
+  unfolding paired
+  paired-settled s nil q = tt
+  paired-settled s (node a below after) q = (closed_if s.text a (is_unresolved a.part.shape) refl, q.0, paired-settled s after q.1)
+
+  -- so is a resolved one
+  pub resolved-settled : (s : Setting) (chain : Forest (Label A)) (known : Known) → IsQuietBelow chain → IsSettled (resolved s chain known).forest
+  resolved-settled s chain known q = rw (resolved-texts s chain known) (paired-settled s chain q)
+
+  -- a chain whose first item is open gives an event at once, after its questions
+  pub resolved-begins : (s : Setting) (a : Label A) (below after : Forest (Label A)) (known : Known) → is_unresolved a.part.shape ≡ true → Begins (resolved s (node a below after) known).forest
+  unfolding paired
+  resolved-begins s a below after known h = rw (resolved-texts s (node a below after) known, h) tt

@@ -1,0 +1,15 @@
+-- What was given so far, and what was asked.
+use Rattle.std.specs.Prelude.{IfSome}
+use Rattle.markdown_inline.specs.NextGives.{IsPlacedOf}
+use Rattle.markdown_inline.specs.ParserLeft.{parser_callback, parser_steps}
+use Rattle.markdown_inline.proofs.RunLemmas.{GaveFirst}
+use Rattle.markdown_inline.proofs.walk.OffsetIter.into_events.Given as goal
+
+abbrev pub invariant-walk : goal.invariant-walk
+invariant-walk g l = record {
+  askable : IfSome (parser_callback l.parser) g.F.BrokenLinkCallback.can_ask;
+  given : GaveFirst g.F.BrokenLinkCallback.answers IsPlacedOf (λ p. p) l.initial.parser l.parser l.events.items;
+}
+
+abbrev pub decreases-walk : goal.decreases-walk
+decreases-walk g l = parser_steps l.parser

@@ -1,0 +1,54 @@
+-- What is left of a walk over an arena that stands at a cursor, below the nodes of a spine.
+use Rattle.std.specs.Prelude.{ℕ, List, [], ◌∷◌, Option, Some, None}
+use Rattle.std.specs.declared.ops.Range.{Range}
+use Rattle.markdown_base.specs.Arena.{sibling_of}
+use Rattle.markdown_base.specs.ArenaForest.{links_of, forest_at}
+use Rattle.markdown_base.specs.BlockTree.{item_at}
+use Rattle.markdown_base.specs.Event.{end, end_of}
+use Rattle.markdown_base.specs.Forest.{Forest, relabelled}
+use Rattle.markdown_base.specs.Item.{range_of}
+use Rattle.markdown_base.specs.declared.cow_str.CowStr.{CowStr}
+use Rattle.markdown_base.specs.declared.item.Item.{Item}
+use Rattle.markdown_base.specs.declared.item.ItemBody.{ItemBody}
+use Rattle.markdown_base.specs.declared.node.Node.{Node}
+use Rattle.markdown_base.specs.declared.tag.TagEnd.{TagEnd}
+use Rattle.markdown_inline.specs.Document.{Shape, leaf, enclosed, plain, unresolved, Plain, shape_of, label_of}
+use Rattle.markdown_inline.specs.Elements.{Reading, nothing, then_reads}
+use Rattle.markdown_inline.specs.Reading.{reading}
+use Rattle.markdown_inline.specs.Setting.{Setting}
+
+-- the node of a number, as it reads
+abbrev pub label_at : List ℕ → List CowStr → List (Node Item) → ℕ → Plain
+label_at source cows nodes ix = label_of source cows (item_at nodes ix)
+
+-- the trees from a link on
+abbrev pub trees_from : List ℕ → List CowStr → List (Node Item) → Option ℕ → Forest Plain
+trees_from source cows nodes link = relabelled (label_at source cows nodes) (forest_at (links_of nodes) link)
+
+-- the End of a tree that was begun
+abbrev pub end_of_shape : Shape → Option TagEnd
+end_of_shape (leaf e origins) = None
+end_of_shape (enclosed tag) = Some (end_of tag)
+end_of_shape plain = None
+end_of_shape (unresolved b) = None
+
+-- its body alone tells it: a text that the Start named is gone by then
+abbrev pub closing : ItemBody → Option TagEnd
+closing b = end_of_shape (shape_of [] [] b)
+
+-- that End, and then what comes after it
+abbrev pub ended : Option TagEnd → Range ℕ → Reading → Reading
+ended None range after = after
+ended (Some e) range after = then_reads (end e, range, []) after
+
+-- what comes after the chain at hand: each tree that was begun ends, from the innermost on, and the trees
+-- after it are read
+abbrev pub around : Setting → List CowStr → List (Node Item) → List ℕ → Reading → Reading
+around s cows nodes [] after = after
+around s cows nodes (ix ∷ deeper) after =
+    around s cows nodes deeper
+    (ended (closing (item_at nodes ix).body) (range_of (item_at nodes ix)) (reading s (trees_from s.text cows nodes (sibling_of nodes ix)) after))
+
+-- what is left of a walk
+unfoldable pub left_of : Setting → List CowStr → List (Node Item) → Option ℕ → List ℕ → Reading
+left_of s cows nodes cursor spine = reading s (trees_from s.text cows nodes cursor) (around s cows nodes spine nothing)

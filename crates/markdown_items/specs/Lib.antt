@@ -1,2 +1,0 @@
--- what contracts and other definitions speak of
-pub mod LineItems
