@@ -99,7 +99,7 @@ open_unsnoc nodes n block (s ∷ spine) (b ∷ blocks) o =
 -- ---- what an append keeps
 
 -- a link that led somewhere still does
-link_stays : (old new : List (Node Item)) (down : Bool) (at : ℕ) (x : Item) → Grows old new down at x → link_of (links_of old) down at ≡ None
+pub link_stays : (old new : List (Node Item)) (down : Bool) (at : ℕ) (x : Item) → Grows old new down at x → link_of (links_of old) down at ≡ None
     → (d : Bool) (i j : ℕ) → link_of (links_of old) d i ≡ Some j → link_of (links_of new) d i ≡ Some j
 link_stays old new down at x g free d i j e =
     g.other_links d i (λ p. let h : link_of (links_of old) d i ≡ None = rw (p.0, p.1) free in cc (h, e)) ∙ e

@@ -31,7 +31,7 @@ use Rattle.markdown_builder.specs.Standing.{State, open_item, entered, with_item
 use Rattle.markdown_builder.proofs.BodiesLemmas.{item_over, IsParent, MayBePlaced, placed_fits, placed_new, block_markup, block_no_run, same_parts}
 use Rattle.markdown_builder.proofs.NodeRulesLemmas.{same_or_not, fits_more, fits_from, write_keeps}
 use Rattle.markdown_builder.proofs.NodeWriteLemmas.{Writes, item_writes}
-use Rattle.markdown_builder.proofs.RunLemmas.{runs_appended, runs_written, ends_run}
+use Rattle.markdown_builder.proofs.RunLemmas.{runs_appended, runs_written}
 use Rattle.markdown_builder.proofs.StandingLemmas.{Appended, appended_fits, IsInnermost, open_snoc, open_unsnoc, open_map, top_stays, not_inside, inside, covered_stays}
 
 -- of two tests one passes
@@ -417,8 +417,7 @@ closed s spine blocks n block k whole split =
         begun = All-front (λ b. b.start ≤ at) blocks block begun_all;
         brackets = k.stands.brackets;
       };
-      runs = runs_written s.text old made n x k.stands.nodes.rising w none_was (λ i e. ends_run s.text (numbered old i) (record { number = n; item = x }) none)
-          (rw none tt) k.runs;
+      runs = runs_written s.text old made n x k.stands.nodes.rising w none_was none k.runs;
       last_run = rw none_now tt;
     }
 

@@ -23,7 +23,7 @@ use Rattle.markdown_builder.specs.TreeSteps.{IsFilledParagraph, tight, Tightens,
 use Rattle.markdown_builder.proofs.BodiesLemmas.{item_over, IsParent, MayBePlaced, placed_fits, block_no_run, block_markup}
 use Rattle.markdown_builder.proofs.NodeRulesLemmas.{same_or_not, fits_from, write_keeps}
 use Rattle.markdown_builder.proofs.NodeWriteLemmas.{Writes, item_writes}
-use Rattle.markdown_builder.proofs.RunLemmas.{runs_written, ends_run}
+use Rattle.markdown_builder.proofs.RunLemmas.{runs_written}
 use Rattle.markdown_builder.proofs.StandingLemmas.{IsInnermost, open_snoc, open_unsnoc, open_map, top_stays, covered_stays}
 use Rattle.markdown_builder.proofs.StepLemmas.{block_replaces}
 
@@ -100,8 +100,7 @@ block_written s number x blocks k low was now h =
     record {
       utf8 = k.utf8;
       stands = h;
-      runs = runs_written s.text old new number x k.stands.nodes.rising w (block_no_run (item_at old number).body was)
-          (λ i e. ends_run s.text (numbered old i) (record { number = number; item = x }) none) (rw none tt) k.runs;
+      runs = runs_written s.text old new number x k.stands.nodes.rising w (block_no_run (item_at old number).body was) none k.runs;
       last_run = last_written s.text old new number x s.tree.cursor s.run w none k.last_run;
     }
 
