@@ -9,5 +9,6 @@ pub mod StandingLemmas
 pub mod StepLemmas
 pub mod WrittenLemmas
 pub mod RunStepLemmas
+pub mod RunMarkLemmas
 pub mod CoveredLemmas
 pub mod CallLemmas

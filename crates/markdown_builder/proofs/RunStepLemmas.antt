@@ -1,32 +1,24 @@
 -- A delimiter run: a Text over each of its bytes is appended, and then each is made a character of the run, from the last one on.
-use Rattle.std.proofs.Common.{◌≡◌, ℕ, zero, suc, ◌+◌, ◌-◌, ◌<◌, ◌≤◌, List, Option, Some, None, Bool, true, false, length, refl, sym, ap, ◌∙◌, subst, arith, ◌⊎◌, ⊎_elim}
-use Rattle.std.specs.Prelude.{IfSome, IsTrue, ◌==◌, ⊤, slice_index}
-use Rattle.std.specs.List.{AllByRecursion}
+use Rattle.std.proofs.Common.{◌≡◌, ℕ, zero, suc, ◌+◌, ◌-◌, ◌<◌, ◌≤◌, List, Option, Some, None, Bool, true, false, length, refl, sym, ap, ◌∙◌, subst, arith, ⊎_elim}
+use Rattle.std.specs.Prelude.{IfSome, ◌==◌}
 use Rattle.std.proofs.lemmas.Bool.{cases_lt}
 use Rattle.markdown_base.specs.declared.item.Item.{Item}
 use Rattle.markdown_base.specs.declared.item.ItemBody.TheVariants as body
 use Rattle.markdown_base.specs.declared.node.Node.{Node}
 use Rattle.markdown_base.specs.Arena.{Arena, appended, sibling_of}
 use Rattle.markdown_base.specs.ArenaForest.{links_of}
-use Rattle.markdown_base.specs.ArenaRules.{next_at}
-use Rattle.markdown_base.specs.BlockTree.{Numbered, item_at, numbered}
-use Rattle.markdown_base.specs.Item.{is_inline}
-use Rattle.markdown_base.specs.WellFormed.{RunCharacter, run_character, is_delimiter, byte_of, EndsRun, RunGoesOn, StandsInRun, RunsAreWhole}
-use Rattle.markdown_base.proofs.WellFormedLemmas.{HasMore}
-use Rattle.markdown_builder.specs.declared.open_block.OpenBlock.{OpenBlock}
-use Rattle.markdown_builder.specs.BuilderView.{BuilderView, IsRunOf, follows_run}
+use Rattle.markdown_base.specs.BlockTree.{item_at}
+use Rattle.markdown_base.specs.WellFormed.{RunCharacter, run_character, byte_of}
+use Rattle.markdown_builder.specs.BuilderView.{IsRunOf, follows_run}
 use Rattle.markdown_builder.specs.Rising.{link_of, place_down, place_at}
-use Rattle.markdown_builder.specs.NodeRules.{ItemFits, MayReplace}
-use Rattle.markdown_builder.specs.Standing.{State, seen, with_item, IsOpenAt, AreOpen, LastRun, IsSound}
-use Rattle.markdown_builder.specs.TreeSteps.{byte_text, texts_appended, run_item, run_marked}
+use Rattle.markdown_builder.specs.Standing.{State, LastRun, IsSound}
+use Rattle.markdown_builder.specs.TreeSteps.{byte_text, texts_appended}
 use Rattle.markdown_builder.proofs.BodiesLemmas.{plain, plain_placed, placed_fits, placed_new}
 use Rattle.markdown_builder.proofs.MarkLemmas.{run_boundary}
-use Rattle.markdown_builder.proofs.NodeRulesLemmas.{same_or_not, IsNewLink, which_link}
-use Rattle.markdown_builder.proofs.NodeWriteLemmas.{Grows, Writes, item_writes}
-use Rattle.markdown_builder.proofs.RunLemmas.{at_number, character_replaced, runs_rewritten}
-use Rattle.markdown_builder.proofs.StandingLemmas.{Appended, appended_fits, open_map, link_stays}
+use Rattle.markdown_builder.proofs.NodeRulesLemmas.{IsNewLink, which_link}
+use Rattle.markdown_builder.proofs.NodeWriteLemmas.{Grows}
+use Rattle.markdown_builder.proofs.StandingLemmas.{Appended, appended_fits, link_stays}
 use Rattle.markdown_builder.proofs.StepLemmas.{added}
-use Rattle.markdown_builder.proofs.WrittenLemmas.{written}
 
 -- an item that may stand directly before a run of a character: it ends no run of that character
 abbrev pub MayPrecede : List ℕ → ℕ → Item → Type 0

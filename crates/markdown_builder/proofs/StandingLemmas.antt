@@ -1,5 +1,5 @@
 -- What each step of a builder keeps, whatever it appends.
-use Rattle.std.proofs.Common.{◌≡◌, ℕ, suc, ◌<◌, ◌≤◌, List, [], ◌∷◌, ◌++◌, Option, Some, None, Bool, true, false, length, refl, sym, ap, ◌∙◌, subst, arith, inl, inr, ⊎_elim}
+use Rattle.std.proofs.Common.{◌≡◌, ℕ, suc, ◌<◌, ◌≤◌, List, [], ◌∷◌, ◌++◌, Option, Some, None, Bool, true, false, length, refl, ◌∙◌, subst, arith, inl, inr, ⊎_elim}
 use Rattle.std.specs.Prelude.{IfSome, IsTrue}
 use Rattle.std.specs.List.{AllByRecursion}
 use Rattle.std.proofs.lemmas.Bool.Decides.{nat_tests}
@@ -9,10 +9,9 @@ use Rattle.markdown_base.specs.declared.item.Item.{Item}
 use Rattle.markdown_base.specs.declared.node.Node.{Node}
 use Rattle.markdown_base.specs.Arena.{innermost, appended}
 use Rattle.markdown_base.specs.ArenaForest.{Links, links_of}
-use Rattle.markdown_base.specs.BlockTree.{item_at}
 use Rattle.markdown_base.specs.Coverage.{is_inside}
 use Rattle.markdown_base.specs.Item.{range_of, is_inline}
-use Rattle.markdown_base.specs.WellFormed.{PartCounts, run_character}
+use Rattle.markdown_base.specs.WellFormed.{PartCounts}
 use Rattle.markdown_base.proofs.ArenaLemmas.{All-snoc, All-front, All-last}
 use Rattle.markdown_base.proofs.ForestLemmas.{All-weaker}
 use Rattle.markdown_base.proofs.WellFormedLemmas.{HasMore}
