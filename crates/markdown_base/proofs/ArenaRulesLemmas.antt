@@ -1,6 +1,6 @@
 -- The rules hold throughout the trees from a link on just where the node of each number keeps them: the one way from
 -- trees to numbers and back.
-use Rattle.std.proofs.Common.{◌≡◌, ℕ, ◌≤◌, List, Option, Some, None, length, refl, ap, arith}
+use Rattle.std.proofs.Common.{◌≡◌, ℕ, ◌≤◌, List, Option, length, refl, ap, arith}
 use Rattle.std.specs.Prelude.{◌↔◌}
 use Rattle.std.specs.Option.{option_map}
 use Rattle.markdown_base.specs.declared.item.Item.{Item}
@@ -8,7 +8,7 @@ use Rattle.markdown_base.specs.declared.node.Node.{Node}
 use Rattle.markdown_base.specs.Arena.{child_of, sibling_of}
 use Rattle.markdown_base.specs.ArenaForest.{links_of, Spells}
 use Rattle.markdown_base.specs.ArenaRules.{next_at, NodeKeepsRules}
-use Rattle.markdown_base.specs.BlockTree.{Numbered, numbered, trees_at}
+use Rattle.markdown_base.specs.BlockTree.{numbered, trees_at}
 use Rattle.markdown_base.specs.Forest.{Forest, nil, node, Each, first_root, relabelled}
 use Rattle.markdown_base.specs.WellFormed.{PartCounts, AllKeepRules}
 use Rattle.markdown_base.proofs.ArenaForestLemmas.{height, forest_at-fits}

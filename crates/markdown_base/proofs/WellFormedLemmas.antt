@@ -1,5 +1,5 @@
--- Laws of the rules of a block result: they hold where more parts are there, and what is named is there.
-use Rattle.std.proofs.Common.{◌≡◌, ℕ, ◌<◌, ◌≤◌, List, ◌++◌, Option, Some, None, arith}
+-- Laws of the parts that a block result names: they are there, also where more are.
+use Rattle.std.proofs.Common.{ℕ, ◌<◌, ◌≤◌, List, ◌++◌, Option, Some, None, arith}
 use Rattle.std.specs.Prelude.{IfSome}
 use Rattle.std.specs.List.{AllByRecursion, filter_map, cons_option}
 use Rattle.std.proofs.lemmas.List.Elements.{filter_map-append}
@@ -28,21 +28,6 @@ named_more few many b more n = record {
   alignments = some_weaker _ (λ ix. ix < few.alignments) (λ ix. ix < many.alignments) (λ ix k. omega (arith, k, more.alignments)) n.alignments;
   attributes = some_weaker _ (λ ix. (1 ≤ ix) × (ix ≤ few.attributes)) (λ ix. (1 ≤ ix) × (ix ≤ many.attributes)) (λ ix k. (k.0, omega (arith, k.1, more.attributes))) n.attributes;
 }
-
--- the rules hold where more parts are there
-pub rules_more : (text : List ℕ) (few many : PartCounts) (f : Forest Numbered) → HasMore few many → AllKeepRules text few f → AllKeepRules text many f
-rules_more text few many f more t =
-    Throughout-weaker (λ a below after. KeepsRules text few a below (first_root after)) (λ a below after. KeepsRules text many a below (first_root after))
-    (λ a below after k. record {
-      ranges_lie_in = k.ranges_lie_in;
-      inline_in_order = k.inline_in_order;
-      chains_are_kept = k.chains_are_kept;
-      nothing_resolved = k.nothing_resolved;
-      markup_is_there = k.markup_is_there;
-      runs_are_whole = k.runs_are_whole;
-      parts_are_named = named_more few many a.item.body more k.parts_are_named;
-      blocks_are_settled = k.blocks_are_settled;
-    }) f t
 
 -- a fact of what each item names is one of all that are named
 all_named-Each : (name : ItemBody → Option ℕ) (p : ℕ → Type 0) (f : Forest Numbered) → Each (λ n. IfSome (name n.item.body) p) f → AllByRecursion p (all_named name f)

@@ -1,5 +1,5 @@
 -- That a block result is well formed can hold in one way only: what a value needs that keeps the fact.
-use Rattle.std.specs.Prelude.{◌≡◌, ℕ, zero, suc, Bool, IsTrue, List, Option, Some, None, IfSome, nat_eq, refl}
+use Rattle.std.specs.Prelude.{◌≡◌, ℕ, zero, suc, Bool, List, Option, Some, None, nat_eq, refl}
 use Rattle.std.specs.Coded.{Coded, Coded-set, code_by, coded×, coded_ℕ, coded_bool, coded_list, coded_option}
 use Rattle.std.specs.List.{IsDistinct-prop}
 use Rattle.std.proofs.Common.{sym, ◌∙◌}
@@ -15,7 +15,7 @@ use Rattle.markdown_base.specs.ArenaForest.{links_of, numbers_below, Spells-prop
 use Rattle.markdown_base.specs.BlockTree.{Numbered, tree_of}
 use Rattle.markdown_base.specs.Forest.{Forest, nil, node, first_root, Throughout-prop}
 use Rattle.markdown_base.specs.Item.{LiesIn-prop}
-use Rattle.markdown_base.specs.WellFormed.{IsReachedOnce, ChainsAreKept, StandsOverMarkup, source_of, RunCharacter, run_character, GoesOn, EndsRun, RunGoesOn, StandsInRun, PartCounts, counts_of, KeepsRules, IsWellFormed}
+use Rattle.markdown_base.specs.WellFormed.{IsReachedOnce, StandsOverMarkup, source_of, RunCharacter, GoesOn, RunGoesOn, StandsInRun, PartCounts, counts_of, KeepsRules, IsWellFormed}
 
 -- an equation of `nil` with a forest, taken to that of `nil` with itself where it can be
 from_nil : {A : Type 0} (f : Forest A) → nil ≡ f → nil ≡ f

@@ -77,6 +77,18 @@ impl<'a> CowStr<'a> {
             CowStr::Inlined(inlined) => Ok(CowStr::Inlined(inlined)),
         }
     }
+
+    /// The text as a `String`. A boxed one takes no memory.
+    pub fn into_string(self, alloc: Global) -> Result<String, AllocError>
+        ensures text { IfOk result (λ made. string_bytes made ≡ text_of self.entry) }
+        ensures boxed { IsBoxed self.entry → IsOk result }
+    {
+        match self {
+            CowStr::Boxed(boxed) => Ok(boxed.into_string()),
+            CowStr::Borrowed(borrowed) => String::from_str(alloc, borrowed),
+            CowStr::Inlined(inlined) => String::from_str(alloc, inlined.as_str()),
+        }
+    }
 }
 
 impl<'a> From<&'a str> for CowStr<'a> {

@@ -1,6 +1,7 @@
 //! Events made one by one, so that only what reads them takes memory.
 ghost use Rattle.std.specs.Iterator.{IsFinite};
 
+use crate::labels::{LabelKind, first_labels};
 use markdown_base::cow_str::CowStr;
 use markdown_base::event::Event;
 use markdown_base::fault::Fault;
@@ -125,18 +126,9 @@ impl<'a> Iterator for References<'a> {
     }
 }
 
-/// The numbers below this one, in digits.
-fn numbers(alloc: Global, below: usize) -> Option<Vec<String>> {
-    let mut numbers = Vec::new(alloc);
-    for number in 0..below {
-        numbers.push(number.to_string(alloc).ok()?).ok()?;
-    }
-    Some(numbers)
-}
-
 /// How many bytes the HTML has of two references to each of so many names.
-pub fn footnote_bytes(alloc: Global, size: usize) -> Option<usize> {
-    let names = numbers(alloc, size)?;
+pub fn footnote_bytes(alloc: Global, kind: LabelKind, size: usize) -> Option<usize> {
+    let names = first_labels(alloc, kind, size)?;
     let mut html = String::new(alloc);
     let references = References {
         names: names.as_slice(),

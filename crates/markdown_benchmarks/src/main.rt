@@ -3,6 +3,7 @@
 #![tactic(auto)]
 
 mod events;
+mod labels;
 mod look_ups;
 mod scans;
 mod tasks;

@@ -1,7 +1,7 @@
 //! The tasks by their names.
-use crate::events;
-use crate::look_ups::{self, LabelKind};
+use crate::labels::LabelKind;
 use crate::scans::{self, Beginning};
+use crate::{events, look_ups};
 use std::alloc::Global;
 
 /// The task that a line names, and its size.
@@ -17,7 +17,9 @@ pub fn task_and_size(line: &str) -> Option<(&str, usize)> {
 pub fn run(alloc: Global, task: &str, size: usize) -> Option<usize> {
     match task {
         "render" => events::rendered_bytes(alloc, size),
-        "footnotes" => events::footnote_bytes(alloc, size),
+        "footnotes" => events::footnote_bytes(alloc, LabelKind::Numbers, size),
+        "long-footnotes" => events::footnote_bytes(alloc, LabelKind::Long, size),
+        "chosen-footnotes" => events::footnote_bytes(alloc, LabelKind::Chosen, size),
         "merge" => events::merged_bytes(alloc, size),
         "look-ups" => look_ups::found(alloc, LabelKind::Numbers, size),
         "long-look-ups" => look_ups::found(alloc, LabelKind::Long, size),

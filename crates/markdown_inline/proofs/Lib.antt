@@ -1,3 +1,4 @@
+-- Lemmas on a walk, from its moves up to whole runs of `next`.
 pub mod ResolvingLemmas
 pub mod ReadingLemmas
 pub mod FrameLemmas

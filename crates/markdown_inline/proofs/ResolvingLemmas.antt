@@ -34,7 +34,7 @@ module _ {A : Type 0} where
   paired-read s (node a below rest) p =
       paired-read s rest (read s a below p)
       ∙ paired-onto s p.left (node (text_unless (is_quiet a.part.shape) s.text a) below rest) (node a below rest)
-          (ap (λ (b : Label A). node b below (paired s rest)) (closed_unless s.text a a.part.shape refl))
+      (ap (λ (b : Label A). node b below (paired s rest)) (closed_unless s.text a a.part.shape refl))
 
   asked-read : (s : Setting) (chain : Forest (Label A)) (p : Progress A) → (read_all s chain p).asked ≡ p.asked
   unfolding read_all

@@ -53,7 +53,11 @@ impl<'input, F: BrokenLinkCallback<'input>> Parser<'input, F> {
         ensures moves { Moved F.answers self.old self.new result }
         ensures keeps { Keeps self.old self.new }
     {
-        match take_step(self.resolver.text, &mut self.resolver.tables, &mut self.tree) {
+        match take_step(
+            self.resolver.text,
+            &mut self.resolver.tables,
+            &mut self.tree,
+        ) {
             Ok(Step::Done) => Move::Done,
             Ok(Step::Skip) => Move::Again,
             Ok(Step::Give(event, range)) => Move::Give(event, range),

@@ -24,8 +24,13 @@ module _ {S A : Type 0} (steps : S → Option A → S → Type 0) where
       callable = (c.callable, f);
       ends = c.ends;
       goes_on = λ t u may finite step.
-          let after = c.goes_on (map_source t) (map_source u) may.0 finite step.0 in
-          ((after.0, record {
-            at = λ xs v q x w y folds next. absurd (no-item ends (map_source t) (map_source u) v w xs x step.0 y next);
-          }), after.1);
+          let after = c.goes_on (map_source t) (map_source u) may.0 finite step.0 in (
+            (
+              after.0,
+              record {
+                at = λ xs v q x w y folds next. absurd (no-item ends (map_source t) (map_source u) v w xs x step.0 y next);
+              },
+            ),
+            after.1,
+          );
     }

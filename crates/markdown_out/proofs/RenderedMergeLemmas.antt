@@ -332,8 +332,11 @@ module _ {S M : Type 0} (steps : S → Option Raw → S → Type 0) (can : S →
               read = y.first;
               stands = r.stands ∙ ap (λ vs. old ++ open_html vs) (sym s.merges);
             })
-        by (inr q) = inr (same-fault q.0, record {
-          events = es;
-          front = (gives_the_merge nowhere view steps can rest state ends m begun).so_far (items es) f.mid f.first o;
-          stands = r.stands;
-        })
+        by (inr q) = inr (
+          same-fault q.0,
+          record {
+            events = es;
+            front = (gives_the_merge nowhere view steps can rest state ends m begun).so_far (items es) f.mid f.first o;
+            stands = r.stands;
+          },
+        )

@@ -1,9 +1,10 @@
 -- What a parser of a text gives, written as HTML, is the rendering of the text.
-use Rattle.std.proofs.Common.{◌≡◌, ℕ, List, [], None, Option}
+use Rattle.std.proofs.Common.{◌≡◌, ℕ, List, [], None, Option, ap, ◌∙◌}
+use Rattle.std.specs.Prelude.{is_some}
 use Rattle.std.specs.Str.{IsUtf8}
-use Rattle.markdown_base.specs.Questions.{Question, Answer}
+use Rattle.markdown_base.specs.Questions.{Question, Answer, Answers}
 use Rattle.markdown_inline.specs.NextGives.{NextGives, IsEventOf}
-use Rattle.markdown_inline.specs.ParserLeft.{ReadsText, no_options, parser_callback}
+use Rattle.markdown_inline.specs.ParserLeft.{ReadsText, reading_of, no_options, parser_callback}
 use Rattle.markdown_inline.specs.declared.walk.Parser.{Parser}
 use Rattle.markdown_inline.proofs.RunLemmas.{drained_unasked}
 use Rattle.markdown_out.specs.HtmlCorrect.{IsRendered}
@@ -13,9 +14,10 @@ pub rendering : {F : Type 0} (step : F → Question → Option Answer → F → 
     → ReadsText text no_options p → parser_callback p ≡ None → IsRendered (NextGives step IsEventOf) p old html
     → IsRenderingOf text html
 rendering {F} step text old html p utf8 empty of none r =
+    let left = λ (answers : Answers). of.2 answers ∙ ap (λ (c : Option F). reading_of of.0 (is_some c) answers) none in
     record {
       is_text = utf8;
       blocks = of.0;
       of_text = of.1;
-      rendered = λ answers. rw (← (rw none at (of.2 answers)), drained_unasked step p r.events r.read none answers) (rw empty at r.stands);
+      rendered = λ answers. rw (← left answers, drained_unasked step p r.events r.read none answers) (rw empty at r.stands);
     }

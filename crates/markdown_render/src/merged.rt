@@ -1,47 +1,34 @@
 //! Parsers under merges: neighbouring texts as one.
 ghost use Rattle.std.specs.Prelude.{IfOk, IfSome, string_bytes};
-ghost use Rattle.std.specs.Iterator.{CallableOnAll, at_most};
-ghost use Rattle.std.specs.Iterator.Adapters.{map_source, map_callee, map_steps};
+ghost use Rattle.std.specs.Iterator.{at_most};
 ghost use Rattle.markdown_inline.specs.NextGives.{NextGives, IsEventOf, IsPlacedOf};
 ghost use Rattle.markdown_inline.specs.ParserLeft.{parser_callback, parser_steps, offset_parser};
 ghost use Rattle.markdown_out.specs.MergeNext.{CanMerge};
+ghost use Rattle.markdown_out.specs.OutLaws.{StaysEnded};
 ghost use Rattle.markdown_render.specs.Merged.{IsMergedHtmlOf};
 
-use markdown_base::event::Event;
 use markdown_inline::walk::{OffsetIter, Parser};
 use markdown_out::html::push_html;
 use markdown_out::merge::TextMergeStream;
 use markdown_spans::blocks::Fault;
 use markdown_spans::defs::BrokenLinkCallback;
 use std::alloc::Global;
-use std::iter::Map;
 
-/// A parser may be merged: after `None` it may be called again, and has no more items left.
+/// A parser may be merged: it stays ended, and after `None` it may be called again and has no more items left. So, by
+/// `a_mapped_iterator_can_be_merged`, may a mapped one.
 pub fn parsers_can_be_merged<'input, F: BrokenLinkCallback<'input>>(parser: &Parser<'input, F>)
     requires { IfSome (parser_callback parser.now) F.can_ask }
-    ensures { CanMerge (NextGives F.answers IsEventOf) (λ p. IfSome (parser_callback p) F.can_ask)
+    ensures stays_ended { StaysEnded (NextGives F.answers IsEventOf) }
+    ensures merges { CanMerge (NextGives F.answers IsEventOf) (λ p. IfSome (parser_callback p) F.can_ask)
         (λ p. at_most (parser_steps p)) parser.now }
 {}
 
 /// So may its events with their ranges.
 pub fn offsets_can_be_merged<'input, F: BrokenLinkCallback<'input>>(iter: &OffsetIter<'input, F>)
     requires { IfSome (parser_callback (offset_parser iter.now)) F.can_ask }
-    ensures { CanMerge (λ o r t. NextGives F.answers IsPlacedOf (offset_parser o) r (offset_parser t))
+    ensures stays_ended { StaysEnded (λ o r t. NextGives F.answers IsPlacedOf (offset_parser o) r (offset_parser t)) }
+    ensures merges { CanMerge (λ o r t. NextGives F.answers IsPlacedOf (offset_parser o) r (offset_parser t))
         (λ o. IfSome (parser_callback (offset_parser o)) F.can_ask) (λ o. at_most (parser_steps (offset_parser o))) iter.now }
-{}
-
-/// So may a parser whose items a closure makes new ones of.
-pub fn mapped_parsers_can_be_merged<
-    'input,
-    F: BrokenLinkCallback<'input>,
-    G: FnMut(Result<Event<'input>, Fault>) -> Result<Event<'input>, Fault>,
->(map: &Map<Parser<'input, F>, G>)
-    requires asks { IfSome (parser_callback (map_source map.now)) F.can_ask }
-    requires calls { CallableOnAll (NextGives F.answers IsEventOf) G.FnMut (map_source map.now) (map_callee map.now) }
-    ensures { CanMerge (map_steps (NextGives F.answers IsEventOf) G.FnMut)
-        (λ m. IfSome (parser_callback (map_source m)) F.can_ask
-        × CallableOnAll (NextGives F.answers IsEventOf) G.FnMut (map_source m) (map_callee m))
-        (λ m. at_most (parser_steps (map_source m))) map.now }
 {}
 
 /// The HTML of what is left of a parser, neighbouring texts as one.

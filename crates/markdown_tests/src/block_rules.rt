@@ -7,10 +7,7 @@ use markdown_base::item::{Item, ItemBody};
 use markdown_base::options::Options;
 use markdown_base::tag::HeadingLevel;
 use markdown_base::tree::Tree;
-use markdown_inline::walk::Parser;
-use markdown_out::html::push_html;
 use markdown_spans::blocks::{Blocks, Fault};
-use markdown_spans::defs::DefaultBrokenLinkCallback;
 use std::alloc::{AllocError, Global};
 use std::test::Fail;
 
@@ -361,18 +358,5 @@ fn whole_chains_keep_the_rules(rt: HostRuntime) -> Result<(), Fail> {
             "row {row}"
         );
     }
-    Ok(())
-}
-
-#[test]
-fn an_empty_text_at_the_place_of_another_is_kept(rt: HostRuntime) -> Result<(), Fail> {
-    let alloc = rt.alloc();
-    let paragraph = item(0, 2, ItemBody::Paragraph);
-    let tree = tree_of(alloc, &[(0, paragraph), (1, text(0, 0)), (1, text(0, 2))])?;
-    let blocks = Blocks::checked(alloc, "ab", Options::ENABLE_GFM, tree, no_parts(alloc))?;
-    let parser: Parser<'_, DefaultBrokenLinkCallback> = Parser::from_blocks(alloc, blocks, None)?;
-    let mut html = String::new(alloc);
-    push_html(alloc, &mut html, parser)?;
-    assert_eq!(rt; html.as_str(), "<p>ab</p>\n");
     Ok(())
 }

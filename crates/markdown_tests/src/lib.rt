@@ -1,5 +1,5 @@
-//! Tests of what no clause says: a module for each topic, and the builders that they share. They stand apart from the
-//! libraries, so that no library is proved a second time with its tests.
+//! Tests of what no clause says of block results and what stands below them: a module for each topic, and the builders of
+//! trees. They stand apart from the libraries, so that no library is proved a second time with its tests.
 #![tactic(auto)]
 
 #[cfg(test)]
@@ -14,28 +14,11 @@ mod block_rules;
 mod blocks;
 #[cfg(test)]
 mod bodies;
-#[cfg(test)]
-mod builders;
+pub mod builders;
 #[cfg(test)]
 mod callbacks;
 #[cfg(test)]
-mod escapes;
-#[cfg(test)]
-mod events;
-#[cfg(test)]
-mod html;
-#[cfg(test)]
 mod look_ups;
-#[cfg(test)]
-mod merged;
-#[cfg(test)]
-mod merges;
-#[cfg(test)]
-mod notes;
-#[cfg(test)]
-mod parser;
-#[cfg(test)]
-mod program;
 #[cfg(test)]
 mod texts;
 #[cfg(test)]

@@ -80,7 +80,7 @@ fn hold<'a, P: Place>(answer: Option<Placed<'a, P>>) -> Held<'a, P>
     }
 }
 
-/// Two texts as one.
+/// Two texts as one. The first is not copied where it is boxed.
 fn join<'a, P: Place>(
     alloc: Global,
     first: (CowStr<'a>, P),
@@ -90,11 +90,12 @@ fn join<'a, P: Place>(
     ensures first { IfOk result (λ t. t.first ≡ first.entry.1) }
     ensures last { IfOk result (λ t. t.last ≡ last.entry.1) }
 {
-    let mut bytes = String::from_str(alloc, first.0.as_str())?;
+    let (text, place) = first;
+    let mut bytes = text.into_string(alloc)?;
     bytes.push_str(last.0.as_str())?;
     Ok(JoinedTexts {
         bytes,
-        first: first.1,
+        first: place,
         last: last.1,
     })
 }

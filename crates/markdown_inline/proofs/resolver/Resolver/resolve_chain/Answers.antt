@@ -68,5 +68,5 @@ returns-clause-counted g c =
     let s = c.args.self.now in
     let i = c.chain.invariant in
     let items = counted_all s.work.items c.chain.self.work.items _ _ i.counted (ap (items_from c.chain.tree.nodes) c.in_default.is ∙ items_none c.chain.tree.nodes)
-        (items_some s.text.now s.tables.cows c.args.tree.now.nodes c.args.first c.requires.ready) in
+    (items_some s.text.now s.tables.cows c.args.tree.now.nodes c.args.first c.requires.ready) in
     ap (λ (r : Resolver g.row.F.Denot). r.work) i.resolver ∙ ap (λ (n : ℕ). let w : Work = record s.work { items = n } in w) items

@@ -1,7 +1,6 @@
 //! What parsers give, with ample memory.
 ghost use Rattle.std.specs.Prelude.{◌≡◌, ◌+◌, ◌%◌, ◌^◌};
 
-use crate::builders::{append_block, item, no_parts, text};
 use crate::notes::notes_of;
 use bitflags::Flags;
 use markdown_base::cow_str::CowStr;
@@ -13,10 +12,12 @@ use markdown_base::tag::LinkType;
 use markdown_base::tree::Tree;
 use markdown_inline::runs::{gather, gather_offsets};
 use markdown_inline::walk::Parser;
+use markdown_out::html::push_html;
 use markdown_spans::blocks::Blocks;
 use markdown_spans::defs::{
     BoxedCallback, BrokenLink, BrokenLinkCallback, Closure, DefaultBrokenLinkCallback,
 };
+use markdown_tests::builders::{append_block, item, no_parts, text, tree_of};
 use std::alloc::{AllocError, Global};
 use std::ops::Range;
 use std::test::Fail;
@@ -119,7 +120,7 @@ fn end_of(item: Result<(Event<'_>, Range<usize>), Fault>) -> usize {
 #[test]
 fn adapters(rt: HostRuntime) -> Result<(), Fail> {
     let alloc = rt.alloc();
-    assert_eq!(rt; Parser::new(alloc, "a\nb")?.count(), 5);
+    assert_eq!(rt; gather(Parser::new(alloc, "a\nb")?, alloc)?.len(), 5);
     let iter = Parser::new(alloc, "a  \nb")?.into_offset_iter();
     let ends: Vec<usize> = iter.map(end_of).collect(alloc)?;
     assert_eq!(rt; ends.as_slice(), [5, 1, 4, 5, 5].as_slice());
@@ -177,5 +178,18 @@ fn callbacks(rt: HostRuntime) -> Result<(), Fail> {
     assert_eq!(rt; count_with(alloc, "a", Closure::new(counting))?, 3);
     assert_eq!(rt; asked, 0);
     assert_eq!(rt; count_with(alloc, "a", DefaultBrokenLinkCallback)?, 3);
+    Ok(())
+}
+
+#[test]
+fn an_empty_text_at_the_place_of_another_is_kept(rt: HostRuntime) -> Result<(), Fail> {
+    let alloc = rt.alloc();
+    let paragraph = item(0, 2, ItemBody::Paragraph);
+    let tree = tree_of(alloc, &[(0, paragraph), (1, text(0, 0)), (1, text(0, 2))])?;
+    let blocks = Blocks::checked(alloc, "ab", Options::ENABLE_GFM, tree, no_parts(alloc))?;
+    let parser: Parser<'_> = Parser::from_blocks(alloc, blocks, None)?;
+    let mut html = String::new(alloc);
+    push_html(alloc, &mut html, parser)?;
+    assert_eq!(rt; html.as_str(), "<p>ab</p>\n");
     Ok(())
 }

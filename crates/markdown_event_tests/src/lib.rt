@@ -1,0 +1,22 @@
+//! Tests of what no clause says of events and what is made of them: a module for each topic. They stand apart from the
+//! libraries, so that no library is proved a second time with its tests.
+#![tactic(auto)]
+
+#[cfg(test)]
+mod chains;
+#[cfg(test)]
+mod escapes;
+#[cfg(test)]
+mod events;
+#[cfg(test)]
+mod html;
+#[cfg(test)]
+mod merged;
+#[cfg(test)]
+mod merges;
+#[cfg(test)]
+mod notes;
+#[cfg(test)]
+mod parser;
+#[cfg(test)]
+mod program;
