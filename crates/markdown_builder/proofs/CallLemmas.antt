@@ -1,6 +1,6 @@
 -- What each call of a builder keeps, by what its caller sees.
 use Rattle.std.specs.Prelude.{slice_index}
-use Rattle.std.proofs.Common.{◌≡◌, ℕ, ◌+◌, ◌-◌, ◌<◌, ◌≤◌, List, [], ◌∷◌, ◌++◌, Option, Some, None, Bool, true, false, length, refl, sym, ap, ◌∙◌, subst, arith, ◌⊎◌, ⊎_elim}
+use Rattle.std.proofs.Common.{◌≡◌, ℕ, ◌+◌, ◌-◌, ◌<◌, ◌≤◌, List, [], ◌∷◌, ◌++◌, Some, None, Bool, true, false, length, refl, sym, ap, ◌∙◌, subst, arith, ◌⊎◌, ⊎_elim}
 use Rattle.std.specs.Str.{IsCharBoundary}
 use Rattle.std.proofs.lemmas.Str.{IsCharBoundary-after_ascii}
 use Rattle.markdown_base.specs.declared.block_parts.LinkDef.{LinkDef}
@@ -14,14 +14,16 @@ use Rattle.markdown_base.specs.declared.item.ItemBody.TheVariants as body
 use Rattle.markdown_base.specs.declared.node.Node.{Node}
 use Rattle.markdown_base.specs.declared.tag.HeadingLevel.{HeadingLevel}
 use Rattle.markdown_base.specs.Arena.{Arena, appended, changed_at}
-use Rattle.markdown_base.specs.WellFormed.{PartCounts, source_of}
+use Rattle.markdown_base.specs.WellFormed.{PartCounts, source_of, is_delimiter}
 use Rattle.markdown_builder.specs.declared.open_block.OpenBlock.{OpenBlock}
 use Rattle.markdown_builder.specs.Bodies.{is_leaf, is_plain_block, is_settled, mark_byte}
-use Rattle.markdown_builder.specs.BuilderView.{BuilderView, IsWhite, IsRunOf, LastHasBody}
+use Rattle.markdown_builder.specs.BuilderView.{BuilderView, IsWhite, IsRunOf, follows_run, LastHasBody}
 use Rattle.markdown_builder.specs.Standing.{State, seen, with_item, AreOpen, IsSound}
-use Rattle.markdown_builder.specs.TreeSteps.{LastRenamed}
-use Rattle.markdown_builder.proofs.BodiesLemmas.{item_over, IsParent, MayBePlaced, plain_placed, placed_fits, placed_new, same_parts, block_plain, block_parent, settled_plain, settled_inline, settled_markup, rule_plain, plain, table_placed, heading_placed, one_text_more, text_placed, fenced_names, footnote_names, synthesized_names}
+use Rattle.markdown_builder.specs.TreeSteps.{LastRenamed, texts_appended, run_marked}
+use Rattle.markdown_builder.proofs.BodiesLemmas.{item_over, IsParent, MayBePlaced, plain_placed, placed_fits, placed_new, block_plain, block_parent, settled_plain, settled_inline, settled_markup, rule_plain, plain, table_placed, heading_placed, one_text_more, text_placed, fenced_names, footnote_names, synthesized_names}
 use Rattle.markdown_builder.proofs.MarkLemmas.{mark_facts, one_source, two_source, run_source, run_boundary}
+use Rattle.markdown_builder.proofs.RunMarkLemmas.{delimiter_ascii, run_sound}
+use Rattle.markdown_builder.proofs.RunStepLemmas.{TextsStand, texts_stand}
 use Rattle.markdown_builder.proofs.StepLemmas.{skipped, added, after_item, opened, opened_alone, after_opening, more_parts, closed, defined}
 use Rattle.markdown_builder.proofs.WrittenLemmas.{changed}
 
@@ -209,6 +211,42 @@ backticks_keeps {s} now end escaped k e =
     (placed_fits s.text s.counts s.counts s.at end b placed (run_source s.text s.at end 96 run, omega (arith, run.more))
     (record { ordered = omega (arith, run.more); start = k.stands.boundary; end = run_boundary s.text s.at end 96 k.utf8 run (omega arith) end run.more (omega arith) }))
     (placed_new s.counts s.counts s.at end b placed) (sym within) refl)
+
+-- `run`: what it asks for
+pub record RunMayCome (now : BuilderView) (byte end : ℕ) : Type 0 where
+  pub inside : now.leaf ≡ true
+  pub delimiter : is_delimiter byte ≡ true
+  pub whole : IsRunOf byte now.text now.at end
+  pub other : follows_run now.run byte ≡ false
+
+-- its Texts so far
+run_texts : (s : State) (byte end count : ℕ) → IsSound s → RunMayCome (seen s) byte end → s.at + count ≤ end → TextsStand s byte count (texts_appended s.tree s.at count)
+run_texts s byte end count k may low = texts_stand s byte end count k may.inside may.whole (delimiter_ascii byte may.delimiter) may.other low
+
+-- there are nodes enough to make characters of
+pub run_nodes : {s : State} (now : BuilderView) (byte end : ℕ) → IsSound s → seen s ≡ now → RunMayCome now byte end
+    → end - s.at ≤ length (texts_appended s.tree s.at (end - s.at)).nodes
+run_nodes {s} now byte end k e may =
+    let here : RunMayCome (seen s) byte end = subst (λ (v : BuilderView). RunMayCome v byte end) (sym e) may in
+    let p = run_texts s byte end (end - s.at) k here (omega (arith, here.whole.more)) in omega (arith, p.size)
+
+-- after a refusal some of its bytes are Texts
+pub run_refused : {s : State} (now : BuilderView) (byte end count : ℕ) → IsSound s → seen s ≡ now → RunMayCome now byte end → s.at + count ≤ end
+    → IsSound (record s { tree = texts_appended s.tree s.at count; at = end })
+run_refused {s} now byte end count k e may low =
+    let here : RunMayCome (seen s) byte end = subst (λ (v : BuilderView). RunMayCome v byte end) (sym e) may in
+    let p = run_texts s byte end count k here low in
+    let ascii = delimiter_ascii byte here.delimiter in
+    skipped (record s { tree = texts_appended s.tree s.at count; at = s.at + count }) end p.sound low
+    (run_boundary s.text s.at end byte k.utf8 here.whole ascii end here.whole.more (omega arith))
+    (λ outside. let none : ⊥ = cc (here.inside, outside) in absurd none)
+
+-- and else all are its characters
+pub run_keeps : {s : State} (now : BuilderView) (byte end : ℕ) (opens closes : Bool) → IsSound s → seen s ≡ now → RunMayCome now byte end
+    → IsSound (record s { tree = run_marked (texts_appended s.tree s.at (end - s.at)) end opens closes (end - s.at); at = end; run = Some byte })
+run_keeps {s} now byte end opens closes k e may =
+    let here : RunMayCome (seen s) byte end = subst (λ (v : BuilderView). RunMayCome v byte end) (sym e) may in
+    run_sound s byte end (end - s.at) opens closes k here.inside here.whole here.delimiter here.other (omega (arith, here.whole.more))
 
 -- `define`
 pub define_keeps : {s : State} (now : BuilderView) (to : ℕ) (d : CowStr × LinkDef) → IsSound s → seen s ≡ now → now.at ≤ to → IsCharBoundary now.text to

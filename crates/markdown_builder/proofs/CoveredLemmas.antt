@@ -1,18 +1,16 @@
 -- What a builder has placed covers the text.
-use Rattle.std.proofs.Common.{◌≡◌, ℕ, ◌<◌, ◌≤◌, List, [], Option, Some, Bool, true, false, length, refl, ◌∙◌, subst, arith, ◌⊎◌, inl, inr, ⊎_elim}
+use Rattle.std.proofs.Common.{◌≡◌, ℕ, ◌<◌, List, [], Bool, true, false, length, refl, ◌∙◌, subst, arith, inl, inr, ⊎_elim}
 use Rattle.std.specs.Prelude.{IsTrue, ◌||◌, ◌&&◌}
 use Rattle.std.specs.List.{list_any}
 use Rattle.markdown_base.specs.declared.block_parts.BlockParts.{BlockParts}
 use Rattle.markdown_base.specs.declared.item.Item.{Item}
-use Rattle.markdown_base.specs.declared.item.ItemBody.{ItemBody}
 use Rattle.markdown_base.specs.declared.node.Node.{Node}
 use Rattle.markdown_base.specs.ArenaForest.{links_of, numbers_below}
 use Rattle.markdown_base.specs.BlockTree.{Numbered, item_at, numbered, tree_of}
 use Rattle.markdown_base.specs.Coverage.{is_inside, is_in_block, Covers}
 use Rattle.markdown_base.specs.Forest.{Forest, nil, node, roots, relabelled}
-use Rattle.markdown_base.specs.Item.{range_of, is_inline, is_resolved, is_block}
+use Rattle.markdown_base.specs.Item.{range_of, is_inline, is_block}
 use Rattle.markdown_base.specs.WellFormed.{PartCounts}
-use Rattle.markdown_builder.specs.declared.open_block.OpenBlock.{OpenBlock}
 use Rattle.markdown_builder.specs.Bodies.{is_leaf}
 use Rattle.markdown_builder.specs.BuilderView.{BuilderView}
 use Rattle.markdown_builder.specs.Rising.{IsOnTop, first_block, next_block}

@@ -8,5 +8,7 @@ pub mod FormedLemmas
 pub mod StandingLemmas
 pub mod StepLemmas
 pub mod WrittenLemmas
+pub mod RunStepLemmas
+pub mod RunMarkLemmas
 pub mod CoveredLemmas
 pub mod CallLemmas

@@ -1,5 +1,5 @@
 -- The rule of delimiter runs is kept by an append and by a written item.
-use Rattle.std.proofs.Common.{◌≡◌, ℕ, zero, suc, ◌<◌, List, Option, Some, None, Bool, true, false, length, refl, sym, ap, ◌∙◌, subst, arith, ◌⊎◌, ⊎_elim}
+use Rattle.std.proofs.Common.{◌≡◌, ℕ, zero, suc, List, Option, Some, None, Bool, true, false, length, refl, sym, ap, ◌∙◌, subst, arith, ⊎_elim}
 use Rattle.std.specs.Prelude.{IfSome}
 use Rattle.std.specs.Option.{option_map}
 use Rattle.markdown_base.specs.declared.item.Item.{Item}
@@ -37,14 +37,23 @@ run_followed text a b ends = character_followed text a None (Some b) goes
     goes (suc (suc count)) opens closes h = absurd h
 
 -- an item that is no character of a run may be replaced by one that ends the run before it
-pub run_replaced : (text : List ℕ) (a b c : Numbered) → run_character b.item.body ≡ None → EndsRun text a (Some c) → RunsAreWhole text a (Some b)
-    → RunsAreWhole text a (Some c)
-run_replaced text a b c none ends = character_followed text a (Some b) (Some c) goes
+pub character_replaced : (text : List ℕ) (a b c : Numbered) (r : RunCharacter) → run_character b.item.body ≡ None → EndsRun text a (Some c)
+    → StandsInRun text a (Some b) r → StandsInRun text a (Some c) r
+character_replaced text a b c r none ends h =
+    record { one_byte = h.one_byte; delimiter = h.delimiter; goes_on = goes r.count r.can_open r.can_close h.goes_on }
   where
     goes : (count : ℕ) (opens closes : Bool) → RunGoesOn text a count opens closes (Some b) → RunGoesOn text a count opens closes (Some c)
     goes zero opens closes h = h
     goes (suc zero) opens closes h = ends
     goes (suc (suc count)) opens closes h = let e = h.body in cc (none, e)
+
+pub run_replaced : (text : List ℕ) (a b c : Numbered) → run_character b.item.body ≡ None → EndsRun text a (Some c) → RunsAreWhole text a (Some b)
+    → RunsAreWhole text a (Some c)
+run_replaced text a b c none ends h = of_character (run_character a.item.body) h
+  where
+    of_character : (o : Option RunCharacter) → IfSome o (StandsInRun text a (Some b)) → IfSome o (StandsInRun text a (Some c))
+    of_character None h = tt
+    of_character (Some r) h = character_replaced text a b c r none ends h
 
 -- what is no character of a run ends each
 pub ends_run : (text : List ℕ) (a b : Numbered) → run_character b.item.body ≡ None → EndsRun text a (Some b)
@@ -93,11 +102,11 @@ runs_appended text old new down at x r g free none k i =
         (λ (m : i ≡ at → ⊥). elsewhere n (h.other_links false i (λ p. m p.1)))
         (same_or_not i at)
 
--- an item is written: what was no character of a run, and now is whole and ends the runs before it
-pub runs_written : (text : List ℕ) (old new : List (Node Item)) (at : ℕ) (x : Item) → AreRising (links_of old) → Writes old new at x
-    → run_character (item_at old at).body ≡ None → ((i : ℕ) → sibling_of old i ≡ Some at → EndsRun text (numbered old i) (Some (at_number at x)))
+-- an item is written that is whole, and by which the run before it stays whole
+pub runs_rewritten : (text : List ℕ) (old new : List (Node Item)) (at : ℕ) (x : Item) → AreRising (links_of old) → Writes old new at x
+    → ((i : ℕ) → sibling_of old i ≡ Some at → RunsAreWhole text (numbered old i) (Some (numbered old at)) → RunsAreWhole text (numbered old i) (Some (at_number at x)))
     → RunsAreWhole text (at_number at x) (next_at old at) → KeepsRuns text old → KeepsRuns text new
-runs_written text old new at x r w none ends here k i =
+runs_rewritten text old new at x r w replaced here k i =
     ⊎_elim (λ (q : i ≡ at). written q) (λ (n : i ≡ at → ⊥). other n (sibling_of old i) refl) (same_or_not i at)
   where
     next_of : (o : Option ℕ) → sibling_of old i ≡ o → ((j : ℕ) → o ≡ Some j → j ≡ at → ⊥) → next_at new i ≡ next_at old i
@@ -121,7 +130,7 @@ runs_written text old new at x r w none ends here k i =
         let was : next_at old i ≡ Some (numbered old at) = ap (λ (o : Option ℕ). option_map (numbered old) o) link in
         let now : next_at new i ≡ Some (at_number at x) =
         ap (λ (o : Option ℕ). option_map (numbered new) o) (w.all_links false i ∙ link) ∙ ap (λ (y : Item). let n : Numbered = at_number at y in Some n) w.new_item in
-        let whole : RunsAreWhole text (numbered old i) (Some (at_number at x)) = run_replaced text (numbered old i) (numbered old at) (at_number at x) none (ends i link)
+        let whole : RunsAreWhole text (numbered old i) (Some (at_number at x)) = replaced i link
         (subst (λ (b : Option Numbered). RunsAreWhole text (numbered old i) b) was (k i)) in
         subst (λ (a : Numbered). RunsAreWhole text a (next_at new i)) (sym (ap (at_number i) (w.old_items i n)))
         (subst (λ (b : Option Numbered). RunsAreWhole text (numbered old i) b) (sym now) whole))
@@ -130,3 +139,10 @@ runs_written text old new at x r w none ends here k i =
         subst (λ (a : Numbered). RunsAreWhole text a (next_at new i)) (sym (ap (at_number i) (w.old_items i n)))
         (subst (λ (b : Option Numbered). RunsAreWhole text (numbered old i) b) (sym next) (k i)))
         (same_or_not j at)
+
+-- an item that is no character of a run is written in the place of such a one
+pub runs_written : (text : List ℕ) (old new : List (Node Item)) (at : ℕ) (x : Item) → AreRising (links_of old) → Writes old new at x
+    → run_character (item_at old at).body ≡ None → run_character x.body ≡ None → KeepsRuns text old → KeepsRuns text new
+runs_written text old new at x r w was none =
+    runs_rewritten text old new at x r w
+    (λ i e h. run_replaced text (numbered old i) (numbered old at) (at_number at x) was (ends_run text (numbered old i) (at_number at x) none) h) (rw none tt)

@@ -1,5 +1,5 @@
 -- What each step of a builder keeps, whatever it appends.
-use Rattle.std.proofs.Common.{◌≡◌, ℕ, suc, ◌<◌, ◌≤◌, List, [], ◌∷◌, ◌++◌, Option, Some, None, Bool, true, false, length, refl, sym, ap, ◌∙◌, subst, arith, inl, inr, ⊎_elim}
+use Rattle.std.proofs.Common.{◌≡◌, ℕ, suc, ◌<◌, ◌≤◌, List, [], ◌∷◌, ◌++◌, Option, Some, None, Bool, true, false, length, refl, ◌∙◌, subst, arith, inl, inr, ⊎_elim}
 use Rattle.std.specs.Prelude.{IfSome, IsTrue}
 use Rattle.std.specs.List.{AllByRecursion}
 use Rattle.std.proofs.lemmas.Bool.Decides.{nat_tests}
@@ -9,10 +9,9 @@ use Rattle.markdown_base.specs.declared.item.Item.{Item}
 use Rattle.markdown_base.specs.declared.node.Node.{Node}
 use Rattle.markdown_base.specs.Arena.{innermost, appended}
 use Rattle.markdown_base.specs.ArenaForest.{Links, links_of}
-use Rattle.markdown_base.specs.BlockTree.{item_at}
 use Rattle.markdown_base.specs.Coverage.{is_inside}
 use Rattle.markdown_base.specs.Item.{range_of, is_inline}
-use Rattle.markdown_base.specs.WellFormed.{PartCounts, run_character}
+use Rattle.markdown_base.specs.WellFormed.{PartCounts}
 use Rattle.markdown_base.proofs.ArenaLemmas.{All-snoc, All-front, All-last}
 use Rattle.markdown_base.proofs.ForestLemmas.{All-weaker}
 use Rattle.markdown_base.proofs.WellFormedLemmas.{HasMore}
@@ -99,7 +98,7 @@ open_unsnoc nodes n block (s ∷ spine) (b ∷ blocks) o =
 -- ---- what an append keeps
 
 -- a link that led somewhere still does
-link_stays : (old new : List (Node Item)) (down : Bool) (at : ℕ) (x : Item) → Grows old new down at x → link_of (links_of old) down at ≡ None
+pub link_stays : (old new : List (Node Item)) (down : Bool) (at : ℕ) (x : Item) → Grows old new down at x → link_of (links_of old) down at ≡ None
     → (d : Bool) (i j : ℕ) → link_of (links_of old) d i ≡ Some j → link_of (links_of new) d i ≡ Some j
 link_stays old new down at x g free d i j e =
     g.other_links d i (λ p. let h : link_of (links_of old) d i ≡ None = rw (p.0, p.1) free in cc (h, e)) ∙ e

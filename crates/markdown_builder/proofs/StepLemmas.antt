@@ -1,7 +1,7 @@
 -- The steps of a builder: how it begins, what each step makes of it, and what it has made in the end.
-use Rattle.std.proofs.Common.{◌≡◌, ℕ, zero, suc, ◌+◌, ◌<◌, ◌≤◌, List, [], ◌∷◌, ◌++◌, Option, Some, None, Bool, true, false, length, refl, sym, ap, ◌∙◌, subst, arith, ◌⊎◌, inl, inr, ⊎_elim}
-use Rattle.std.specs.Prelude.{IfSome, IsTrue, ⊤, ◌||◌, slice_index}
-use Rattle.std.specs.List.{AllByRecursion, list_any}
+use Rattle.std.proofs.Common.{◌≡◌, ℕ, zero, suc, ◌<◌, ◌≤◌, List, [], ◌∷◌, ◌++◌, Option, Some, None, Bool, true, false, length, refl, sym, ap, ◌∙◌, subst, arith, ◌⊎◌, inl, inr, ⊎_elim}
+use Rattle.std.specs.Prelude.{IsTrue, ◌||◌, slice_index}
+use Rattle.std.specs.List.{AllByRecursion}
 use Rattle.std.specs.Str.{IsCharBoundary, IsUtf8}
 use Rattle.std.proofs.lemmas.Bool.{cases_lt}
 use Rattle.std.proofs.lemmas.List.Folds.{list_any-append}
@@ -15,9 +15,9 @@ use Rattle.markdown_base.specs.declared.node.Node.{Node}
 use Rattle.markdown_base.specs.Arena.{Arena, child_of, single, appended, changed_at}
 use Rattle.markdown_base.specs.ArenaForest.{links_of}
 use Rattle.markdown_base.specs.ArenaRules.{next_at}
-use Rattle.markdown_base.specs.BlockTree.{Numbered, item_at, numbered}
+use Rattle.markdown_base.specs.BlockTree.{item_at, numbered}
 use Rattle.markdown_base.specs.Coverage.{is_inside}
-use Rattle.markdown_base.specs.Item.{LiesIn, range_of, is_inline, is_childless, text_named, alignments_named}
+use Rattle.markdown_base.specs.Item.{range_of, is_inline, is_childless, text_named, alignments_named}
 use Rattle.markdown_base.specs.WellFormed.{source_of, PartCounts, run_character, RunsAreWhole}
 use Rattle.markdown_base.proofs.ArenaLemmas.{innermost-snoc, All-snoc, All-front, All-last}
 use Rattle.markdown_base.proofs.ForestLemmas.{All-weaker}
@@ -26,13 +26,13 @@ use Rattle.markdown_builder.specs.declared.open_block.OpenBlock.{OpenBlock}
 use Rattle.markdown_builder.specs.Bodies.{is_leaf}
 use Rattle.markdown_builder.specs.BuilderView.{IsWhite}
 use Rattle.markdown_builder.specs.Rising.{link_of, IsOnTop, place_down, place_at}
-use Rattle.markdown_builder.specs.NodeRules.{ItemFits, LinkFits, NamesNew, MayReplace, KeepsNodes}
-use Rattle.markdown_builder.specs.Standing.{State, open_item, entered, with_item, IsOpenAt, AreOpen, OnlyLastIsLeaf, IsTopPlace, IsUnderTop, is_in_definition, covered_to, AreCovered, Stands, LastRun, IsSound}
-use Rattle.markdown_builder.proofs.BodiesLemmas.{item_over, IsParent, MayBePlaced, placed_fits, placed_new, block_markup, block_no_run, same_parts}
-use Rattle.markdown_builder.proofs.NodeRulesLemmas.{same_or_not, fits_more, fits_from, write_keeps}
+use Rattle.markdown_builder.specs.NodeRules.{ItemFits, NamesNew, MayReplace, KeepsNodes}
+use Rattle.markdown_builder.specs.Standing.{State, open_item, entered, AreOpen, OnlyLastIsLeaf, IsTopPlace, IsUnderTop, is_in_definition, covered_to, AreCovered, IsSound}
+use Rattle.markdown_builder.proofs.BodiesLemmas.{item_over, IsParent, MayBePlaced, placed_fits, placed_new, block_markup, block_no_run}
+use Rattle.markdown_builder.proofs.NodeRulesLemmas.{same_or_not, fits_more, write_keeps}
 use Rattle.markdown_builder.proofs.NodeWriteLemmas.{Writes, item_writes}
-use Rattle.markdown_builder.proofs.RunLemmas.{runs_appended, runs_written, ends_run}
-use Rattle.markdown_builder.proofs.StandingLemmas.{Appended, appended_fits, IsInnermost, open_snoc, open_unsnoc, open_map, top_stays, not_inside, inside, covered_stays}
+use Rattle.markdown_builder.proofs.RunLemmas.{runs_appended, runs_written}
+use Rattle.markdown_builder.proofs.StandingLemmas.{appended_fits, IsInnermost, open_snoc, open_unsnoc, open_map, top_stays, not_inside, inside, covered_stays}
 
 -- of two tests one passes
 pub either_passes : (a b : Bool) → (a ≡ true) ⊎ IsTrue b → IsTrue (a || b)
@@ -417,8 +417,7 @@ closed s spine blocks n block k whole split =
         begun = All-front (λ b. b.start ≤ at) blocks block begun_all;
         brackets = k.stands.brackets;
       };
-      runs = runs_written s.text old made n x k.stands.nodes.rising w none_was (λ i e. ends_run s.text (numbered old i) (record { number = n; item = x }) none)
-          (rw none tt) k.runs;
+      runs = runs_written s.text old made n x k.stands.nodes.rising w none_was none k.runs;
       last_run = rw none_now tt;
     }
 

@@ -1,29 +1,29 @@
 -- What a builder keeps where an item is written in the place of another: a tight paragraph, and another body.
-use Rattle.std.proofs.Common.{◌≡◌, ℕ, ◌<◌, ◌≤◌, List, [], ◌∷◌, ◌++◌, Option, Some, None, Bool, true, false, length, refl, sym, ap, ◌∙◌, subst, arith, ◌⊎◌, ⊎_elim}
-use Rattle.std.specs.Prelude.{IfSome, IsTrue, ⊤}
+use Rattle.std.proofs.Common.{◌≡◌, ℕ, ◌<◌, ◌≤◌, List, [], ◌∷◌, ◌++◌, Option, Some, None, Bool, true, false, length, refl, sym, ap, ◌∙◌, subst, arith, ⊎_elim}
+use Rattle.std.specs.Prelude.{IfSome, ⊤}
 use Rattle.std.specs.List.{AllByRecursion}
 use Rattle.std.proofs.lemmas.Bool.{cases_lt}
 use Rattle.markdown_base.specs.declared.item.Item.{Item}
 use Rattle.markdown_base.specs.declared.item.ItemBody.{ItemBody}
 use Rattle.markdown_base.specs.declared.item.ItemBody.TheVariants as body
 use Rattle.markdown_base.specs.declared.node.Node.{Node}
-use Rattle.markdown_base.specs.Arena.{Arena, changed_at}
+use Rattle.markdown_base.specs.Arena.{Arena}
 use Rattle.markdown_base.specs.ArenaForest.{links_of}
-use Rattle.markdown_base.specs.BlockTree.{item_at, numbered}
+use Rattle.markdown_base.specs.BlockTree.{item_at}
 use Rattle.markdown_base.specs.Coverage.{is_inside}
-use Rattle.markdown_base.specs.Item.{LiesIn, range_of, is_inline, text_named, alignments_named}
+use Rattle.markdown_base.specs.Item.{range_of, is_inline, text_named, alignments_named}
 use Rattle.markdown_base.specs.WellFormed.{source_of, PartCounts, run_character, byte_of}
 use Rattle.markdown_base.proofs.ArenaLemmas.{All-snoc, All-front, All-last}
 use Rattle.markdown_builder.specs.declared.open_block.OpenBlock.{OpenBlock}
 use Rattle.markdown_builder.specs.Bodies.{is_leaf}
-use Rattle.markdown_builder.specs.Rising.{link_of, IsOnTop, place_down, place_at}
+use Rattle.markdown_builder.specs.Rising.{link_of, place_down, place_at}
 use Rattle.markdown_builder.specs.NodeRules.{ItemFits, LinkFits, MayReplace, KeepsNodes}
-use Rattle.markdown_builder.specs.Standing.{State, open_item, with_item, IsOpenAt, AreOpen, OnlyLastIsLeaf, IsTopPlace, IsUnderTop, covered_to, AreCovered, Stands, LastRun, IsSound}
+use Rattle.markdown_builder.specs.Standing.{State, open_item, with_item, IsOpenAt, AreOpen, OnlyLastIsLeaf, IsTopPlace, covered_to, AreCovered, Stands, LastRun, IsSound}
 use Rattle.markdown_builder.specs.TreeSteps.{IsFilledParagraph, tight, Tightens, none_tight, one_tight}
 use Rattle.markdown_builder.proofs.BodiesLemmas.{item_over, IsParent, MayBePlaced, placed_fits, block_no_run, block_markup}
 use Rattle.markdown_builder.proofs.NodeRulesLemmas.{same_or_not, fits_from, write_keeps}
 use Rattle.markdown_builder.proofs.NodeWriteLemmas.{Writes, item_writes}
-use Rattle.markdown_builder.proofs.RunLemmas.{runs_written, ends_run}
+use Rattle.markdown_builder.proofs.RunLemmas.{runs_written}
 use Rattle.markdown_builder.proofs.StandingLemmas.{IsInnermost, open_snoc, open_unsnoc, open_map, top_stays, covered_stays}
 use Rattle.markdown_builder.proofs.StepLemmas.{block_replaces}
 
@@ -100,10 +100,14 @@ block_written s number x blocks k low was now h =
     record {
       utf8 = k.utf8;
       stands = h;
-      runs = runs_written s.text old new number x k.stands.nodes.rising w (block_no_run (item_at old number).body was)
-          (λ i e. ends_run s.text (numbered old i) (record { number = number; item = x }) none) (rw none tt) k.runs;
+      runs = runs_written s.text old new number x k.stands.nodes.rising w (block_no_run (item_at old number).body was) none k.runs;
       last_run = last_written s.text old new number x s.tree.cursor s.run w none k.last_run;
     }
+
+-- nothing is asked of the numbers gone into
+pub all_true : (spine : List ℕ) → AllByRecursion (λ t. ⊤) spine
+all_true [] = tt
+all_true (t ∷ spine) = (tt, all_true spine)
 
 -- ---- tight paragraphs
 
@@ -153,10 +157,6 @@ made_tight s number k low p =
     }) s.tree.spine s.blocks (all_true s.tree.spine) k.stands.are_open in
     block_written s number x s.blocks k low was refl
     (written s number x s.blocks k.stands positive low fits m refl refl opens k.stands.leaves refl k.stands.begun)
-  where
-    all_true : (spine : List ℕ) → AllByRecursion (λ t. ⊤) spine
-    all_true [] = tt
-    all_true (t ∷ spine) = (tt, all_true spine)
 
 -- some paragraphs are made tight
 pub tightens_keeps : (s : State) (tree : Arena Item) → IsSound s → Tightens s.tree tree → IsSound (record s { tree = tree })

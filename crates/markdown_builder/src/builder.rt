@@ -4,7 +4,7 @@ ghost use Rattle.markdown_builder.specs.Bodies.{is_leaf};
 
 use crate::open_block::OpenBlock;
 use crate::tight::tighten_items;
-use crate::tree_steps::{enter, leave, push_text, rename_last, rewrite};
+use crate::tree_steps::{append_texts, enter, leave, mark_run, push_text, rename_last, rewrite};
 use markdown_base::block_parts::{BlockParts, HeadingAttributes, LinkDef};
 use markdown_base::cow_str::CowStr;
 use markdown_base::index::{AlignmentIndex, HeadingIndex};
@@ -362,6 +362,22 @@ impl<'a> Builder<'a> {
         })?;
         self.at = end;
         self.run = None;
+        Ok(())
+    }
+
+    /// Appends a whole delimiter run of a character up to a place; whether it can open, and can close.
+    pub fn run(&mut self, byte: u8, end: usize, opens: bool, closes: bool) -> Result<(), AllocError>
+        requires inside { self.old.leaf ≡ true }
+        requires delimiter { is_delimiter byte ≡ true }
+        requires whole { IsRunOf byte self.old.text self.old.at end }
+        requires other { follows_run self.old.run byte ≡ false }
+        ensures { IfOk result (λ _. self.new ≡ record self.old { at = end; run = Some byte }) }
+    {
+        let start = self.at;
+        self.at = end;
+        append_texts(&mut self.tree, start, end)?;
+        mark_run(&mut self.tree, end, end - start, opens, closes);
+        self.run = Some(byte);
         Ok(())
     }
 

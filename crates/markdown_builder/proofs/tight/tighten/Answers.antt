@@ -1,5 +1,5 @@
 -- One paragraph more is tight.
-use Rattle.std.proofs.Common.{◌≡◌, ◌<◌, length, sym, ap, ◌∙◌, subst, refl}
+use Rattle.std.proofs.Common.{◌≡◌, length, sym, ap, ◌∙◌, subst, refl}
 use Rattle.markdown_base.specs.declared.item.Item.{Item}
 use Rattle.markdown_base.specs.Arena.{Arena}
 use Rattle.markdown_base.specs.BlockTree.{item_at, no_item}

@@ -1,5 +1,5 @@
 -- The block has another body.
-use Rattle.std.proofs.Common.{refl, ap}
+use Rattle.std.proofs.Common.{ap}
 use Rattle.markdown_builder.specs.BuilderView.{BuilderView}
 use Rattle.markdown_builder.proofs.CallLemmas.{change_keeps, renamed_last}
 use Rattle.markdown_builder.proofs.builder.Builder.change.Goals as goal
