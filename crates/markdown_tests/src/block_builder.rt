@@ -1,8 +1,12 @@
-//! What the calls of the block builder make: a tight list, a paragraph that becomes a heading, parts by number.
+//! What the calls of the block builder make: a tight list, a paragraph that becomes a heading, parts by number,
+//! delimiter runs.
+use crate::block_rules::is_well_formed;
+use crate::builders::{item, text};
 use markdown_base::cow_str::CowStr;
 use markdown_base::item::{Item, ItemBody};
 use markdown_base::tag::HeadingLevel;
 use markdown_builder::builder::Builder;
+use markdown_builder::run_end;
 use std::test::Fail;
 
 #[test]
@@ -16,6 +20,8 @@ fn a_closed_list_is_made_tight(rt: HostRuntime) -> Result<(), Fail> {
     builder.close();
     builder.close();
     builder.tighten();
+    assert!(rt; builder.open_blocks().is_empty());
+    assert_eq!(rt; builder.at(), 4);
     let (tree, _parts) = builder.finish();
     assert_eq!(rt; tree.len(), 4);
     assert_eq!(rt;
@@ -36,6 +42,7 @@ fn a_paragraph_becomes_a_heading(rt: HostRuntime) -> Result<(), Fail> {
     builder.skip(4);
     builder.change(ItemBody::Heading(HeadingLevel::H1, None));
     builder.close();
+    assert!(rt; builder.open_blocks().is_empty());
     let (tree, _parts) = builder.finish();
     assert_eq!(rt; tree.len(), 2);
     assert_eq!(rt;
@@ -60,5 +67,44 @@ fn definitions_and_footnotes_are_kept(rt: HostRuntime) -> Result<(), Fail> {
     assert_eq!(rt; parts.definitions.len(), 1);
     assert_eq!(rt; parts.footnotes.len(), 1);
     assert_eq!(rt; parts.cows.len(), 1);
+    Ok(())
+}
+
+/// A character of a delimiter run.
+fn character(start: u8, count: usize, opens: bool, closes: bool) -> Item {
+    let start = usize::from(start);
+    item(
+        start,
+        start + 1,
+        ItemBody::MaybeEmphasis(count, opens, closes),
+    )
+}
+
+#[test]
+fn delimiter_runs_are_whole(rt: HostRuntime) -> Result<(), Fail> {
+    let over = "**a*";
+    let first = run_end(over, 0, b'*');
+    let second = run_end(over, 3, b'*');
+    assert_eq!(rt; first, 2);
+    assert_eq!(rt; second, 4);
+    let mut builder = Builder::new(rt.alloc(), over)?;
+    builder.open(ItemBody::Paragraph)?;
+    builder.run(b'*', first, true, false)?;
+    builder.inline(
+        ItemBody::Text {
+            backslash_escaped: false,
+        },
+        3,
+    )?;
+    builder.run(b'*', second, false, true)?;
+    builder.close();
+    assert!(rt; builder.open_blocks().is_empty());
+    let (tree, _parts) = builder.finish();
+    assert_eq!(rt; tree.len(), 6);
+    assert_eq!(rt; *tree.item(2), character(0, 2, true, false));
+    assert_eq!(rt; *tree.item(3), character(1, 1, true, false));
+    assert_eq!(rt; *tree.item(4), text(2, 3));
+    assert_eq!(rt; *tree.item(5), character(3, 1, false, true));
+    assert!(rt; is_well_formed(rt.alloc(), over, tree)?);
     Ok(())
 }
