@@ -12,7 +12,7 @@ use Rattle.markdown_base.specs.Item.{LiesIn, is_open, is_inline, is_childless, i
 use Rattle.markdown_base.specs.WellFormed.{MarkupIsThere, StandsOverMarkup, run_character, PartCounts, PartsAreNamed}
 use Rattle.markdown_base.proofs.WellFormedLemmas.{HasMore}
 use Rattle.markdown_builder.specs.Bodies.{is_leaf, is_plain_block, is_settled}
-use Rattle.markdown_builder.specs.NodeRules.{ItemFits, NamesNew}
+use Rattle.markdown_builder.specs.BuilderRules.{ItemFits, NamesNew}
 
 -- a body that names nothing
 pub record IsPlain (b : ItemBody) : Type 0 where

@@ -14,7 +14,7 @@ use Rattle.markdown_base.specs.WellFormed.{PartCounts}
 use Rattle.markdown_builder.specs.Bodies.{is_leaf}
 use Rattle.markdown_builder.specs.BuilderView.{BuilderView}
 use Rattle.markdown_builder.specs.Rising.{IsOnTop, first_block, next_block}
-use Rattle.markdown_builder.specs.NodeRules.{StandsUnder, StandsAfter, KeepsNodes}
+use Rattle.markdown_builder.specs.BuilderRules.{StandsUnder, StandsAfter, KeepsNodes}
 use Rattle.markdown_builder.specs.Standing.{State, seen, IsUnderTop, is_in_definition, IsSound}
 use Rattle.markdown_builder.proofs.RisingLemmas.{IsRoot, top_is_root}
 use Rattle.markdown_builder.proofs.StepLemmas.{either_passes}

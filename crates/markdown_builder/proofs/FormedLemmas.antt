@@ -18,7 +18,7 @@ use Rattle.markdown_base.specs.WellFormed.{has_open, all_inline, InlineInOrder, 
 use Rattle.markdown_base.proofs.ForestLemmas.{Throughout-relabelled, preorder-relabelled}
 use Rattle.markdown_builder.specs.Bodies.{is_leaf}
 use Rattle.markdown_builder.specs.Rising.{AreRising}
-use Rattle.markdown_builder.specs.NodeRules.{StandsUnder, StandsAfter, KeepsNodes, KeepsRuns}
+use Rattle.markdown_builder.specs.BuilderRules.{StandsUnder, StandsAfter, KeepsNodes, KeepsRuns}
 use Rattle.markdown_builder.proofs.BodiesLemmas.{not_open, inline_loose, tight_leaf}
 use Rattle.markdown_builder.proofs.RisingLemmas.{below_spelled, rising_reached, throughout_below}
 

@@ -2,7 +2,7 @@ pub mod RisingLemmas
 pub mod NodeWriteLemmas
 pub mod BodiesLemmas
 pub mod MarkLemmas
-pub mod NodeRulesLemmas
+pub mod BuilderRulesLemmas
 pub mod RunLemmas
 pub mod FormedLemmas
 pub mod StandingLemmas

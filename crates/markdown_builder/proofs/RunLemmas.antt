@@ -9,9 +9,9 @@ use Rattle.markdown_base.specs.ArenaForest.{links_of}
 use Rattle.markdown_base.specs.ArenaRules.{next_at}
 use Rattle.markdown_base.specs.BlockTree.{Numbered, item_at, numbered}
 use Rattle.markdown_base.specs.WellFormed.{RunCharacter, run_character, EndsRun, RunGoesOn, StandsInRun, RunsAreWhole}
-use Rattle.markdown_builder.specs.NodeRules.{KeepsRuns}
+use Rattle.markdown_builder.specs.BuilderRules.{KeepsRuns}
 use Rattle.markdown_builder.specs.Rising.{link_of, AreRising}
-use Rattle.markdown_builder.proofs.NodeRulesLemmas.{same_or_not, same_item}
+use Rattle.markdown_builder.proofs.BuilderRulesLemmas.{same_or_not, same_item}
 use Rattle.markdown_builder.proofs.NodeWriteLemmas.{Grows, Writes}
 
 -- an item with a number

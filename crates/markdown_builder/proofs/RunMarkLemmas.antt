@@ -15,7 +15,7 @@ use Rattle.markdown_base.specs.WellFormed.{RunCharacter, run_character, is_delim
 use Rattle.markdown_builder.specs.declared.open_block.OpenBlock.{OpenBlock}
 use Rattle.markdown_builder.specs.BuilderView.{IsRunOf, follows_run}
 use Rattle.markdown_builder.specs.Rising.{link_of}
-use Rattle.markdown_builder.specs.NodeRules.{ItemFits, MayReplace, KeepsRuns}
+use Rattle.markdown_builder.specs.BuilderRules.{ItemFits, MayReplace, KeepsRuns}
 use Rattle.markdown_builder.specs.Standing.{State, with_item, IsOpenAt, AreOpen, Stands, LastRun, IsSound}
 use Rattle.markdown_builder.specs.TreeSteps.{byte_text, texts_appended, run_item, run_marked}
 use Rattle.markdown_builder.proofs.NodeWriteLemmas.{Writes, item_writes}

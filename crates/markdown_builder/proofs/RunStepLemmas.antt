@@ -15,7 +15,7 @@ use Rattle.markdown_builder.specs.Standing.{State, LastRun, IsSound}
 use Rattle.markdown_builder.specs.TreeSteps.{byte_text, texts_appended}
 use Rattle.markdown_builder.proofs.BodiesLemmas.{plain, plain_placed, placed_fits, placed_new}
 use Rattle.markdown_builder.proofs.MarkLemmas.{run_boundary}
-use Rattle.markdown_builder.proofs.NodeRulesLemmas.{IsNewLink, which_link}
+use Rattle.markdown_builder.proofs.BuilderRulesLemmas.{IsNewLink, which_link}
 use Rattle.markdown_builder.proofs.NodeWriteLemmas.{Grows}
 use Rattle.markdown_builder.proofs.StandingLemmas.{Appended, appended_fits, link_stays}
 use Rattle.markdown_builder.proofs.StepLemmas.{added}

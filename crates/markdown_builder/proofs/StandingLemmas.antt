@@ -17,10 +17,10 @@ use Rattle.markdown_base.proofs.ForestLemmas.{All-weaker}
 use Rattle.markdown_base.proofs.WellFormedLemmas.{HasMore}
 use Rattle.markdown_builder.specs.declared.open_block.OpenBlock.{OpenBlock}
 use Rattle.markdown_builder.specs.Rising.{link_of, AreRising, IsOnTop, first_block, next_block, place_down, place_at}
-use Rattle.markdown_builder.specs.NodeRules.{NamesNew, ItemFits, KeepsNodes}
+use Rattle.markdown_builder.specs.BuilderRules.{NamesNew, ItemFits, KeepsNodes}
 use Rattle.markdown_builder.specs.Standing.{State, IsOpenAt, AreOpen, IsTopPlace, IsUnderTop, is_in_definition, covered_to, AreCovered, Stands}
 use Rattle.markdown_builder.proofs.NodeWriteLemmas.{Grows, append_grows, item_beyond}
-use Rattle.markdown_builder.proofs.NodeRulesLemmas.{same_or_not, same_item, append_keeps}
+use Rattle.markdown_builder.proofs.BuilderRulesLemmas.{same_or_not, same_item, append_keeps}
 
 -- what holds of each value holds of those of a list
 All-always : {X : Type 0} (P : X → Type 0) → ((x : X) → P x) → (xs : List X) → AllByRecursion P xs

@@ -26,10 +26,10 @@ use Rattle.markdown_builder.specs.declared.open_block.OpenBlock.{OpenBlock}
 use Rattle.markdown_builder.specs.Bodies.{is_leaf}
 use Rattle.markdown_builder.specs.BuilderView.{IsWhite}
 use Rattle.markdown_builder.specs.Rising.{link_of, IsOnTop, place_down, place_at}
-use Rattle.markdown_builder.specs.NodeRules.{ItemFits, NamesNew, MayReplace, KeepsNodes}
+use Rattle.markdown_builder.specs.BuilderRules.{ItemFits, NamesNew, MayReplace, KeepsNodes}
 use Rattle.markdown_builder.specs.Standing.{State, open_item, entered, AreOpen, OnlyLastIsLeaf, IsTopPlace, IsUnderTop, is_in_definition, covered_to, AreCovered, IsSound}
 use Rattle.markdown_builder.proofs.BodiesLemmas.{item_over, IsParent, MayBePlaced, placed_fits, placed_new, block_markup, block_no_run}
-use Rattle.markdown_builder.proofs.NodeRulesLemmas.{same_or_not, fits_more, write_keeps}
+use Rattle.markdown_builder.proofs.BuilderRulesLemmas.{same_or_not, fits_more, write_keeps}
 use Rattle.markdown_builder.proofs.NodeWriteLemmas.{Writes, item_writes}
 use Rattle.markdown_builder.proofs.RunLemmas.{runs_appended, runs_written}
 use Rattle.markdown_builder.proofs.StandingLemmas.{appended_fits, IsInnermost, open_snoc, open_unsnoc, open_map, top_stays, not_inside, inside, covered_stays}

@@ -17,11 +17,11 @@ use Rattle.markdown_base.proofs.ArenaLemmas.{All-snoc, All-front, All-last}
 use Rattle.markdown_builder.specs.declared.open_block.OpenBlock.{OpenBlock}
 use Rattle.markdown_builder.specs.Bodies.{is_leaf}
 use Rattle.markdown_builder.specs.Rising.{link_of, place_down, place_at}
-use Rattle.markdown_builder.specs.NodeRules.{ItemFits, LinkFits, MayReplace, KeepsNodes}
+use Rattle.markdown_builder.specs.BuilderRules.{ItemFits, LinkFits, MayReplace, KeepsNodes}
 use Rattle.markdown_builder.specs.Standing.{State, open_item, with_item, IsOpenAt, AreOpen, OnlyLastIsLeaf, IsTopPlace, covered_to, AreCovered, Stands, LastRun, IsSound}
 use Rattle.markdown_builder.specs.TreeSteps.{IsFilledParagraph, tight, Tightens, none_tight, one_tight}
 use Rattle.markdown_builder.proofs.BodiesLemmas.{item_over, IsParent, MayBePlaced, placed_fits, block_no_run, block_markup}
-use Rattle.markdown_builder.proofs.NodeRulesLemmas.{same_or_not, fits_from, write_keeps}
+use Rattle.markdown_builder.proofs.BuilderRulesLemmas.{same_or_not, fits_from, write_keeps}
 use Rattle.markdown_builder.proofs.NodeWriteLemmas.{Writes, item_writes}
 use Rattle.markdown_builder.proofs.RunLemmas.{runs_written}
 use Rattle.markdown_builder.proofs.StandingLemmas.{IsInnermost, open_snoc, open_unsnoc, open_map, top_stays, covered_stays}

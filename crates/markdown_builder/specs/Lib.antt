@@ -3,6 +3,6 @@ pub mod Bodies
 pub mod BuilderView
 -- facts of a representation
 pub mod Rising
-pub mod NodeRules
+pub mod BuilderRules
 pub mod Standing
 pub mod TreeSteps

@@ -17,7 +17,7 @@ use Rattle.markdown_builder.specs.declared.open_block.OpenBlock.{OpenBlock}
 use Rattle.markdown_builder.specs.Bodies.{is_leaf}
 use Rattle.markdown_builder.specs.BuilderView.{BuilderView}
 use Rattle.markdown_builder.specs.Rising.{link_of, IsOnTop, place_down, place_at}
-use Rattle.markdown_builder.specs.NodeRules.{LinkFits, KeepsNodes, KeepsRuns}
+use Rattle.markdown_builder.specs.BuilderRules.{LinkFits, KeepsNodes, KeepsRuns}
 
 -- what a builder holds
 pub record State : Type 0 where

@@ -6,15 +6,15 @@ use Rattle.markdown_base.specs.declared.node.Node.{Node}
 use Rattle.markdown_base.specs.ArenaForest.{links_of}
 use Rattle.markdown_base.specs.ArenaRules.{next_at}
 use Rattle.markdown_base.specs.BlockTree.{item_at, numbered}
-use Rattle.markdown_base.specs.Item.{LiesIn, is_inline, is_childless, is_resolved, is_unplaced, text_named, alignments_named}
-use Rattle.markdown_base.specs.WellFormed.{MarkupIsThere, PartCounts, PartsAreNamed, RunsAreWhole}
+use Rattle.markdown_base.specs.Item.{is_inline, is_childless, is_unplaced, text_named, alignments_named}
+use Rattle.markdown_base.specs.WellFormed.{MarkupIsThere, NothingResolved, PartCounts, PartsAreNamed, RangesLieIn, RunsAreWhole}
 use Rattle.markdown_builder.specs.Bodies.{is_leaf}
 use Rattle.markdown_builder.specs.Rising.{link_of, AreRising}
 
 -- what the rules say of one item alone
 pub record ItemFits (text : List ℕ) (counts : PartCounts) (item : Item) : Type 0 where
-  pub range : LiesIn text item
-  pub unresolved : is_resolved item.body ≡ false
+  pub range : RangesLieIn text item
+  pub unresolved : NothingResolved item.body
   pub markup : MarkupIsThere text item
   pub named : PartsAreNamed counts item.body
   pub placed : is_unplaced item.body ≡ false

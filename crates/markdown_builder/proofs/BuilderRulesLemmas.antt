@@ -12,7 +12,7 @@ use Rattle.markdown_base.specs.Item.{is_inline, text_named, alignments_named}
 use Rattle.markdown_base.specs.WellFormed.{PartCounts}
 use Rattle.markdown_base.proofs.WellFormedLemmas.{HasMore, named_more}
 use Rattle.markdown_builder.specs.Rising.{link_of, AreRising}
-use Rattle.markdown_builder.specs.NodeRules.{NamesNew, MayReplace, ItemFits, LinkFits, KeepsNodes}
+use Rattle.markdown_builder.specs.BuilderRules.{NamesNew, MayReplace, ItemFits, LinkFits, KeepsNodes}
 use Rattle.markdown_builder.proofs.NodeWriteLemmas.{Grows, Writes, item_beyond}
 
 -- two numbers are one, or they are not
