@@ -9,6 +9,13 @@ use markdown_builder::builder::Builder;
 use markdown_builder::run_end;
 use std::test::Fail;
 
+/// Closes so many blocks.
+fn close_blocks(builder: &mut Builder<'_>, count: u8) {
+    for _ in 0..count {
+        builder.close();
+    }
+}
+
 #[test]
 fn a_closed_list_is_made_tight(rt: HostRuntime) -> Result<(), Fail> {
     let mut builder = Builder::new(rt.alloc(), "- a\n")?;
@@ -16,12 +23,10 @@ fn a_closed_list_is_made_tight(rt: HostRuntime) -> Result<(), Fail> {
     builder.open(ItemBody::ListItem(2))?;
     builder.open(ItemBody::Paragraph)?;
     builder.skip(4);
-    builder.close();
-    builder.close();
-    builder.close();
+    close_blocks(&mut builder, 3);
     builder.tighten();
     assert!(rt; builder.open_blocks().is_empty());
-    assert_eq!(rt; builder.at(), 4);
+    assert_eq!(rt; builder.at(), builder.text().as_bytes().len());
     let (tree, _parts) = builder.finish();
     assert_eq!(rt; tree.len(), 4);
     assert_eq!(rt;
