@@ -1,5 +1,6 @@
 -- what chains are resolved by, and how items read
 pub mod Setting
+pub mod Tables
 pub mod Document
 -- facts of the representation: an arena's items, by their numbers
 pub mod Totals

@@ -17,6 +17,7 @@ use Rattle.markdown_inline.specs.Moves.{Leads, Keeps, Gave, GaveEvent, WentOn, E
 use Rattle.markdown_inline.specs.NextGives.{NextGives, IsEventOf, IsPlacedOf, GivesItem}
 use Rattle.markdown_inline.specs.ParserLeft.{parser_callback, parser_steps, parser_setting, elements, IsOver}
 use Rattle.markdown_chains.specs.Setting.{Setting, rules_from}
+use Rattle.markdown_chains.specs.Tables.{tables_of}
 use Rattle.markdown_inline.specs.Walk.{left_of}
 use Rattle.markdown_inline.specs.WalkSteps.{HasEnded, TreeStands, Went, Gives, IsRefused, IsBefore, tree_left}
 use Rattle.markdown_inline.specs.declared.walk.Parser.{Parser}
@@ -26,11 +27,11 @@ use Rattle.markdown_inline.proofs.WalkStepsLemmas.{left_of_ended, steps_ended, s
 
 -- the elements that are left, by a parser's parts
 pub elements-parts : {F : Type 0} (p : Parser F) (answers : Answers)
-    → elements p answers ≡ tree_left (parser_setting p) p.resolver.tables.cows p.tree (record { limit = p.resolver.limit; answers = answers })
+    → elements p answers ≡ tree_left (parser_setting p) (tables_of p.resolver.tables) p.tree (record { limit = p.resolver.limit; answers = answers })
 unfolding elements
 elements-parts p answers = refl
 
--- what a parser holds but for its tree and its texts
+-- what a parser holds but for its tree and its tables
 pub record SameBut {F : Type 0} (s t : Parser F) : Type 0 where
   pub text : t.resolver.text ≡ s.resolver.text
   pub options : t.resolver.options ≡ s.resolver.options
@@ -44,7 +45,7 @@ gave_step s t given k w = record {
   callback = sym k.callback;
   left = λ later.
       rw (elements-parts s later, elements-parts t later, k.text, k.options, k.callback, k.limit, w.tables)
-      (w.left (rules_from s.resolver.options s.resolver.tables (is_some s.resolver.callback)) (record { limit = s.resolver.limit; answers = later }));
+      (rw w.tables at (w.left (rules_from s.resolver.options s.resolver.tables (is_some s.resolver.callback)) (record { limit = s.resolver.limit; answers = later })));
 }
 
 pub moved_give : {F : Type 0} (s t : Parser F) (e : Event) (range : Range ℕ) → SameBut s t
@@ -76,30 +77,30 @@ moved_skip step s t k w =
     (record { leads = leads_gave step s t [] g; asked = inl g }, w.falls)
 
 -- before a chain a resolver may be called
-pub before_chain : (source : List ℕ) (s : Arena Item) (held : Allocated) (first : ℕ) → TreeStands source held.cows s → IsBefore s first → CanResolve source held.cows s.nodes (Some first)
-before_chain source s held first w b = can_resolve source held.cows s.nodes first s.spine (rw b.cursor at w) b.is_open
+pub before_chain : (source : List ℕ) (s : Arena Item) (held : Allocated) (first : ℕ) → TreeStands source (tables_of held) s → IsBefore s first → CanResolve source (tables_of held) s.nodes (Some first)
+before_chain source s held first w b = can_resolve source (tables_of held) s.nodes first s.spine (rw b.cursor at w) b.is_open
 
 -- what a resolved chain is for the walk
 chain_moves : {C : Type 0} (step : C → Question → Option Answer → C → Type 0) (g : Setting) (s t : Arena Item) (held held' : Allocated) (first limit limit' : ℕ) (c d : Option C)
-    → TreeStands g.text held.cows s → IsBefore s first → (r : ResolvesChain step g first s t held held' limit limit' c d)
-    → ChainMoves g held.cows held'.cows s.nodes t.nodes first s.spine limit limit' r.chain.questions r.chain.answers
+    → TreeStands g.text (tables_of held) s → IsBefore s first → (r : ResolvesChain step g first s t held held' limit limit' c d)
+    → ChainMoves g (tables_of held) (tables_of held') s.nodes t.nodes first s.spine limit limit' r.chain.questions r.chain.answers
 chain_moves step g s t held held' first limit limit' c d w b r =
     moves_chain step g first s.spine (stage s held limit c) (stage t held' limit' d) (rw b.cursor at w) b.is_open r.chain
 
 pub stands_chain : {C : Type 0} (step : C → Question → Option Answer → C → Type 0) (g : Setting) (s t : Arena Item) (held held' : Allocated) (first limit limit' : ℕ) (c d : Option C)
-    → TreeStands g.text held.cows s → IsBefore s first → ResolvesChain step g first s t held held' limit limit' c d → TreeStands g.text held'.cows t
+    → TreeStands g.text (tables_of held) s → IsBefore s first → ResolvesChain step g first s t held held' limit limit' c d → TreeStands g.text (tables_of held') t
 stands_chain step g s t held held' first limit limit' c d w b r =
     rw (r.tree, b.cursor) (chain_moves step g s t held held' first limit limit' c d w b r).stands
 
 -- a chain that is resolved: its questions, and then an event
 pub moved_chain : {F : Type 0} (step : F → Question → Option Answer → F → Type 0) (s t : Parser F) (first : ℕ) → t.resolver.text ≡ s.resolver.text → t.resolver.options ≡ s.resolver.options
-    → TreeStands s.resolver.text.now s.resolver.tables.cows s.tree → IsBefore s.tree first
+    → TreeStands s.resolver.text.now (tables_of s.resolver.tables) s.tree → IsBefore s.tree first
     → ResolvesChain step (parser_setting s) first s.tree t.tree s.resolver.tables t.resolver.tables s.resolver.limit t.resolver.limit s.resolver.callback t.resolver.callback
     → WentOn step s t × (parser_steps t < parser_steps s)
 moved_chain step s t first x o w b r =
     let m = chain_moves step (parser_setting s) s.tree t.tree s.resolver.tables t.resolver.tables first s.resolver.limit t.resolver.limit s.resolver.callback t.resolver.callback w b r in
     let some : is_some s.resolver.callback ≡ is_some t.resolver.callback = Asks-some step s.resolver.callback t.resolver.callback r.chain.questions r.chain.answers r.chain.asked in
-    let now : (later : Answers) → elements t later ≡ left_of (parser_setting s) t.resolver.tables.cows t.tree.nodes (Some first) s.tree.spine (record { limit = t.resolver.limit; answers = later }) =
+    let now : (later : Answers) → elements t later ≡ left_of (parser_setting s) (tables_of t.resolver.tables) t.tree.nodes (Some first) s.tree.spine (record { limit = t.resolver.limit; answers = later }) =
     λ later. elements-parts t later ∙ rw (x, o, ← some, r.tables, r.tree, b.cursor) refl in (
       record {
         leads = record {
@@ -116,7 +117,7 @@ moved_chain step s t first x o w b r =
 -- a walk that has ended is over
 pub over_ended : {F : Type 0} (t : Parser F) → HasEnded t.tree → IsOver t
 over_ended t e = record {
-  left = λ answers. elements-parts t answers ∙ left_of_ended (parser_setting t) t.resolver.tables.cows t.tree e (record { limit = t.resolver.limit; answers = answers });
+  left = λ answers. elements-parts t answers ∙ left_of_ended (parser_setting t) (tables_of t.resolver.tables) t.tree e (record { limit = t.resolver.limit; answers = answers });
   steps = steps_ended t.tree e;
 }
 
@@ -129,11 +130,11 @@ moved_refused step s t after c r e = record { is = over_ended t e; more = r.step
 
 -- a chain at which memory was refused
 pub moved_stopped : {F : Type 0} (step : F → Question → Option Answer → F → Type 0) (s t : Parser F) (first : ℕ)
-    → TreeStands s.resolver.text.now s.resolver.tables.cows s.tree → IsBefore s.tree first
+    → TreeStands s.resolver.text.now (tables_of s.resolver.tables) s.tree → IsBefore s.tree first
     → StopsIn step (parser_setting s) first (stage s.tree s.resolver.tables s.resolver.limit s.resolver.callback) t.resolver.callback → HasEnded t.tree → Failed step s t
 moved_stopped step s t first w b r e = record {
   is = over_ended t e;
-  more = steps_at_cursor s.resolver.text.now s.resolver.tables.cows s.tree first w b.cursor;
+  more = steps_at_cursor s.resolver.text.now (tables_of s.resolver.tables) s.tree first w b.cursor;
   questions = r.questions;
   answers = r.answers;
   asked = r.asked;

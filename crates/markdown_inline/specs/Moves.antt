@@ -1,4 +1,5 @@
 -- What a step of a parser gives.
+use Rattle.markdown_inline.specs.declared.walk.Move.TheVariants as move
 use Rattle.std.specs.Prelude.{◌≡◌, ℕ, ◌<◌, List, [], ◌∷◌, ◌++◌, map, Option, ◌⊎◌}
 use Rattle.std.specs.declared.ops.Range.{Range}
 use Rattle.markdown_base.specs.Questions.{Question, Answer, Answers}
@@ -9,7 +10,6 @@ use Rattle.markdown_inline.specs.NextGives.{IsPlacedOf}
 use Rattle.markdown_inline.specs.ParserLeft.{parser_text, parser_callback, parser_steps, parser_definitions, elements, IsOver}
 use Rattle.markdown_inline.specs.declared.walk.Parser.{Parser}
 use Rattle.markdown_inline.specs.declared.walk.Move.{Move}
-use Rattle.markdown_inline.specs.declared.walk.Move.TheVariants as move
 
 -- the list begins with an event
 pub record BeginsWithEvent (es : List Element) : Type 0 where

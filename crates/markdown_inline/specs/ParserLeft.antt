@@ -13,6 +13,7 @@ use Rattle.markdown_chains.specs.Document.{document}
 use Rattle.markdown_inline.specs.Elements.{Element, nothing}
 use Rattle.markdown_inline.specs.Reading.{reading}
 use Rattle.markdown_chains.specs.Setting.{Rules, Setting, Known, rules_from, setting_of}
+use Rattle.markdown_chains.specs.Tables.{tables_of, tables_at_start}
 use Rattle.markdown_inline.specs.WalkSteps.{tree_left, tree_steps}
 use Rattle.markdown_inline.specs.declared.walk.Parser.{Parser}
 use Rattle.markdown_inline.specs.declared.walk.OffsetIter.{OffsetIter}
@@ -42,7 +43,7 @@ rules_of blocks asks = record {
 -- the reading of a block result, for these answers, where there is somebody to ask and where not
 abbrev pub reading_of : Blocks → Bool → Answers → List Element
 reading_of blocks asks answers =
-    reading (setting_of (block_text blocks) (rules_of blocks asks)) (document (block_text blocks) (block_parts blocks).cows.items (block_tree blocks).nodes) nothing (known_at_start (block_text blocks) answers)
+    reading (setting_of (block_text blocks) (rules_of blocks asks)) (document (block_text blocks) (tables_at_start (block_parts blocks)) (block_tree blocks).nodes) nothing (known_at_start (block_text blocks) answers)
 
 -- the text that a parser reads
 abbrev pub parser_text : {F : Type 0} → Parser F → List ℕ
@@ -66,7 +67,7 @@ parser_setting p = setting_of p.resolver.text.now (rules_from p.resolver.options
 
 -- the elements that are left of it
 unfoldable pub elements : {F : Type 0} → Parser F → Answers → List Element
-elements p answers = tree_left (parser_setting p) p.resolver.tables.cows p.tree (record { limit = p.resolver.limit; answers = answers })
+elements p answers = tree_left (parser_setting p) (tables_of p.resolver.tables) p.tree (record { limit = p.resolver.limit; answers = answers })
 
 -- all of the reading of a block result is left, for every list of answers
 abbrev pub ReadsBlocks : {F : Type 0} → Blocks → Parser F → Type 0

@@ -5,7 +5,6 @@ use Rattle.markdown_base.specs.ArenaForest.{links_of}
 use Rattle.markdown_base.specs.ArenaWalk.{Reaches}
 use Rattle.markdown_base.specs.Forest.{Forest}
 use Rattle.markdown_base.specs.Questions.{Question, Answer, Answers}
-use Rattle.markdown_base.specs.declared.cow_str.CowStr.{CowStr}
 use Rattle.markdown_base.specs.declared.item.Item.{Item}
 use Rattle.markdown_base.specs.declared.node.Node.{Node}
 use Rattle.markdown_spans.specs.Allocations.{Allocated}
@@ -16,22 +15,22 @@ use Rattle.markdown_chains.specs.Setting.{Setting, Known}
 use Rattle.markdown_chains.specs.Places.{IsPlaced, trees_from, IsSameAt}
 use Rattle.markdown_chains.specs.Document.{Plain}
 use Rattle.markdown_chains.specs.Stages.{Stage, chain_at, known_at, named_in, stage, times_in, weight_in}
+use Rattle.markdown_chains.specs.Tables.{Tables, Named, number_of, size_for, HasGrown}
 
 -- from one stage to another the chain from the link l on was resolved by a rule, in place
 pub record ResolvesFrom {C : Type 0} (step : C → Question → Option Answer → C → Type 0) (source : List ℕ) (rule : Forest Plain → Known → Resolved (Unit {0})) (l : Option ℕ) (old new : Stage C) : Type 0 where
   -- from l the links spell a forest of items that are placed
-  pub reaches : Reaches (links_of new.nodes) (IsPlaced source new.cows new.nodes) l
+  pub reaches : Reaches (links_of new.nodes) (IsPlaced source new.tables new.nodes) l
   -- no node stands twice in it, and each is of the chain or new
   pub once : (n : ℕ) → times_in new.nodes l n ≤ 1
   pub of_chain : (n : ℕ) → n < length old.nodes → times_in new.nodes l n ≤ times_in old.nodes l n
   -- nodes that are not of the chain are as they were
   pub more_nodes : length old.nodes ≤ length new.nodes
   pub outside : (n : ℕ) → n < length old.nodes → times_in old.nodes l n ≡ 0 → IsSameAt old.nodes new.nodes n
-  -- the table has grown at its end; no text is named twice, and each is new or was named in the chain
-  pub more_cows : List CowStr
-  pub cows : new.cows ≡ old.cows ++ more_cows
-  pub named_once : (n : ℕ) → named_in new.nodes l n ≤ 1
-  pub named : (n : ℕ) → n < length old.cows → named_in new.nodes l n ≤ named_in old.nodes l n
+  -- the tables have grown at their ends; no entry is named twice, and each is new or was named in the chain
+  pub grown : HasGrown old.tables new.tables
+  pub named_once : (n : Named) → named_in new.nodes l n ≤ 1
+  pub named : (n : Named) → number_of n < size_for old.tables n → named_in new.nodes l n ≤ named_in old.nodes l n
   -- it is no heavier
   pub no_heavier : weight_in new.nodes l ≤ weight_in old.nodes l
   -- the callback went by these questions and answers, and for them the forest is the rule's, whatever answers
@@ -43,16 +42,16 @@ pub record ResolvesFrom {C : Type 0} (step : C → Question → Option Answer �
       ≡ record { questions = questions; forest = chain_at source new l; known = known_at new later }
 
 -- what a resolver may count on
-pub record CanResolve (source : List ℕ) (cows : List CowStr) (nodes : List (Node Item)) (l : Option ℕ) : Type 0 where
-  pub reaches : Reaches (links_of nodes) (IsPlaced source cows nodes) l
+pub record CanResolve (source : List ℕ) (tables : Tables) (nodes : List (Node Item)) (l : Option ℕ) : Type 0 where
+  pub reaches : Reaches (links_of nodes) (IsPlaced source tables nodes) l
   pub once : (n : ℕ) → times_in nodes l n ≤ 1
-  pub named_once : (n : ℕ) → named_in nodes l n ≤ 1
-  pub quiet_below : IsQuietBelow (trees_from source cows nodes l)
+  pub named_once : (n : Named) → named_in nodes l n ≤ 1
+  pub quiet_below : IsQuietBelow (trees_from source tables nodes l)
 
 -- the chain from the node `first` on was resolved; all else is as it was
 pub record ResolvesChain {C : Type 0} (step : C → Question → Option Answer → C → Type 0) (s : Setting) (first : ℕ) (old new : Arena Item) (held held' : Allocated) (limit limit' : ℕ) (callback callback' : Option C) : Type 0 where
   pub tree : new ≡ record old { nodes = new.nodes }
-  pub tables : held' ≡ record held { cows = held'.cows }
+  pub tables : held' ≡ record held { cows = held'.cows; links = held'.links }
   pub chain : ResolvesFrom step s.text (resolved s) (Some first) (stage old held limit callback) (stage new held' limit' callback')
 
 -- memory was refused on the way: the callback went by these questions, with which those of the chain begin, and

@@ -1,10 +1,10 @@
 -- Pass one over a chain: its items are read from left to right, each once, onto a left list. Each rule that finds
 -- something in a chain has its place here.
+use Rattle.markdown_base.specs.declared.item.ItemBody.TheVariants as body
 use Rattle.std.specs.Prelude.{ℕ, Bool, true, false, List, [], ◌∷◌}
 use Rattle.markdown_base.specs.Forest.{Forest, nil, node}
 use Rattle.markdown_base.specs.Questions.{Question}
 use Rattle.markdown_base.specs.declared.item.ItemBody.{ItemBody}
-use Rattle.markdown_base.specs.declared.item.ItemBody.TheVariants as body
 use Rattle.markdown_chains.specs.Document.{Shape, leaf, enclosed, plain, unresolved, Label, as_text}
 use Rattle.markdown_chains.specs.Setting.{Setting, Known}
 

@@ -51,12 +51,13 @@ impl<'a, F: BrokenLinkCallback<'a>> Resolver<'a, F> {
     ghost use Rattle.markdown_resolver.specs.Chains.{CanResolve, ResolvesChain, StopsIn};
     ghost use Rattle.markdown_chains.specs.Stages.{items_from, stage};
     ghost use Rattle.markdown_chains.specs.Setting.{rules_from, setting_of};
+    ghost use Rattle.markdown_chains.specs.Tables.{tables_of};
 
     /// Resolves the chain from the node `first` on, which is open, where it stands. After a refusal the tree
     /// and the tables may be in any state.
     pub fn resolve_chain(&mut self, tree: &mut Tree<Item>, first: usize) -> Result<(), Fault>
         requires can_ask { IfSome self.old.callback F.can_ask }
-        requires ready { CanResolve self.old.text.now self.old.tables.cows tree.old.nodes (Some first) }
+        requires ready { CanResolve self.old.text.now (tables_of self.old.tables) tree.old.nodes (Some first) }
         requires open { is_open (item_at tree.old.nodes first).body ≡ true }
         ensures resolves { IfOk result (λ _. ResolvesChain F.answers
             (setting_of self.old.text.now (rules_from self.old.options self.old.tables (is_some self.old.callback))) first

@@ -1,4 +1,5 @@
 -- Each step of the tree is one of the parser; before a chain the resolver is called.
+use Rattle.markdown_chains.specs.Tables.{tables_of}
 use Rattle.std.proofs.Common.{refl}
 use Rattle.markdown_inline.specs.ParserLeft.{parser_setting}
 use Rattle.markdown_inline.proofs.ParserLemmas.{before_chain, stands_chain, moved_give, moved_skip, moved_chain, moved_done, moved_refused, moved_stopped}
@@ -23,11 +24,11 @@ invariant_of-self-in-Ok g c =
 
 pub invariant_of-self-in-Err-resolve_chain : goal.invariant_of-self-in-Err-resolve_chain
 invariant_of-self-in-Err-resolve_chain g c =
-    record { stands = stands_ended c.resolve_chain.new.self.text.now c.resolve_chain.new.self.tables.cows c.stop.new.self (stopped c.resolve_chain.new.tree c.stop.new.self c.stop.ensures) }
+    record { stands = stands_ended c.resolve_chain.new.self.text.now (tables_of c.resolve_chain.new.self.tables) c.stop.new.self (stopped c.resolve_chain.new.tree c.stop.new.self c.stop.ensures) }
 
 pub invariant_of-self-in-Err : goal.invariant_of-self-in-Err
 invariant_of-self-in-Err g c =
-    record { stands = stands_ended c.args.self.now.resolver.text.now c.take_step.new.tables.cows c.stop-in-Err.new.self (stopped c.take_step.new.tree c.stop-in-Err.new.self c.stop-in-Err.ensures) }
+    record { stands = stands_ended c.args.self.now.resolver.text.now (tables_of c.take_step.new.tables) c.stop-in-Err.new.self (stopped c.take_step.new.tree c.stop-in-Err.new.self c.stop-in-Err.ensures) }
 
 pub returns-in-Ok-Done-clause-moves : goal.returns-in-Ok-Done-clause-moves
 returns-in-Ok-Done-clause-moves g c =
