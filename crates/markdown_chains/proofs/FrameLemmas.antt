@@ -14,7 +14,7 @@ use Rattle.markdown_base.specs.declared.node.Node.{Node}
 use Rattle.markdown_base.proofs.ArenaForestLemmas.{height, height-followed, forest_at-fits}
 use Rattle.markdown_chains.specs.Places.{IsSameAt, label_at, trees_from, IsPlaced}
 use Rattle.markdown_chains.specs.Totals.{total, same, naming, times_named, weight_at}
-use Rattle.markdown_chains.specs.Document.{Plain, shape_of}
+use Rattle.markdown_chains.specs.Document.{Plain, shape_of, block_of}
 use Rattle.markdown_chains.specs.Tables.{Tables, Named, some_text, IsSameEntry, IsNoShorter}
 use Rattle.markdown_chains.proofs.TablesLemmas.{same-refl, entries-longer}
 
@@ -32,7 +32,7 @@ shape-same tables tables' source other h e = refl
 
 pub label-same : (source : List ℕ) (tables tables' : Tables) (nodes nodes' : List (Node Item)) (n : ℕ) → Stays tables tables' nodes nodes' n → label_at source tables' nodes' n ≡ label_at source tables nodes n
 label-same source tables tables' nodes nodes' n h =
-    rw h.at.item (ap (λ shape. let a : Plain = record { tag = tt; part = record { shape = shape; range = range_of (item_at nodes n) } } in a)
+    rw h.at.item (ap (λ shape. let a : Plain = record { tag = tt; part = record { shape = shape; range = range_of (item_at nodes n); block = block_of (item_at nodes n).body } } in a)
     (shape-same tables tables' (slice_range source (item_at nodes n).start (item_at nodes n).end) (item_at nodes n).body h.entries h.headings))
 
 -- where all that stand in a forest do

@@ -4,3 +4,4 @@ pub mod TablesLemmas
 pub mod PlaceLemmas
 pub mod FrameLemmas
 pub mod FoundLemmas
+pub mod AboveLemmas

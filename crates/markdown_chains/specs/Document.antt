@@ -1,11 +1,11 @@
 -- The tree of a document, as its items read. Chains of inline items in it may be open.
 use Rattle.markdown_base.specs.declared.item.ItemBody.TheVariants as body
-use Rattle.std.specs.Prelude.{ℕ, Bool, true, false, ◌||◌, List, [], ◌∷◌, slice_range}
+use Rattle.std.specs.Prelude.{ℕ, Bool, true, false, ◌||◌, if◌then◌else◌, List, [], ◌∷◌, Option, Some, None, slice_range}
 use Rattle.std.specs.declared.ops.Range.{Range}
 use Rattle.markdown_base.specs.BlockTree.{tree_of}
 use Rattle.markdown_base.specs.Event.{TagView, EventView, text, soft_break, hard_break, paragraph}
 use Rattle.markdown_base.specs.Forest.{Forest, relabelled}
-use Rattle.markdown_base.specs.Item.{is_open, is_inline, is_resolved, range_of}
+use Rattle.markdown_base.specs.Item.{is_open, is_inline, is_resolved, is_block, range_of}
 use Rattle.markdown_base.specs.declared.item.Item.{Item}
 use Rattle.markdown_base.specs.declared.item.ItemBody.{ItemBody}
 use Rattle.markdown_base.specs.declared.node.Node.{Node}
@@ -32,10 +32,11 @@ is_unresolved (enclosed tag) = false
 is_unresolved plain = false
 is_unresolved (unresolved b) = true
 
--- a shape over a range of bytes
+-- a shape over a range of bytes; and of a block its body
 pub record Part : Type 0 where
   pub shape : Shape
   pub range : Range ℕ
+  pub block : Option ItemBody
 
 -- a label of a document's tree: a part, with a tag at which no rule looks
 pub record Label (A : Type 0) : Type 0 where
@@ -44,7 +45,7 @@ pub record Label (A : Type 0) : Type 0 where
 
 -- a label with another shape
 abbrev pub shaped : {A : Type 0} → Shape → Label A → Label A
-shaped shape a = record { tag = a.tag; part = record { shape = shape; range = a.part.range } }
+shaped shape a = record { tag = a.tag; part = record { shape = shape; range = a.part.range; block = a.part.block } }
 
 -- a Text that is these bytes of the source
 abbrev pub text_over : List ℕ → Shape
@@ -71,8 +72,16 @@ shape_of tables source (body.HardBreak backslash) = leaf hard_break []
 shape_of tables source (body.SynthesizeText ix) = leaf (text (text_at tables.cows ix.0)) (made ∷ [])
 shape_of tables source other = uncarried (is_open other) (is_inline other || is_resolved other) source other
 
+-- a body that is a block's
+abbrev pub block_of : ItemBody → Option ItemBody
+block_of b = if is_block b then Some b else None
+
 abbrev pub part_of : List ℕ → Tables → Item → Part
-part_of source tables item = record { shape = shape_of tables (slice_range source item.start item.end) item.body; range = range_of item }
+part_of source tables item = record {
+  shape = shape_of tables (slice_range source item.start item.end) item.body;
+  range = range_of item;
+  block = block_of item.body;
+}
 
 -- a label that says nothing but what is read
 abbrev pub Plain : Type 0

@@ -7,7 +7,7 @@ use Rattle.markdown_base.specs.Questions.{Answers}
 use Rattle.markdown_base.specs.declared.item.Item.{Item}
 use Rattle.markdown_base.specs.declared.node.Node.{Node}
 use Rattle.markdown_spans.specs.Allocations.{Allocated}
-use Rattle.markdown_chains.specs.Setting.{Known}
+use Rattle.markdown_chains.specs.Setting.{Known, uses_of}
 use Rattle.markdown_chains.specs.Places.{trees_from}
 use Rattle.markdown_chains.specs.Totals.{total, same, naming, weight_at}
 use Rattle.markdown_chains.specs.Document.{Plain}
@@ -18,11 +18,12 @@ pub record Stage (C : Type 0) : Type 0 where
   pub nodes : List (Node Item)
   pub tables : Tables
   pub limit : ℕ
+  pub uses : List ℕ → ℕ
   pub callback : Option C
 
 -- what is known at a stage, where these answers are to come
 abbrev pub known_at : {C : Type 0} → Stage C → Answers → Known
-known_at stage answers = record { limit = stage.limit; answers = answers }
+known_at stage answers = record { limit = stage.limit; answers = answers; uses = stage.uses }
 
 -- the chain from a link on, at a stage
 abbrev pub chain_at : {C : Type 0} → List ℕ → Stage C → Option ℕ → Forest Plain
@@ -40,7 +41,13 @@ weight_in nodes l = total (weight_at nodes) (forest_at (links_of nodes) l)
 
 -- a tree with what its items name, where a chain is resolved
 abbrev pub stage : {C : Type 0} → Arena Item → Allocated → ℕ → Option C → Stage C
-stage tree held limit callback = record { nodes = tree.nodes; tables = tables_of held; limit = limit; callback = callback }
+stage tree held limit callback = record {
+  nodes = tree.nodes;
+  tables = tables_of held;
+  limit = limit;
+  uses = uses_of held.footdefs;
+  callback = callback;
+}
 
 -- how many items a chain has from a link on
 abbrev pub items_from : List (Node Item) → Option ℕ → ℕ

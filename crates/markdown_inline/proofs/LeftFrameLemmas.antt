@@ -8,6 +8,8 @@ use Rattle.markdown_base.specs.declared.item.Item.{Item}
 use Rattle.markdown_base.specs.declared.node.Node.{Node}
 use Rattle.markdown_chains.specs.Places.{IsSameAt, IsPlaced}
 use Rattle.markdown_inline.specs.Walk.{around, left_of}
+use Rattle.markdown_inline.specs.Counts.{items_around, items_ahead}
+use Rattle.markdown_chains.specs.Above.{Above, no_blocks, inside_all}
 use Rattle.markdown_chains.specs.Setting.{Setting}
 use Rattle.markdown_chains.specs.Totals.{same, naming, weight_at}
 use Rattle.markdown_inline.specs.WalkTotals.{climbed, left_total, times_left, named_left}
@@ -23,13 +25,15 @@ pub record AboveFramed (s : Setting) (tables tables' : Tables) (nodes nodes' : L
   pub times : (n : ℕ) → climbed (same n) (same n) (links_of nodes') spine ≡ climbed (same n) (same n) (links_of nodes) spine
   pub naming : (n : Named) → climbed (λ ix. 0) (naming nodes' n) (links_of nodes') spine ≡ climbed (λ ix. 0) (naming nodes n) (links_of nodes) spine
   pub steps : climbed (λ ix. 1) (weight_at nodes') (links_of nodes') spine ≡ climbed (λ ix. 1) (weight_at nodes) (links_of nodes) spine
-  pub around : (after : Reading) → around s tables' nodes' spine after ≡ around s tables nodes spine after
+  pub around : (above : Above) (after : Reading) → around s above tables' nodes' spine after ≡ around s above tables nodes spine after
+  pub blocks : (above : Above) → inside_all nodes' spine above ≡ inside_all nodes spine above
+  pub items : (after : ℕ) → items_around s.text tables' nodes' spine after ≡ items_around s.text tables nodes spine after
 
 pub above_framed : (s : Setting) (tables tables' : Tables) (nodes nodes' : List (Node Item)) (spine : List ℕ) → length nodes ≤ length nodes' → IsNoShorter tables tables'
     → AllReach (links_of nodes) (IsPlaced s.text tables nodes) spine → AboveKept s.text tables nodes spine
     → ((n : ℕ) → 0 < climbed (same n) (same n) (links_of nodes) spine → IsSameAt nodes nodes' n)
     → ((n : Named) → 0 < climbed (λ ix. 0) (naming nodes n) (links_of nodes) spine → IsSameEntry tables tables' n) → AboveFramed s tables tables' nodes nodes' spine
-above_framed s tables tables' nodes nodes' [] z y r k h t = record { reach = tt; kept = tt; times = λ n. refl; naming = λ n. refl; steps = refl; around = λ after. refl }
+above_framed s tables tables' nodes nodes' [] z y r k h t = record { reach = tt; kept = tt; times = λ n. refl; naming = λ n. refl; steps = refl; around = λ above after. refl; blocks = λ above. refl; items = λ after. refl }
 above_framed s tables tables' nodes nodes' (ix ∷ deeper) z y r k h t =
     let at : IsSameAt nodes nodes' ix = h ix (omega (arith, same-refl ix)) in
     let stay = stay_throughout tables tables' nodes nodes' (forest_at (links_of nodes) (sibling_of nodes ix)) y.headings (λ n l. h n (omega (arith, l))) (λ n l. t n (omega (arith, l))) in
@@ -41,18 +45,21 @@ above_framed s tables tables' nodes nodes' (ix ∷ deeper) z y r k h t =
       times = λ n. rw (at.next, here.forest, others.times n) refl;
       naming = λ n. rw (at.next, here.naming n, others.naming n) refl;
       steps = rw (at.next, here.weight, others.steps) refl;
-      around = λ after. rw (at.next, at.item, here.trees) (others.around _);
+      around = λ above after. rw (at.next, at.item, here.trees) (others.around _ _);
+      blocks = λ above. rw at.item (others.blocks _);
+      items = λ after. rw (at.next, at.item, here.trees) (others.items _);
     }
 
 -- what is left of a walk, where all that it leads to stays
 pub record LeftFramed (s : Setting) (tables tables' : Tables) (nodes nodes' : List (Node Item)) (l : Option ℕ) (spine : List ℕ) : Type 0 where
   pub stands : Stands s.text tables' nodes' l spine
   pub left : left_of s tables' nodes' l spine ≡ left_of s tables nodes l spine
+  pub items : items_ahead s.text tables' nodes' l spine ≡ items_ahead s.text tables nodes l spine
 
 pub left_framed : (s : Setting) (tables tables' : Tables) (nodes nodes' : List (Node Item)) (l : Option ℕ) (spine : List ℕ) → length nodes ≤ length nodes' → IsNoShorter tables tables'
     → Stands s.text tables nodes l spine → ((n : ℕ) → 0 < times_left (links_of nodes) l spine n → IsSameAt nodes nodes' n)
     → ((n : Named) → 0 < named_left nodes l spine n → IsSameEntry tables tables' n) → LeftFramed s tables tables' nodes nodes' l spine
-unfolding left_total left_of
+unfolding left_total left_of items_ahead
 left_framed s tables tables' nodes nodes' l spine z y w h t =
     let stay = stay_throughout tables tables' nodes nodes' (forest_at (links_of nodes) l) y.headings (λ n x. h n (omega (arith, x))) (λ n x. t n (omega (arith, x))) in
     let here = framed s.text tables tables' nodes nodes' l z y w.walk.here stay in
@@ -65,5 +72,6 @@ left_framed s tables tables' nodes nodes' l spine z y w h t =
         here_kept = rw here.trees w.here_kept;
         above_kept = above.kept;
       };
-      left = rw (here.trees, above.around nothing) refl;
+      left = rw (here.trees, above.blocks (no_blocks s.text), above.around (no_blocks s.text) nothing) refl;
+      items = rw (here.trees, above.items 0) refl;
     }

@@ -32,7 +32,7 @@ use Rattle.markdown_inline.specs.ParserLeft.{elements, rules_of, reading_of, exp
 use Rattle.markdown_inline.specs.Walk.{left_of}
 use Rattle.markdown_chains.specs.Places.{label_at, trees_from, IsPlaced}
 use Rattle.markdown_chains.specs.Document.{label_of, document}
-use Rattle.markdown_chains.specs.Setting.{Rules, rules_from}
+use Rattle.markdown_chains.specs.Setting.{Rules, rules_from, use_count, uses_of}
 use Rattle.markdown_resolver.specs.Kept.{IsQuiet, IsQuietBelow, IsKept}
 use Rattle.markdown_chains.specs.Totals.{total, same, same_as, naming}
 use Rattle.markdown_inline.specs.WalkTotals.{left_total}
@@ -175,6 +175,17 @@ rules_held blocks held options asks h o =
     let named : is_held ≡ is_name = fun_ext (λ name. ap is_some (h.footnotes name) ∙ some_if unused (is_name name)) in
     rw (o, h.definitions) (ap (λ (f : List ℕ → Bool). let r : Rules = record { options = block_options blocks; definitions = firsts (block_parts blocks).definitions.items; is_footnote = f; asks = asks } in r) named)
 
+-- and no footnote was used
+none_used : (named : Bool) → use_count (if named then Some unused else None) ≡ 0
+none_used true = refl
+none_used false = refl
+
+uses_held : (blocks : Blocks) (held : Allocated) → HoldsParts (block_parts blocks) held → uses_of held.footdefs ≡ (λ name. 0)
+uses_held blocks held h =
+    let none : List ℕ → ℕ = λ name. 0 in
+    let same : uses_of held.footdefs ≡ none = fun_ext (λ name. ap use_count (h.footnotes name) ∙ none_used (list_any (λ n. is_match (text_of n) name) (block_parts blocks).footnotes.items)) in
+    same
+
 -- at the start what is left is the whole reading
 pub starts_left : {F : Type 0} (blocks : Blocks) (p : Parser F) (answers : Answers) → p.resolver.text.now ≡ block_text blocks → p.resolver.options ≡ block_options blocks → HoldsParts (block_parts blocks) p.resolver.tables
     → (tree : Arena Item) → tree ≡ block_tree blocks → p.tree ≡ record tree { spine = []; cursor = child_of tree.nodes 0 } → p.resolver.limit ≡ expansion_limit (block_text blocks)
@@ -182,7 +193,7 @@ pub starts_left : {F : Type 0} (blocks : Blocks) (p : Parser F) (answers : Answe
 unfolding left_of
 starts_left blocks p answers text options held tree same reset limit =
     elements-parts p answers
-    ∙ rw (reset, same, text, tables_held (block_parts blocks) p.resolver.tables held, limit, rules_held blocks p.resolver.tables p.resolver.options (is_some p.resolver.callback) held options, ← document-trees (block_text blocks) (tables_at_start (block_parts blocks)) (block_tree blocks).nodes) refl
+    ∙ rw (reset, same, text, tables_held (block_parts blocks) p.resolver.tables held, limit, uses_held blocks p.resolver.tables held, rules_held blocks p.resolver.tables p.resolver.options (is_some p.resolver.callback) held options, ← document-trees (block_text blocks) (tables_at_start (block_parts blocks)) (block_tree blocks).nodes) refl
 
 -- a parser of a block result of a text is one of some block result of the text
 pub of_some_text : {F : Type 0} (text : List ℕ) (options : Options) (blocks : Blocks) (made : Result (Parser F) Fault) → IsOfText text options blocks

@@ -7,6 +7,9 @@ use Rattle.markdown_base.specs.ArenaForest.{Links, links_of, forest_at}
 use Rattle.markdown_base.specs.ArenaWalk.{Reaches, AllReach}
 use Rattle.markdown_base.specs.BlockTree.{item_at}
 use Rattle.markdown_inline.specs.Elements.{Placed, Reading, event, nothing}
+use Rattle.markdown_inline.specs.Counts.{items_around, items_ahead, first_items, unless_ended, LeavesAhead}
+use Rattle.markdown_inline.proofs.CountLemmas.{items_around-snoc}
+use Rattle.markdown_chains.specs.Above.{Above, no_blocks, inside_item, inside_all, above_at}
 use Rattle.markdown_chains.specs.Setting.{Known, Setting}
 use Rattle.markdown_base.specs.Event.{EventView, TagView, start, end_of}
 use Rattle.markdown_base.specs.Item.{range_of, is_open}
@@ -28,6 +31,7 @@ use Rattle.markdown_chains.proofs.PlaceLemmas.{some_weight}
 pub record Moves (s : Setting) (tables : Tables) (nodes : List (Node Item)) (l : Option ℕ) (spine : List ℕ) (m : Option ℕ) (deeper : List ℕ) (given : List Placed) : Type 0 where
   pub stands : Stands s.text tables nodes m deeper
   pub left : (known : Known) → left_of s tables nodes l spine known ≡ map event given ++ left_of s tables nodes m deeper known
+  pub items : LeavesAhead given (items_ahead s.text tables nodes l spine) (items_ahead s.text tables nodes m deeper)
   pub falls : steps_of nodes m deeper < steps_of nodes l spine
 
 one_once : (waits : Bool) → one_if waits ≤ 1
@@ -70,11 +74,17 @@ AboveKept-last source tables nodes [] ix a = a
 AboveKept-last source tables nodes (j ∷ js) ix a = AboveKept-last source tables nodes js ix a.1
 
 -- the node gone into last ends first
-around-snoc : (s : Setting) (tables : Tables) (nodes : List (Node Item)) (spine : List ℕ) (ix : ℕ) (after : Reading)
-    → around s tables nodes (spine ++ ix ∷ []) after
-    ≡ ended (closing (item_at nodes ix).body) (range_of (item_at nodes ix)) (reading s (trees_from s.text tables nodes (sibling_of nodes ix)) (around s tables nodes spine after))
-around-snoc s tables nodes [] ix after = refl
-around-snoc s tables nodes (j ∷ js) ix after = around-snoc s tables nodes js ix _
+around-snoc : (s : Setting) (above : Above) (tables : Tables) (nodes : List (Node Item)) (spine : List ℕ) (ix : ℕ) (after : Reading)
+    → around s above tables nodes (spine ++ ix ∷ []) after
+    ≡ ended (closing (item_at nodes ix).body) (range_of (item_at nodes ix))
+    (reading s (inside_all nodes spine above) (trees_from s.text tables nodes (sibling_of nodes ix)) (around s above tables nodes spine after))
+around-snoc s above tables nodes [] ix after = refl
+around-snoc s above tables nodes (j ∷ js) ix after = around-snoc s (inside_item (item_at nodes j) above) tables nodes js ix _
+
+-- what stands below it is inside it
+inside_all-snoc : (nodes : List (Node Item)) (spine : List ℕ) (ix : ℕ) (above : Above) → inside_all nodes (spine ++ ix ∷ []) above ≡ inside_item (item_at nodes ix) (inside_all nodes spine above)
+inside_all-snoc nodes [] ix above = refl
+inside_all-snoc nodes (j ∷ js) ix above = inside_all-snoc nodes js ix (inside_item (item_at nodes j) above)
 
 climbed-snoc : (gone count : ℕ → ℕ) (k : Links) (spine : List ℕ) (ix : ℕ) → climbed gone count k (spine ++ ix ∷ []) ≡ (gone ix + total count (forest_at k (k.next ix))) + climbed gone count k spine
 climbed-snoc gone count k [] ix = omega arith
@@ -95,7 +105,7 @@ closing-plain tables source other h = cc h
 pub moves_on : (s : Setting) (tables : Tables) (nodes : List (Node Item)) (ix : ℕ) (spine : List ℕ) (e : EventView) (origins : List Origin)
     → Stands s.text tables nodes (Some ix) spine → (label_at s.text tables nodes ix).part.shape ≡ leaf e origins
     → Moves s tables nodes (Some ix) spine (sibling_of nodes ix) spine ((e, range_of (item_at nodes ix), origins) ∷ [])
-unfolding left_of left_total
+unfolding left_of left_total items_ahead
 moves_on s tables nodes ix spine e origins w h =
     let o = opens (links_of nodes) (IsPlaced s.text tables nodes) ix w.walk.here in
     let two = some_weight (is_open (item_at nodes ix).body) in
@@ -108,6 +118,7 @@ moves_on s tables nodes ix spine e origins w h =
         above_kept = w.above_kept;
       };
       left = λ known. rw (o.here, h) refl;
+      items = rw (o.here, h) refl;
       falls = let waits = waits_once nodes (sibling_of nodes ix) in rw o.here (omega arith);
     }
 
@@ -131,7 +142,7 @@ moves_past_in source tables nodes ix spine n w =
 pub moves_in : (s : Setting) (tables : Tables) (nodes : List (Node Item)) (ix : ℕ) (spine : List ℕ) (tag : TagView)
     → Stands s.text tables nodes (Some ix) spine → (label_at s.text tables nodes ix).part.shape ≡ enclosed tag
     → Moves s tables nodes (Some ix) spine (child_of nodes ix) (spine ++ ix ∷ []) ((start tag, range_of (item_at nodes ix), []) ∷ [])
-unfolding left_of left_total
+unfolding left_of left_total items_ahead
 moves_in s tables nodes ix spine tag w h =
     let o = opens (links_of nodes) (IsPlaced s.text tables nodes) ix w.walk.here in
     let kept = rw o.here at w.here_kept in
@@ -145,7 +156,8 @@ moves_in s tables nodes ix spine tag w h =
         here_kept = kept.1;
         above_kept = AboveKept-snoc s.text tables nodes spine ix w.above_kept (kept.2, tt);
       };
-      left = λ known. rw (o.here, around-snoc s tables nodes spine ix nothing, c, h) refl;
+      left = λ known. rw (o.here, around-snoc s (no_blocks s.text) tables nodes spine ix nothing, inside_all-snoc nodes spine ix (no_blocks s.text), c, h) refl;
+      items = rw (o.here, h) refl;
       falls = let waits = waits_once nodes (child_of nodes ix) in rw (o.here, climbed-snoc (λ ix. 1) (weight_at nodes) (links_of nodes) spine ix) (omega arith);
     }
 
@@ -153,7 +165,7 @@ moves_in s tables nodes ix spine tag w h =
 pub moves_in_plain : (s : Setting) (tables : Tables) (nodes : List (Node Item)) (ix : ℕ) (spine : List ℕ)
     → Stands s.text tables nodes (Some ix) spine → (label_at s.text tables nodes ix).part.shape ≡ plain
     → Moves s tables nodes (Some ix) spine (child_of nodes ix) (spine ++ ix ∷ []) []
-unfolding left_of left_total
+unfolding left_of left_total items_ahead
 moves_in_plain s tables nodes ix spine w h =
     let o = opens (links_of nodes) (IsPlaced s.text tables nodes) ix w.walk.here in
     let kept = rw o.here at w.here_kept in
@@ -167,7 +179,8 @@ moves_in_plain s tables nodes ix spine w h =
         here_kept = kept.1;
         above_kept = AboveKept-snoc s.text tables nodes spine ix w.above_kept (kept.2, tt);
       };
-      left = λ known. rw (o.here, around-snoc s tables nodes spine ix nothing, c, h) refl;
+      left = λ known. rw (o.here, around-snoc s (no_blocks s.text) tables nodes spine ix nothing, inside_all-snoc nodes spine ix (no_blocks s.text), c, h) refl;
+      items = rw (o.here, items_around-snoc s.text tables nodes spine ix 0, c, h) refl;
       falls = let waits = waits_once nodes (child_of nodes ix) in rw (o.here, climbed-snoc (λ ix. 1) (weight_at nodes) (links_of nodes) spine ix) (omega arith);
     }
 
@@ -175,9 +188,10 @@ moves_in_plain s tables nodes ix spine w h =
 pub moves_out : (s : Setting) (tables : Tables) (nodes : List (Node Item)) (ix : ℕ) (spine : List ℕ) (given : List Placed)
     → Stands s.text tables nodes None (spine ++ ix ∷ [])
     → ((after : Reading) (known : Known) → ended (closing (item_at nodes ix).body) (range_of (item_at nodes ix)) after known ≡ map event given ++ after known)
+    → ((after : ℕ) → LeavesAhead given (unless_ended (closing (item_at nodes ix).body) after) after)
     → Moves s tables nodes None (spine ++ ix ∷ []) (sibling_of nodes ix) spine given
-unfolding left_of left_total
-moves_out s tables nodes ix spine given w h =
+unfolding left_of left_total items_ahead
+moves_out s tables nodes ix spine given w h a =
     record {
       stands = record {
         walk = record { here = (AllReach-last (links_of nodes) (IsPlaced s.text tables nodes) spine ix w.walk.above).1; above = AllReach-front (links_of nodes) (IsPlaced s.text tables nodes) spine ix w.walk.above };
@@ -186,7 +200,8 @@ moves_out s tables nodes ix spine given w h =
         here_kept = (AboveKept-last s.text tables nodes spine ix w.above_kept).0;
         above_kept = AboveKept-front s.text tables nodes spine ix w.above_kept;
       };
-      left = λ known. rw (forest_at-none (links_of nodes), around-snoc s tables nodes spine ix nothing) (h (reading s (trees_from s.text tables nodes (sibling_of nodes ix)) (around s tables nodes spine nothing)) known);
+      left = λ known. rw (forest_at-none (links_of nodes), around-snoc s (no_blocks s.text) tables nodes spine ix nothing) (h (reading s (above_at s.text nodes spine) (trees_from s.text tables nodes (sibling_of nodes ix)) (around s (no_blocks s.text) tables nodes spine nothing)) known);
+      items = rw (forest_at-none (links_of nodes), items_around-snoc s.text tables nodes spine ix 0) (a (first_items (trees_from s.text tables nodes (sibling_of nodes ix)) (items_around s.text tables nodes spine 0)));
       falls = let waits = waits_once nodes (sibling_of nodes ix) in rw (forest_at-none (links_of nodes), climbed-snoc (λ ix. 1) (weight_at nodes) (links_of nodes) spine ix) (omega arith);
     }
 

@@ -11,7 +11,7 @@ use Rattle.markdown_base.specs.declared.node.Node.{Node}
 use Rattle.markdown_chains.specs.Document.{Label}
 use Rattle.markdown_resolver.specs.Kept.{IsQuiet, IsQuietBelow, IsKept}
 use Rattle.markdown_inline.specs.WalkTotals.{times_left, named_left}
-use Rattle.markdown_chains.specs.Places.{trees_from, IsPlaced, IsPlaced-prop}
+use Rattle.markdown_chains.specs.Places.{IsPlaced-prop, IsPlaced, trees_from}
 use Rattle.markdown_chains.specs.Tables.{Tables, Named}
 
 -- the chains that follow the nodes of a spine are kept

@@ -12,6 +12,7 @@ use Rattle.markdown_base.specs.declared.tag.TagEnd.{TagEnd}
 use Rattle.markdown_chains.specs.Document.{Shape, leaf, enclosed, plain, unresolved, shape_of}
 use Rattle.markdown_inline.specs.Elements.{Reading, nothing, then_reads}
 use Rattle.markdown_inline.specs.Reading.{reading}
+use Rattle.markdown_chains.specs.Above.{Above, no_blocks, inside_item, above_at}
 use Rattle.markdown_chains.specs.Setting.{Setting}
 use Rattle.markdown_chains.specs.Places.{trees_from}
 use Rattle.markdown_chains.specs.Tables.{Tables, no_tables}
@@ -32,14 +33,16 @@ abbrev pub ended : Option TagEnd → Range ℕ → Reading → Reading
 ended None range after = after
 ended (Some e) range after = then_reads (end e, range, []) after
 
--- what comes after the chain at hand: each tree that was begun ends, from the innermost on, and the trees
--- after it are read
-abbrev pub around : Setting → Tables → List (Node Item) → List ℕ → Reading → Reading
-around s tables nodes [] after = after
-around s tables nodes (ix ∷ deeper) after =
-    around s tables nodes deeper
-    (ended (closing (item_at nodes ix).body) (range_of (item_at nodes ix)) (reading s (trees_from s.text tables nodes (sibling_of nodes ix)) after))
+-- what comes after the chain at hand, where these blocks are open above the spine: each tree that was begun ends,
+-- from the innermost on, and the trees after it are read
+abbrev pub around : Setting → Above → Tables → List (Node Item) → List ℕ → Reading → Reading
+around s above tables nodes [] after = after
+around s above tables nodes (ix ∷ deeper) after =
+    around s (inside_item (item_at nodes ix) above) tables nodes deeper
+    (ended (closing (item_at nodes ix).body) (range_of (item_at nodes ix))
+    (reading s above (trees_from s.text tables nodes (sibling_of nodes ix)) after))
 
 -- what is left of a walk
 unfoldable pub left_of : Setting → Tables → List (Node Item) → Option ℕ → List ℕ → Reading
-left_of s tables nodes cursor spine = reading s (trees_from s.text tables nodes cursor) (around s tables nodes spine nothing)
+left_of s tables nodes cursor spine =
+    reading s (above_at s.text nodes spine) (trees_from s.text tables nodes cursor) (around s (no_blocks s.text) tables nodes spine nothing)

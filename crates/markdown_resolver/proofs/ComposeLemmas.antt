@@ -14,7 +14,7 @@ use Rattle.markdown_base.specs.declared.node.Node.{Node}
 use Rattle.markdown_base.proofs.ArenaForestLemmas.{opens}
 use Rattle.markdown_spans.specs.Callback.{Asks}
 use Rattle.markdown_chains.specs.Places.{IsSameAt, IsPlaced, label_at, trees_from}
-use Rattle.markdown_chains.specs.Stages.{Stage, times_in, named_in, weight_in}
+use Rattle.markdown_chains.specs.Stages.{known_at, Stage, times_in, named_in, weight_in}
 use Rattle.markdown_resolver.specs.Chains.{ResolvesFrom, CanResolve}
 use Rattle.markdown_resolver.specs.Resolved.{Resolved}
 use Rattle.markdown_chains.specs.Totals.{total, same, naming, times_named, weight_at}
@@ -151,11 +151,11 @@ pub keeps_head : {C : Type 0} (step : C → Question → Option Answer → C →
     → CanResolve source old.tables old.nodes (Some ix) → HeadChanged source ix old.nodes mid.nodes old.tables mid.tables
     → child_of mid.nodes ix ≡ child_of old.nodes ix → sibling_of mid.nodes ix ≡ sibling_of old.nodes ix
     → weight_at mid.nodes ix ≤ weight_at old.nodes ix → Asks step old.callback questions answers mid.callback
-    → ((below after : Forest Plain) (later : Answers) → rule (node (label_at source old.tables old.nodes ix) below after) (record { limit = old.limit; answers = answers ++ later })
+    → ((below after : Forest Plain) (later : Answers) → rule (node (label_at source old.tables old.nodes ix) below after) (known_at old (answers ++ later))
     ≡ record {
-      questions = questions ++ (rest_rule after (record { limit = mid.limit; answers = later })).questions;
-      forest = node (label_at source mid.tables mid.nodes ix) below (rest_rule after (record { limit = mid.limit; answers = later })).forest;
-      known = (rest_rule after (record { limit = mid.limit; answers = later })).known;
+      questions = questions ++ (rest_rule after (known_at mid later)).questions;
+      forest = node (label_at source mid.tables mid.nodes ix) below (rest_rule after (known_at mid later)).forest;
+      known = (rest_rule after (known_at mid later)).known;
     })
     → ResolvesFrom step source rest_rule (sibling_of old.nodes ix) mid new → ResolvesFrom step source rule (Some ix) old new
 keeps_head step source rule rest_rule ix old mid new questions answers ready h child next lighter asked law r =

@@ -18,6 +18,7 @@ use Rattle.markdown_resolver.specs.Chains.{ResolvesFrom, CanResolve}
 use Rattle.markdown_chains.specs.Document.{Plain, is_unresolved, shape_of, label_of}
 use Rattle.markdown_resolver.specs.Pairing.{paired, as_closed}
 use Rattle.markdown_resolver.specs.Resolved.{Resolved, resolved}
+use Rattle.markdown_chains.specs.Above.{Above}
 use Rattle.markdown_chains.specs.Setting.{Setting, Known}
 use Rattle.markdown_resolver.specs.Settling.{settled_if, settled_item, settled_at}
 use Rattle.markdown_chains.specs.Totals.{times_named, weight_if}
@@ -25,6 +26,7 @@ use Rattle.markdown_chains.specs.Tables.{Tables, Named, some_text, some_link, so
 use Rattle.markdown_chains.proofs.TablesLemmas.{grown-nothing}
 use Rattle.markdown_base.specs.Forest.{Forest}
 use Rattle.markdown_chains.proofs.PlaceLemmas.{shape-open, open-unresolved, some_weight}
+use Rattle.markdown_chains.proofs.AboveLemmas.{block-open}
 use Rattle.markdown_resolver.proofs.ComposeLemmas.{HeadChanged, after_head, ready_after, lighter_after, keeps_head}
 use Rattle.markdown_resolver.proofs.ResolvingLemmas.{resolved-texts}
 
@@ -93,7 +95,7 @@ unopened tables source b false e h = refl
 
 label_settled : (source : List ℕ) (tables : Tables) (item : Item) (is : Bool) → is_open item.body ≡ is
     → label_of source tables (record item { body = settled_if is item.body }) ≡ as_closed source (label_of source tables item)
-label_settled source tables item true e = rw (shape-open tables (slice_range source item.start item.end) item.body e) refl
+label_settled source tables item true e = rw (shape-open tables (slice_range source item.start item.end) item.body e, block-open item.body e) refl
 label_settled source tables item false e =
     rw (unopened tables (slice_range source item.start item.end) item.body (is_unresolved (shape_of tables (slice_range source item.start item.end) item.body)) refl e) refl
 
@@ -177,12 +179,12 @@ unfolding Whole
 whole_none step s first old new r = r
 
 pub whole_more : {C : Type 0} (step : C → Question → Option Answer → C → Type 0) (s : Setting) (first ix : ℕ) (old now : Stage C) → CanResolve s.text now.tables now.nodes (Some ix) → Whole step s first (Some ix) old now
-    → Whole step s first (sibling_of now.nodes ix) old (record { nodes = settled_at ix now.nodes; tables = now.tables; limit = now.limit; callback = now.callback })
+    → Whole step s first (sibling_of now.nodes ix) old (record { nodes = settled_at ix now.nodes; tables = now.tables; limit = now.limit; uses = now.uses; callback = now.callback })
 unfolding Whole paired
 whole_more {C} step s first ix old now ready w new r =
     let item = item_at now.nodes ix in
     let at = item_changed now.nodes ix (settled_item item) (node_within s.text now.tables now.nodes ix ready) in
-    let mid : Stage C = record { nodes = settled_at ix now.nodes; tables = now.tables; limit = now.limit; callback = now.callback } in
+    let mid : Stage C = record { nodes = settled_at ix now.nodes; tables = now.tables; limit = now.limit; uses = now.uses; callback = now.callback } in
     w new (keeps_head step s.text (texts s) (texts s) ix now mid new [] []
     ready (head_settled s.text now.tables now.nodes ix ready) at.child_is at.next_is
     (rw at.item_is (weight_settled (is_open item.body) item.body refl)) refl
@@ -216,9 +218,9 @@ texts_none step s now =
       resolves = λ later. rw e refl;
     }
 
-pub whole_all : {C : Type 0} (step : C → Question → Option Answer → C → Type 0) (s : Setting) (first : ℕ) (at : Option ℕ) (old now : Stage C) → at ≡ None → Whole step s first at old now → ResolvesFrom step s.text (resolved s) (Some first) old now
+pub whole_all : {C : Type 0} (step : C → Question → Option Answer → C → Type 0) (s : Setting) (above : Above) (first : ℕ) (at : Option ℕ) (old now : Stage C) → at ≡ None → Whole step s first at old now → ResolvesFrom step s.text (resolved s above) (Some first) old now
 unfolding Whole
-whole_all step s first at old now none w =
+whole_all step s above first at old now none w =
     let r = (rw none at w) now (texts_none step s now) in
     record {
       reaches = r.reaches;
@@ -233,5 +235,5 @@ whole_all step s first at old now none w =
       answers = r.answers;
       questions = r.questions;
       asked = r.asked;
-      resolves = λ later. resolved-texts s _ _ ∙ r.resolves later;
+      resolves = λ later. resolved-texts s above _ _ ∙ r.resolves later;
     }

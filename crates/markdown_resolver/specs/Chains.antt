@@ -1,5 +1,5 @@
 -- What a resolver of chains owes a walk: a chain is resolved where it stands, from one node on.
-use Rattle.std.specs.Prelude.{◌≡◌, ℕ, ◌<◌, ◌≤◌, List, ◌++◌, Option, Some, length}
+use Rattle.std.specs.Prelude.{◌≡◌, ℕ, ◌<◌, ◌≤◌, List, [], ◌∷◌, ◌++◌, Option, Some, length, is_some, ⊤}
 use Rattle.markdown_base.specs.Arena.{Arena}
 use Rattle.markdown_base.specs.ArenaForest.{links_of}
 use Rattle.markdown_base.specs.ArenaWalk.{Reaches}
@@ -9,8 +9,10 @@ use Rattle.markdown_base.specs.declared.item.Item.{Item}
 use Rattle.markdown_base.specs.declared.node.Node.{Node}
 use Rattle.markdown_spans.specs.Allocations.{Allocated}
 use Rattle.markdown_spans.specs.Callback.{Asks}
+use Rattle.markdown_spans.specs.Footnotes.{footnote_at}
 use Rattle.markdown_resolver.specs.Kept.{IsQuietBelow}
 use Rattle.markdown_resolver.specs.Resolved.{Resolved, resolved}
+use Rattle.markdown_chains.specs.Above.{Above, above_cursor}
 use Rattle.markdown_chains.specs.Setting.{Setting, Known}
 use Rattle.markdown_chains.specs.Places.{IsPlaced, trees_from, IsSameAt}
 use Rattle.markdown_chains.specs.Document.{Plain}
@@ -48,17 +50,24 @@ pub record CanResolve (source : List ℕ) (tables : Tables) (nodes : List (Node 
   pub named_once : (n : Named) → named_in nodes l n ≤ 1
   pub quiet_below : IsQuietBelow (trees_from source tables nodes l)
 
--- the chain from the node `first` on was resolved; all else is as it was
+-- the nodes of a spine are there, and stand in no chain from a link on: they stay when it is resolved
+abbrev pub AreAbove : List (Node Item) → Option ℕ → List ℕ → Type 0
+AreAbove nodes l [] = ⊤
+AreAbove nodes l (ix ∷ deeper) = (ix < length nodes) × (times_in nodes l ix ≡ 0) × AreAbove nodes l deeper
+
+-- the chain from the node `first` on was resolved, below the nodes of the spine; all else is as it was
 pub record ResolvesChain {C : Type 0} (step : C → Question → Option Answer → C → Type 0) (s : Setting) (first : ℕ) (old new : Arena Item) (held held' : Allocated) (limit limit' : ℕ) (callback callback' : Option C) : Type 0 where
   pub tree : new ≡ record old { nodes = new.nodes }
-  pub tables : held' ≡ record held { cows = held'.cows; links = held'.links }
-  pub chain : ResolvesFrom step s.text (resolved s) (Some first) (stage old held limit callback) (stage new held' limit' callback')
+  -- of the tables the texts, the links and the uses of footnotes change: what their names are stays
+  pub tables : held' ≡ record held { cows = held'.cows; links = held'.links; footdefs = held'.footdefs }
+  pub footnotes : (name : List ℕ) → is_some (footnote_at held'.footdefs name) ≡ is_some (footnote_at held.footdefs name)
+  pub chain : ResolvesFrom step s.text (resolved s (above_cursor s.text old)) (Some first) (stage old held limit callback) (stage new held' limit' callback')
 
 -- memory was refused on the way: the callback went by these questions, with which those of the chain begin, and
 -- these answers
-pub record StopsIn {C : Type 0} (step : C → Question → Option Answer → C → Type 0) (s : Setting) (first : ℕ) (old : Stage C) (callback' : Option C) : Type 0 where
+pub record StopsIn {C : Type 0} (step : C → Question → Option Answer → C → Type 0) (s : Setting) (above : Above) (first : ℕ) (old : Stage C) (callback' : Option C) : Type 0 where
   pub answers : Answers
   pub questions : List Question
   pub asked : Asks step old.callback questions answers callback'
   pub begins : (later : Answers) → (others : List Question)
-      × ((resolved s (chain_at s.text old (Some first)) (known_at old (answers ++ later))).questions ≡ questions ++ others)
+      × ((resolved s above (chain_at s.text old (Some first)) (known_at old (answers ++ later))).questions ≡ questions ++ others)

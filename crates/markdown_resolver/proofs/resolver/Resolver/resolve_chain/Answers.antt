@@ -2,6 +2,7 @@
 use Rattle.std.proofs.Common.{ℕ, refl, ap, ◌∙◌}
 use Rattle.std.specs.Prelude.{is_some}
 use Rattle.markdown_chains.specs.Stages.{stage, items_from}
+use Rattle.markdown_chains.specs.Above.{above_cursor}
 use Rattle.markdown_chains.specs.Setting.{rules_from, setting_of}
 use Rattle.markdown_chains.specs.Tables.{tables_of}
 use Rattle.markdown_resolver.specs.declared.resolver.Resolver.{Resolver}
@@ -60,7 +61,8 @@ returns-clause-resolves g c =
     record {
       tree = i.tree;
       tables = rw i.resolver refl;
-      chain = rw i.resolver (whole_all g.F.BrokenLinkCallback.answers (setting_of s.text.now (rules_from s.options s.tables (is_some s.callback))) c.args.first c.chain.at (stage c.args.tree.now s.tables s.limit s.callback)
+      footnotes = λ name. rw i.resolver refl;
+      chain = rw i.resolver (whole_all g.F.BrokenLinkCallback.answers (setting_of s.text.now (rules_from s.options s.tables (is_some s.callback))) (above_cursor s.text.now c.args.tree.now) c.args.first c.chain.at (stage c.args.tree.now s.tables s.limit s.callback)
           (stage c.chain.tree s.tables s.limit s.callback) c.in_default.is i.whole);
     }
 
