@@ -5,7 +5,8 @@ use Rattle.std.specs.Prelude.{slice_range}
 use Rattle.markdown_base.specs.Arena.{child_of, sibling_of}
 use Rattle.markdown_base.specs.ArenaForest.{Links, links_of, Spells, forest_at}
 use Rattle.markdown_base.specs.ArenaWalk.{Reaches}
-use Rattle.markdown_base.specs.BlockTree.{item_at}
+use Rattle.std.specs.Option.{option_map}
+use Rattle.markdown_base.specs.BlockTree.{item_at, numbered}
 use Rattle.markdown_base.specs.Forest.{Forest, nil, node, Each, relabelled}
 use Rattle.markdown_base.specs.Item.{range_of}
 use Rattle.markdown_base.specs.declared.item.Item.{Item}
@@ -60,14 +61,24 @@ spells_same tables tables' nodes nodes' l (node ix below after) z s h = (
   rw h.0.at.next (spells_same tables tables' nodes nodes' (sibling_of nodes ix) after z s.3 h.2),
 )
 
+-- what a link leads to is the same item
+following_same : (tables tables' : Tables) (nodes nodes' : List (Node Item)) (l : Option ℕ) (f : Forest ℕ) → Spells (links_of nodes) l f → Each (Stays tables tables' nodes nodes') f
+    → option_map (numbered nodes') l ≡ option_map (numbered nodes) l
+following_same tables tables' nodes nodes' l nil s h = rw s refl
+following_same tables tables' nodes nodes' l (node ix below after) s h = rw (s.0, h.0.at.item) refl
+
 -- its items are placed as before
-placed_same : (source : List ℕ) (tables tables' : Tables) (nodes nodes' : List (Node Item)) (f : Forest ℕ) → IsNoShorter tables tables' → Each (Stays tables tables' nodes nodes') f
-    → Each (IsPlaced source tables nodes) f → Each (IsPlaced source tables' nodes') f
-placed_same source tables tables' nodes nodes' nil z h p = tt
-placed_same source tables tables' nodes nodes' (node ix below after) z h p = (
-  record { lies = rw h.0.at.item p.0.lies; named = rw h.0.at.item (entries-longer tables tables' (item_at nodes ix).body z p.0.named) },
-  placed_same source tables tables' nodes nodes' below z h.1 p.1,
-  placed_same source tables tables' nodes nodes' after z h.2 p.2,
+placed_same : (source : List ℕ) (tables tables' : Tables) (nodes nodes' : List (Node Item)) (l : Option ℕ) (f : Forest ℕ) → Spells (links_of nodes) l f → IsNoShorter tables tables'
+    → Each (Stays tables tables' nodes nodes') f → Each (IsPlaced source tables nodes) f → Each (IsPlaced source tables' nodes') f
+placed_same source tables tables' nodes nodes' l nil s z h p = tt
+placed_same source tables tables' nodes nodes' l (node ix below after) s z h p = (
+  record {
+    lies = rw h.0.at.item p.0.lies;
+    named = rw h.0.at.item (entries-longer tables tables' (item_at nodes ix).body z p.0.named);
+    keeps = rw (h.0.at.next, h.0.at.child, h.0.at.item, following_same tables tables' nodes nodes' (sibling_of nodes ix) after s.3 h.2) p.0.keeps;
+  },
+  placed_same source tables tables' nodes nodes' (child_of nodes ix) below s.2 z h.1 p.1,
+  placed_same source tables tables' nodes nodes' (sibling_of nodes ix) after s.3 z h.2 p.2,
 )
 
 relabelled_same : (source : List ℕ) (tables tables' : Tables) (nodes nodes' : List (Node Item)) (f : Forest ℕ) → Each (Stays tables tables' nodes nodes') f
@@ -106,7 +117,7 @@ framed source tables tables' nodes nodes' l z y r h =
     let e : forest_at (links_of nodes') l ≡ f = forest_at-fits (links_of nodes') l f s (omega (arith, height_at (links_of nodes) l, z)) in
     record {
       forest = e;
-      reaches = record { spelled = rw e s; each = rw e (placed_same source tables tables' nodes nodes' f y h r.each) };
+      reaches = record { spelled = rw e s; each = rw e (placed_same source tables tables' nodes nodes' l f r.spelled y h r.each) };
       trees = rw e (relabelled_same source tables tables' nodes nodes' f h);
       naming = λ n. rw e (naming_same tables tables' nodes nodes' n f h);
       weight = rw e (weight_same tables tables' nodes nodes' f h);

@@ -5,3 +5,4 @@ pub mod PlaceLemmas
 pub mod FrameLemmas
 pub mod FoundLemmas
 pub mod AboveLemmas
+pub mod ItemRulesLemmas

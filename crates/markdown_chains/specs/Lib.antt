@@ -5,5 +5,6 @@ pub mod Document
 pub mod Above
 -- facts of the representation: an arena's items, by their numbers
 pub mod Totals
+pub mod ItemRules
 pub mod Places
 pub mod Stages

@@ -1,12 +1,14 @@
 -- The items of an arena, by the numbers of its nodes: how they read, and what is asked of each.
 use Rattle.markdown_base.specs.Arena.{child_of, sibling_of}
 use Rattle.markdown_base.specs.ArenaForest.{links_of, forest_at}
-use Rattle.markdown_base.specs.BlockTree.{item_at}
+use Rattle.markdown_base.specs.ArenaRules.{next_at}
+use Rattle.markdown_base.specs.BlockTree.{item_at, numbered}
 use Rattle.markdown_base.specs.Forest.{Forest, relabelled}
 use Rattle.markdown_base.specs.Item.{LiesIn, LiesIn-prop}
 use Rattle.markdown_base.specs.declared.item.Item.{Item}
 use Rattle.markdown_base.specs.declared.node.Node.{Node}
 use Rattle.markdown_chains.specs.Document.{Plain, label_of}
+use Rattle.markdown_chains.specs.ItemRules.{KeepsItemRules, KeepsItemRules-prop}
 use Rattle.markdown_chains.specs.Tables.{Tables, NamesEntries, NamesEntries-prop}
 use Rattle.std.proofs.Props.{props}
 use Rattle.std.specs.Prelude.{ℕ, List, Option, ◌≡◌}
@@ -19,10 +21,11 @@ label_at source tables nodes ix = label_of source tables (item_at nodes ix)
 abbrev pub trees_from : List ℕ → Tables → List (Node Item) → Option ℕ → Forest Plain
 trees_from source tables nodes link = relabelled (label_at source tables nodes) (forest_at (links_of nodes) link)
 
--- the item of a number lies in the text, and what it names is there
+-- the item of a number lies in the text, what it names is there, and it keeps the rules of items
 pub record IsPlaced (source : List ℕ) (tables : Tables) (nodes : List (Node Item)) (ix : ℕ) : Type 0 where
   pub lies : LiesIn source (item_at nodes ix)
   pub named : NamesEntries tables (item_at nodes ix).body
+  pub keeps : KeepsItemRules source (numbered nodes ix) (child_of nodes ix) (next_at nodes ix)
 
 -- a node is as it was
 pub record IsSameAt (nodes nodes' : List (Node Item)) (n : ℕ) : Type 0 where
@@ -34,4 +37,5 @@ pub IsPlaced-prop : (source : List ℕ) (tables : Tables) (nodes : List (Node It
 IsPlaced-prop source tables nodes ix =
     let lies = LiesIn-prop source (item_at nodes ix) in
     let named = NamesEntries-prop tables (item_at nodes ix).body in
-    hlevel props
+    let keeps = KeepsItemRules-prop source (numbered nodes ix) (child_of nodes ix) (next_at nodes ix) in
+    hlevel (props, lies, named, keeps)

@@ -1,6 +1,6 @@
 -- A walk at the start of a whole block result.
 use Rattle.markdown_base.specs.declared.item.ItemBody.TheVariants as body
-use Rattle.std.proofs.Common.{◌≡◌, ◌≤◌, ℕ, ◌+◌, Bool, true, false, ◌||◌, ◌&&◌, List, [], ◌++◌, Option, Some, None, Result, Ok, Err, refl, ap, ◌∙◌, arith}
+use Rattle.std.proofs.Common.{not, ◌≡◌, ◌≤◌, ℕ, ◌+◌, Bool, true, false, ◌||◌, ◌&&◌, List, [], ◌++◌, Option, Some, None, Result, Ok, Err, refl, ap, ◌∙◌, arith}
 use Rattle.std.specs.Prelude.{IfOk, if◌then◌else◌, IsTrue, nat_eq, is_some, slice_range}
 use Rattle.std.proofs.Math.Path.{fun_ext}
 use Rattle.markdown_base.specs.CowText.{text_of}
@@ -14,12 +14,14 @@ use Rattle.markdown_chains.proofs.FoundLemmas.{listed, listed-append, total-preo
 use Rattle.std.specs.List.{list_any, cons_option, filter_map}
 use Rattle.std.proofs.lemmas.List.Elements.{filter_map-append}
 use Rattle.std.proofs.lemmas.Map.Keys.{IsDistinct-tail}
-use Rattle.markdown_base.specs.Arena.{Arena, child_of}
-use Rattle.markdown_base.specs.ArenaForest.{numbers_below}
+use Rattle.markdown_base.specs.Arena.{Arena, child_of, sibling_of}
+use Rattle.markdown_base.specs.ArenaForest.{links_of, Spells, numbers_below}
+use Rattle.std.specs.Option.{option_map}
+use Rattle.markdown_chains.specs.ItemRules.{StandsBefore}
 use Rattle.markdown_base.specs.BlockTree.{Numbered, numbered, item_at, tree_of}
 use Rattle.markdown_base.specs.Forest.{Forest, nil, node, Each, Throughout, preorder, first_root, relabelled}
-use Rattle.markdown_base.specs.Item.{LiesIn, alignments_named, is_childless, is_inline, is_open, is_resolved, text_named}
-use Rattle.markdown_base.specs.WellFormed.{KeepsRules, IsWellFormed, PartsAreNamed, counts_of, all_named, has_open, all_inline}
+use Rattle.markdown_base.specs.Item.{alignments_named, is_childless, is_inline, is_open, is_resolved, text_named}
+use Rattle.markdown_base.specs.WellFormed.{InlineInOrder, PartCounts, KeepsRules, IsWellFormed, PartsAreNamed, counts_of, all_named, has_open, all_inline}
 use Rattle.markdown_base.specs.declared.block_parts.BlockParts.{BlockParts}
 use Rattle.markdown_base.specs.declared.item.Item.{Item}
 use Rattle.markdown_base.specs.declared.item.ItemBody.{ItemBody}
@@ -79,12 +81,52 @@ starts_once source nodes parts (some_link n) w placed =
 starts_once source nodes parts (some_alignments n) w placed =
     omega (arith, named-listed alignments_named nodes n (numbers_below nodes), listed_once n (all_named alignments_named (tree_of nodes)) w.each_alignments_once)
 
--- two facts of each number are one
-each_placed : (source : List ℕ) (tables : Tables) (nodes : List (Node Item)) (f : Forest ℕ) → Each (λ ix. LiesIn source (item_at nodes ix)) f
+-- what a link leads to comes first in what it spells, and what spells nothing is no link
+following_root : (nodes : List (Node Item)) (l : Option ℕ) (f : Forest ℕ) → Spells (links_of nodes) l f → option_map (numbered nodes) l ≡ first_root (relabelled (numbered nodes) f)
+following_root nodes l nil s = rw s refl
+following_root nodes l (node ix below after) s = rw s.0 refl
+
+no_child : (nodes : List (Node Item)) (l : Option ℕ) (f : Forest ℕ) → Spells (links_of nodes) l f → relabelled (numbered nodes) f ≡ nil → l ≡ None
+no_child nodes l nil s h = s
+no_child nodes l (node ix below after) s h = cc h
+
+-- where nothing is resolved, what is no block is inline, and what is open has no children
+inline_from : (inline resolved : Bool) → not (inline || resolved) ≡ false → resolved ≡ false → inline ≡ true
+inline_from true resolved h r = refl
+inline_from false true h r = cc r
+inline_from false false h r = cc h
+
+open_childless : (b : ItemBody) → is_open b ≡ true → is_childless b ≡ true
+open_childless body.Paragraph h = cc h
+open_childless other h = cc h
+
+abbrev AllKept : List ℕ → PartCounts → Forest Numbered → Type 0
+AllKept source counts trees = Throughout (λ a below after. KeepsRules source counts a below (first_root after)) trees
+
+in_order_from : (source : List ℕ) (counts : PartCounts) (a : Numbered) (after : Forest Numbered) → is_resolved a.item.body ≡ false → AllKept source counts after → InlineInOrder a (first_root after)
+    → StandsBefore a (first_root after)
+in_order_from source counts a nil r w h = tt
+in_order_from source counts a (node b below after) r w h = λ x y. h (inline_from (is_inline a.item.body) (is_resolved a.item.body) x r) (inline_from (is_inline b.item.body) (is_resolved b.item.body) y w.0.nothing_resolved)
+
+-- the facts of each number are one
+each_placed : (source : List ℕ) (counts : PartCounts) (tables : Tables) (nodes : List (Node Item)) (l : Option ℕ) (f : Forest ℕ) → Spells (links_of nodes) l f → AllKept source counts (relabelled (numbered nodes) f)
     → Each (λ ix. NamesEntries tables (item_at nodes ix).body) f → Each (IsPlaced source tables nodes) f
-each_placed source tables nodes nil lies named = tt
-each_placed source tables nodes (node ix below after) lies named =
-    (record { lies = lies.0; named = named.0 }, each_placed source tables nodes below lies.1 named.1, each_placed source tables nodes after lies.2 named.2)
+each_placed source counts tables nodes l nil s w named = tt
+each_placed source counts tables nodes l (node ix below after) s w named =
+    let k = w.0 in (
+      record {
+        lies = k.ranges_lie_in;
+        named = named.0;
+        keeps = rw (following_root nodes (sibling_of nodes ix) after s.3) (record {
+          in_order = in_order_from source counts (numbered nodes ix) (relabelled (numbered nodes) after) k.nothing_resolved w.2 k.inline_in_order;
+          markup_is_there = k.markup_is_there;
+          runs_are_whole = k.runs_are_whole;
+          childless = λ e. no_child nodes (child_of nodes ix) below s.2 (k.chains_are_kept.childless (open_childless (item_at nodes ix).body e));
+        });
+      },
+      each_placed source counts tables nodes (child_of nodes ix) below s.2 w.1 named.1,
+      each_placed source counts tables nodes (sibling_of nodes ix) after s.3 w.2 named.2,
+    )
 
 -- what is below a chain of inline items is quiet: nothing is there
 childless-inline : (body : ItemBody) → is_inline body ≡ true → is_childless body ≡ true
@@ -139,12 +181,10 @@ unfolding left_total
 starts_stands source nodes parts w =
     let f = numbers_below nodes in
     let keeps = λ (a : Numbered) (below after : Forest Numbered). KeepsRules source (counts_of parts) a below (first_root after) in
-    let lies = relabelled-Throughout (numbered nodes) (λ n below after. LiesIn source n.item) f
-    (Throughout-weaker keeps (λ n below after. LiesIn source n.item) (λ a below after k. k.ranges_lie_in) (tree_of nodes) w.rules) in
     let tables = tables_at_start parts in
     let entries = relabelled-Throughout (numbered nodes) (λ n below after. NamesEntries tables n.item.body) f
     (Throughout-weaker keeps (λ n below after. NamesEntries tables n.item.body) (λ a below after k. entries_named parts a.item.body k.parts_are_named k.nothing_resolved) (tree_of nodes) w.rules) in
-    let placed = each_placed source tables nodes f lies entries in
+    let placed = each_placed source (counts_of parts) tables nodes (child_of nodes 0) f w.reached_once.finite w.rules entries in
     let childless : Childless (tree_of nodes) = Throughout-weaker keeps (λ a below after. IsTrue (is_childless a.item.body) → below ≡ nil) (λ a below after k. k.chains_are_kept.childless) (tree_of nodes) w.rules in
     let inline_only : InlineOnly (tree_of nodes) = Throughout-weaker keeps (λ a below after. IsTrue (has_open below) → IsTrue (all_inline below)) (λ a below after k. k.chains_are_kept.inline_only) (tree_of nodes) w.rules in
     record {

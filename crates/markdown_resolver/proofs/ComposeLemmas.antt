@@ -1,10 +1,15 @@
 -- A chain is resolved when its first item is settled and then the rest of it.
-use Rattle.std.proofs.Common.{◌≡◌, ℕ, ◌<◌, ◌≤◌, List, ◌++◌, length, Option, Some, ⊎_elim, refl, sym, ◌∙◌, subst, arith, append_assoc}
+use Rattle.std.proofs.Common.{false, ◌≡◌, ℕ, ◌<◌, ◌≤◌, List, ◌++◌, length, Option, Some, ⊎_elim, refl, sym, ◌∙◌, subst, arith, append_assoc}
 use Rattle.std.proofs.lemmas.Bool.{cases_lt}
 use Rattle.markdown_base.specs.Arena.{child_of, sibling_of}
 use Rattle.markdown_base.specs.ArenaForest.{links_of, Spells, forest_at}
 use Rattle.markdown_base.specs.ArenaWalk.{Reaches}
-use Rattle.markdown_base.specs.BlockTree.{item_at}
+use Rattle.std.specs.Option.{option_map}
+use Rattle.markdown_base.specs.ArenaRules.{next_at}
+use Rattle.markdown_base.specs.Item.{is_open}
+use Rattle.markdown_chains.specs.ItemRules.{StandsBefore, KeepsItemRules}
+use Rattle.markdown_chains.proofs.ItemRulesLemmas.{keeps-closed}
+use Rattle.markdown_base.specs.BlockTree.{Numbered, numbered, item_at}
 use Rattle.markdown_base.specs.Questions.{Question, Answer, Answers}
 use Rattle.markdown_chains.specs.Setting.{Known}
 use Rattle.markdown_base.specs.Forest.{Forest, node, Each}
@@ -35,6 +40,8 @@ pub record HeadChanged (source : List ℕ) (ix : ℕ) (nodes nodes' : List (Node
   pub size : length nodes' ≡ length nodes
   pub grown : HasGrown tables tables'
   pub placed : IsPlaced source tables' nodes' ix
+  pub closed : is_open (item_at nodes' ix).body ≡ false
+  pub before : (a : Numbered) → StandsBefore a (Some (numbered nodes ix)) → StandsBefore a (Some (numbered nodes' ix))
   pub named : (n : Named) → number_of n < size_for tables n → naming nodes' n ix ≤ naming nodes n ix
 
 longer : (source : List ℕ) (ix : ℕ) (nodes nodes' : List (Node Item)) (tables tables' : Tables) → HeadChanged source ix nodes nodes' tables tables' → IsNoShorter tables tables'
@@ -108,9 +115,9 @@ named_within : (tables : Tables) (b : ItemBody) (n : Named) → NamesEntries tab
 named_within tables b n h l = ⊎_elim (λ x. x) (λ x. absurd (omega (arith, named-apart n tables b h x, l))) (cases_lt (number_of n) (size_for tables n))
 
 pub rest_of : {C : Type 0} (step : C → Question → Option Answer → C → Type 0) (source : List ℕ) (rule : Forest Plain → Known → Resolved (Unit {0})) (ix : ℕ) (old mid new : Stage C)
-    → CanResolve source old.tables old.nodes (Some ix) → HeadChanged source ix old.nodes mid.nodes old.tables mid.tables → ResolvesFrom step source rule (sibling_of old.nodes ix) mid new
-    → Rest source ix old.nodes mid.nodes new.nodes old.tables mid.tables new.tables
-rest_of step source rule ix old mid new ready h r =
+    → CanResolve source old.tables old.nodes (Some ix) → HeadChanged source ix old.nodes mid.nodes old.tables mid.tables → sibling_of mid.nodes ix ≡ sibling_of old.nodes ix
+    → ResolvesFrom step source rule (sibling_of old.nodes ix) mid new → Rest source ix old.nodes mid.nodes new.nodes old.tables mid.tables new.tables
+rest_of step source rule ix old mid new ready h next r =
     let a = after_head source ix old.nodes mid.nodes old.tables mid.tables ready h in
     let size = h.size in
     let none : times_in mid.nodes (sibling_of old.nodes ix) ix ≡ 0 = rw a.rest.forest a.not_after in
@@ -135,10 +142,13 @@ rest_of step source rule ix old mid new ready h r =
     let within : number_of n < size_for old.tables n = ⊎_elim (λ x. x) (λ x. absurd (omega (arith, named-past source old.tables old.nodes f n a.below.each x, l))) (cases_lt (number_of n) (size_for old.tables n)) in
     same_entry-trans old.tables mid.tables new.tables n (grown-same old.tables mid.tables n h.grown within)
     (grown-same mid.tables new.tables n r.grown (omega (arith, within, longer_head.sizes n)))) in
+    let follows : StandsBefore (numbered mid.nodes ix) (option_map (numbered new.nodes) (sibling_of old.nodes ix)) = r.before (numbered mid.nodes ix) (rw next at h.placed.keeps.in_order) in
+    let keeps : KeepsItemRules source (numbered new.nodes ix) (child_of new.nodes ix) (next_at new.nodes ix) =
+    keeps-closed source (numbered new.nodes ix) (child_of new.nodes ix) (next_at new.nodes ix) (rw head.item h.closed) (rw (head.next, next, head.item) follows) in
     record {
       head = head;
       below = framed source old.tables new.tables old.nodes new.nodes (child_of old.nodes ix) (omega (arith, size, r.more_nodes)) longer_all a.below stay;
-      placed = record { lies = rw head.item h.placed.lies; named = rw head.item (entries-longer mid.tables new.tables (item_at mid.nodes ix).body grown h.placed.named) };
+      placed = record { lies = rw head.item h.placed.lies; named = rw head.item (entries-longer mid.tables new.tables (item_at mid.nodes ix).body grown h.placed.named); keeps = keeps };
       label = label-same source mid.tables new.tables mid.nodes new.nodes ix stays;
       naming = λ n. rw head.item refl;
       weight = rw head.item refl;
@@ -160,7 +170,7 @@ pub keeps_head : {C : Type 0} (step : C → Question → Option Answer → C →
     → ResolvesFrom step source rest_rule (sibling_of old.nodes ix) mid new → ResolvesFrom step source rule (Some ix) old new
 keeps_head step source rule rest_rule ix old mid new questions answers ready h child next lighter asked law r =
     let a = after_head source ix old.nodes mid.nodes old.tables mid.tables ready h in
-    let t = rest_of step source rest_rule ix old mid new ready h r in
+    let t = rest_of step source rest_rule ix old mid new ready h next r in
     let size = h.size in
     let more_entries = longer source ix old.nodes mid.nodes old.tables mid.tables h in
     let b2 = forest_at (links_of new.nodes) (child_of old.nodes ix) in
@@ -194,6 +204,7 @@ keeps_head step source rule rest_rule ix old mid new questions answers ready h c
           (cases_lt (number_of n) (size_for old.tables n)));
       named = λ n l. let k = h.named n l in let y : named_in new.nodes (sibling_of old.nodes ix) n ≤ named_in old.nodes (sibling_of old.nodes ix) n = rw (← a.rest.naming n) (r.named n (omega (arith, l, more_entries.sizes n))) in
           rw (here, a.here, t.naming n, t.below.naming n) (omega arith);
+      before = λ b stands. rw t.head.item (h.before b stands);
       no_heavier = let y : weight_in new.nodes (sibling_of old.nodes ix) ≤ weight_in old.nodes (sibling_of old.nodes ix) = rw (← a.rest.weight) (let z = r.no_heavier in omega arith) in
           rw (here, a.here, t.weight, t.below.weight) (omega arith);
       answers = answers ++ r.answers;

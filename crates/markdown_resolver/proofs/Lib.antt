@@ -2,3 +2,4 @@
 pub mod ResolvingLemmas
 pub mod ComposeLemmas
 pub mod SettlingLemmas
+pub mod LawLemmas

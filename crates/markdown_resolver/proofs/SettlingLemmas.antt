@@ -1,11 +1,11 @@
 -- One item of a chain is settled, in one node of an arena.
 use Rattle.markdown_base.specs.declared.item.ItemBody.TheVariants as body
-use Rattle.std.proofs.Common.{◌≡◌, ℕ, zero, suc, ◌+◌, ◌-◌, ◌^◌, ◌<◌, ◌≤◌, min, Bool, true, false, ◌⊎◌, inl, inr, ⊎_elim, List, [], ◌∷◌, length, Option, Some, None, refl, sym, ap, ◌∙◌, arith}
+use Rattle.std.proofs.Common.{subst, ◌≡◌, ℕ, zero, suc, ◌+◌, ◌-◌, ◌^◌, ◌<◌, ◌≤◌, min, Bool, true, false, ◌⊎◌, inl, inr, ⊎_elim, List, [], ◌∷◌, length, Option, Some, None, refl, sym, ap, ◌∙◌, arith}
 use Rattle.std.specs.Prelude.{slice_range}
 use Rattle.markdown_base.specs.Arena.{Arena, child_of, sibling_of, changed_at}
-use Rattle.markdown_base.specs.ArenaForest.{links_of}
-use Rattle.markdown_base.specs.BlockTree.{item_at}
-use Rattle.markdown_base.specs.Item.{is_open}
+use Rattle.markdown_base.specs.ArenaForest.{Spells, forest_at, links_of}
+use Rattle.markdown_base.specs.BlockTree.{Numbered, numbered, item_at}
+use Rattle.markdown_base.specs.Item.{is_block, is_open}
 use Rattle.markdown_base.specs.Questions.{Question, Answer}
 use Rattle.markdown_base.specs.declared.item.Item.{Item}
 use Rattle.markdown_base.specs.declared.item.ItemBody.{ItemBody}
@@ -21,12 +21,17 @@ use Rattle.markdown_resolver.specs.Resolved.{Resolved, resolved}
 use Rattle.markdown_chains.specs.Above.{Above}
 use Rattle.markdown_chains.specs.Setting.{Setting, Known}
 use Rattle.markdown_resolver.specs.Settling.{settled_if, settled_item, settled_at}
-use Rattle.markdown_chains.specs.Totals.{times_named, weight_if}
+use Rattle.markdown_chains.specs.Totals.{total, same, times_named, weight_if}
 use Rattle.markdown_chains.specs.Tables.{Tables, Named, some_text, some_link, some_alignments, NamesEntries}
 use Rattle.markdown_chains.proofs.TablesLemmas.{grown-nothing}
-use Rattle.markdown_base.specs.Forest.{Forest}
+use Rattle.markdown_base.specs.Forest.{Forest, nil, node}
 use Rattle.markdown_chains.proofs.PlaceLemmas.{shape-open, open-unresolved, some_weight}
-use Rattle.markdown_chains.proofs.AboveLemmas.{block-open}
+use Rattle.std.specs.Option.{option_map}
+use Rattle.markdown_base.specs.ArenaRules.{next_at}
+use Rattle.markdown_chains.specs.ItemRules.{StandsBefore}
+use Rattle.markdown_chains.proofs.ItemRulesLemmas.{keeps-closed}
+use Rattle.markdown_chains.proofs.TablesLemmas.{same-refl}
+use Rattle.markdown_chains.proofs.AboveLemmas.{block-open, open-no-block}
 use Rattle.markdown_resolver.proofs.ComposeLemmas.{HeadChanged, after_head, ready_after, lighter_after, keeps_head}
 use Rattle.markdown_resolver.proofs.ResolvingLemmas.{resolved-texts}
 
@@ -107,12 +112,45 @@ texts s chain known = record { questions = []; forest = paired s chain; known = 
 pub node_within : (source : List ℕ) (tables : Tables) (nodes : List (Node Item)) (ix : ℕ) → CanResolve source tables nodes (Some ix) → ix < length nodes
 node_within source tables nodes ix ready = (opens (links_of nodes) (IsPlaced source tables nodes) ix ready.reaches).within
 
+-- what a settled item stands before and after
+closed_settled : (is : Bool) (b : ItemBody) → is_open b ≡ is → is_open (settled_if is b) ≡ false
+closed_settled true b e = refl
+closed_settled false b e = e
+
+block_settled : (is : Bool) (b : ItemBody) → is_open b ≡ is → is_block (settled_if is b) ≡ false → is_block b ≡ false
+block_settled true b e h = open-no-block b e
+block_settled false b e h = h
+
+before_settled : (a : Numbered) (nodes nodes' : List (Node Item)) (ix : ℕ) → item_at nodes' ix ≡ settled_item (item_at nodes ix) → StandsBefore a (Some (numbered nodes ix)) → StandsBefore a (Some (numbered nodes' ix))
+before_settled a nodes nodes' ix e stands = rw e (λ x y.
+    let p = stands x (block_settled (is_open (item_at nodes ix).body) (item_at nodes ix).body refl y) in
+    record { ends = p.ends; numbers = p.numbers })
+
+follows_settled : (ix : ℕ) (item : Item) (next : Option Numbered) → StandsBefore (record { number = ix; item = item }) next → StandsBefore (record { number = ix; item = settled_item item }) next
+follows_settled ix item None stands = tt
+follows_settled ix item (Some b) stands = λ x y.
+    let p = stands (block_settled (is_open item.body) item.body refl x) y in
+    record { ends = p.ends; numbers = p.numbers }
+
+-- the item after it stays
+following_apart : (nodes : List (Node Item)) (ix : ℕ) (change : Node Item → Node Item) (l : Option ℕ) (f : Forest ℕ) → Spells (links_of nodes) l f → total (same ix) f ≡ 0
+    → option_map (numbered (changed_at ix change nodes)) l ≡ option_map (numbered nodes) l
+following_apart nodes ix change l nil s z = rw s refl
+following_apart nodes ix change l (node j below after) s z =
+    let one = same-refl j in
+    let other = λ (e : j ≡ ix). let apart : same j j ≡ 0 = subst (λ (m : ℕ). same m j ≡ 0) (sym e) (omega (arith, z)) in let y : ⊥ = absurd (omega (arith, apart, one)) in y in
+    rw (s.0, (changed_other nodes ix change j other).item) refl
+
 head_settled : (source : List ℕ) (tables : Tables) (nodes : List (Node Item)) (ix : ℕ) → CanResolve source tables nodes (Some ix) → HeadChanged source ix nodes (settled_at ix nodes) tables tables
 head_settled source tables nodes ix ready =
     let o = opens (links_of nodes) (IsPlaced source tables nodes) ix ready.reaches in
     let item = item_at nodes ix in
     let at = item_changed nodes ix (settled_item item) o.within in
     let lies = o.holds.lies in
+    let closed : is_open (item_at (settled_at ix nodes) ix).body ≡ false = rw at.item_is (closed_settled (is_open item.body) item.body refl) in
+    let once = rw o.here at (ready.once ix) in
+    let one = same-refl ix in
+    let follows = following_apart nodes ix (λ n. record n { item = settled_item item }) (sibling_of nodes ix) (forest_at (links_of nodes) (sibling_of nodes ix)) o.after.spelled (omega (arith, once, one)) in
     record {
       others = λ n h. changed_other nodes ix (λ n. record n { item = settled_item item }) n h;
       size = length-changed_at ix (λ n. record n { item = settled_item item }) nodes;
@@ -120,7 +158,10 @@ head_settled source tables nodes ix ready =
       placed = record {
         lies = rw at.item_is (record { ordered = lies.ordered; start = lies.start; end = lies.end });
         named = rw at.item_is (in_table_settled (is_open item.body) item.body tables o.holds.named);
+        keeps = keeps-closed source (numbered (settled_at ix nodes) ix) (child_of (settled_at ix nodes) ix) (next_at (settled_at ix nodes) ix) closed (rw (at.item_is, at.next_is, follows) (follows_settled ix item (next_at nodes ix) o.holds.keeps.in_order));
       };
+      closed = closed;
+      before = λ a stands. before_settled a nodes (settled_at ix nodes) ix at.item_is stands;
       named = λ n l. rw at.item_is (named_settled (is_open item.body) item.body n);
     }
 
@@ -211,6 +252,7 @@ texts_none step s now =
       grown = grown-nothing now.tables;
       named_once = λ n. rw e (omega arith);
       named = λ n l. omega arith;
+      before = λ a stands. stands;
       no_heavier = omega arith;
       answers = [];
       questions = [];
@@ -231,6 +273,7 @@ whole_all step s above first at old now none w =
       grown = r.grown;
       named_once = r.named_once;
       named = r.named;
+      before = r.before;
       no_heavier = r.no_heavier;
       answers = r.answers;
       questions = r.questions;

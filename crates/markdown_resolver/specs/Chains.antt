@@ -3,6 +3,9 @@ use Rattle.std.specs.Prelude.{◌≡◌, ℕ, ◌<◌, ◌≤◌, List, [], ◌�
 use Rattle.markdown_base.specs.Arena.{Arena}
 use Rattle.markdown_base.specs.ArenaForest.{links_of}
 use Rattle.markdown_base.specs.ArenaWalk.{Reaches}
+use Rattle.std.specs.Option.{option_map}
+use Rattle.markdown_base.specs.BlockTree.{Numbered, numbered}
+use Rattle.markdown_chains.specs.ItemRules.{StandsBefore}
 use Rattle.markdown_base.specs.Forest.{Forest}
 use Rattle.markdown_base.specs.Questions.{Question, Answer, Answers}
 use Rattle.markdown_base.specs.declared.item.Item.{Item}
@@ -21,7 +24,7 @@ use Rattle.markdown_chains.specs.Tables.{Tables, Named, number_of, size_for, Has
 
 -- from one stage to another the chain from the link l on was resolved by a rule, in place
 pub record ResolvesFrom {C : Type 0} (step : C → Question → Option Answer → C → Type 0) (source : List ℕ) (rule : Forest Plain → Known → Resolved (Unit {0})) (l : Option ℕ) (old new : Stage C) : Type 0 where
-  -- from l the links spell a forest of items that are placed
+  -- from l the links spell a forest of items that are placed, so that the runs in it are whole, at every depth
   pub reaches : Reaches (links_of new.nodes) (IsPlaced source new.tables new.nodes) l
   -- no node stands twice in it, and each is of the chain or new
   pub once : (n : ℕ) → times_in new.nodes l n ≤ 1
@@ -33,6 +36,8 @@ pub record ResolvesFrom {C : Type 0} (step : C → Question → Option Answer �
   pub grown : HasGrown old.tables new.tables
   pub named_once : (n : Named) → named_in new.nodes l n ≤ 1
   pub named : (n : Named) → number_of n < size_for old.tables n → named_in new.nodes l n ≤ named_in old.nodes l n
+  -- what stands before the chain still does
+  pub before : (a : Numbered) → StandsBefore a (option_map (numbered old.nodes) l) → StandsBefore a (option_map (numbered new.nodes) l)
   -- it is no heavier
   pub no_heavier : weight_in new.nodes l ≤ weight_in old.nodes l
   -- the callback went by these questions and answers, and for them the forest is the rule's, whatever answers

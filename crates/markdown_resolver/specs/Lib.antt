@@ -3,6 +3,7 @@ pub mod PassOne
 pub mod Pairing
 pub mod Resolved
 pub mod Kept
+pub mod Laws
 -- what a resolver owes a walk
 pub mod Chains
 -- what private contracts speak of

@@ -2,4 +2,5 @@
 //! stands.
 #![tactic(auto)]
 
+pub mod laws;
 pub mod resolver;

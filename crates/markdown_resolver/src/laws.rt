@@ -1,0 +1,39 @@
+//! The laws of what a chain is resolved to, each a function without code: at numbers, which are the nodes of an arena,
+//! and at the one tag of a document's tree.
+ghost use Rattle.std.specs.Prelude.{ℕ, ⊤};
+ghost use Rattle.markdown_resolver.specs.Laws.{QuietLaw, OrderLaw, SettledLaw, BeginLaw, AnswerLaw, WeightLaw, TagLaw};
+
+/// Resolving a chain in which only runs and quotes are open asks nothing, and is pairing alone.
+pub fn quiet_chain_asks_nothing()
+    ensures { QuietLaw ℕ × QuietLaw ⊤ }
+{}
+
+/// The inner chains first, or the outer one.
+pub fn order_of_chains_is_free()
+    ensures { OrderLaw ℕ × OrderLaw ⊤ }
+{}
+
+/// Nothing of a resolved chain is open.
+pub fn resolved_chain_is_settled()
+    ensures { SettledLaw ℕ × SettledLaw ⊤ }
+{}
+
+/// A chain that is open at its first item begins with an event, once it is resolved.
+pub fn resolved_chain_begins()
+    ensures { BeginLaw ℕ × BeginLaw ⊤ }
+{}
+
+/// Answers that no question takes are handed on.
+pub fn later_answers_are_handed_on()
+    ensures { AnswerLaw ℕ × AnswerLaw ⊤ }
+{}
+
+/// Resolving makes no chain heavier.
+pub fn resolved_chain_is_no_heavier()
+    ensures { WeightLaw ℕ × WeightLaw ⊤ }
+{}
+
+/// The numbers of nodes say nothing.
+pub fn tags_say_nothing()
+    ensures { TagLaw ℕ ⊤ }
+{}
