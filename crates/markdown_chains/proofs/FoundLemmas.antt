@@ -10,7 +10,7 @@ use Rattle.markdown_base.specs.ArenaForest.{Links, Spells, forest_at}
 use Rattle.markdown_base.specs.Forest.{Forest, nil, node, preorder}
 use Rattle.markdown_base.proofs.ArenaForestLemmas.{height, forest_at-fits}
 use Rattle.markdown_chains.specs.Totals.{total, same}
-use Rattle.markdown_chains.proofs.FrameLemmas.{same-refl}
+use Rattle.markdown_chains.proofs.TablesLemmas.{same-refl}
 
 -- the sum over a list
 abbrev pub listed : (ℕ → ℕ) → List ℕ → ℕ

@@ -1,5 +1,7 @@
 -- Lemmas on the items of an arena, and on calls of a callback.
 pub mod CallbackLemmas
+pub mod TablesLemmas
 pub mod PlaceLemmas
 pub mod FrameLemmas
 pub mod FoundLemmas
+pub mod AboveLemmas

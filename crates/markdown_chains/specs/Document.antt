@@ -1,16 +1,15 @@
 -- The tree of a document, as its items read. Chains of inline items in it may be open.
-use Rattle.std.specs.Prelude.{ℕ, zero, suc, Bool, true, false, ◌||◌, List, [], ◌∷◌, slice_range}
+use Rattle.markdown_base.specs.declared.item.ItemBody.TheVariants as body
+use Rattle.std.specs.Prelude.{ℕ, Bool, true, false, ◌||◌, if◌then◌else◌, List, [], ◌∷◌, Option, Some, None, slice_range}
 use Rattle.std.specs.declared.ops.Range.{Range}
 use Rattle.markdown_base.specs.BlockTree.{tree_of}
-use Rattle.markdown_base.specs.CowText.{text_of}
 use Rattle.markdown_base.specs.Event.{TagView, EventView, text, soft_break, hard_break, paragraph}
 use Rattle.markdown_base.specs.Forest.{Forest, relabelled}
-use Rattle.markdown_base.specs.Item.{is_open, is_inline, is_resolved, range_of}
-use Rattle.markdown_base.specs.declared.cow_str.CowStr.{CowStr}
+use Rattle.markdown_base.specs.Item.{is_open, is_inline, is_resolved, is_block, range_of}
 use Rattle.markdown_base.specs.declared.item.Item.{Item}
 use Rattle.markdown_base.specs.declared.item.ItemBody.{ItemBody}
-use Rattle.markdown_base.specs.declared.item.ItemBody.TheVariants as body
 use Rattle.markdown_base.specs.declared.node.Node.{Node}
+use Rattle.markdown_chains.specs.Tables.{Tables, text_at}
 
 -- where a text of an event comes from: it is a slice of the source, or it may have been made
 pub data Origin : Type 0 where
@@ -33,10 +32,11 @@ is_unresolved (enclosed tag) = false
 is_unresolved plain = false
 is_unresolved (unresolved b) = true
 
--- a shape over a range of bytes
+-- a shape over a range of bytes; and of a block its body
 pub record Part : Type 0 where
   pub shape : Shape
   pub range : Range ℕ
+  pub block : Option ItemBody
 
 -- a label of a document's tree: a part, with a tag at which no rule looks
 pub record Label (A : Type 0) : Type 0 where
@@ -45,7 +45,7 @@ pub record Label (A : Type 0) : Type 0 where
 
 -- a label with another shape
 abbrev pub shaped : {A : Type 0} → Shape → Label A → Label A
-shaped shape a = record { tag = a.tag; part = record { shape = shape; range = a.part.range } }
+shaped shape a = record { tag = a.tag; part = record { shape = shape; range = a.part.range; block = a.part.block } }
 
 -- a Text that is these bytes of the source
 abbrev pub text_over : List ℕ → Shape
@@ -55,12 +55,6 @@ text_over source = leaf (text source) (sliced ∷ [])
 abbrev pub as_text : {A : Type 0} → List ℕ → Label A → Label A
 as_text source a = shaped (text_over (slice_range source a.part.range.start a.part.range.end)) a
 
--- the text of a number
-abbrev pub text_at : List CowStr → ℕ → List ℕ
-text_at [] ix = []
-text_at (c ∷ cows) zero = text_of c
-text_at (c ∷ cows) (suc ix) = text_at cows ix
-
 -- a body that names nothing: open; else, where it is not carried yet, a Text over its range in a chain of inline
 -- items, and elsewhere what is below it alone
 abbrev pub uncarried : (is_open is_inline : Bool) → List ℕ → ItemBody → Shape
@@ -68,26 +62,34 @@ uncarried true is_inline source b = unresolved b
 uncarried false true source b = text_over source
 uncarried false false source b = plain
 
--- how a body reads over the bytes that it stands over, by the texts that items name
-abbrev pub shape_of : List CowStr → List ℕ → ItemBody → Shape
-shape_of cows source body.Paragraph = enclosed paragraph
-shape_of cows source body.TightParagraph = plain
-shape_of cows source (body.Text escaped) = text_over source
-shape_of cows source body.SoftBreak = leaf soft_break []
-shape_of cows source (body.HardBreak backslash) = leaf hard_break []
-shape_of cows source (body.SynthesizeText ix) = leaf (text (text_at cows ix.0)) (made ∷ [])
-shape_of cows source other = uncarried (is_open other) (is_inline other || is_resolved other) source other
+-- how a body reads over the bytes that it stands over, by what items name
+abbrev pub shape_of : Tables → List ℕ → ItemBody → Shape
+shape_of tables source body.Paragraph = enclosed paragraph
+shape_of tables source body.TightParagraph = plain
+shape_of tables source (body.Text escaped) = text_over source
+shape_of tables source body.SoftBreak = leaf soft_break []
+shape_of tables source (body.HardBreak backslash) = leaf hard_break []
+shape_of tables source (body.SynthesizeText ix) = leaf (text (text_at tables.cows ix.0)) (made ∷ [])
+shape_of tables source other = uncarried (is_open other) (is_inline other || is_resolved other) source other
 
-abbrev pub part_of : List ℕ → List CowStr → Item → Part
-part_of source cows item = record { shape = shape_of cows (slice_range source item.start item.end) item.body; range = range_of item }
+-- a body that is a block's
+abbrev pub block_of : ItemBody → Option ItemBody
+block_of b = if is_block b then Some b else None
+
+abbrev pub part_of : List ℕ → Tables → Item → Part
+part_of source tables item = record {
+  shape = shape_of tables (slice_range source item.start item.end) item.body;
+  range = range_of item;
+  block = block_of item.body;
+}
 
 -- a label that says nothing but what is read
 abbrev pub Plain : Type 0
 Plain = Label (Unit {0})
 
-abbrev pub label_of : List ℕ → List CowStr → Item → Plain
-label_of source cows item = record { tag = tt; part = part_of source cows item }
+abbrev pub label_of : List ℕ → Tables → Item → Plain
+label_of source tables item = record { tag = tt; part = part_of source tables item }
 
 -- the tree of a document: its blocks, and in them its chains, which may be open
-abbrev pub document : List ℕ → List CowStr → List (Node Item) → Forest Plain
-document source cows nodes = relabelled (λ n. label_of source cows n.item) (tree_of nodes)
+abbrev pub document : List ℕ → Tables → List (Node Item) → Forest Plain
+document source tables nodes = relabelled (λ n. label_of source tables n.item) (tree_of nodes)

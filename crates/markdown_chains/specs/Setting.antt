@@ -1,11 +1,13 @@
 -- What the rules of a chain go by: what stays the same over a whole document, and what passes from one chain to
 -- the next.
-use Rattle.std.specs.Prelude.{ℕ, Bool, List, is_some}
+use Rattle.std.specs.Prelude.{ℕ, Bool, List, Option, Some, None, is_some}
 use Rattle.markdown_base.specs.Questions.{Answers}
 use Rattle.markdown_base.specs.declared.options.Options.{Options}
 use Rattle.markdown_spans.specs.Allocations.{Allocated}
 use Rattle.markdown_spans.specs.Definitions.{Labelled}
 use Rattle.markdown_spans.specs.Footnotes.{footnote_at}
+use Rattle.markdown_spans.specs.declared.defs.footnotes.FootnoteDef.{FootnoteDef}
+use Rattle.markdown_spans.specs.declared.defs.footnotes.FootnoteDefs.{FootnoteDefs}
 
 -- the options, the definitions that can be found, which names are those of footnotes, and whether there is
 -- somebody to ask
@@ -32,7 +34,18 @@ pub record Setting : Type 0 where
 abbrev pub setting_of : List ℕ → Rules → Setting
 setting_of source rules = record { text = source; rules = rules }
 
--- how many bytes references may still expand to, and the answers that are still to be given
+-- how often a footnote was used, if there is one
+abbrev pub use_count : Option FootnoteDef → ℕ
+use_count None = 0
+use_count (Some footnote) = footnote.use_count
+
+-- how often each was, by its name
+abbrev pub uses_of : FootnoteDefs → List ℕ → ℕ
+uses_of footnotes name = use_count (footnote_at footnotes name)
+
+-- how many bytes references may still expand to, the answers that are still to be given, and how often each
+-- footnote was used, by its name
 pub record Known : Type 0 where
   pub limit : ℕ
   pub answers : Answers
+  pub uses : List ℕ → ℕ

@@ -1,26 +1,28 @@
 -- A chain that is resolved in place: what a walk that stands before it has left.
-use Rattle.std.proofs.Common.{◌≡◌, ℕ, ◌<◌, ◌≤◌, Bool, true, false, List, [], ◌∷◌, ◌++◌, map, length, Option, Some, refl, ap, sym, ◌∙◌, ⊎_elim, arith, append_assoc}
+use Rattle.std.proofs.Common.{suc, ◌+◌, ◌≡◌, ℕ, ◌<◌, ◌≤◌, Bool, true, false, List, [], ◌∷◌, ◌++◌, map, length, Option, Some, refl, ap, sym, ◌∙◌, ⊎_elim, arith, append_assoc}
 use Rattle.std.specs.Prelude.{slice_range}
 use Rattle.std.proofs.lemmas.Bool.{cases_lt}
-use Rattle.std.proofs.lemmas.List.{length-append, map-append}
+use Rattle.std.proofs.lemmas.List.{map-append}
 use Rattle.std.specs.declared.ops.Range.{Range}
 use Rattle.markdown_base.specs.Arena.{child_of, sibling_of}
 use Rattle.markdown_base.specs.ArenaForest.{Links, links_of, forest_at}
 use Rattle.markdown_base.specs.ArenaWalk.{AllReach}
 use Rattle.markdown_base.specs.BlockTree.{item_at}
 use Rattle.markdown_base.specs.Questions.{Question, Answer, Answers}
+use Rattle.markdown_inline.specs.Counts.{items_ahead}
+use Rattle.markdown_inline.proofs.CountLemmas.{begins-none, length-relabelled}
+use Rattle.markdown_chains.specs.Above.{above_at, no_blocks}
 use Rattle.markdown_chains.specs.Setting.{Known, Setting}
 use Rattle.markdown_inline.specs.Elements.{Element, question, Reading, nothing, then_reads}
 use Rattle.markdown_base.specs.Event.{start, end, end_of}
 use Rattle.markdown_base.specs.Forest.{Forest, nil, node}
 use Rattle.markdown_base.specs.Item.{is_open}
-use Rattle.markdown_base.specs.declared.cow_str.CowStr.{CowStr}
 use Rattle.markdown_base.specs.declared.item.Item.{Item}
 use Rattle.markdown_base.specs.declared.item.ItemBody.{ItemBody}
 use Rattle.markdown_base.specs.declared.node.Node.{Node}
 use Rattle.markdown_base.proofs.ArenaForestLemmas.{opens}
-use Rattle.markdown_chains.specs.Stages.{Stage, known_at, chain_at}
-use Rattle.markdown_resolver.specs.Chains.{ResolvesFrom, CanResolve, StopsIn}
+use Rattle.markdown_chains.specs.Stages.{items_from, Stage, known_at, chain_at, times_in}
+use Rattle.markdown_resolver.specs.Chains.{AreAbove, ResolvesFrom, CanResolve, StopsIn}
 use Rattle.markdown_inline.specs.Moves.{BeginsWithEvent}
 use Rattle.markdown_inline.specs.Reading.{opened, settled_reading, then_resolved, chain_reading, reading}
 use Rattle.markdown_inline.specs.Walk.{around, left_of}
@@ -29,28 +31,31 @@ use Rattle.markdown_resolver.specs.Resolved.{Resolved, resolved, all_paired}
 use Rattle.markdown_chains.specs.Document.{Plain, Shape, leaf, enclosed, plain, unresolved, is_unresolved, shape_of}
 use Rattle.markdown_resolver.specs.Kept.{IsSettled, GivesFirst, Begins}
 use Rattle.markdown_chains.specs.Totals.{same, naming}
+use Rattle.markdown_chains.specs.Tables.{Tables, Named, number_of, size_for}
+use Rattle.markdown_chains.proofs.TablesLemmas.{same-apart, grown-same, grown-longer}
+use Rattle.markdown_chains.proofs.PlaceLemmas.{times-past, named-past, shape-open}
 use Rattle.markdown_inline.specs.WalkTotals.{climbed, left_total, steps_of}
 use Rattle.markdown_inline.specs.Standing.{Stands}
 use Rattle.markdown_inline.proofs.LeftFrameLemmas.{AboveFramed, above_framed}
 use Rattle.markdown_inline.proofs.ReadingLemmas.{reading-settled, opened-open}
+use Rattle.markdown_chains.proofs.TablesLemmas.{same-refl}
 use Rattle.markdown_resolver.proofs.ResolvingLemmas.{resolved-settled, resolved-begins, IsKept-from_IsSettled}
-use Rattle.markdown_chains.proofs.PlaceLemmas.{named-past, same-apart, shape-open, text_at-append, times-past}
 
 pub times_above-past : (k : Links) (p : ℕ → Type 0) (spine : List ℕ) (n : ℕ) → AllReach k p spine → k.size ≤ n → climbed (same n) (same n) k spine ≡ 0
 times_above-past k p [] n r z = refl
 times_above-past k p (ix ∷ deeper) n r z =
     omega (arith, same-apart n ix (omega (arith, r.0, z)), times-past k (k.next ix) (forest_at k (k.next ix)) n r.1.spelled z, times_above-past k p deeper n r.2 z)
 
-pub named_above-past : (source : List ℕ) (cows : List CowStr) (nodes : List (Node Item)) (spine : List ℕ) (n : ℕ) → AllReach (links_of nodes) (IsPlaced source cows nodes) spine → length cows ≤ n
+pub named_above-past : (source : List ℕ) (tables : Tables) (nodes : List (Node Item)) (spine : List ℕ) (n : Named) → AllReach (links_of nodes) (IsPlaced source tables nodes) spine → size_for tables n ≤ number_of n
     → climbed (λ ix. 0) (naming nodes n) (links_of nodes) spine ≡ 0
-named_above-past source cows nodes [] n r z = refl
-named_above-past source cows nodes (ix ∷ deeper) n r z =
-    omega (arith, named-past source cows nodes (forest_at (links_of nodes) (sibling_of nodes ix)) n r.1.each z, named_above-past source cows nodes deeper n r.2 z)
+named_above-past source tables nodes [] n r z = refl
+named_above-past source tables nodes (ix ∷ deeper) n r z =
+    omega (arith, named-past source tables nodes (forest_at (links_of nodes) (sibling_of nodes ix)) n r.1.each z, named_above-past source tables nodes deeper n r.2 z)
 
 -- one that gives an event at once is not open
-gives-closed : (cows : List CowStr) (source : List ℕ) (b : ItemBody) (is : Bool) → is_open b ≡ is → GivesFirst (shape_of cows source b) → is ≡ false
-gives-closed cows source b true e g = absurd (rw (shape-open cows source b e) at g)
-gives-closed cows source b false e g = refl
+gives-closed : (tables : Tables) (source : List ℕ) (b : ItemBody) (is : Bool) → is_open b ≡ is → GivesFirst (shape_of tables source b) → is ≡ false
+gives-closed tables source b true e g = absurd (rw (shape-open tables source b e) at g)
+gives-closed tables source b false e g = refl
 
 opened-begins : (shape : Shape) (range : Range ℕ) (inside : Reading → Reading) (after whole : Reading) (known : Known) → GivesFirst shape → BeginsWithEvent (opened shape range inside after whole known)
 opened-begins (leaf e origins) range inside after whole known h = record { first = (e, range, origins); rest = after known; is = refl }
@@ -63,38 +68,42 @@ reading-begins nil s after known h = absurd h
 reading-begins (node a below later) s after known h = opened-begins a.part.shape a.part.range _ _ _ known h
 
 -- from one state to another a chain was resolved
-pub record ChainMoves (s : Setting) (cows cows' : List CowStr) (nodes nodes' : List (Node Item)) (first : ℕ) (spine : List ℕ) (limit limit' : ℕ) (questions : List Question) (answers : Answers) : Type 0 where
-  pub stands : Stands s.text cows' nodes' (Some first) spine
-  pub left : (later : Answers) → left_of s cows nodes (Some first) spine (record { limit = limit; answers = answers ++ later })
-      ≡ map question questions ++ left_of s cows' nodes' (Some first) spine (record { limit = limit'; answers = later })
-  pub begins : (known : Known) → BeginsWithEvent (left_of s cows' nodes' (Some first) spine known)
+pub record ChainMoves (s : Setting) (tables tables' : Tables) (nodes nodes' : List (Node Item)) (first : ℕ) (spine : List ℕ) (before now : Answers → Known) (questions : List Question) (answers : Answers) : Type 0 where
+  pub stands : Stands s.text tables' nodes' (Some first) spine
+  pub left : (later : Answers) → left_of s tables nodes (Some first) spine (before (answers ++ later))
+      ≡ map question questions ++ left_of s tables' nodes' (Some first) spine (now later)
+  pub begins : (known : Known) → BeginsWithEvent (left_of s tables' nodes' (Some first) spine known)
   pub falls : steps_of nodes' (Some first) spine < steps_of nodes (Some first) spine
+  -- its items were ahead, and nothing is then
+  pub was_ahead : items_ahead s.text tables nodes (Some first) spine ≡ items_from nodes (Some first)
+  pub some : 0 < items_from nodes (Some first)
+  pub none_ahead : items_ahead s.text tables' nodes' (Some first) spine ≡ 0
 
--- numbers that stand above are those of nodes, and texts named there are in the table
+-- numbers that stand above are those of nodes, and entries named there are in the tables
 above_within : (k : Links) (p : ℕ → Type 0) (spine : List ℕ) (n : ℕ) → AllReach k p spine → 0 < climbed (same n) (same n) k spine → n < k.size
 above_within k p spine n r l = ⊎_elim (λ h. h) (λ h. absurd (omega (arith, times_above-past k p spine n r h, l))) (cases_lt n k.size)
 
-above_named : (source : List ℕ) (cows : List CowStr) (nodes : List (Node Item)) (spine : List ℕ) (n : ℕ) → AllReach (links_of nodes) (IsPlaced source cows nodes) spine
-    → 0 < climbed (λ ix. 0) (naming nodes n) (links_of nodes) spine → n < length cows
-above_named source cows nodes spine n r l = ⊎_elim (λ h. h) (λ h. absurd (omega (arith, named_above-past source cows nodes spine n r h, l))) (cases_lt n (length cows))
+above_named : (source : List ℕ) (tables : Tables) (nodes : List (Node Item)) (spine : List ℕ) (n : Named) → AllReach (links_of nodes) (IsPlaced source tables nodes) spine
+    → 0 < climbed (λ ix. 0) (naming nodes n) (links_of nodes) spine → number_of n < size_for tables n
+above_named source tables nodes spine n r l = ⊎_elim (λ h. h) (λ h. absurd (omega (arith, named_above-past source tables nodes spine n r h, l))) (cases_lt (number_of n) (size_for tables n))
 
 -- what is above a chain stays when the chain is resolved
 above_chain : {C : Type 0} (step : C → Question → Option Answer → C → Type 0) (s : Setting) (first : ℕ) (spine : List ℕ) (old new : Stage C)
-    → Stands s.text old.cows old.nodes (Some first) spine → ResolvesFrom step s.text (resolved s) (Some first) old new
-    → AboveFramed s old.cows new.cows old.nodes new.nodes spine
+    → Stands s.text old.tables old.nodes (Some first) spine → ResolvesFrom step s.text (resolved s (above_at s.text old.nodes spine)) (Some first) old new
+    → AboveFramed s old.tables new.tables old.nodes new.nodes spine
 unfolding left_total
 above_chain step s first spine old new w r =
-    above_framed s old.cows new.cows old.nodes new.nodes spine r.more_nodes (omega (arith, ap length r.cows, length-append old.cows r.more_cows)) w.walk.above w.above_kept
-    (λ n l. r.outside n (above_within (links_of old.nodes) (IsPlaced s.text old.cows old.nodes) spine n w.walk.above l) (omega (arith, w.once n, l)))
-    (λ n l. rw r.cows (text_at-append old.cows r.more_cows n (above_named s.text old.cows old.nodes spine n w.walk.above l)))
+    above_framed s old.tables new.tables old.nodes new.nodes spine r.more_nodes (grown-longer old.tables new.tables r.grown) w.walk.above w.above_kept
+    (λ n l. r.outside n (above_within (links_of old.nodes) (IsPlaced s.text old.tables old.nodes) spine n w.walk.above l) (omega (arith, w.once n, l)))
+    (λ n l. grown-same old.tables new.tables n r.grown (above_named s.text old.tables old.nodes spine n w.walk.above l))
 
 -- the chain stands ready to be resolved
-pub can_resolve : (source : List ℕ) (cows : List CowStr) (nodes : List (Node Item)) (first : ℕ) (spine : List ℕ)
-    → Stands source cows nodes (Some first) spine → is_open (item_at nodes first).body ≡ true → CanResolve source cows nodes (Some first)
+pub can_resolve : (source : List ℕ) (tables : Tables) (nodes : List (Node Item)) (first : ℕ) (spine : List ℕ)
+    → Stands source tables nodes (Some first) spine → is_open (item_at nodes first).body ≡ true → CanResolve source tables nodes (Some first)
 unfolding left_total
-can_resolve source cows nodes first spine w e =
-    let o = opens (links_of nodes) (IsPlaced source cows nodes) first w.walk.here in
-    let open_shape = shape-open cows (slice_range source (item_at nodes first).start (item_at nodes first).end) (item_at nodes first).body e in
+can_resolve source tables nodes first spine w e =
+    let o = opens (links_of nodes) (IsPlaced source tables nodes) first w.walk.here in
+    let open_shape = shape-open tables (slice_range source (item_at nodes first).start (item_at nodes first).end) (item_at nodes first).body e in
     record {
       reaches = w.walk.here;
       once = λ n. let x = w.once n in omega arith;
@@ -102,58 +111,78 @@ can_resolve source cows nodes first spine w e =
       quiet_below = rw o.here ((rw o.here at w.here_kept).0 (ap is_unresolved open_shape));
     }
 
+-- the nodes gone into are there, and stand in no chain at hand
+nodes_above : (k : Links) (nodes : List (Node Item)) (p : ℕ → Type 0) (l : Option ℕ) (spine : List ℕ) → k ≡ links_of nodes → AllReach k p spine
+    → ((n : ℕ) → times_in nodes l n + climbed (same n) (same n) k spine ≤ 1) → AreAbove nodes l spine
+nodes_above k nodes p l [] e r h = tt
+nodes_above k nodes p l (ix ∷ deeper) e r h = (
+  rw e at r.0,
+  (let x = h ix in let one = same-refl ix in omega arith),
+  nodes_above k nodes p l deeper e r.2 (λ n. let x = h n in omega arith),
+)
+
+pub are_above : (source : List ℕ) (tables : Tables) (nodes : List (Node Item)) (first : ℕ) (spine : List ℕ) → Stands source tables nodes (Some first) spine → AreAbove nodes (Some first) spine
+unfolding left_total
+are_above source tables nodes first spine w = nodes_above (links_of nodes) nodes (IsPlaced source tables nodes) (Some first) spine refl w.walk.above w.once
+
 pub moves_chain : {C : Type 0} (step : C → Question → Option Answer → C → Type 0) (s : Setting) (first : ℕ) (spine : List ℕ) (old new : Stage C)
-    → Stands s.text old.cows old.nodes (Some first) spine → is_open (item_at old.nodes first).body ≡ true
-    → (r : ResolvesFrom step s.text (resolved s) (Some first) old new)
-    → ChainMoves s old.cows new.cows old.nodes new.nodes first spine old.limit new.limit r.questions r.answers
-unfolding left_of left_total
+    → Stands s.text old.tables old.nodes (Some first) spine → is_open (item_at old.nodes first).body ≡ true
+    → (r : ResolvesFrom step s.text (resolved s (above_at s.text old.nodes spine)) (Some first) old new)
+    → ChainMoves s old.tables new.tables old.nodes new.nodes first spine (known_at old) (known_at new) r.questions r.answers
+unfolding left_of left_total items_ahead
 moves_chain step s first spine old new w e r =
-    let o = opens (links_of old.nodes) (IsPlaced s.text old.cows old.nodes) first w.walk.here in
-    let open_shape = shape-open old.cows (slice_range s.text (item_at old.nodes first).start (item_at old.nodes first).end) (item_at old.nodes first).body e in
-    let ready = can_resolve s.text old.cows old.nodes first spine w e in
+    let o = opens (links_of old.nodes) (IsPlaced s.text old.tables old.nodes) first w.walk.here in
+    let open_shape = shape-open old.tables (slice_range s.text (item_at old.nodes first).start (item_at old.nodes first).end) (item_at old.nodes first).body e in
+    let ready = can_resolve s.text old.tables old.nodes first spine w e in
     let above = above_chain step s first spine old new w r in
-    let made = trees_from s.text new.cows new.nodes (Some first) in
-    let chain = trees_from s.text old.cows old.nodes (Some first) in
-    let after = around s old.cows old.nodes spine nothing in
-    let settled : IsSettled made = rw (r.resolves []) at (resolved-settled s chain (record { limit = old.limit; answers = r.answers ++ [] }) ready.quiet_below) in
+    let made = trees_from s.text new.tables new.nodes (Some first) in
+    let chain = trees_from s.text old.tables old.nodes (Some first) in
+    let blocks = above_at s.text old.nodes spine in
+    let after = around s (no_blocks s.text) old.tables old.nodes spine nothing in
+    let settled : IsSettled made = rw (r.resolves []) at (resolved-settled s blocks chain (known_at old (r.answers ++ [])) ready.quiet_below) in
     let begins : Begins made =
-    rw (rw o.here at (r.resolves [])) at (resolved-begins s (label_at s.text old.cows old.nodes first) (trees_from s.text old.cows old.nodes (child_of old.nodes first)) (trees_from s.text old.cows old.nodes (sibling_of old.nodes first)) (record { limit = old.limit; answers = r.answers ++ [] }) (ap is_unresolved open_shape)) in
-    let before : reading s chain after ≡ chain_reading s chain after = rw o.here (opened-open (label_at s.text old.cows old.nodes first).part.shape _ _ _ _ (ap is_unresolved open_shape)) in
-    let now : reading s made (around s new.cows new.nodes spine nothing) ≡ settled_reading (all_paired s made) after =
-    rw (above.around nothing) (reading-settled s made after settled) in
-    let n = opens (links_of new.nodes) (IsPlaced s.text new.cows new.nodes) first r.reaches in
+    rw (rw o.here at (r.resolves [])) at (resolved-begins s blocks (label_at s.text old.tables old.nodes first) (trees_from s.text old.tables old.nodes (child_of old.nodes first)) (trees_from s.text old.tables old.nodes (sibling_of old.nodes first)) (known_at old (r.answers ++ [])) (ap is_unresolved open_shape)) in
+    let before : reading s blocks chain after ≡ chain_reading s blocks chain after = rw o.here (opened-open (label_at s.text old.tables old.nodes first).part.shape _ _ _ _ (ap is_unresolved open_shape)) in
+    let now : reading s (above_at s.text new.nodes spine) made (around s (no_blocks s.text) new.tables new.nodes spine nothing) ≡ settled_reading (all_paired s made) after =
+    rw (above.blocks (no_blocks s.text), above.around (no_blocks s.text) nothing) (reading-settled s blocks made after settled) in
+    let n = opens (links_of new.nodes) (IsPlaced s.text new.tables new.nodes) first r.reaches in
     let item = item_at new.nodes first in
-    let closed : is_open item.body ≡ false = gives-closed new.cows (slice_range s.text item.start item.end) item.body (is_open item.body) refl (rw n.here at begins) in
+    let closed : is_open item.body ≡ false = gives-closed new.tables (slice_range s.text item.start item.end) item.body (is_open item.body) refl (rw n.here at begins) in
     record {
       stands = record {
         walk = record { here = r.reaches; above = above.reach };
         once = λ n. rw (above.times n) (⊎_elim
             (λ l. let x = w.once n in let y = r.of_chain n l in omega arith)
-            (λ l. let x = times_above-past (links_of old.nodes) (IsPlaced s.text old.cows old.nodes) spine n w.walk.above l in let y = r.once n in omega arith)
+            (λ l. let x = times_above-past (links_of old.nodes) (IsPlaced s.text old.tables old.nodes) spine n w.walk.above l in let y = r.once n in omega arith)
             (cases_lt n (length old.nodes)));
         named_once = λ n. rw (above.naming n) (⊎_elim
             (λ l. let x = w.named_once n in let y = r.named n l in omega arith)
-            (λ l. let x = named_above-past s.text old.cows old.nodes spine n w.walk.above l in let y = r.named_once n in omega arith)
-            (cases_lt n (length old.cows)));
+            (λ l. let x = named_above-past s.text old.tables old.nodes spine n w.walk.above l in let y = r.named_once n in omega arith)
+            (cases_lt (number_of n) (size_for old.tables n)));
         here_kept = IsKept-from_IsSettled made settled;
         above_kept = above.kept;
       };
-      left = λ later. ap (λ (x : Reading). x (record { limit = old.limit; answers = r.answers ++ later })) before
-          ∙ rw (r.resolves later) (ap (λ (x : Reading). map question r.questions ++ x (record { limit = new.limit; answers = later })) (sym now));
+      left = λ later. ap (λ (x : Reading). x (known_at old (r.answers ++ later))) before
+          ∙ rw (r.resolves later) (ap (λ (x : Reading). map question r.questions ++ x (known_at new later)) (sym now));
       begins = λ known. rw now (reading-begins made s after known begins);
       falls = rw (above.steps, closed, e) (let x = r.no_heavier in omega arith);
+      was_ahead = rw (o.here, open_shape) (ap suc (length-relabelled (label_at s.text old.tables old.nodes) (forest_at (links_of old.nodes) (sibling_of old.nodes first))));
+      some = rw o.here (omega arith);
+      none_ahead = begins-none made _ begins;
     }
 
 -- what is left before a chain, where its first item is open
-before_chain : (s : Setting) (cows : List CowStr) (nodes : List (Node Item)) (first : ℕ) (spine : List ℕ) (known : Known)
-    → Stands s.text cows nodes (Some first) spine → is_open (item_at nodes first).body ≡ true
-    → left_of s cows nodes (Some first) spine known ≡ then_resolved s (resolved s (trees_from s.text cows nodes (Some first)) known) (around s cows nodes spine nothing)
+before_chain : (s : Setting) (tables : Tables) (nodes : List (Node Item)) (first : ℕ) (spine : List ℕ) (known : Known)
+    → Stands s.text tables nodes (Some first) spine → is_open (item_at nodes first).body ≡ true
+    → left_of s tables nodes (Some first) spine known ≡ then_resolved s (resolved s (above_at s.text nodes spine) (trees_from s.text tables nodes (Some first)) known) (around s (no_blocks s.text) tables nodes spine nothing)
 unfolding left_of
-before_chain s cows nodes first spine known w e =
-    let o = opens (links_of nodes) (IsPlaced s.text cows nodes) first w.walk.here in
-    let open_shape = shape-open cows (slice_range s.text (item_at nodes first).start (item_at nodes first).end) (item_at nodes first).body e in
-    let whole : reading s (trees_from s.text cows nodes (Some first)) (around s cows nodes spine nothing) ≡ chain_reading s (trees_from s.text cows nodes (Some first)) (around s cows nodes spine nothing) =
-    rw o.here (opened-open (label_at s.text cows nodes first).part.shape _ _ _ _ (ap is_unresolved open_shape)) in
+before_chain s tables nodes first spine known w e =
+    let o = opens (links_of nodes) (IsPlaced s.text tables nodes) first w.walk.here in
+    let open_shape = shape-open tables (slice_range s.text (item_at nodes first).start (item_at nodes first).end) (item_at nodes first).body e in
+    let blocks = above_at s.text nodes spine in
+    let after = around s (no_blocks s.text) tables nodes spine nothing in
+    let whole : reading s blocks (trees_from s.text tables nodes (Some first)) after ≡ chain_reading s blocks (trees_from s.text tables nodes (Some first)) after =
+    rw o.here (opened-open (label_at s.text tables nodes first).part.shape _ _ _ _ (ap is_unresolved open_shape)) in
     ap (λ (x : Reading). x known) whole
 
 more_questions : (s : Setting) (r : Resolved (Unit {0})) (after : Reading) (questions others : List Question) → r.questions ≡ questions ++ others
@@ -163,10 +192,10 @@ more_questions s r after questions others e =
 
 -- where memory is refused on the way, what was left begins with the questions asked
 pub stops_chain : {C : Type 0} (step : C → Question → Option Answer → C → Type 0) (s : Setting) (first : ℕ) (spine : List ℕ) (old : Stage C) (d : Option C)
-    → Stands s.text old.cows old.nodes (Some first) spine → is_open (item_at old.nodes first).body ≡ true → (r : StopsIn step s first old d)
-    → (later : Answers) → (others : List Element) × (left_of s old.cows old.nodes (Some first) spine (known_at old (r.answers ++ later)) ≡ map question r.questions ++ others)
+    → Stands s.text old.tables old.nodes (Some first) spine → is_open (item_at old.nodes first).body ≡ true → (r : StopsIn step s (above_at s.text old.nodes spine) first old d)
+    → (later : Answers) → (others : List Element) × (left_of s old.tables old.nodes (Some first) spine (known_at old (r.answers ++ later)) ≡ map question r.questions ++ others)
 stops_chain step s first spine old d w e r later =
     let b = r.begins later in
     let known = known_at old (r.answers ++ later) in
-    rw (before_chain s old.cows old.nodes first spine known w e)
-    (more_questions s (resolved s (chain_at s.text old (Some first)) known) (around s old.cows old.nodes spine nothing) r.questions b.0 b.1)
+    rw (before_chain s old.tables old.nodes first spine known w e)
+    (more_questions s (resolved s (above_at s.text old.nodes spine) (chain_at s.text old (Some first)) known) (around s (no_blocks s.text) old.tables old.nodes spine nothing) r.questions b.0 b.1)

@@ -1,5 +1,6 @@
 -- Lemmas on a walk, from its moves up to whole runs of `next`.
 pub mod ReadingLemmas
+pub mod CountLemmas
 pub mod LeftFrameLemmas
 pub mod WalkLemmas
 pub mod ChainLemmas

@@ -1,5 +1,5 @@
 -- The steps of a parser, and what they give of what was left.
-use Rattle.std.proofs.Common.{◌≡◌, ℕ, ◌<◌, ◌≤◌, List, [], ◌∷◌, ◌++◌, Option, Some, None, Result, Ok, Err, ◌⊎◌, inl, inr, refl, sym, subst, ◌∙◌, arith, append_assoc}
+use Rattle.std.proofs.Common.{◌≡◌, ℕ, ◌+◌, ◌-◌, ◌^◌, min, Bool, ap, ◌<◌, ◌≤◌, List, [], ◌∷◌, ◌++◌, Option, Some, None, Result, Ok, Err, ◌⊎◌, inl, inr, refl, sym, subst, ◌∙◌, arith, append_assoc}
 use Rattle.std.specs.Prelude.{is_some}
 use Rattle.std.specs.declared.ops.Range.{Range}
 use Rattle.std.proofs.lemmas.List.{map-append}
@@ -10,41 +10,49 @@ use Rattle.markdown_base.specs.declared.fault.Fault.{Fault}
 use Rattle.markdown_base.specs.declared.fault.Fault.TheVariants.{Memory}
 use Rattle.markdown_base.specs.declared.item.Item.{Item}
 use Rattle.markdown_spans.specs.Allocations.{Allocated}
-use Rattle.markdown_chains.specs.Stages.{stage}
-use Rattle.markdown_resolver.specs.Chains.{ResolvesChain, CanResolve, StopsIn}
+use Rattle.markdown_spans.specs.Footnotes.{footnote_at}
+use Rattle.std.proofs.Math.Path.{fun_ext}
+use Rattle.markdown_chains.specs.Stages.{stage, known_at, items_from}
+use Rattle.markdown_resolver.specs.Chains.{AreAbove, ResolvesChain, CanResolve, StopsIn}
 use Rattle.markdown_inline.specs.Elements.{Placed, Element}
 use Rattle.markdown_inline.specs.Moves.{Leads, Keeps, Gave, GaveEvent, WentOn, Ended, Failed, BeginsWithEvent}
 use Rattle.markdown_inline.specs.NextGives.{NextGives, IsEventOf, IsPlacedOf, GivesItem}
-use Rattle.markdown_inline.specs.ParserLeft.{parser_callback, parser_steps, parser_setting, elements, IsOver}
-use Rattle.markdown_chains.specs.Setting.{Setting, rules_from}
+use Rattle.markdown_inline.specs.ParserLeft.{parser_known, parser_items, parser_work, parser_callback, parser_steps, parser_setting, elements, IsOver}
+use Rattle.markdown_chains.specs.Above.{above_cursor}
+use Rattle.markdown_chains.specs.Setting.{Setting, rules_from, setting_of}
+use Rattle.markdown_chains.specs.Tables.{tables_of}
 use Rattle.markdown_inline.specs.Walk.{left_of}
 use Rattle.markdown_inline.specs.WalkSteps.{HasEnded, TreeStands, Went, Gives, IsRefused, IsBefore, tree_left}
 use Rattle.markdown_inline.specs.declared.walk.Parser.{Parser}
 use Rattle.markdown_chains.proofs.CallbackLemmas.{Asks-append, Asks-some}
-use Rattle.markdown_inline.proofs.ChainLemmas.{ChainMoves, moves_chain, can_resolve, stops_chain}
-use Rattle.markdown_inline.proofs.WalkStepsLemmas.{left_of_ended, steps_ended, steps_at_cursor}
+use Rattle.markdown_inline.proofs.ChainLemmas.{ChainMoves, are_above, moves_chain, can_resolve, stops_chain}
+use Rattle.markdown_inline.proofs.CountLemmas.{rises-none, rises-chain}
+use Rattle.markdown_inline.proofs.WalkStepsLemmas.{items_ended, left_of_ended, steps_ended, steps_at_cursor}
 
 -- the elements that are left, by a parser's parts
 pub elements-parts : {F : Type 0} (p : Parser F) (answers : Answers)
-    → elements p answers ≡ tree_left (parser_setting p) p.resolver.tables.cows p.tree (record { limit = p.resolver.limit; answers = answers })
+    → elements p answers ≡ tree_left (parser_setting p) (tables_of p.resolver.tables) p.tree (parser_known p answers)
 unfolding elements
 elements-parts p answers = refl
 
--- what a parser holds but for its tree and its texts
+-- what a parser holds but for its tree and its tables
 pub record SameBut {F : Type 0} (s t : Parser F) : Type 0 where
   pub text : t.resolver.text ≡ s.resolver.text
   pub options : t.resolver.options ≡ s.resolver.options
   pub callback : t.resolver.callback ≡ s.resolver.callback
   pub limit : t.resolver.limit ≡ s.resolver.limit
+  pub work : t.resolver.work ≡ s.resolver.work
 
 -- a step over the tree gives its events
 pub gave_step : {F : Type 0} (s t : Parser F) (given : List Placed) → SameBut s t
     → Went s.resolver.text.now s.tree t.tree s.resolver.tables t.resolver.tables given → Gave s t given
 gave_step s t given k w = record {
   callback = sym k.callback;
+  items = rw k.text w.items;
+  work = k.work;
   left = λ later.
       rw (elements-parts s later, elements-parts t later, k.text, k.options, k.callback, k.limit, w.tables)
-      (w.left (rules_from s.resolver.options s.resolver.tables (is_some s.resolver.callback)) (record { limit = s.resolver.limit; answers = later }));
+      (rw w.tables at (w.left (rules_from s.resolver.options s.resolver.tables (is_some s.resolver.callback)) (parser_known s later)));
 }
 
 pub moved_give : {F : Type 0} (s t : Parser F) (e : Event) (range : Range ℕ) → SameBut s t
@@ -73,55 +81,82 @@ pub moved_skip : {F : Type 0} (step : F → Question → Option Answer → F →
     → Went s.resolver.text.now s.tree t.tree s.resolver.tables t.resolver.tables [] → WentOn step s t × (parser_steps t < parser_steps s)
 moved_skip step s t k w =
     let g = gave_step s t [] k w in
-    (record { leads = leads_gave step s t [] g; asked = inl g }, w.falls)
+    (record { leads = leads_gave step s t [] g; asked = inl g; counts = λ later r. rw (g.items, ← g.work) r }, w.falls)
 
 -- before a chain a resolver may be called
-pub before_chain : (source : List ℕ) (s : Arena Item) (held : Allocated) (first : ℕ) → TreeStands source held.cows s → IsBefore s first → CanResolve source held.cows s.nodes (Some first)
-before_chain source s held first w b = can_resolve source held.cows s.nodes first s.spine (rw b.cursor at w) b.is_open
+pub before_chain : (source : List ℕ) (s : Arena Item) (held : Allocated) (first : ℕ) → TreeStands source (tables_of held) s → IsBefore s first → CanResolve source (tables_of held) s.nodes (Some first)
+before_chain source s held first w b = can_resolve source (tables_of held) s.nodes first s.spine (rw b.cursor at w) b.is_open
+
+-- the nodes gone into stay when it is resolved
+pub above_chain : (source : List ℕ) (s : Arena Item) (held : Allocated) (first : ℕ) → TreeStands source (tables_of held) s → IsBefore s first → AreAbove s.nodes (Some first) s.spine
+above_chain source s held first w b = are_above source (tables_of held) s.nodes first s.spine (rw b.cursor at w)
 
 -- what a resolved chain is for the walk
 chain_moves : {C : Type 0} (step : C → Question → Option Answer → C → Type 0) (g : Setting) (s t : Arena Item) (held held' : Allocated) (first limit limit' : ℕ) (c d : Option C)
-    → TreeStands g.text held.cows s → IsBefore s first → (r : ResolvesChain step g first s t held held' limit limit' c d)
-    → ChainMoves g held.cows held'.cows s.nodes t.nodes first s.spine limit limit' r.chain.questions r.chain.answers
+    → TreeStands g.text (tables_of held) s → IsBefore s first → (r : ResolvesChain step g first s t held held' limit limit' c d)
+    → ChainMoves g (tables_of held) (tables_of held') s.nodes t.nodes first s.spine (known_at (stage s held limit c)) (known_at (stage t held' limit' d)) r.chain.questions r.chain.answers
 chain_moves step g s t held held' first limit limit' c d w b r =
     moves_chain step g first s.spine (stage s held limit c) (stage t held' limit' d) (rw b.cursor at w) b.is_open r.chain
 
 pub stands_chain : {C : Type 0} (step : C → Question → Option Answer → C → Type 0) (g : Setting) (s t : Arena Item) (held held' : Allocated) (first limit limit' : ℕ) (c d : Option C)
-    → TreeStands g.text held.cows s → IsBefore s first → ResolvesChain step g first s t held held' limit limit' c d → TreeStands g.text held'.cows t
+    → TreeStands g.text (tables_of held) s → IsBefore s first → ResolvesChain step g first s t held held' limit limit' c d → TreeStands g.text (tables_of held') t
 stands_chain step g s t held held' first limit limit' c d w b r =
     rw (r.tree, b.cursor) (chain_moves step g s t held held' first limit limit' c d w b r).stands
 
+-- the rules go by the names of footnotes alone, and not by their uses
+setting_kept : {F : Type 0} (s t : Parser F) → t.resolver.text ≡ s.resolver.text → t.resolver.options ≡ s.resolver.options → is_some s.resolver.callback ≡ is_some t.resolver.callback
+    → t.resolver.tables ≡ record s.resolver.tables { cows = t.resolver.tables.cows; links = t.resolver.tables.links; footdefs = t.resolver.tables.footdefs }
+    → ((name : List ℕ) → is_some (footnote_at t.resolver.tables.footdefs name) ≡ is_some (footnote_at s.resolver.tables.footdefs name)) → parser_setting t ≡ parser_setting s
+setting_kept s t x o some tables names =
+    let is_name : List ℕ → Bool = λ name. is_some (footnote_at t.resolver.tables.footdefs name) in
+    let was_name : List ℕ → Bool = λ name. is_some (footnote_at s.resolver.tables.footdefs name) in
+    let same : is_name ≡ was_name = fun_ext names in
+    let definitions : t.resolver.tables.refdefs ≡ s.resolver.tables.refdefs = ap (λ (held : Allocated). held.refdefs) tables in
+    rw (x, o, ← some, definitions)
+    (ap (λ (f : List ℕ → Bool). let g : Setting = setting_of s.resolver.text.now (record { options = s.resolver.options; definitions = s.resolver.tables.refdefs; is_footnote = f; asks = is_some s.resolver.callback }) in g) same)
+
 -- a chain that is resolved: its questions, and then an event
 pub moved_chain : {F : Type 0} (step : F → Question → Option Answer → F → Type 0) (s t : Parser F) (first : ℕ) → t.resolver.text ≡ s.resolver.text → t.resolver.options ≡ s.resolver.options
-    → TreeStands s.resolver.text.now s.resolver.tables.cows s.tree → IsBefore s.tree first
+    → TreeStands s.resolver.text.now (tables_of s.resolver.tables) s.tree → IsBefore s.tree first
     → ResolvesChain step (parser_setting s) first s.tree t.tree s.resolver.tables t.resolver.tables s.resolver.limit t.resolver.limit s.resolver.callback t.resolver.callback
+    → t.resolver.work ≡ record s.resolver.work { items = min (s.resolver.work.items + items_from s.tree.nodes (Some first)) (2 ^ 128 - 1) }
     → WentOn step s t × (parser_steps t < parser_steps s)
-moved_chain step s t first x o w b r =
-    let m = chain_moves step (parser_setting s) s.tree t.tree s.resolver.tables t.resolver.tables first s.resolver.limit t.resolver.limit s.resolver.callback t.resolver.callback w b r in
-    let some : is_some s.resolver.callback ≡ is_some t.resolver.callback = Asks-some step s.resolver.callback t.resolver.callback r.chain.questions r.chain.answers r.chain.asked in
-    let now : (later : Answers) → elements t later ≡ left_of (parser_setting s) t.resolver.tables.cows t.tree.nodes (Some first) s.tree.spine (record { limit = t.resolver.limit; answers = later }) =
-    λ later. elements-parts t later ∙ rw (x, o, ← some, r.tables, r.tree, b.cursor) refl in (
+moved_chain step s t first x o w b q counted =
+    let m = chain_moves step (parser_setting s) s.tree t.tree s.resolver.tables t.resolver.tables first s.resolver.limit t.resolver.limit s.resolver.callback t.resolver.callback w b q in
+    let some : is_some s.resolver.callback ≡ is_some t.resolver.callback = Asks-some step s.resolver.callback t.resolver.callback q.chain.questions q.chain.answers q.chain.asked in
+    let now : (later : Answers) → elements t later ≡ left_of (parser_setting s) (tables_of t.resolver.tables) t.tree.nodes (Some first) s.tree.spine (parser_known t later) =
+    λ later. elements-parts t later ∙ rw (setting_kept s t x o some q.tables q.footnotes, q.tree, b.cursor) refl in (
       record {
         leads = record {
-          answers = r.chain.answers;
-          questions = r.chain.questions;
-          asked = r.chain.asked;
-          left = λ later. rw (elements-parts s (r.chain.answers ++ later), b.cursor, now later) (m.left later);
+          answers = q.chain.answers;
+          questions = q.chain.questions;
+          asked = q.chain.asked;
+          left = λ later. rw (elements-parts s (q.chain.answers ++ later), b.cursor, now later) (m.left later);
         };
         asked = inr (λ answers. rw (now answers) (m.begins _));
+        counts = λ later r.
+            let before : parser_items s ≡ items_from s.tree.nodes (Some first) = rw b.cursor m.was_ahead in
+            let after : parser_items t ≡ 0 = rw (x, q.tree, b.cursor) m.none_ahead in
+            rw before (rises-chain (items_from s.tree.nodes (Some first)) (parser_work s) (parser_work t) later m.some counted (rw after at r));
       },
-      rw (r.tree, b.cursor) m.falls,
+      rw (q.tree, b.cursor) m.falls,
     )
 
 -- a walk that has ended is over
 pub over_ended : {F : Type 0} (t : Parser F) → HasEnded t.tree → IsOver t
 over_ended t e = record {
-  left = λ answers. elements-parts t answers ∙ left_of_ended (parser_setting t) t.resolver.tables.cows t.tree e (record { limit = t.resolver.limit; answers = answers });
+  left = λ answers. elements-parts t answers ∙ left_of_ended (parser_setting t) (tables_of t.resolver.tables) t.tree e (parser_known t answers);
   steps = steps_ended t.tree e;
 }
 
-pub moved_done : {F : Type 0} (s t : Parser F) → HasEnded s.tree → t.tree ≡ s.tree → t.resolver.callback ≡ s.resolver.callback → Ended s t
-moved_done s t e same c = record { was = over_ended s e; is = over_ended t (rw same e); callback = sym c }
+pub moved_done : {F : Type 0} (s t : Parser F) → HasEnded s.tree → t.tree ≡ s.tree → t.resolver.callback ≡ s.resolver.callback → t.resolver.work ≡ s.resolver.work → Ended s t
+moved_done s t e same c d = record {
+  was = over_ended s e;
+  is = over_ended t (rw same e);
+  callback = sym c;
+  items = items_ended s.resolver.text.now (tables_of s.resolver.tables) s.tree e;
+  work = d;
+}
 
 -- a step that was refused asked nothing
 pub moved_refused : {F : Type 0} (step : F → Question → Option Answer → F → Type 0) (s t : Parser F) (after : Arena Item) → t.resolver.callback ≡ s.resolver.callback → IsRefused s.tree after → HasEnded t.tree → Failed step s t
@@ -129,11 +164,11 @@ moved_refused step s t after c r e = record { is = over_ended t e; more = r.step
 
 -- a chain at which memory was refused
 pub moved_stopped : {F : Type 0} (step : F → Question → Option Answer → F → Type 0) (s t : Parser F) (first : ℕ)
-    → TreeStands s.resolver.text.now s.resolver.tables.cows s.tree → IsBefore s.tree first
-    → StopsIn step (parser_setting s) first (stage s.tree s.resolver.tables s.resolver.limit s.resolver.callback) t.resolver.callback → HasEnded t.tree → Failed step s t
+    → TreeStands s.resolver.text.now (tables_of s.resolver.tables) s.tree → IsBefore s.tree first
+    → StopsIn step (parser_setting s) (above_cursor s.resolver.text.now s.tree) first (stage s.tree s.resolver.tables s.resolver.limit s.resolver.callback) t.resolver.callback → HasEnded t.tree → Failed step s t
 moved_stopped step s t first w b r e = record {
   is = over_ended t e;
-  more = steps_at_cursor s.resolver.text.now s.resolver.tables.cows s.tree first w b.cursor;
+  more = steps_at_cursor s.resolver.text.now (tables_of s.resolver.tables) s.tree first w b.cursor;
   questions = r.questions;
   answers = r.answers;
   asked = r.asked;
@@ -154,7 +189,7 @@ pub record HasGone {F : Type 0} (step : F → Question → Option Answer → F �
 
 pub gone_nowhere : {F : Type 0} (step : F → Question → Option Answer → F → Type 0) (s : Parser F) → HasGone step s s
 gone_nowhere step s = record {
-  went = record { leads = record { answers = []; questions = []; asked = refl; left = λ later. refl }; asked = inl (record { callback = refl; left = λ later. refl }) };
+  went = record { leads = record { answers = []; questions = []; asked = refl; left = λ later. refl }; asked = inl (record { callback = refl; left = λ later. refl; items = refl; work = refl }); counts = λ later r. r };
   keeps = record { text = refl; definitions = refl };
   over = λ over. over;
   steps = omega arith;
@@ -167,7 +202,7 @@ keeps_more r s t a b = record { text = b.text ∙ a.text; definitions = b.defini
 asked_more : {F : Type 0} (r s t : Parser F) → Gave r s [] ⊎ ((answers : Answers) → BeginsWithEvent (elements s answers)) → Gave s t [] ⊎ ((answers : Answers) → BeginsWithEvent (elements t answers))
     → Gave r t [] ⊎ ((answers : Answers) → BeginsWithEvent (elements t answers))
 asked_more r s t a (inr b) = inr b
-asked_more r s t (inl a) (inl b) = inl (record { callback = a.callback ∙ b.callback; left = λ later. a.left later ∙ b.left later })
+asked_more r s t (inl a) (inl b) = inl (record { callback = a.callback ∙ b.callback; left = λ later. a.left later ∙ b.left later; items = a.items ∙ b.items; work = b.work ∙ a.work })
 asked_more r s t (inr a) (inl b) = inr (λ answers. rw (← b.left answers) (a answers))
 
 pub gone_on : {F : Type 0} (step : F → Question → Option Answer → F → Type 0) (r s t : Parser F) → HasGone step r s → WentOn step s t → Keeps s t → parser_steps t < parser_steps s → HasGone step r t
@@ -175,6 +210,7 @@ gone_on step r s t g w k l = record {
   went = record {
     leads = leads_on step (parser_callback r) (parser_callback s) (parser_callback t) (elements r) (elements s) (elements t) [] g.went.leads w.leads;
     asked = asked_more r s t g.went.asked w.asked;
+    counts = λ later x. g.went.counts later (w.counts later x);
   };
   keeps = keeps_more r s t g.keeps k;
   over = λ over. absurd (no_step s t l (g.over over));
@@ -199,6 +235,7 @@ advances_none step s t u g e k =
       text = keeps.text;
       definitions = keeps.definitions;
       stays = λ over. (refl, e.is);
+      work = g.went.counts (parser_work u) (rises-none (parser_items t) (parser_work t) (parser_work u) e.items e.work);
     }
 
 pub advances_fault : {F : Type 0} (step : F → Question → Option Answer → F → Type 0) (s t u : Parser F) → HasGone step s t → Failed step t u → Keeps t u → Advances step s (Some (Err Memory)) u
@@ -219,6 +256,7 @@ advances_fault step s t u g f k =
       text = keeps.text;
       definitions = keeps.definitions;
       stays = λ over. absurd (omega (arith, f.more, (g.over over).steps));
+      work = tt;
     }
 
 pub advances_event : {F : Type 0} (step : F → Question → Option Answer → F → Type 0) (s t u : Parser F) (e : Event) (range : Range ℕ) → HasGone step s t → GaveEvent t u e range → Keeps t u
@@ -238,6 +276,7 @@ advances_event step s t u e range g w k f =
       text = keeps.text;
       definitions = keeps.definitions;
       stays = λ over. absurd (no_step t u f (g.over over));
+      work = g.went.counts (parser_work u) (rises-none (parser_items t) (parser_work t) (parser_work u) w.gave.items w.gave.work);
     }
 
 -- an event with its range is an event

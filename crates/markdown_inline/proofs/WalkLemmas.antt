@@ -1,4 +1,5 @@
 -- What is left of a walk, before and after a move over, into or out of a node.
+use Rattle.markdown_base.specs.declared.item.ItemBody.TheVariants as body
 use Rattle.std.proofs.Common.{◌≡◌, ℕ, ◌+◌, ◌<◌, ◌≤◌, Bool, true, false, List, [], ◌∷◌, ◌++◌, map, Option, Some, None, refl, arith}
 use Rattle.std.specs.Prelude.{slice_range}
 use Rattle.markdown_base.specs.Arena.{child_of, sibling_of}
@@ -6,10 +7,12 @@ use Rattle.markdown_base.specs.ArenaForest.{Links, links_of, forest_at}
 use Rattle.markdown_base.specs.ArenaWalk.{Reaches, AllReach}
 use Rattle.markdown_base.specs.BlockTree.{item_at}
 use Rattle.markdown_inline.specs.Elements.{Placed, Reading, event, nothing}
+use Rattle.markdown_inline.specs.Counts.{items_around, items_ahead, first_items, unless_ended, LeavesAhead}
+use Rattle.markdown_inline.proofs.CountLemmas.{items_around-snoc}
+use Rattle.markdown_chains.specs.Above.{Above, no_blocks, inside_item, inside_all, above_at}
 use Rattle.markdown_chains.specs.Setting.{Known, Setting}
 use Rattle.markdown_base.specs.Event.{EventView, TagView, start, end_of}
 use Rattle.markdown_base.specs.Item.{range_of, is_open}
-use Rattle.markdown_base.specs.declared.cow_str.CowStr.{CowStr}
 use Rattle.markdown_base.specs.declared.item.Item.{Item}
 use Rattle.markdown_base.specs.declared.item.ItemBody.{ItemBody}
 use Rattle.markdown_base.specs.declared.node.Node.{Node}
@@ -18,16 +21,17 @@ use Rattle.markdown_inline.specs.Reading.{reading}
 use Rattle.markdown_inline.specs.Walk.{ended, around, left_of, closing}
 use Rattle.markdown_chains.specs.Places.{label_at, trees_from, IsPlaced}
 use Rattle.markdown_chains.specs.Totals.{total, same, naming, weight_at}
+use Rattle.markdown_chains.specs.Tables.{Tables, Named}
 use Rattle.markdown_inline.specs.WalkTotals.{climbed, left_total, named_left, one_if, waits_at, steps_of}
 use Rattle.markdown_inline.specs.Standing.{AboveKept, Stands}
 use Rattle.markdown_chains.specs.Document.{Origin, leaf, enclosed, plain, shape_of}
-use Rattle.markdown_base.specs.declared.item.ItemBody.TheVariants as body
 use Rattle.markdown_chains.proofs.PlaceLemmas.{some_weight}
 
 -- a walk went from l below spine to m below deeper, and gave these events
-pub record Moves (s : Setting) (cows : List CowStr) (nodes : List (Node Item)) (l : Option ℕ) (spine : List ℕ) (m : Option ℕ) (deeper : List ℕ) (given : List Placed) : Type 0 where
-  pub stands : Stands s.text cows nodes m deeper
-  pub left : (known : Known) → left_of s cows nodes l spine known ≡ map event given ++ left_of s cows nodes m deeper known
+pub record Moves (s : Setting) (tables : Tables) (nodes : List (Node Item)) (l : Option ℕ) (spine : List ℕ) (m : Option ℕ) (deeper : List ℕ) (given : List Placed) : Type 0 where
+  pub stands : Stands s.text tables nodes m deeper
+  pub left : (known : Known) → left_of s tables nodes l spine known ≡ map event given ++ left_of s tables nodes m deeper known
+  pub items : LeavesAhead given (items_ahead s.text tables nodes l spine) (items_ahead s.text tables nodes m deeper)
   pub falls : steps_of nodes m deeper < steps_of nodes l spine
 
 one_once : (waits : Bool) → one_if waits ≤ 1
@@ -44,60 +48,66 @@ AllReach-snoc : (k : Links) (p : ℕ → Type 0) (spine : List ℕ) (ix : ℕ) �
 AllReach-snoc k p [] ix a within follows = (within, follows, tt)
 AllReach-snoc k p (j ∷ js) ix a within follows = (a.0, a.1, AllReach-snoc k p js ix a.2 within follows)
 
-AboveKept-snoc : (source : List ℕ) (cows : List CowStr) (nodes : List (Node Item)) (spine : List ℕ) (ix : ℕ) → AboveKept source cows nodes spine
-    → AboveKept source cows nodes (ix ∷ []) → AboveKept source cows nodes (spine ++ ix ∷ [])
-AboveKept-snoc source cows nodes [] ix a h = h
-AboveKept-snoc source cows nodes (j ∷ js) ix a h = (a.0, AboveKept-snoc source cows nodes js ix a.1 h)
+AboveKept-snoc : (source : List ℕ) (tables : Tables) (nodes : List (Node Item)) (spine : List ℕ) (ix : ℕ) → AboveKept source tables nodes spine
+    → AboveKept source tables nodes (ix ∷ []) → AboveKept source tables nodes (spine ++ ix ∷ [])
+AboveKept-snoc source tables nodes [] ix a h = h
+AboveKept-snoc source tables nodes (j ∷ js) ix a h = (a.0, AboveKept-snoc source tables nodes js ix a.1 h)
 
 -- the last of them is left
 AllReach-front : (k : Links) (p : ℕ → Type 0) (spine : List ℕ) (ix : ℕ) → AllReach k p (spine ++ ix ∷ []) → AllReach k p spine
 AllReach-front k p [] ix a = tt
 AllReach-front k p (j ∷ js) ix a = (a.0, a.1, AllReach-front k p js ix a.2)
 
-AboveKept-front : (source : List ℕ) (cows : List CowStr) (nodes : List (Node Item)) (spine : List ℕ) (ix : ℕ) → AboveKept source cows nodes (spine ++ ix ∷ [])
-    → AboveKept source cows nodes spine
-AboveKept-front source cows nodes [] ix a = tt
-AboveKept-front source cows nodes (j ∷ js) ix a = (a.0, AboveKept-front source cows nodes js ix a.1)
+AboveKept-front : (source : List ℕ) (tables : Tables) (nodes : List (Node Item)) (spine : List ℕ) (ix : ℕ) → AboveKept source tables nodes (spine ++ ix ∷ [])
+    → AboveKept source tables nodes spine
+AboveKept-front source tables nodes [] ix a = tt
+AboveKept-front source tables nodes (j ∷ js) ix a = (a.0, AboveKept-front source tables nodes js ix a.1)
 
 -- what follows it is reached
 pub AllReach-last : (k : Links) (p : ℕ → Type 0) (spine : List ℕ) (ix : ℕ) → AllReach k p (spine ++ ix ∷ []) → (ix < k.size) × Reaches k p (k.next ix)
 AllReach-last k p [] ix a = (a.0, a.1)
 AllReach-last k p (j ∷ js) ix a = AllReach-last k p js ix a.2
 
-AboveKept-last : (source : List ℕ) (cows : List CowStr) (nodes : List (Node Item)) (spine : List ℕ) (ix : ℕ) → AboveKept source cows nodes (spine ++ ix ∷ [])
-    → AboveKept source cows nodes (ix ∷ [])
-AboveKept-last source cows nodes [] ix a = a
-AboveKept-last source cows nodes (j ∷ js) ix a = AboveKept-last source cows nodes js ix a.1
+AboveKept-last : (source : List ℕ) (tables : Tables) (nodes : List (Node Item)) (spine : List ℕ) (ix : ℕ) → AboveKept source tables nodes (spine ++ ix ∷ [])
+    → AboveKept source tables nodes (ix ∷ [])
+AboveKept-last source tables nodes [] ix a = a
+AboveKept-last source tables nodes (j ∷ js) ix a = AboveKept-last source tables nodes js ix a.1
 
 -- the node gone into last ends first
-around-snoc : (s : Setting) (cows : List CowStr) (nodes : List (Node Item)) (spine : List ℕ) (ix : ℕ) (after : Reading)
-    → around s cows nodes (spine ++ ix ∷ []) after
-    ≡ ended (closing (item_at nodes ix).body) (range_of (item_at nodes ix)) (reading s (trees_from s.text cows nodes (sibling_of nodes ix)) (around s cows nodes spine after))
-around-snoc s cows nodes [] ix after = refl
-around-snoc s cows nodes (j ∷ js) ix after = around-snoc s cows nodes js ix _
+around-snoc : (s : Setting) (above : Above) (tables : Tables) (nodes : List (Node Item)) (spine : List ℕ) (ix : ℕ) (after : Reading)
+    → around s above tables nodes (spine ++ ix ∷ []) after
+    ≡ ended (closing (item_at nodes ix).body) (range_of (item_at nodes ix))
+    (reading s (inside_all nodes spine above) (trees_from s.text tables nodes (sibling_of nodes ix)) (around s above tables nodes spine after))
+around-snoc s above tables nodes [] ix after = refl
+around-snoc s above tables nodes (j ∷ js) ix after = around-snoc s (inside_item (item_at nodes j) above) tables nodes js ix _
+
+-- what stands below it is inside it
+inside_all-snoc : (nodes : List (Node Item)) (spine : List ℕ) (ix : ℕ) (above : Above) → inside_all nodes (spine ++ ix ∷ []) above ≡ inside_item (item_at nodes ix) (inside_all nodes spine above)
+inside_all-snoc nodes [] ix above = refl
+inside_all-snoc nodes (j ∷ js) ix above = inside_all-snoc nodes js ix (inside_item (item_at nodes j) above)
 
 climbed-snoc : (gone count : ℕ → ℕ) (k : Links) (spine : List ℕ) (ix : ℕ) → climbed gone count k (spine ++ ix ∷ []) ≡ (gone ix + total count (forest_at k (k.next ix))) + climbed gone count k spine
 climbed-snoc gone count k [] ix = omega arith
 climbed-snoc gone count k (j ∷ js) ix = omega (arith, climbed-snoc gone count k js ix)
 
 -- how a tree ends is told by its body alone
-closing-enclosed : (cows : List CowStr) (source : List ℕ) (body : ItemBody) (tag : TagView) → shape_of cows source body ≡ enclosed tag → closing body ≡ Some (end_of tag)
-closing-enclosed cows source body.Paragraph tag h = cc h
-closing-enclosed cows source body.TightParagraph tag h = cc h
-closing-enclosed cows source other tag h = cc h
+closing-enclosed : (tables : Tables) (source : List ℕ) (body : ItemBody) (tag : TagView) → shape_of tables source body ≡ enclosed tag → closing body ≡ Some (end_of tag)
+closing-enclosed tables source body.Paragraph tag h = cc h
+closing-enclosed tables source body.TightParagraph tag h = cc h
+closing-enclosed tables source other tag h = cc h
 
-closing-plain : (cows : List CowStr) (source : List ℕ) (body : ItemBody) → shape_of cows source body ≡ plain → closing body ≡ None
-closing-plain cows source body.Paragraph h = cc h
-closing-plain cows source body.TightParagraph h = refl
-closing-plain cows source other h = cc h
+closing-plain : (tables : Tables) (source : List ℕ) (body : ItemBody) → shape_of tables source body ≡ plain → closing body ≡ None
+closing-plain tables source body.Paragraph h = cc h
+closing-plain tables source body.TightParagraph h = refl
+closing-plain tables source other h = cc h
 
 -- over a node that reads as one event
-pub moves_on : (s : Setting) (cows : List CowStr) (nodes : List (Node Item)) (ix : ℕ) (spine : List ℕ) (e : EventView) (origins : List Origin)
-    → Stands s.text cows nodes (Some ix) spine → (label_at s.text cows nodes ix).part.shape ≡ leaf e origins
-    → Moves s cows nodes (Some ix) spine (sibling_of nodes ix) spine ((e, range_of (item_at nodes ix), origins) ∷ [])
-unfolding left_of left_total
-moves_on s cows nodes ix spine e origins w h =
-    let o = opens (links_of nodes) (IsPlaced s.text cows nodes) ix w.walk.here in
+pub moves_on : (s : Setting) (tables : Tables) (nodes : List (Node Item)) (ix : ℕ) (spine : List ℕ) (e : EventView) (origins : List Origin)
+    → Stands s.text tables nodes (Some ix) spine → (label_at s.text tables nodes ix).part.shape ≡ leaf e origins
+    → Moves s tables nodes (Some ix) spine (sibling_of nodes ix) spine ((e, range_of (item_at nodes ix), origins) ∷ [])
+unfolding left_of left_total items_ahead
+moves_on s tables nodes ix spine e origins w h =
+    let o = opens (links_of nodes) (IsPlaced s.text tables nodes) ix w.walk.here in
     let two = some_weight (is_open (item_at nodes ix).body) in
     record {
       stands = record {
@@ -108,98 +118,103 @@ moves_on s cows nodes ix spine e origins w h =
         above_kept = w.above_kept;
       };
       left = λ known. rw (o.here, h) refl;
+      items = rw (o.here, h) refl;
       falls = let waits = waits_once nodes (sibling_of nodes ix) in rw o.here (omega arith);
     }
 
--- no text that it names is named afterwards
-pub moves_past : (source : List ℕ) (cows : List CowStr) (nodes : List (Node Item)) (ix : ℕ) (spine : List ℕ) (n : ℕ)
-    → Stands source cows nodes (Some ix) spine → naming nodes n ix + named_left nodes (sibling_of nodes ix) spine n ≤ 1
+-- no entry that it names is named afterwards
+pub moves_past : (source : List ℕ) (tables : Tables) (nodes : List (Node Item)) (ix : ℕ) (spine : List ℕ) (n : Named)
+    → Stands source tables nodes (Some ix) spine → naming nodes n ix + named_left nodes (sibling_of nodes ix) spine n ≤ 1
 unfolding left_total
-moves_past source cows nodes ix spine n w =
-    let o = opens (links_of nodes) (IsPlaced source cows nodes) ix w.walk.here in
+moves_past source tables nodes ix spine n w =
+    let o = opens (links_of nodes) (IsPlaced source tables nodes) ix w.walk.here in
     let x = rw o.here at (w.named_once n) in
     omega arith
 
-pub moves_past_in : (source : List ℕ) (cows : List CowStr) (nodes : List (Node Item)) (ix : ℕ) (spine : List ℕ) (n : ℕ)
-    → Stands source cows nodes (Some ix) spine → naming nodes n ix + named_left nodes (child_of nodes ix) (spine ++ ix ∷ []) n ≤ 1
+pub moves_past_in : (source : List ℕ) (tables : Tables) (nodes : List (Node Item)) (ix : ℕ) (spine : List ℕ) (n : Named)
+    → Stands source tables nodes (Some ix) spine → naming nodes n ix + named_left nodes (child_of nodes ix) (spine ++ ix ∷ []) n ≤ 1
 unfolding left_total
-moves_past_in source cows nodes ix spine n w =
-    let o = opens (links_of nodes) (IsPlaced source cows nodes) ix w.walk.here in
+moves_past_in source tables nodes ix spine n w =
+    let o = opens (links_of nodes) (IsPlaced source tables nodes) ix w.walk.here in
     rw (climbed-snoc (λ ix. 0) (naming nodes n) (links_of nodes) spine ix) (let x = rw o.here at (w.named_once n) in omega arith)
 
 -- into a node that reads as a Start, its children and an End
-pub moves_in : (s : Setting) (cows : List CowStr) (nodes : List (Node Item)) (ix : ℕ) (spine : List ℕ) (tag : TagView)
-    → Stands s.text cows nodes (Some ix) spine → (label_at s.text cows nodes ix).part.shape ≡ enclosed tag
-    → Moves s cows nodes (Some ix) spine (child_of nodes ix) (spine ++ ix ∷ []) ((start tag, range_of (item_at nodes ix), []) ∷ [])
-unfolding left_of left_total
-moves_in s cows nodes ix spine tag w h =
-    let o = opens (links_of nodes) (IsPlaced s.text cows nodes) ix w.walk.here in
+pub moves_in : (s : Setting) (tables : Tables) (nodes : List (Node Item)) (ix : ℕ) (spine : List ℕ) (tag : TagView)
+    → Stands s.text tables nodes (Some ix) spine → (label_at s.text tables nodes ix).part.shape ≡ enclosed tag
+    → Moves s tables nodes (Some ix) spine (child_of nodes ix) (spine ++ ix ∷ []) ((start tag, range_of (item_at nodes ix), []) ∷ [])
+unfolding left_of left_total items_ahead
+moves_in s tables nodes ix spine tag w h =
+    let o = opens (links_of nodes) (IsPlaced s.text tables nodes) ix w.walk.here in
     let kept = rw o.here at w.here_kept in
     let two = some_weight (is_open (item_at nodes ix).body) in
-    let c = closing-enclosed cows (slice_range s.text (item_at nodes ix).start (item_at nodes ix).end) (item_at nodes ix).body tag h in
+    let c = closing-enclosed tables (slice_range s.text (item_at nodes ix).start (item_at nodes ix).end) (item_at nodes ix).body tag h in
     record {
       stands = record {
-        walk = record { here = o.below; above = AllReach-snoc (links_of nodes) (IsPlaced s.text cows nodes) spine ix w.walk.above o.within o.after };
+        walk = record { here = o.below; above = AllReach-snoc (links_of nodes) (IsPlaced s.text tables nodes) spine ix w.walk.above o.within o.after };
         once = λ n. rw (climbed-snoc (same n) (same n) (links_of nodes) spine ix) (let x = rw o.here at (w.once n) in omega arith);
         named_once = λ n. rw (climbed-snoc (λ ix. 0) (naming nodes n) (links_of nodes) spine ix) (let x = rw o.here at (w.named_once n) in omega arith);
         here_kept = kept.1;
-        above_kept = AboveKept-snoc s.text cows nodes spine ix w.above_kept (kept.2, tt);
+        above_kept = AboveKept-snoc s.text tables nodes spine ix w.above_kept (kept.2, tt);
       };
-      left = λ known. rw (o.here, around-snoc s cows nodes spine ix nothing, c, h) refl;
+      left = λ known. rw (o.here, around-snoc s (no_blocks s.text) tables nodes spine ix nothing, inside_all-snoc nodes spine ix (no_blocks s.text), c, h) refl;
+      items = rw (o.here, h) refl;
       falls = let waits = waits_once nodes (child_of nodes ix) in rw (o.here, climbed-snoc (λ ix. 1) (weight_at nodes) (links_of nodes) spine ix) (omega arith);
     }
 
 -- into a node that reads as its children alone
-pub moves_in_plain : (s : Setting) (cows : List CowStr) (nodes : List (Node Item)) (ix : ℕ) (spine : List ℕ)
-    → Stands s.text cows nodes (Some ix) spine → (label_at s.text cows nodes ix).part.shape ≡ plain
-    → Moves s cows nodes (Some ix) spine (child_of nodes ix) (spine ++ ix ∷ []) []
-unfolding left_of left_total
-moves_in_plain s cows nodes ix spine w h =
-    let o = opens (links_of nodes) (IsPlaced s.text cows nodes) ix w.walk.here in
+pub moves_in_plain : (s : Setting) (tables : Tables) (nodes : List (Node Item)) (ix : ℕ) (spine : List ℕ)
+    → Stands s.text tables nodes (Some ix) spine → (label_at s.text tables nodes ix).part.shape ≡ plain
+    → Moves s tables nodes (Some ix) spine (child_of nodes ix) (spine ++ ix ∷ []) []
+unfolding left_of left_total items_ahead
+moves_in_plain s tables nodes ix spine w h =
+    let o = opens (links_of nodes) (IsPlaced s.text tables nodes) ix w.walk.here in
     let kept = rw o.here at w.here_kept in
     let two = some_weight (is_open (item_at nodes ix).body) in
-    let c = closing-plain cows (slice_range s.text (item_at nodes ix).start (item_at nodes ix).end) (item_at nodes ix).body h in
+    let c = closing-plain tables (slice_range s.text (item_at nodes ix).start (item_at nodes ix).end) (item_at nodes ix).body h in
     record {
       stands = record {
-        walk = record { here = o.below; above = AllReach-snoc (links_of nodes) (IsPlaced s.text cows nodes) spine ix w.walk.above o.within o.after };
+        walk = record { here = o.below; above = AllReach-snoc (links_of nodes) (IsPlaced s.text tables nodes) spine ix w.walk.above o.within o.after };
         once = λ n. rw (climbed-snoc (same n) (same n) (links_of nodes) spine ix) (let x = rw o.here at (w.once n) in omega arith);
         named_once = λ n. rw (climbed-snoc (λ ix. 0) (naming nodes n) (links_of nodes) spine ix) (let x = rw o.here at (w.named_once n) in omega arith);
         here_kept = kept.1;
-        above_kept = AboveKept-snoc s.text cows nodes spine ix w.above_kept (kept.2, tt);
+        above_kept = AboveKept-snoc s.text tables nodes spine ix w.above_kept (kept.2, tt);
       };
-      left = λ known. rw (o.here, around-snoc s cows nodes spine ix nothing, c, h) refl;
+      left = λ known. rw (o.here, around-snoc s (no_blocks s.text) tables nodes spine ix nothing, inside_all-snoc nodes spine ix (no_blocks s.text), c, h) refl;
+      items = rw (o.here, items_around-snoc s.text tables nodes spine ix 0, c, h) refl;
       falls = let waits = waits_once nodes (child_of nodes ix) in rw (o.here, climbed-snoc (λ ix. 1) (weight_at nodes) (links_of nodes) spine ix) (omega arith);
     }
 
 -- out of a node, whose end reads so
-pub moves_out : (s : Setting) (cows : List CowStr) (nodes : List (Node Item)) (ix : ℕ) (spine : List ℕ) (given : List Placed)
-    → Stands s.text cows nodes None (spine ++ ix ∷ [])
+pub moves_out : (s : Setting) (tables : Tables) (nodes : List (Node Item)) (ix : ℕ) (spine : List ℕ) (given : List Placed)
+    → Stands s.text tables nodes None (spine ++ ix ∷ [])
     → ((after : Reading) (known : Known) → ended (closing (item_at nodes ix).body) (range_of (item_at nodes ix)) after known ≡ map event given ++ after known)
-    → Moves s cows nodes None (spine ++ ix ∷ []) (sibling_of nodes ix) spine given
-unfolding left_of left_total
-moves_out s cows nodes ix spine given w h =
+    → ((after : ℕ) → LeavesAhead given (unless_ended (closing (item_at nodes ix).body) after) after)
+    → Moves s tables nodes None (spine ++ ix ∷ []) (sibling_of nodes ix) spine given
+unfolding left_of left_total items_ahead
+moves_out s tables nodes ix spine given w h a =
     record {
       stands = record {
-        walk = record { here = (AllReach-last (links_of nodes) (IsPlaced s.text cows nodes) spine ix w.walk.above).1; above = AllReach-front (links_of nodes) (IsPlaced s.text cows nodes) spine ix w.walk.above };
+        walk = record { here = (AllReach-last (links_of nodes) (IsPlaced s.text tables nodes) spine ix w.walk.above).1; above = AllReach-front (links_of nodes) (IsPlaced s.text tables nodes) spine ix w.walk.above };
         once = λ n. let x = rw (climbed-snoc (same n) (same n) (links_of nodes) spine ix) at (w.once n) in omega arith;
         named_once = λ n. let x = rw (climbed-snoc (λ ix. 0) (naming nodes n) (links_of nodes) spine ix) at (w.named_once n) in omega arith;
-        here_kept = (AboveKept-last s.text cows nodes spine ix w.above_kept).0;
-        above_kept = AboveKept-front s.text cows nodes spine ix w.above_kept;
+        here_kept = (AboveKept-last s.text tables nodes spine ix w.above_kept).0;
+        above_kept = AboveKept-front s.text tables nodes spine ix w.above_kept;
       };
-      left = λ known. rw (forest_at-none (links_of nodes), around-snoc s cows nodes spine ix nothing) (h (reading s (trees_from s.text cows nodes (sibling_of nodes ix)) (around s cows nodes spine nothing)) known);
+      left = λ known. rw (forest_at-none (links_of nodes), around-snoc s (no_blocks s.text) tables nodes spine ix nothing) (h (reading s (above_at s.text nodes spine) (trees_from s.text tables nodes (sibling_of nodes ix)) (around s (no_blocks s.text) tables nodes spine nothing)) known);
+      items = rw (forest_at-none (links_of nodes), items_around-snoc s.text tables nodes spine ix 0) (a (first_items (trees_from s.text tables nodes (sibling_of nodes ix)) (items_around s.text tables nodes spine 0)));
       falls = let waits = waits_once nodes (sibling_of nodes ix) in rw (forest_at-none (links_of nodes), climbed-snoc (λ ix. 1) (weight_at nodes) (links_of nodes) spine ix) (omega arith);
     }
 
 -- at the end nothing is left
-pub left_of-end : (s : Setting) (cows : List CowStr) (nodes : List (Node Item)) (known : Known) → left_of s cows nodes None [] known ≡ []
+pub left_of-end : (s : Setting) (tables : Tables) (nodes : List (Node Item)) (known : Known) → left_of s tables nodes None [] known ≡ []
 unfolding left_of
-left_of-end s cows nodes known = rw (forest_at-none (links_of nodes)) refl
+left_of-end s tables nodes known = rw (forest_at-none (links_of nodes)) refl
 
 -- a node in focus takes steps
-pub steps-some : (source : List ℕ) (cows : List CowStr) (nodes : List (Node Item)) (ix : ℕ) (spine : List ℕ) → Stands source cows nodes (Some ix) spine → 0 < steps_of nodes (Some ix) spine
+pub steps-some : (source : List ℕ) (tables : Tables) (nodes : List (Node Item)) (ix : ℕ) (spine : List ℕ) → Stands source tables nodes (Some ix) spine → 0 < steps_of nodes (Some ix) spine
 unfolding left_total
-steps-some source cows nodes ix spine w =
-    let o = opens (links_of nodes) (IsPlaced source cows nodes) ix w.walk.here in
+steps-some source tables nodes ix spine w =
+    let o = opens (links_of nodes) (IsPlaced source tables nodes) ix w.walk.here in
     let two = some_weight (is_open (item_at nodes ix).body) in
     rw o.here (omega arith)
 
@@ -207,9 +222,9 @@ pub steps-end : (nodes : List (Node Item)) → steps_of nodes None [] ≡ 0
 unfolding left_total
 steps-end nodes = rw (forest_at-none (links_of nodes)) (omega arith)
 
-pub stands-end : (source : List ℕ) (cows : List CowStr) (nodes : List (Node Item)) → Stands source cows nodes None []
+pub stands-end : (source : List ℕ) (tables : Tables) (nodes : List (Node Item)) → Stands source tables nodes None []
 unfolding left_total
-stands-end source cows nodes =
+stands-end source tables nodes =
     let e = forest_at-none (links_of nodes) in
     record {
       walk = record { here = record { spelled = rw e refl; each = rw e tt }; above = tt };

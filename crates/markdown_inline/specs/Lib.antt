@@ -9,6 +9,7 @@ pub mod Runs
 -- facts of the representation: a walk over an arena
 pub mod Walk
 pub mod WalkTotals
+pub mod Counts
 pub mod Standing
 -- what private contracts speak of
 pub mod WalkSteps

@@ -1,5 +1,5 @@
 -- What a call of `next` gives of what was left of a parser.
-use Rattle.std.specs.Prelude.{◌≡◌, ℕ, List, [], ◌∷◌, ◌++◌, map, Option, None, Result, MatchOption, MatchResult}
+use Rattle.std.specs.Prelude.{◌≡◌, ℕ, List, [], ◌∷◌, ◌++◌, map, Option, None, Result, MatchOption, MatchResult, ⊤}
 use Rattle.std.specs.declared.ops.Range.{Range}
 use Rattle.markdown_base.specs.Event.{event_view}
 use Rattle.markdown_base.specs.Questions.{Question, Answer, Answers}
@@ -7,8 +7,9 @@ use Rattle.markdown_base.specs.declared.event.Event.{Event}
 use Rattle.markdown_base.specs.declared.fault.Fault.{Fault}
 use Rattle.markdown_base.specs.declared.fault.Fault.TheVariants.{Memory}
 use Rattle.markdown_spans.specs.Callback.{Asks}
+use Rattle.markdown_inline.specs.Counts.{WorkRises}
 use Rattle.markdown_inline.specs.Elements.{Placed, Element, question, event}
-use Rattle.markdown_inline.specs.ParserLeft.{parser_text, parser_definitions, parser_callback, elements, IsOver}
+use Rattle.markdown_inline.specs.ParserLeft.{parser_text, parser_definitions, parser_callback, elements, parser_items, parser_work, IsOver}
 use Rattle.markdown_inline.specs.Slices.{texts_of, AreFrom}
 use Rattle.markdown_inline.specs.declared.walk.Parser.{Parser}
 
@@ -49,6 +50,12 @@ pub record GivesNone {F : Type 0} (s t : Parser F) : Type 0 where
   pub callback : parser_callback t ≡ parser_callback s
   pub over : IsOver t
 
+-- the counts rise by those of the chain that was resolved, if one was; what an error leaves of them is not said
+abbrev pub CountsRise : {F I : Type 0} → Parser F → Option (Result I Fault) → Parser F → Type 0
+CountsRise s r t =
+    let rises = WorkRises (parser_items s) (parser_work s) (parser_work t) in
+    MatchOption r rises (λ item. MatchResult item (λ e. rises) (λ fault. ⊤))
+
 -- the whole: beside this the text and its definitions stay, and where the walk is over None comes, and it stays over
 pub record NextGives {F I : Type 0} (step : F → Question → Option Answer → F → Type 0) (is_of : List ℕ → I → Placed → Type 0)
     (s : Parser F) (r : Option (Result I Fault)) (t : Parser F) : Type 0 where
@@ -56,3 +63,4 @@ pub record NextGives {F I : Type 0} (step : F → Question → Option Answer →
   pub text : parser_text t ≡ parser_text s
   pub definitions : parser_definitions t ≡ parser_definitions s
   pub stays : IsOver s → (r ≡ None) × IsOver t
+  pub work : CountsRise s r t

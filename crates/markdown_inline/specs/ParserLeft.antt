@@ -9,10 +9,13 @@ use Rattle.markdown_spans.specs.Blocks.{block_text, block_options, block_tree, b
 use Rattle.markdown_spans.specs.Definitions.{Labelled, firsts}
 use Rattle.markdown_spans.specs.Folding.{is_match}
 use Rattle.markdown_spans.specs.declared.blocks.Blocks.{Blocks}
+use Rattle.markdown_chains.specs.Above.{no_blocks}
 use Rattle.markdown_chains.specs.Document.{document}
+use Rattle.markdown_inline.specs.Counts.{tree_items}
 use Rattle.markdown_inline.specs.Elements.{Element, nothing}
 use Rattle.markdown_inline.specs.Reading.{reading}
-use Rattle.markdown_chains.specs.Setting.{Rules, Setting, Known, rules_from, setting_of}
+use Rattle.markdown_chains.specs.Setting.{Rules, Setting, Known, rules_from, setting_of, uses_of}
+use Rattle.markdown_chains.specs.Tables.{tables_of, tables_at_start}
 use Rattle.markdown_inline.specs.WalkSteps.{tree_left, tree_steps}
 use Rattle.markdown_inline.specs.declared.walk.Parser.{Parser}
 use Rattle.markdown_inline.specs.declared.walk.OffsetIter.{OffsetIter}
@@ -28,7 +31,7 @@ expansion_limit source = max (length source) 100000
 
 -- what is known before any chain is resolved
 abbrev pub known_at_start : List ℕ → Answers → Known
-known_at_start source answers = record { limit = expansion_limit source; answers = answers }
+known_at_start source answers = record { limit = expansion_limit source; answers = answers; uses = λ name. 0 }
 
 -- what the rules of a chain go by in a block result, where there is somebody to ask and where not
 abbrev pub rules_of : Blocks → Bool → Rules
@@ -42,7 +45,7 @@ rules_of blocks asks = record {
 -- the reading of a block result, for these answers, where there is somebody to ask and where not
 abbrev pub reading_of : Blocks → Bool → Answers → List Element
 reading_of blocks asks answers =
-    reading (setting_of (block_text blocks) (rules_of blocks asks)) (document (block_text blocks) (block_parts blocks).cows.items (block_tree blocks).nodes) nothing (known_at_start (block_text blocks) answers)
+    reading (setting_of (block_text blocks) (rules_of blocks asks)) (no_blocks (block_text blocks)) (document (block_text blocks) (tables_at_start (block_parts blocks)) (block_tree blocks).nodes) nothing (known_at_start (block_text blocks) answers)
 
 -- the text that a parser reads
 abbrev pub parser_text : {F : Type 0} → Parser F → List ℕ
@@ -60,13 +63,21 @@ parser_callback p = p.resolver.callback
 abbrev pub parser_work : {F : Type 0} → Parser F → Work
 parser_work p = p.resolver.work
 
+-- how many items the chain has that it resolves before its next event; 0 where it resolves none
+abbrev pub parser_items : {F : Type 0} → Parser F → ℕ
+parser_items p = tree_items p.resolver.text.now (tables_of p.resolver.tables) p.tree
+
 -- what the rules of its chains go by
 abbrev pub parser_setting : {F : Type 0} → Parser F → Setting
 parser_setting p = setting_of p.resolver.text.now (rules_from p.resolver.options p.resolver.tables (is_some p.resolver.callback))
 
+-- what is known to the chain that comes next, where these answers are to come
+abbrev pub parser_known : {F : Type 0} → Parser F → Answers → Known
+parser_known p answers = record { limit = p.resolver.limit; answers = answers; uses = uses_of p.resolver.tables.footdefs }
+
 -- the elements that are left of it
 unfoldable pub elements : {F : Type 0} → Parser F → Answers → List Element
-elements p answers = tree_left (parser_setting p) p.resolver.tables.cows p.tree (record { limit = p.resolver.limit; answers = answers })
+elements p answers = tree_left (parser_setting p) (tables_of p.resolver.tables) p.tree (parser_known p answers)
 
 -- all of the reading of a block result is left, for every list of answers
 abbrev pub ReadsBlocks : {F : Type 0} → Blocks → Parser F → Type 0

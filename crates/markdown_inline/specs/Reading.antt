@@ -7,6 +7,7 @@ use Rattle.markdown_base.specs.Forest.{Forest, nil, node}
 use Rattle.markdown_chains.specs.Document.{Shape, leaf, enclosed, plain, unresolved, Label}
 use Rattle.markdown_inline.specs.Elements.{Element, question, Reading, then_reads}
 use Rattle.markdown_resolver.specs.Resolved.{Resolved, resolved, all_paired}
+use Rattle.markdown_chains.specs.Above.{Above, inside_label}
 use Rattle.markdown_chains.specs.Setting.{Setting}
 
 -- the reading of a tree over a range, where `inside` reads what is below it before what follows, `after`
@@ -27,11 +28,13 @@ settled_reading (node a below later) after =
 abbrev pub then_resolved : {A : Type 0} → Setting → Resolved A → Reading → List Element
 then_resolved s r after = map question r.questions ++ settled_reading (all_paired s r.forest) after r.known
 
-abbrev pub chain_reading : {A : Type 0} → Setting → Forest (Label A) → Reading → Reading
-chain_reading s chain after known = then_resolved s (resolved s chain known) after
+abbrev pub chain_reading : {A : Type 0} → Setting → Above → Forest (Label A) → Reading → Reading
+chain_reading s above chain after known = then_resolved s (resolved s above chain known) after
 
--- the reading of a forest, in which a chain is resolved from its first open item on, and of what comes after it
-abbrev pub reading : {A : Type 0} → Setting → Forest (Label A) → Reading → Reading
-reading s nil after = after
-reading s (node a below later) after =
-    opened a.part.shape a.part.range (λ inner. reading s below inner) (reading s later after) (chain_reading s (node a below later) after)
+-- the reading of a forest, below the blocks that are open above it, and of what comes after it: a chain is resolved
+-- from its first open item on
+abbrev pub reading : {A : Type 0} → Setting → Above → Forest (Label A) → Reading → Reading
+reading s above nil after = after
+reading s above (node a below later) after =
+    opened a.part.shape a.part.range (λ inner. reading s (inside_label a above) below inner) (reading s above later after)
+    (chain_reading s above (node a below later) after)

@@ -1,10 +1,10 @@
 -- Texts of events that are slices of the source.
+use Rattle.markdown_base.specs.declared.event.Event.TheVariants as step
 use Rattle.std.specs.Prelude.{◌≡◌, ℕ, List, [], ◌∷◌, slice_range}
 use Rattle.std.specs.declared.ops.Range.{Range}
 use Rattle.markdown_base.specs.declared.cow_str.CowStr.{CowStr}
 use Rattle.markdown_base.specs.declared.cow_str.CowStr.TheVariants.{Borrowed}
 use Rattle.markdown_base.specs.declared.event.Event.{Event}
-use Rattle.markdown_base.specs.declared.event.Event.TheVariants as step
 use Rattle.markdown_chains.specs.Document.{Origin, sliced, made}
 
 -- a text is borrowed, and is the source's bytes over some range

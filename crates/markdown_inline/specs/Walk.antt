@@ -5,7 +5,6 @@ use Rattle.markdown_base.specs.Arena.{sibling_of}
 use Rattle.markdown_base.specs.BlockTree.{item_at}
 use Rattle.markdown_base.specs.Event.{end, end_of}
 use Rattle.markdown_base.specs.Item.{range_of}
-use Rattle.markdown_base.specs.declared.cow_str.CowStr.{CowStr}
 use Rattle.markdown_base.specs.declared.item.Item.{Item}
 use Rattle.markdown_base.specs.declared.item.ItemBody.{ItemBody}
 use Rattle.markdown_base.specs.declared.node.Node.{Node}
@@ -13,8 +12,10 @@ use Rattle.markdown_base.specs.declared.tag.TagEnd.{TagEnd}
 use Rattle.markdown_chains.specs.Document.{Shape, leaf, enclosed, plain, unresolved, shape_of}
 use Rattle.markdown_inline.specs.Elements.{Reading, nothing, then_reads}
 use Rattle.markdown_inline.specs.Reading.{reading}
+use Rattle.markdown_chains.specs.Above.{Above, no_blocks, inside_item, above_at}
 use Rattle.markdown_chains.specs.Setting.{Setting}
 use Rattle.markdown_chains.specs.Places.{trees_from}
+use Rattle.markdown_chains.specs.Tables.{Tables, no_tables}
 
 -- the End of a tree that was begun
 abbrev pub end_of_shape : Shape → Option TagEnd
@@ -23,23 +24,25 @@ end_of_shape (enclosed tag) = Some (end_of tag)
 end_of_shape plain = None
 end_of_shape (unresolved b) = None
 
--- its body alone tells it: a text that the Start named is gone by then
+-- its body alone tells it: what the Start named is gone by then
 abbrev pub closing : ItemBody → Option TagEnd
-closing b = end_of_shape (shape_of [] [] b)
+closing b = end_of_shape (shape_of no_tables [] b)
 
 -- that End, and then what comes after it
 abbrev pub ended : Option TagEnd → Range ℕ → Reading → Reading
 ended None range after = after
 ended (Some e) range after = then_reads (end e, range, []) after
 
--- what comes after the chain at hand: each tree that was begun ends, from the innermost on, and the trees
--- after it are read
-abbrev pub around : Setting → List CowStr → List (Node Item) → List ℕ → Reading → Reading
-around s cows nodes [] after = after
-around s cows nodes (ix ∷ deeper) after =
-    around s cows nodes deeper
-    (ended (closing (item_at nodes ix).body) (range_of (item_at nodes ix)) (reading s (trees_from s.text cows nodes (sibling_of nodes ix)) after))
+-- what comes after the chain at hand, where these blocks are open above the spine: each tree that was begun ends,
+-- from the innermost on, and the trees after it are read
+abbrev pub around : Setting → Above → Tables → List (Node Item) → List ℕ → Reading → Reading
+around s above tables nodes [] after = after
+around s above tables nodes (ix ∷ deeper) after =
+    around s (inside_item (item_at nodes ix) above) tables nodes deeper
+    (ended (closing (item_at nodes ix).body) (range_of (item_at nodes ix))
+    (reading s above (trees_from s.text tables nodes (sibling_of nodes ix)) after))
 
 -- what is left of a walk
-unfoldable pub left_of : Setting → List CowStr → List (Node Item) → Option ℕ → List ℕ → Reading
-left_of s cows nodes cursor spine = reading s (trees_from s.text cows nodes cursor) (around s cows nodes spine nothing)
+unfoldable pub left_of : Setting → Tables → List (Node Item) → Option ℕ → List ℕ → Reading
+left_of s tables nodes cursor spine =
+    reading s (above_at s.text nodes spine) (trees_from s.text tables nodes cursor) (around s (no_blocks s.text) tables nodes spine nothing)

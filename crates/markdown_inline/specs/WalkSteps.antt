@@ -1,28 +1,29 @@
 -- What one step of a walk over a tree gives.
-use Rattle.std.specs.Prelude.{◌≡◌, ℕ, ◌<◌, true, List, [], ◌∷◌, ◌++◌, map, Option, Some, None, length}
+use Rattle.markdown_inline.specs.declared.step.Opening.TheVariants as opening
+use Rattle.markdown_inline.specs.declared.step.Step.TheVariants as step
+use Rattle.std.specs.Prelude.{◌≡◌, ℕ, ◌<◌, true, List, [], ◌∷◌, ◌++◌, map, Option, Some, None}
 use Rattle.std.specs.declared.ops.Range.{Range}
 use Rattle.markdown_base.specs.Arena.{Arena}
 use Rattle.markdown_base.specs.BlockTree.{item_at}
 use Rattle.markdown_base.specs.Event.{event_view, tag_view}
-use Rattle.markdown_base.specs.Item.{is_open, text_named}
-use Rattle.markdown_base.specs.declared.cow_str.CowStr.{CowStr}
+use Rattle.markdown_base.specs.Item.{is_open}
 use Rattle.markdown_base.specs.declared.event.Event.{Event}
 use Rattle.markdown_base.specs.declared.item.Item.{Item}
 use Rattle.markdown_base.specs.declared.item.ItemBody.{ItemBody}
 use Rattle.markdown_base.specs.declared.tag.TagEnd.{TagEnd}
 use Rattle.markdown_spans.specs.Allocations.{Allocated}
-use Rattle.markdown_chains.specs.Document.{Origin, Shape, leaf, enclosed, plain, text_at}
+use Rattle.markdown_chains.specs.Document.{Origin, Shape, leaf, enclosed, plain}
 use Rattle.markdown_inline.specs.Elements.{Placed, Reading, event}
 use Rattle.markdown_chains.specs.Setting.{Rules, Setting, Known, setting_of}
 use Rattle.markdown_inline.specs.Slices.{texts_of, AreFrom}
 use Rattle.markdown_inline.specs.Standing.{Stands}
-use Rattle.markdown_chains.specs.Totals.{same_as}
+use Rattle.markdown_chains.specs.Totals.{times_named}
+use Rattle.markdown_chains.specs.Tables.{Tables, Named, tables_of, IsSameEntry, IsNoShorter}
 use Rattle.markdown_inline.specs.WalkTotals.{steps_of}
+use Rattle.markdown_inline.specs.Counts.{tree_items, LeavesAhead}
 use Rattle.markdown_inline.specs.Walk.{left_of, closing}
 use Rattle.markdown_inline.specs.declared.step.Opening.{Opening}
-use Rattle.markdown_inline.specs.declared.step.Opening.TheVariants as opening
 use Rattle.markdown_inline.specs.declared.step.Step.{Step}
-use Rattle.markdown_inline.specs.declared.step.Step.TheVariants as step
 
 -- an item of this shape begins with an event, whose texts are of the origins that the shape names
 pub record OpensWith (source : List ℕ) (shape : Shape) (e : Event) : Type 0 where
@@ -40,23 +41,23 @@ OpensTo source shape opening.Plain = shape ≡ plain
 abbrev pub ClosesTo : ItemBody → Option TagEnd → Type 0
 ClosesTo body e = closing body ≡ e
 
--- what is held, but for a text that a body names
+-- what is held, but for an entry that a body names
 pub record TakesOnly (body : ItemBody) (old new : Allocated) : Type 0 where
-  pub tables : new ≡ record old { cows = new.cows }
-  pub size : length new.cows ≡ length old.cows
-  pub others : (n : ℕ) → same_as n (text_named body) ≡ 0 → text_at new.cows n ≡ text_at old.cows n
+  pub tables : new ≡ record old { cows = new.cows; links = new.links; alignments = new.alignments }
+  pub longer : IsNoShorter (tables_of old) (tables_of new)
+  pub others : (n : Named) → times_named n body ≡ 0 → IsSameEntry (tables_of old) (tables_of new) n
 
 -- what is left of the walk of a tree
-abbrev pub tree_left : Setting → List CowStr → Arena Item → Reading
-tree_left s cows arena = left_of s cows arena.nodes arena.cursor arena.spine
+abbrev pub tree_left : Setting → Tables → Arena Item → Reading
+tree_left s tables arena = left_of s tables arena.nodes arena.cursor arena.spine
 
 -- a bound on the steps to come
 abbrev pub tree_steps : Arena Item → ℕ
 tree_steps arena = steps_of arena.nodes arena.cursor arena.spine
 
--- a walk stands in a tree, with these texts
-abbrev pub TreeStands : List ℕ → List CowStr → Arena Item → Type 0
-TreeStands source cows arena = Stands source cows arena.nodes arena.cursor arena.spine
+-- a walk stands in a tree, with these tables
+abbrev pub TreeStands : List ℕ → Tables → Arena Item → Type 0
+TreeStands source tables arena = Stands source tables arena.nodes arena.cursor arena.spine
 
 -- the walk is over: no node is in focus, and none is gone into
 pub record HasEnded (arena : Arena Item) : Type 0 where
@@ -65,11 +66,12 @@ pub record HasEnded (arena : Arena Item) : Type 0 where
 
 -- a step from s to t gave these events, whatever the rules of a chain
 pub record Went (source : List ℕ) (s t : Arena Item) (held held' : Allocated) (given : List Placed) : Type 0 where
-  pub stands : TreeStands source held'.cows t
-  pub tables : held' ≡ record held { cows = held'.cows }
-  pub left : (rules : Rules) (known : Known) → tree_left (setting_of source rules) held.cows s known
-      ≡ map event given ++ tree_left (setting_of source rules) held'.cows t known
+  pub stands : TreeStands source (tables_of held') t
+  pub tables : held' ≡ record held { cows = held'.cows; links = held'.links; alignments = held'.alignments }
+  pub left : (rules : Rules) (known : Known) → tree_left (setting_of source rules) (tables_of held) s known
+      ≡ map event given ++ tree_left (setting_of source rules) (tables_of held') t known
   pub falls : tree_steps t < tree_steps s
+  pub items : LeavesAhead given (tree_items source (tables_of held) s) (tree_items source (tables_of held') t)
 
 -- a step gave this event over this range
 pub record Gives (source : List ℕ) (s t : Arena Item) (held held' : Allocated) (e : Event) (range : Range ℕ) : Type 0 where

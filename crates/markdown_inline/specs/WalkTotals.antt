@@ -6,7 +6,8 @@ use Rattle.markdown_base.specs.BlockTree.{item_at}
 use Rattle.markdown_base.specs.Item.{is_open}
 use Rattle.markdown_base.specs.declared.item.Item.{Item}
 use Rattle.markdown_base.specs.declared.node.Node.{Node}
-use Rattle.markdown_chains.specs.Totals.{naming, same, total, weight_at}
+use Rattle.markdown_chains.specs.Totals.{weight_at, total, same, naming}
+use Rattle.markdown_chains.specs.Tables.{Named}
 
 -- the sum over what is above the chain at hand: each node gone into counts `gone`, what follows it counts `count`
 abbrev pub climbed : (gone count : ℕ → ℕ) → Links → List ℕ → ℕ
@@ -21,8 +22,8 @@ left_total gone count k l spine = total count (forest_at k l) + climbed gone cou
 abbrev pub times_left : Links → Option ℕ → List ℕ → ℕ → ℕ
 times_left k l spine n = left_total (same n) (same n) k l spine
 
--- how often a text is named there
-abbrev pub named_left : List (Node Item) → Option ℕ → List ℕ → ℕ → ℕ
+-- how often an entry of a table is named there
+abbrev pub named_left : List (Node Item) → Option ℕ → List ℕ → Named → ℕ
 named_left nodes l spine n = left_total (λ ix. 0) (naming nodes n) (links_of nodes) l spine
 
 -- what it weighs: of a node gone into the move out of it is left

@@ -1,7 +1,8 @@
 //! One step of a walk over a tree of items, with what they name.
 ghost use Rattle.std.specs.Prelude.{◌≡◌, ◌<◌, None, Some, false, MatchResult, IfSome, length, slice_range};
-ghost use Rattle.markdown_base.specs.Item.{LiesIn, is_open, text_named};
+ghost use Rattle.markdown_base.specs.Item.{LiesIn, is_open};
 ghost use Rattle.markdown_chains.specs.Document.{shape_of};
+ghost use Rattle.markdown_chains.specs.Tables.{tables_of, NamesEntries};
 ghost use Rattle.markdown_inline.specs.WalkSteps.{StepGives, TreeStands, IsRefused, OpensTo, ClosesTo, TakesOnly};
 
 use markdown_base::cow_str::CowStr;
@@ -48,8 +49,8 @@ fn slice_of<'a>(text: &'a str, item: Item) -> Event<'a>
 pub fn open_item<'a>(text: &'a str, tables: &mut Allocations<'a>, item: Item) -> Opening<'a>
     requires lies { LiesIn text.now item }
     requires settled { is_open item.body ≡ false }
-    requires named { IfSome (text_named item.body) (λ n. n < length tables.old.cows) }
-    ensures opens { OpensTo text.entry.now (shape_of tables.old.cows (slice_range text.entry.now item.start item.end) item.body) result }
+    requires named { NamesEntries (tables_of tables.old) item.body }
+    ensures opens { OpensTo text.entry.now (shape_of (tables_of tables.old) (slice_range text.entry.now item.start item.end) item.body) result }
     ensures taken { TakesOnly item.body tables.old tables.new }
 {
     match item.body {
@@ -81,7 +82,7 @@ pub fn close_item(body: ItemBody) -> Option<TagEnd>
 
 /// A step out of the node gone into last. The tables are as they were.
 pub fn step_out<'a>(text: &'a str, tables: &Allocations<'a>, tree: &mut Tree<Item>) -> Step<'a>
-    requires stands { TreeStands text.now tables.now.cows tree.old }
+    requires stands { TreeStands text.now (tables_of tables.now) tree.old }
     requires at_end { tree.old.cursor ≡ None }
     ensures { StepGives text.entry.now tree.old tree.new tables.now tables.now result }
 {
@@ -105,7 +106,7 @@ pub fn step_at<'a>(
     tree: &mut Tree<Item>,
     ix: usize,
 ) -> Result<Step<'a>, AllocError>
-    requires stands { TreeStands text.now tables.old.cows tree.old }
+    requires stands { TreeStands text.now (tables_of tables.old) tree.old }
     requires at_ix { tree.old.cursor ≡ Some ix }
     ensures given { MatchResult result (StepGives text.entry.now tree.old tree.new tables.old tables.new) (λ _. IsRefused tree.old tree.new) }
     ensures definitions { tables.new.refdefs ≡ tables.old.refdefs }
@@ -136,7 +137,7 @@ pub fn take_step<'a>(
     tables: &mut Allocations<'a>,
     tree: &mut Tree<Item>,
 ) -> Result<Step<'a>, AllocError>
-    requires { TreeStands text.now tables.old.cows tree.old }
+    requires { TreeStands text.now (tables_of tables.old) tree.old }
     ensures given { MatchResult result (StepGives text.entry.now tree.old tree.new tables.old tables.new) (λ _. IsRefused tree.old tree.new) }
     ensures definitions { tables.new.refdefs ≡ tables.old.refdefs }
 {

@@ -1,6 +1,7 @@
 //! The walk over a block result that gives its events, and resolves each chain when it stands before it.
 ghost use Rattle.std.specs.Prelude.{◌≡◌, ◌<◌, ◌++◌, ◌∷◌, [], IfOk, IfErr, IfSome, IsTrue, None};
 ghost use Rattle.markdown_inline.specs.Standing.{Stands, Stands-prop};
+ghost use Rattle.markdown_chains.specs.Tables.{tables_of};
 
 use crate::step::{Step, take_step};
 use bitflags::Flags;
@@ -31,7 +32,7 @@ pub enum Move<'a> {
 pub struct Parser<'input, F = DefaultBrokenLinkCallback> {
     tree: Tree<Item>,
     resolver: Resolver<'input, F>,
-    ghost stands: { Stands resolver.text.now resolver.tables.cows tree.nodes tree.cursor tree.spine } by { Stands-prop resolver.text.now resolver.tables.cows tree.nodes tree.cursor tree.spine },
+    ghost stands: { Stands resolver.text.now (tables_of resolver.tables) tree.nodes tree.cursor tree.spine } by { Stands-prop resolver.text.now (tables_of resolver.tables) tree.nodes tree.cursor tree.spine },
 }
 
 /// The same events, each with the bytes of the source that it stands over.

@@ -7,6 +7,7 @@ use Rattle.markdown_resolver.specs.Kept.{IsQuiet, IsQuietBelow, IsKept, IsSettle
 use Rattle.markdown_resolver.specs.Pairing.{paired, as_closed, text_if}
 use Rattle.markdown_resolver.specs.PassOne.{Entry, done, Progress, begun, is_quiet, text_unless, waits_for_pairing, read, read_all, trees_onto}
 use Rattle.markdown_resolver.specs.Resolved.{resolved, paired_if_open, all_paired}
+use Rattle.markdown_chains.specs.Above.{Above}
 use Rattle.markdown_chains.specs.Setting.{Setting, Known}
 
 module _ {A : Type 0} where
@@ -28,32 +29,32 @@ module _ {A : Type 0} where
   paired-onto s (done a below ∷ left) f g h = paired-onto s left (node a below f) (node a below g) (ap (λ (t : Forest (Label A)). node (as_closed s.text a) below t) h)
 
   -- pass one leaves to pairing what it is given
-  paired-read : (s : Setting) (chain : Forest (Label A)) (p : Progress A) → paired s (trees_onto (read_all s chain p).left nil) ≡ paired s (trees_onto p.left chain)
+  paired-read : (s : Setting) (above : Above) (chain : Forest (Label A)) (p : Progress A) → paired s (trees_onto (read_all s above chain p).left nil) ≡ paired s (trees_onto p.left chain)
   unfolding paired read_all
-  paired-read s nil p = refl
-  paired-read s (node a below rest) p =
-      paired-read s rest (read s a below p)
+  paired-read s above nil p = refl
+  paired-read s above (node a below rest) p =
+      paired-read s above rest (read s above a below p)
       ∙ paired-onto s p.left (node (text_unless (is_quiet a.part.shape) s.text a) below rest) (node a below rest)
       (ap (λ (b : Label A). node b below (paired s rest)) (closed_unless s.text a a.part.shape refl))
 
-  asked-read : (s : Setting) (chain : Forest (Label A)) (p : Progress A) → (read_all s chain p).asked ≡ p.asked
+  asked-read : (s : Setting) (above : Above) (chain : Forest (Label A)) (p : Progress A) → (read_all s above chain p).asked ≡ p.asked
   unfolding read_all
-  asked-read s nil p = refl
-  asked-read s (node a below rest) p = asked-read s rest (read s a below p)
+  asked-read s above nil p = refl
+  asked-read s above (node a below rest) p = asked-read s above rest (read s above a below p)
 
-  known-read : (s : Setting) (chain : Forest (Label A)) (p : Progress A) → (read_all s chain p).known ≡ p.known
+  known-read : (s : Setting) (above : Above) (chain : Forest (Label A)) (p : Progress A) → (read_all s above chain p).known ≡ p.known
   unfolding read_all
-  known-read s nil p = refl
-  known-read s (node a below rest) p = known-read s rest (read s a below p)
+  known-read s above nil p = refl
+  known-read s above (node a below rest) p = known-read s above rest (read s above a below p)
 
   -- a chain asks nothing, and what is open in it is a Text
-  pub resolved-texts : (s : Setting) (chain : Forest (Label A)) (known : Known) → resolved s chain known ≡ record { questions = []; forest = paired s chain; known = known }
+  pub resolved-texts : (s : Setting) (above : Above) (chain : Forest (Label A)) (known : Known) → resolved s above chain known ≡ record { questions = []; forest = paired s chain; known = known }
   unfolding resolved
-  resolved-texts s chain known = rw (asked-read s chain (begun known), known-read s chain (begun known), paired-read s chain (begun known)) refl
+  resolved-texts s above chain known = rw (asked-read s above chain (begun known), known-read s above chain (begun known), paired-read s above chain (begun known)) refl
 
   -- so does a chain that waits for pairing alone, and it keeps what is known
-  pub resolved-quiet : (s : Setting) (chain : Forest (Label A)) (known : Known) → IsQuiet chain → resolved s chain known ≡ record { questions = []; forest = paired s chain; known = known }
-  resolved-quiet s chain known q = resolved-texts s chain known
+  pub resolved-quiet : (s : Setting) (above : Above) (chain : Forest (Label A)) (known : Known) → IsQuiet chain → resolved s above chain known ≡ record { questions = []; forest = paired s chain; known = known }
+  resolved-quiet s above chain known q = resolved-texts s above chain known
 
   -- pairing a chain and the chains below it may be done in either order
   pub all_paired-paired : (s : Setting) (chain : Forest (Label A)) → all_paired s (paired s chain) ≡ paired s (all_paired s chain)
@@ -87,10 +88,10 @@ module _ {A : Type 0} where
   paired-settled s (node a below after) q = (closed_if s.text a (is_unresolved a.part.shape) refl, q.0, paired-settled s after q.1)
 
   -- so is a resolved one
-  pub resolved-settled : (s : Setting) (chain : Forest (Label A)) (known : Known) → IsQuietBelow chain → IsSettled (resolved s chain known).forest
-  resolved-settled s chain known q = rw (resolved-texts s chain known) (paired-settled s chain q)
+  pub resolved-settled : (s : Setting) (above : Above) (chain : Forest (Label A)) (known : Known) → IsQuietBelow chain → IsSettled (resolved s above chain known).forest
+  resolved-settled s above chain known q = rw (resolved-texts s above chain known) (paired-settled s chain q)
 
   -- a chain whose first item is open gives an event at once, after its questions
-  pub resolved-begins : (s : Setting) (a : Label A) (below after : Forest (Label A)) (known : Known) → is_unresolved a.part.shape ≡ true → Begins (resolved s (node a below after) known).forest
+  pub resolved-begins : (s : Setting) (above : Above) (a : Label A) (below after : Forest (Label A)) (known : Known) → is_unresolved a.part.shape ≡ true → Begins (resolved s above (node a below after) known).forest
   unfolding paired
-  resolved-begins s a below after known h = rw (resolved-texts s (node a below after) known, h) tt
+  resolved-begins s above a below after known h = rw (resolved-texts s above (node a below after) known, h) tt

@@ -1,15 +1,14 @@
 -- One item of a chain is settled, in one node of an arena.
-use Rattle.std.proofs.Common.{◌≡◌, ℕ, zero, suc, ◌+◌, ◌-◌, ◌^◌, ◌<◌, ◌≤◌, min, Bool, true, false, ◌⊎◌, inl, inr, ⊎_elim, List, [], ◌∷◌, length, Option, Some, None, refl, sym, ap, ◌∙◌, arith, append-nil}
-use Rattle.std.specs.Prelude.{IfSome, slice_range}
+use Rattle.markdown_base.specs.declared.item.ItemBody.TheVariants as body
+use Rattle.std.proofs.Common.{◌≡◌, ℕ, zero, suc, ◌+◌, ◌-◌, ◌^◌, ◌<◌, ◌≤◌, min, Bool, true, false, ◌⊎◌, inl, inr, ⊎_elim, List, [], ◌∷◌, length, Option, Some, None, refl, sym, ap, ◌∙◌, arith}
+use Rattle.std.specs.Prelude.{slice_range}
 use Rattle.markdown_base.specs.Arena.{Arena, child_of, sibling_of, changed_at}
 use Rattle.markdown_base.specs.ArenaForest.{links_of}
 use Rattle.markdown_base.specs.BlockTree.{item_at}
-use Rattle.markdown_base.specs.Item.{is_open, text_named}
+use Rattle.markdown_base.specs.Item.{is_open}
 use Rattle.markdown_base.specs.Questions.{Question, Answer}
-use Rattle.markdown_base.specs.declared.cow_str.CowStr.{CowStr}
 use Rattle.markdown_base.specs.declared.item.Item.{Item}
 use Rattle.markdown_base.specs.declared.item.ItemBody.{ItemBody}
-use Rattle.markdown_base.specs.declared.item.ItemBody.TheVariants as body
 use Rattle.markdown_base.specs.declared.node.Node.{Node}
 use Rattle.markdown_base.proofs.ArenaForestLemmas.{opens, forest_at-none}
 use Rattle.markdown_base.proofs.ArenaLemmas.{length-changed_at}
@@ -19,11 +18,15 @@ use Rattle.markdown_resolver.specs.Chains.{ResolvesFrom, CanResolve}
 use Rattle.markdown_chains.specs.Document.{Plain, is_unresolved, shape_of, label_of}
 use Rattle.markdown_resolver.specs.Pairing.{paired, as_closed}
 use Rattle.markdown_resolver.specs.Resolved.{Resolved, resolved}
+use Rattle.markdown_chains.specs.Above.{Above}
 use Rattle.markdown_chains.specs.Setting.{Setting, Known}
 use Rattle.markdown_resolver.specs.Settling.{settled_if, settled_item, settled_at}
-use Rattle.markdown_chains.specs.Totals.{same_as, weight_if}
+use Rattle.markdown_chains.specs.Totals.{times_named, weight_if}
+use Rattle.markdown_chains.specs.Tables.{Tables, Named, some_text, some_link, some_alignments, NamesEntries}
+use Rattle.markdown_chains.proofs.TablesLemmas.{grown-nothing}
 use Rattle.markdown_base.specs.Forest.{Forest}
 use Rattle.markdown_chains.proofs.PlaceLemmas.{shape-open, open-unresolved, some_weight}
+use Rattle.markdown_chains.proofs.AboveLemmas.{block-open}
 use Rattle.markdown_resolver.proofs.ComposeLemmas.{HeadChanged, after_head, ready_after, lighter_after, keeps_head}
 use Rattle.markdown_resolver.proofs.ResolvingLemmas.{resolved-texts}
 
@@ -68,74 +71,78 @@ settled_closed tree ix is =
     ∙ ap (λ (x : Item). let t : Arena Item = record tree { nodes = changed_at ix (λ n. record n { item = x }) tree.nodes } in t) e
 
 -- what a settled item names, and what it weighs
-named_settled : (is : Bool) (b : ItemBody) (n : ℕ) → same_as n (text_named (settled_if is b)) ≤ same_as n (text_named b)
-named_settled true b n = omega arith
+names_nothing : (n : Named) → times_named n (body.Text false) ≡ 0
+names_nothing (some_text n) = refl
+names_nothing (some_link n) = refl
+names_nothing (some_alignments n) = refl
+
+named_settled : (is : Bool) (b : ItemBody) (n : Named) → times_named n (settled_if is b) ≤ times_named n b
+named_settled true b n = omega (arith, names_nothing n)
 named_settled false b n = omega arith
 
-in_table_settled : (is : Bool) (b : ItemBody) (size : ℕ) → IfSome (text_named b) (λ n. n < size) → IfSome (text_named (settled_if is b)) (λ n. n < size)
-in_table_settled true b size h = tt
-in_table_settled false b size h = h
+in_table_settled : (is : Bool) (b : ItemBody) (tables : Tables) → NamesEntries tables b → NamesEntries tables (settled_if is b)
+in_table_settled true b tables h = record { text = tt; link = tt; alignments = tt; attributes = tt }
+in_table_settled false b tables h = h
 
 weight_settled : (is : Bool) (b : ItemBody) → is_open b ≡ is → weight_if (is_open (settled_if is b)) ≤ weight_if (is_open b)
 weight_settled true b e = rw e (omega arith)
 weight_settled false b e = omega arith
 
 -- it reads as the closed label of what it was
-unopened : (cows : List CowStr) (source : List ℕ) (b : ItemBody) (is : Bool) → is_unresolved (shape_of cows source b) ≡ is → is_open b ≡ false → is ≡ false
-unopened cows source b true e h = cc (open-unresolved cows source b e, h)
-unopened cows source b false e h = refl
+unopened : (tables : Tables) (source : List ℕ) (b : ItemBody) (is : Bool) → is_unresolved (shape_of tables source b) ≡ is → is_open b ≡ false → is ≡ false
+unopened tables source b true e h = cc (open-unresolved tables source b e, h)
+unopened tables source b false e h = refl
 
-label_settled : (source : List ℕ) (cows : List CowStr) (item : Item) (is : Bool) → is_open item.body ≡ is
-    → label_of source cows (record item { body = settled_if is item.body }) ≡ as_closed source (label_of source cows item)
-label_settled source cows item true e = rw (shape-open cows (slice_range source item.start item.end) item.body e) refl
-label_settled source cows item false e =
-    rw (unopened cows (slice_range source item.start item.end) item.body (is_unresolved (shape_of cows (slice_range source item.start item.end) item.body)) refl e) refl
+label_settled : (source : List ℕ) (tables : Tables) (item : Item) (is : Bool) → is_open item.body ≡ is
+    → label_of source tables (record item { body = settled_if is item.body }) ≡ as_closed source (label_of source tables item)
+label_settled source tables item true e = rw (shape-open tables (slice_range source item.start item.end) item.body e, block-open item.body e) refl
+label_settled source tables item false e =
+    rw (unopened tables (slice_range source item.start item.end) item.body (is_unresolved (shape_of tables (slice_range source item.start item.end) item.body)) refl e) refl
 
 -- where all that is open in a chain is a Text
 abbrev texts : Setting → Forest Plain → Known → Resolved (Unit {0})
 texts s chain known = record { questions = []; forest = paired s chain; known = known }
 
 -- the node is there
-pub node_within : (source : List ℕ) (cows : List CowStr) (nodes : List (Node Item)) (ix : ℕ) → CanResolve source cows nodes (Some ix) → ix < length nodes
-node_within source cows nodes ix ready = (opens (links_of nodes) (IsPlaced source cows nodes) ix ready.reaches).within
+pub node_within : (source : List ℕ) (tables : Tables) (nodes : List (Node Item)) (ix : ℕ) → CanResolve source tables nodes (Some ix) → ix < length nodes
+node_within source tables nodes ix ready = (opens (links_of nodes) (IsPlaced source tables nodes) ix ready.reaches).within
 
-head_settled : (source : List ℕ) (cows : List CowStr) (nodes : List (Node Item)) (ix : ℕ) → CanResolve source cows nodes (Some ix) → HeadChanged source ix nodes (settled_at ix nodes) cows cows
-head_settled source cows nodes ix ready =
-    let o = opens (links_of nodes) (IsPlaced source cows nodes) ix ready.reaches in
+head_settled : (source : List ℕ) (tables : Tables) (nodes : List (Node Item)) (ix : ℕ) → CanResolve source tables nodes (Some ix) → HeadChanged source ix nodes (settled_at ix nodes) tables tables
+head_settled source tables nodes ix ready =
+    let o = opens (links_of nodes) (IsPlaced source tables nodes) ix ready.reaches in
     let item = item_at nodes ix in
     let at = item_changed nodes ix (settled_item item) o.within in
     let lies = o.holds.lies in
     record {
       others = λ n h. changed_other nodes ix (λ n. record n { item = settled_item item }) n h;
       size = length-changed_at ix (λ n. record n { item = settled_item item }) nodes;
-      more = [];
-      grown = sym (append-nil cows);
+      grown = grown-nothing tables;
       placed = record {
         lies = rw at.item_is (record { ordered = lies.ordered; start = lies.start; end = lies.end });
-        named = rw at.item_is (in_table_settled (is_open item.body) item.body (length cows) o.holds.named);
+        named = rw at.item_is (in_table_settled (is_open item.body) item.body tables o.holds.named);
       };
       named = λ n l. rw at.item_is (named_settled (is_open item.body) item.body n);
     }
 
-pub within_settled : (source : List ℕ) (cows : List CowStr) (nodes : List (Node Item)) (ix : ℕ) → CanResolve source cows nodes (Some ix) → ix < length (settled_at ix nodes)
-within_settled source cows nodes ix ready = omega (arith, node_within source cows nodes ix ready, length-changed_at ix (λ n. record n { item = settled_item (item_at nodes ix) }) nodes)
+pub within_settled : (source : List ℕ) (tables : Tables) (nodes : List (Node Item)) (ix : ℕ) → CanResolve source tables nodes (Some ix) → ix < length (settled_at ix nodes)
+within_settled source tables nodes ix ready = omega (arith, node_within source tables nodes ix ready, length-changed_at ix (λ n. record n { item = settled_item (item_at nodes ix) }) nodes)
 
 -- the rest of the chain may be resolved, and weighs less
-pub ready_next : (source : List ℕ) (cows : List CowStr) (nodes : List (Node Item)) (ix : ℕ) → CanResolve source cows nodes (Some ix) → CanResolve source cows (settled_at ix nodes) (sibling_of nodes ix)
-ready_next source cows nodes ix ready = ready_after source ix nodes (settled_at ix nodes) cows cows ready (head_settled source cows nodes ix ready)
+pub ready_next : (source : List ℕ) (tables : Tables) (nodes : List (Node Item)) (ix : ℕ) → CanResolve source tables nodes (Some ix) → CanResolve source tables (settled_at ix nodes) (sibling_of nodes ix)
+ready_next source tables nodes ix ready = ready_after source ix nodes (settled_at ix nodes) tables tables ready (head_settled source tables nodes ix ready)
 
-pub next_settled : (source : List ℕ) (cows : List CowStr) (nodes : List (Node Item)) (ix : ℕ) → CanResolve source cows nodes (Some ix) → sibling_of (settled_at ix nodes) ix ≡ sibling_of nodes ix
-next_settled source cows nodes ix ready = (item_changed nodes ix (settled_item (item_at nodes ix)) (node_within source cows nodes ix ready)).next_is
+pub next_settled : (source : List ℕ) (tables : Tables) (nodes : List (Node Item)) (ix : ℕ) → CanResolve source tables nodes (Some ix) → sibling_of (settled_at ix nodes) ix ≡ sibling_of nodes ix
+next_settled source tables nodes ix ready = (item_changed nodes ix (settled_item (item_at nodes ix)) (node_within source tables nodes ix ready)).next_is
 
-pub lighter_next : (source : List ℕ) (cows : List CowStr) (nodes : List (Node Item)) (ix : ℕ) → CanResolve source cows nodes (Some ix) → weight_in (settled_at ix nodes) (sibling_of nodes ix) < weight_in nodes (Some ix)
-lighter_next source cows nodes ix ready =
+pub lighter_next : (source : List ℕ) (tables : Tables) (nodes : List (Node Item)) (ix : ℕ) → CanResolve source tables nodes (Some ix) → weight_in (settled_at ix nodes) (sibling_of nodes ix) < weight_in nodes (Some ix)
+lighter_next source tables nodes ix ready =
     let two = some_weight (is_open (item_at nodes ix).body) in
-    lighter_after source ix nodes (settled_at ix nodes) cows cows ready (head_settled source cows nodes ix ready) (omega arith)
+    lighter_after source ix nodes (settled_at ix nodes) tables tables ready (head_settled source tables nodes ix ready) (omega arith)
 
 -- it has one item less
-pub items_next : (source : List ℕ) (cows : List CowStr) (nodes : List (Node Item)) (ix : ℕ) → CanResolve source cows nodes (Some ix) → items_from nodes (Some ix) ≡ suc (items_from (settled_at ix nodes) (sibling_of nodes ix))
-items_next source cows nodes ix ready =
-    let a = after_head source ix nodes (settled_at ix nodes) cows cows ready (head_settled source cows nodes ix ready) in
+pub items_next : (source : List ℕ) (tables : Tables) (nodes : List (Node Item)) (ix : ℕ) → CanResolve source tables nodes (Some ix) → items_from nodes (Some ix) ≡ suc (items_from (settled_at ix nodes) (sibling_of nodes ix))
+items_next source tables nodes ix ready =
+    let a = after_head source ix nodes (settled_at ix nodes) tables tables ready (head_settled source tables nodes ix ready) in
     rw (a.here, a.rest.forest) refl
 
 -- of all items some were counted, up to the greatest count, and the others follow
@@ -171,21 +178,21 @@ pub whole_none : {C : Type 0} (step : C → Question → Option Answer → C →
 unfolding Whole
 whole_none step s first old new r = r
 
-pub whole_more : {C : Type 0} (step : C → Question → Option Answer → C → Type 0) (s : Setting) (first ix : ℕ) (old now : Stage C) → CanResolve s.text now.cows now.nodes (Some ix) → Whole step s first (Some ix) old now
-    → Whole step s first (sibling_of now.nodes ix) old (record { nodes = settled_at ix now.nodes; cows = now.cows; limit = now.limit; callback = now.callback })
+pub whole_more : {C : Type 0} (step : C → Question → Option Answer → C → Type 0) (s : Setting) (first ix : ℕ) (old now : Stage C) → CanResolve s.text now.tables now.nodes (Some ix) → Whole step s first (Some ix) old now
+    → Whole step s first (sibling_of now.nodes ix) old (record { nodes = settled_at ix now.nodes; tables = now.tables; limit = now.limit; uses = now.uses; callback = now.callback })
 unfolding Whole paired
 whole_more {C} step s first ix old now ready w new r =
     let item = item_at now.nodes ix in
-    let at = item_changed now.nodes ix (settled_item item) (node_within s.text now.cows now.nodes ix ready) in
-    let mid : Stage C = record { nodes = settled_at ix now.nodes; cows = now.cows; limit = now.limit; callback = now.callback } in
+    let at = item_changed now.nodes ix (settled_item item) (node_within s.text now.tables now.nodes ix ready) in
+    let mid : Stage C = record { nodes = settled_at ix now.nodes; tables = now.tables; limit = now.limit; uses = now.uses; callback = now.callback } in
     w new (keeps_head step s.text (texts s) (texts s) ix now mid new [] []
-    ready (head_settled s.text now.cows now.nodes ix ready) at.child_is at.next_is
+    ready (head_settled s.text now.tables now.nodes ix ready) at.child_is at.next_is
     (rw at.item_is (weight_settled (is_open item.body) item.body refl)) refl
-    (λ below after later. rw (at.item_is, label_settled s.text now.cows item (is_open item.body) refl) refl) r)
+    (λ below after later. rw (at.item_is, label_settled s.text now.tables item (is_open item.body) refl) refl) r)
 
 -- a chain has an item, and one that has ended has none
-pub items_some : (source : List ℕ) (cows : List CowStr) (nodes : List (Node Item)) (ix : ℕ) → CanResolve source cows nodes (Some ix) → 0 < items_from nodes (Some ix)
-items_some source cows nodes ix ready = rw (opens (links_of nodes) (IsPlaced source cows nodes) ix ready.reaches).here (omega arith)
+pub items_some : (source : List ℕ) (tables : Tables) (nodes : List (Node Item)) (ix : ℕ) → CanResolve source tables nodes (Some ix) → 0 < items_from nodes (Some ix)
+items_some source tables nodes ix ready = rw (opens (links_of nodes) (IsPlaced source tables nodes) ix ready.reaches).here (omega arith)
 
 pub items_none : (nodes : List (Node Item)) → items_from nodes None ≡ 0
 items_none nodes = rw (forest_at-none (links_of nodes)) refl
@@ -201,8 +208,7 @@ texts_none step s now =
       of_chain = λ n l. omega arith;
       more_nodes = omega arith;
       outside = λ n l z. record { child = refl; next = refl; item = refl };
-      more_cows = [];
-      cows = sym (append-nil now.cows);
+      grown = grown-nothing now.tables;
       named_once = λ n. rw e (omega arith);
       named = λ n l. omega arith;
       no_heavier = omega arith;
@@ -212,9 +218,9 @@ texts_none step s now =
       resolves = λ later. rw e refl;
     }
 
-pub whole_all : {C : Type 0} (step : C → Question → Option Answer → C → Type 0) (s : Setting) (first : ℕ) (at : Option ℕ) (old now : Stage C) → at ≡ None → Whole step s first at old now → ResolvesFrom step s.text (resolved s) (Some first) old now
+pub whole_all : {C : Type 0} (step : C → Question → Option Answer → C → Type 0) (s : Setting) (above : Above) (first : ℕ) (at : Option ℕ) (old now : Stage C) → at ≡ None → Whole step s first at old now → ResolvesFrom step s.text (resolved s above) (Some first) old now
 unfolding Whole
-whole_all step s first at old now none w =
+whole_all step s above first at old now none w =
     let r = (rw none at w) now (texts_none step s now) in
     record {
       reaches = r.reaches;
@@ -222,13 +228,12 @@ whole_all step s first at old now none w =
       of_chain = r.of_chain;
       more_nodes = r.more_nodes;
       outside = r.outside;
-      more_cows = r.more_cows;
-      cows = r.cows;
+      grown = r.grown;
       named_once = r.named_once;
       named = r.named;
       no_heavier = r.no_heavier;
       answers = r.answers;
       questions = r.questions;
       asked = r.asked;
-      resolves = λ later. resolved-texts s _ _ ∙ r.resolves later;
+      resolves = λ later. resolved-texts s above _ _ ∙ r.resolves later;
     }

@@ -5,6 +5,7 @@ use Rattle.markdown_base.specs.Questions.{Question}
 use Rattle.markdown_chains.specs.Document.{Label, is_unresolved}
 use Rattle.markdown_resolver.specs.Pairing.{paired}
 use Rattle.markdown_resolver.specs.PassOne.{Progress, begun, read_all, trees_onto}
+use Rattle.markdown_chains.specs.Above.{Above}
 use Rattle.markdown_chains.specs.Setting.{Setting, Known}
 
 -- the questions on the way, the forest, and what is known after it
@@ -16,9 +17,9 @@ pub record Resolved (A : Type 0) : Type 0 where
 abbrev pub after_pass_one : {A : Type 0} → Setting → Progress A → Resolved A
 after_pass_one s p = record { questions = p.asked; forest = paired s (trees_onto p.left nil); known = p.known }
 
--- a chain that is reached at its first open item
-unfoldable pub resolved : {A : Type 0} → Setting → Forest (Label A) → Known → Resolved A
-resolved s chain known = after_pass_one s (read_all s chain (begun known))
+-- a chain that is reached at its first open item, below the blocks that are open above it
+unfoldable pub resolved : {A : Type 0} → Setting → Above → Forest (Label A) → Known → Resolved A
+resolved s above chain known = after_pass_one s (read_all s above chain (begun known))
 
 -- a chain of children, from its first open item on: nothing in it asks
 abbrev pub paired_from : {A : Type 0} → Setting → Bool → Label A → (below after later : Forest (Label A)) → Forest (Label A)

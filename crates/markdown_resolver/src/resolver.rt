@@ -48,16 +48,19 @@ impl<'a, F: BrokenLinkCallback<'a>> Resolver<'a, F> {
     ghost use Rattle.std.specs.Prelude.{◌≡◌, ◌+◌, ◌-◌, ◌^◌, min, true, Some, IfOk, IfErr, IfSome, is_some};
     ghost use Rattle.markdown_base.specs.BlockTree.{item_at};
     ghost use Rattle.markdown_base.specs.Item.{is_open};
-    ghost use Rattle.markdown_resolver.specs.Chains.{CanResolve, ResolvesChain, StopsIn};
+    ghost use Rattle.markdown_resolver.specs.Chains.{CanResolve, AreAbove, ResolvesChain, StopsIn};
+    ghost use Rattle.markdown_chains.specs.Above.{above_cursor};
     ghost use Rattle.markdown_chains.specs.Stages.{items_from, stage};
     ghost use Rattle.markdown_chains.specs.Setting.{rules_from, setting_of};
+    ghost use Rattle.markdown_chains.specs.Tables.{tables_of};
 
-    /// Resolves the chain from the node `first` on, which is open, where it stands. After a refusal the tree
-    /// and the tables may be in any state.
+    /// Resolves the chain from the node `first` on, which is open, where it stands: below the nodes of the
+    /// tree's spine. After a refusal the tree and the tables may be in any state.
     pub fn resolve_chain(&mut self, tree: &mut Tree<Item>, first: usize) -> Result<(), Fault>
         requires can_ask { IfSome self.old.callback F.can_ask }
-        requires ready { CanResolve self.old.text.now self.old.tables.cows tree.old.nodes (Some first) }
+        requires ready { CanResolve self.old.text.now (tables_of self.old.tables) tree.old.nodes (Some first) }
         requires open { is_open (item_at tree.old.nodes first).body ≡ true }
+        requires above { AreAbove tree.old.nodes (Some first) tree.old.spine }
         ensures resolves { IfOk result (λ _. ResolvesChain F.answers
             (setting_of self.old.text.now (rules_from self.old.options self.old.tables (is_some self.old.callback))) first
             tree.old tree.new self.old.tables self.new.tables self.old.limit self.new.limit self.old.callback self.new.callback) }
@@ -66,7 +69,7 @@ impl<'a, F: BrokenLinkCallback<'a>> Resolver<'a, F> {
         // a refusal, and what holds whatever comes
         ensures refused { IfErr result (λ fault. fault ≡ Fault.Memory) }
         ensures stops { IfErr result (λ _. StopsIn F.answers
-            (setting_of self.old.text.now (rules_from self.old.options self.old.tables (is_some self.old.callback))) first
+            (setting_of self.old.text.now (rules_from self.old.options self.old.tables (is_some self.old.callback))) (above_cursor self.old.text.now tree.old) first
             (stage tree.old self.old.tables self.old.limit self.old.callback) self.new.callback) }
         ensures again { IfSome self.new.callback F.can_ask }
         ensures text { self.new.text ≡ self.old.text }

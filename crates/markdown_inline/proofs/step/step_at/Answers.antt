@@ -1,4 +1,5 @@
 -- Each move is that of the shape that the item opens to.
+use Rattle.markdown_chains.specs.Tables.{tables_of}
 use Rattle.std.proofs.Common.{◌≡◌, [], rules}
 use Rattle.markdown_base.specs.BlockTree.{no_item}
 use Rattle.markdown_inline.specs.WalkSteps.{IsRefused}
@@ -6,16 +7,16 @@ use Rattle.markdown_inline.proofs.WalkStepsLemmas.{cursor_within, cursor_placed,
 use Rattle.markdown_inline.proofs.step.step_at.Goals as goal
 
 pub item-item-requires : goal.item-item-requires
-item-item-requires c = cursor_within c.args.text.now c.args.tables.now.cows c.args.tree.now c.args.ix c.requires.stands c.requires.at_ix
+item-item-requires c = cursor_within c.args.text.now (tables_of c.args.tables.now) c.args.tree.now c.args.ix c.requires.stands c.requires.at_ix
 
 pub next_sibling-requires : goal.next_sibling-requires
-next_sibling-requires c = cursor_within c.args.text.now c.args.tables.now.cows c.args.tree.now c.args.ix c.requires.stands c.requires.at_ix
+next_sibling-requires c = cursor_within c.args.text.now (tables_of c.args.tables.now) c.args.tree.now c.args.ix c.requires.stands c.requires.at_ix
 
 pub open_item-requires-clause-lies : goal.open_item-requires-clause-lies
-open_item-requires-clause-lies c = rw (c.item-item.ensures no_item) (cursor_placed c.args.text.now c.args.tables.now.cows c.args.tree.now c.args.ix c.requires.stands c.requires.at_ix).lies
+open_item-requires-clause-lies c = rw (c.item-item.ensures no_item) (cursor_placed c.args.text.now (tables_of c.args.tables.now) c.args.tree.now c.args.ix c.requires.stands c.requires.at_ix).lies
 
 pub open_item-requires-clause-named : goal.open_item-requires-clause-named
-open_item-requires-clause-named c = rw (c.item-item.ensures no_item) (cursor_placed c.args.text.now c.args.tables.now.cows c.args.tree.now c.args.ix c.requires.stands c.requires.at_ix).named
+open_item-requires-clause-named c = rw (c.item-item.ensures no_item) (cursor_placed c.args.text.now (tables_of c.args.tables.now) c.args.tree.now c.args.ix c.requires.stands c.requires.at_ix).named
 
 pub returns-in-Leaf-clause-given : goal.returns-in-Leaf-clause-given
 returns-in-Leaf-clause-given c =
@@ -48,11 +49,11 @@ returns-in_ok-push-in-Plain-clause-given c =
 pub returns-in_err-push-in-Start-clause-given : goal.returns-in_err-push-in-Start-clause-given
 returns-in_err-push-in-Start-clause-given c =
     let refused : IsRefused c.args.tree.now c.push.new.self =
-    refused_at c.args.text.now c.args.tables.now.cows c.args.tree.now c.push.new.self c.args.ix c.requires.stands c.requires.at_ix c.in_err-push-in-Start.ensures.refused in
+    refused_at c.args.text.now (tables_of c.args.tables.now) c.args.tree.now c.push.new.self c.args.ix c.requires.stands c.requires.at_ix c.in_err-push-in-Start.ensures.refused in
     search rules
 
 pub returns-in_err-push-in-Plain-clause-given : goal.returns-in_err-push-in-Plain-clause-given
 returns-in_err-push-in-Plain-clause-given c =
     let refused : IsRefused c.args.tree.now c.push-in-Plain.new.self =
-    refused_at c.args.text.now c.args.tables.now.cows c.args.tree.now c.push-in-Plain.new.self c.args.ix c.requires.stands c.requires.at_ix c.in_err-push-in-Plain.ensures.refused in
+    refused_at c.args.text.now (tables_of c.args.tables.now) c.args.tree.now c.push-in-Plain.new.self c.args.ix c.requires.stands c.requires.at_ix c.in_err-push-in-Plain.ensures.refused in
     search rules

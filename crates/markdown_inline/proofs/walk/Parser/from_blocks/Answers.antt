@@ -1,14 +1,14 @@
 -- A parser of a block result stands before its first block, and all of its reading is left.
 use Rattle.std.proofs.Common.{ℕ, List, length, max, ap, ◌∙◌}
 use Rattle.markdown_spans.specs.Allocations.{HoldsParts}
-use Rattle.markdown_inline.proofs.StartLemmas.{starts_stands, starts_left}
+use Rattle.markdown_inline.proofs.StartLemmas.{starts_stands, starts_left, tables_held}
 use Rattle.markdown_inline.proofs.walk.Parser.from_blocks.Goals as goal
 
 pub invariant_of-result : goal.invariant_of-result
 invariant_of-result g c =
     let parts = c.into_parts-tree.result in
     let rules = c.into_parts-tree.ensures.rules in
-    record { stands = rw (c.reset.ensures, c.in_ok-tables.ensures.holds.cows) (starts_stands parts.0.now parts.2.nodes parts.3 rules) }
+    record { stands = rw (c.reset.ensures, tables_held parts.3 c.in_ok-tables.tables c.in_ok-tables.ensures.holds) (starts_stands parts.0.now parts.2.nodes parts.3 rules) }
 
 pub returns-clause-left : goal.returns-clause-left
 returns-clause-left g c answers =

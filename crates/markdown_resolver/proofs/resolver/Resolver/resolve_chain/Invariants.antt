@@ -4,12 +4,13 @@ use Rattle.std.specs.Prelude.{is_some}
 use Rattle.markdown_chains.specs.Stages.{stage, items_from, weight_in}
 use Rattle.markdown_resolver.specs.Chains.{CanResolve}
 use Rattle.markdown_chains.specs.Setting.{rules_from, setting_of}
+use Rattle.markdown_chains.specs.Tables.{tables_of}
 use Rattle.markdown_resolver.proofs.SettlingLemmas.{Counted, Whole}
 use Rattle.markdown_resolver.proofs.resolver.Resolver.resolve_chain.Given as goal
 
 abbrev pub invariant-chain : goal.invariant-chain
 invariant-chain g l = record {
-  ready : CanResolve l.fn.self.text.now l.fn.self.tables.cows l.tree.nodes l.at;
+  ready : CanResolve l.fn.self.text.now (tables_of l.fn.self.tables) l.tree.nodes l.at;
   tree : l.tree ≡ record l.fn.tree { nodes = l.tree.nodes };
   resolver : l.self ≡ record l.fn.self { work = record l.fn.self.work { items = l.self.work.items } };
   counted : Counted l.fn.self.work.items l.self.work.items (items_from l.fn.tree.nodes (Some l.first)) (items_from l.tree.nodes l.at);
