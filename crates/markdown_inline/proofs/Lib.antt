@@ -3,6 +3,7 @@ pub mod ReadingLemmas
 pub mod LeftFrameLemmas
 pub mod WalkLemmas
 pub mod ChainLemmas
+pub mod TakingLemmas
 pub mod WalkStepsLemmas
 pub mod ParserLemmas
 pub mod StartLemmas
