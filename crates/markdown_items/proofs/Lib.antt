@@ -1,0 +1,2 @@
+pub mod FlankingLemmas
+pub mod ItemLemmas
