@@ -1,41 +1,44 @@
 -- Where the bytes that begin items end: between characters.
-use Rattle.std.proofs.Common.{◌≡◌, ℕ, zero, suc, ◌+◌, ◌-◌, ◌<◌, ◌≤◌, List, Bool, true, false, Option, Some, None, cond, length, get_or, length-take-le, length-drop, drop, refl, sym, ap, subst, ◌∙◌, arith, inl, inr, slice_range, slice_index, is_some}
+use Rattle.std.proofs.Common.{◌≡◌, ◌≢◌, ℕ, zero, suc, ◌+◌, ◌-◌, ◌<◌, ◌≤◌, List, true, false, Option, Some, length, get_or, length-take-le, length-drop, drop, sym, ap, subst, ◌∙◌, arith, slice_range, slice_index}
 use Rattle.std.proofs.lemmas.Bool.Decides.{nat_tests}
 use Rattle.std.proofs.lemmas.List.{get_or-take, get_or-drop}
+use Rattle.std.proofs.lemmas.List.Sums.{prefix_len_is}
 use Rattle.std.proofs.lemmas.Str.{IsCharBoundary-after_ascii}
-use Rattle.std.specs.Prelude.{IfSome, if◌then◌else◌}
+use Rattle.std.specs.Prelude.{IfSome, ◌==◌}
+use Rattle.std.specs.List.{prefix_len}
 use Rattle.std.specs.Str.{IsUtf8, IsCharBoundary}
-use Rattle.markdown_builder.specs.BuilderView.{BuilderView, IsRunOf}
 use Rattle.markdown_scan.specs.Beginnings.{StandsBetween}
 use Rattle.markdown_scan.specs.Entity.{entity}
 use Rattle.markdown_scan.specs.ScanLaws.{EntityBeginsAndEnds}
-use Rattle.markdown_items.specs.ItemSteps.{IsAtSpecial, GoesOn, after_run}
-use Rattle.markdown_items.specs.LineItems.{is_special, IsWholeRun}
-use Rattle.markdown_items.specs.declared.line.Line.{Line}
+use Rattle.markdown_items.specs.Found.{next_after}
+use Rattle.markdown_items.specs.FoundFits.{IsAtSpecial, FoundFits, GoesOn}
+use Rattle.markdown_items.specs.LineItems.{is_special, IsWholeRun, run_end}
+use Rattle.markdown_items.specs.declared.found.Found.{Found}
+use Rattle.markdown_items.specs.declared.found.Found.TheVariants as found
+use Rattle.markdown_items.specs.declared.found.Line.{Line}
 
 -- a special byte is ASCII
 pub special_ascii : (byte : ℕ) → is_special byte ≡ true → byte < 128
 special_ascii byte h = grind (arith, nat_tests)
 
 -- after a special byte the text may be cut
-pub past_special : (view : BuilderView) (line : Line) (at : ℕ) → IsUtf8 view.text → IsAtSpecial view line at
-    → IsCharBoundary view.text (at + 1)
-past_special view line at text here =
+pub past_special : (text : List ℕ) (line : Line) (at : ℕ) → IsUtf8 text → IsAtSpecial text line at
+    → IsCharBoundary text (at + 1)
+past_special text line at u here =
     let within = here.end in
     let more = here.more in
-    IsCharBoundary-after_ascii view.text at text (omega (arith, within.0, more)) (special_ascii _ here.special)
+    IsCharBoundary-after_ascii text at u (omega (arith, within.0, more)) (special_ascii _ here.special)
 
 -- and after a run of one
-pub past_run : (text : List ℕ) (view : BuilderView) (line : Line) (at stop : ℕ) → IsUtf8 text → text ≡ view.text
-    → IsAtSpecial view line at → IsWholeRun text at line.end stop → IsCharBoundary text stop
-past_run text view line at stop u e here whole =
+pub past_run : (text : List ℕ) (line : Line) (at stop : ℕ) → IsUtf8 text → IsAtSpecial text line at
+    → IsWholeRun text at line.end stop → IsCharBoundary text stop
+past_run text line at stop u here whole =
     let run = whole.run in
     let more = run.more in
     let within = run.within in
-    let special : is_special (get_or text at 0) ≡ true = rw e here.special in
     let same : get_or text (stop - 1) 0 ≡ get_or text at 0 =
     run.same (stop - 1) (omega (arith, more)) (omega (arith, more)) in
-    let ascii : get_or text (stop - 1) 0 < 128 = rw same (special_ascii _ special) in
+    let ascii : get_or text (stop - 1) 0 < 128 = rw same (special_ascii _ here.special) in
     let cut = IsCharBoundary-after_ascii text (stop - 1) u (omega (arith, more, within)) ascii in
     let n : (stop - 1) + 1 ≡ stop = omega (arith, more) in
     rw n at cut
@@ -65,52 +68,61 @@ past_entity text at end count u more within between le =
 part_length : (text : List ℕ) (at end : ℕ) → end ≤ length text → length (slice_range text at end) ≡ end - at
 part_length text at end h = length-take-le (end - at) (drop at text) (omega (arith, length-drop at text))
 
--- the same of an entity that was read, in a text to which items were appended since
-pub entity_fits : (bytes : List ℕ) (old new : BuilderView) (line : Line) (at count character : ℕ) (run : Option ℕ)
-    → IsUtf8 bytes → bytes ≡ old.text → IsAtSpecial old line at
-    → EntityBeginsAndEnds (slice_range bytes at line.end)
-    → Some (count, character) ≡ entity (slice_range bytes at line.end)
-    → count ≤ length (slice_range bytes at line.end) → new ≡ record old { at = at; run = run }
-    → (0 < count) × IsCharBoundary new.text (at + count)
-entity_fits bytes old new line at count character run u e here law value le placed =
-    let part = slice_range bytes at line.end in
+-- an entity that was read fits the line's content
+pub entity_fits : (text : List ℕ) (line : Line) (at count character : ℕ) → IsUtf8 text → IsAtSpecial text line at
+    → EntityBeginsAndEnds (slice_range text at line.end)
+    → Some (count, character) ≡ entity (slice_range text at line.end)
+    → count ≤ length (slice_range text at line.end)
+    → GoesOn line.end at (at + count) × IsCharBoundary text (at + count)
+entity_fits text line at count character u here law value le =
+    let part = slice_range text at line.end in
     let end = here.end in
     let more = here.more in
-    let within : line.end ≤ length bytes = rw e end.0 in
     let between : StandsBetween 38 59 part count =
     subst (λ (o : Option (ℕ × ℕ)). IfSome o (λ r. StandsBetween 38 59 part r.0)) (sym value) law in
-    let few : count ≤ line.end - at = omega (arith, le, part_length bytes at line.end within) in
-    let past = past_entity bytes at line.end count u more within between few in
-    let same : bytes ≡ new.text = e ∙ sym (ap (λ (v : BuilderView). v.text) placed) in
-    (past.0, subst (λ t. IsCharBoundary t (at + count)) same past.1)
+    let few : count ≤ line.end - at = omega (arith, le, part_length text at line.end end.0) in
+    let past = past_entity text at line.end count u more end.0 between few in
+    let some = past.0 in
+    (record { past = omega (arith, some); within = omega (arith, few, more) }, past.1)
 
--- a fact of both of two views
-of_both : (b : Bool) (P : BuilderView → Type 0) (x y : BuilderView) → P x → P y → P (if b then x else y)
-of_both true P x y p q = p
-of_both false P x y p q = q
+-- a number that equals itself
+same_eq : (a b : ℕ) → a ≡ b → (a == b) ≡ true
+same_eq a b e = grind (arith, nat_tests)
 
--- reading goes on behind a run
-pub run_goes_on : (old new : BuilderView) (line : Line) (at next : ℕ) → IsAtSpecial old line at
-    → IsWholeRun old.text at line.end next → new ≡ after_run old line at next → GoesOn old new line at next
-run_goes_on old new line at next here whole e =
+other_eq : (a b : ℕ) → a ≢ b → (a == b) ≡ false
+other_eq a b e = grind (arith, nat_tests)
+
+-- a whole run stops where the run of its byte does
+pub run_end_is : (text : List ℕ) (at end stop : ℕ) → end ≤ length text → IsWholeRun text at end stop
+    → stop ≡ run_end text at end
+run_end_is text at end stop le whole =
     let run = whole.run in
     let more = run.more in
     let within = whole.within in
-    let begun = here.begun in
-    let placed = here.placed in
-    subst (λ v. GoesOn old v line at next) (sym e)
-    (of_both _ (λ v. GoesOn old v line at next) (record old { at = next; run = Some (slice_index old.text at) }) old
-    (record {
-      same = refl;
-      begun = omega (arith, more, begun, placed);
-      placed = omega arith;
-      past = more;
-      within = within;
-    })
-    (record {
-      same = refl;
-      begun = begun;
-      placed = omega (arith, more, placed);
-      past = more;
-      within = within;
-    }))
+    let part = slice_range text at end in
+    let size = part_length text at end le in
+    let first : (k : ℕ) → k < stop - at → (get_or part k 0 == get_or text at 0) ≡ true = λ k h.
+    same_eq _ _ (byte_of_part text at end k (omega (arith, h, within)) ∙ run.same (at + k) (omega arith) (omega (arith, h))) in
+    let n : at + (stop - at) ≡ stop = omega (arith, more) in
+    let same : stop < end → get_or part (stop - at) 0 ≡ get_or text stop 0 = λ h.
+    byte_of_part text at end (stop - at) (omega (arith, h, more)) ∙ ap (λ k. get_or text k 0) n in
+    let last : stop - at < length part → (get_or part (stop - at) 0 == get_or text at 0) ≡ false = λ h.
+    let less : stop < end = omega (arith, h, size, more) in
+    other_eq _ _ (λ e. whole.whole less (sym (same less) ∙ e)) in
+    let count : prefix_len (λ b. b == slice_index text at) part ≡ stop - at =
+    prefix_len_is (λ b. b == slice_index text at) part (stop - at) 0 (omega (arith, size, within)) first last in
+    omega (arith, count, more)
+
+-- reading goes on behind what was found
+pub goes_on : (text : List ℕ) (end at : ℕ) (found : Found) → at < end → FoundFits text end at found
+    → GoesOn end at (next_after at found)
+goes_on text end at (found.Text next) more fits = fits
+goes_on text end at found.Escape more fits = record { past = omega arith; within = omega (arith, fits.0) }
+goes_on text end at (found.Mark body) more fits = record { past = omega arith; within = omega (arith, more) }
+goes_on text end at found.Image more fits = record { past = omega arith; within = omega (arith, fits.0) }
+goes_on text end at (found.Backticks stop) more fits = fits.0
+goes_on text end at (found.EscapedBackticks stop) more fits =
+    let past = fits.0 in
+    record { past = omega (arith, past.past); within = past.within }
+goes_on text end at (found.Run stop flags) more fits = fits.0
+goes_on text end at (found.Entity stop character) more fits = fits.0

@@ -1,7 +1,7 @@
 -- What the bytes of a line's content may be, apart from text.
-use Rattle.std.specs.Prelude.{◌≡◌, ◌≢◌, ℕ, ◌<◌, ◌≤◌, Bool, true, false, not, ◌==◌, ◌&&◌, ◌||◌, nat_le, List, Option, Some, None, slice_index, codes, if◌then◌else◌}
+use Rattle.std.specs.Prelude.{◌≡◌, ◌≢◌, ℕ, ◌<◌, ◌≤◌, Bool, true, false, not, ◌==◌, ◌&&◌, ◌||◌, nat_le, nat_lt, ◌+◌, ◌-◌, List, Option, Some, None, slice_index, slice_range, codes, if◌then◌else◌}
 use Rattle.std.specs.Int.RustNames.{bit_and}
-use Rattle.std.specs.List.{list_any}
+use Rattle.std.specs.List.{list_any, prefix_len}
 use Rattle.markdown_base.specs.declared.item.ItemBody.{ItemBody}
 use Rattle.markdown_base.specs.declared.item.ItemBody.TheVariants as body
 use Rattle.markdown_builder.specs.BuilderView.{IsRunOf}
@@ -23,6 +23,10 @@ extensions_of options = record {
   math = has options 1024;
 }
 
+-- a backslash stands before a place in a line's content that begins at `start`, where a text begins
+abbrev pub is_escaped : List ℕ → ℕ → ℕ → Bool
+is_escaped text start at = nat_lt start at && (slice_index text (at - 1) == 92)
+
 -- the bytes that may begin something else than text
 abbrev pub is_special : ℕ → Bool
 is_special byte = list_any (λ b. b == byte) (codes "!\"$&'*<[\\]^_`~")
@@ -33,6 +37,10 @@ pub record IsFirstSpecial (text : List ℕ) (from end found : ℕ) : Type 0 wher
   pub high : found ≤ end
   pub plain : (at : ℕ) → from ≤ at → at < found → is_special (slice_index text at) ≡ false
   pub stops : found < end → is_special (slice_index text found) ≡ true
+
+-- where the run of the byte at a place stops, in a line's content that stops before `end`
+abbrev pub run_end : List ℕ → ℕ → ℕ → ℕ
+run_end text at end = at + prefix_len (λ b. b == slice_index text at) (slice_range text at end)
 
 -- the whole run of the byte at `at` stops before `stop`, in a line's content that stops before `end`
 pub record IsWholeRun (text : List ℕ) (at end stop : ℕ) : Type 0 where

@@ -5,8 +5,9 @@ mod around;
 mod delimiter_run;
 mod extensions;
 mod flanking;
-mod line;
+mod found;
+mod line_items;
 mod marks;
 mod special;
 
-pub use line::items;
+pub use line_items::items;

@@ -1,7 +1,7 @@
 -- The items up to here are appended but for a text, and a special byte comes next.
 use Rattle.std.proofs.Common.{◌≡◌, ◌-◌, ◌<◌, ◌≤◌, true, slice_index}
 use Rattle.markdown_items.specs.LineItems.{is_special}
-use Rattle.markdown_items.proofs.line.items.Given as goal
+use Rattle.markdown_items.proofs.line_items.items.Given as goal
 
 abbrev pub invariant-line : goal.invariant-line
 invariant-line l = record {
