@@ -44,7 +44,7 @@ past_run text line at stop u here whole =
     rw n at cut
 
 -- a byte of a part of a text is the text's
-byte_of_part : (text : List ℕ) (at end k : ℕ) → k < end - at → get_or (slice_range text at end) k 0 ≡ get_or text (at + k) 0
+pub byte_of_part : (text : List ℕ) (at end k : ℕ) → k < end - at → get_or (slice_range text at end) k 0 ≡ get_or text (at + k) 0
 byte_of_part text at end k h = get_or-take (end - at) (drop at text) k 0 h ∙ get_or-drop at text k 0
 
 -- an entity has a byte
@@ -65,7 +65,7 @@ past_entity text at end count u more within between le =
     (some, rw n at cut)
 
 -- a part of a text has no more bytes than it was asked for
-part_length : (text : List ℕ) (at end : ℕ) → end ≤ length text → length (slice_range text at end) ≡ end - at
+pub part_length : (text : List ℕ) (at end : ℕ) → end ≤ length text → length (slice_range text at end) ≡ end - at
 part_length text at end h = length-take-le (end - at) (drop at text) (omega (arith, length-drop at text))
 
 -- an entity that was read fits the line's content

@@ -1,17 +1,17 @@
 -- The table and the definition agree at each of the 256 bytes, by computing.
-use Rattle.std.proofs.Common.{◌≡◌, ℕ, zero, suc, ◌<◌, List, Bool, true, false, ◌&&◌, not, nat_eq, get_or, refl, arith, inl, inr}
+use Rattle.std.proofs.Common.{◌≡◌, ℕ, zero, suc, ◌<◌, List, Bool, true, false, ◌&&◌, get_or, refl, arith, inl, inr}
 use Rattle.std.specs.Bool.{beq}
 use Rattle.std.proofs.lemmas.Bool.{cases_eq}
 use Rattle.markdown_items.specs.LineItems.{is_special}
 use Rattle.markdown_items.specs.declared.special.TheConstants.{SPECIALS}
 use Rattle.markdown_items.proofs.special.is_special.Goals as goal
 
--- a byte does not stand as a dot in the table
-stands : List ℕ → ℕ → Bool
-stands table byte = not (nat_eq (get_or table byte 0) 46)
+-- what the table says of a byte
+stands : List Bool → ℕ → Bool
+stands table byte = get_or table byte false
 
 -- the table has all of the bytes below a number right
-is_right : List ℕ → ℕ → Bool
+is_right : List Bool → ℕ → Bool
 is_right table zero = true
 is_right table (suc byte) = beq (stands table byte) (is_special byte) && is_right table byte
 
@@ -23,7 +23,7 @@ last_and_below false true below h = cc
 last_and_below false false below h = (refl, h)
 
 -- a table that is right has each byte right
-right_at : (table : List ℕ) (n byte : ℕ) → is_right table n ≡ true → byte < n → stands table byte ≡ is_special byte
+right_at : (table : List Bool) (n byte : ℕ) → is_right table n ≡ true → byte < n → stands table byte ≡ is_special byte
 unfolding is_right
 right_at table zero byte h below = absurd (omega arith)
 right_at table (suc n) byte h below =
