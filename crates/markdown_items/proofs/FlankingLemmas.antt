@@ -1,9 +1,11 @@
--- The last character of a text.
+-- The last character of a text, and flags of delimiters in small texts.
 use Rattle.std.proofs.Common.{◌≡◌, ℕ, ◌≤◌, List, [], ◌∷◌, ◌++◌, Option, Some, None, length, reverse, take, drop, slice_get, refl, sym, ap, subst, ◌∙◌, arith, append-nil, length-append, take_at, drop_at}
 use Rattle.std.proofs.lemmas.List.{reverse-append, nil_from_length}
 use Rattle.std.proofs.lemmas.Str.{chars-nil, chars-append, chars_past_char, IsCharBoundary-from_take, IsUtf8-drop}
 use Rattle.std.specs.Prelude.{encode_utf8, MatchOption}
 use Rattle.std.specs.Str.{chars, IsUtf8}
+use Rattle.std.specs.Prelude.{true, false}
+use Rattle.markdown_items.specs.Flanking.{flags_of}
 
 -- what follows a text in a text is text
 rest_is_text : (bytes front rest : List ℕ) → IsUtf8 bytes → IsUtf8 front → bytes ≡ front ++ rest → IsUtf8 rest
@@ -37,3 +39,29 @@ last_of_part part rest front after whole None Q u v e f w h =
 last_of_part part rest front after whole (Some c) Q u v e f w h =
     last_character part front (Some c) u v (sym e ∙ h ∙ ap (λ t. t ++ encode_utf8 c) (sym f))
     ∙ ap (λ t. slice_get (reverse (chars t)) 0) w
+
+-- within a word `*` can open and close, and `_` can do neither
+star_within_a_word : flags_of 42 (Some 97) (Some 98) ≡ record { opens = true; closes = true }
+star_within_a_word = refl
+
+underscore_within_a_word : flags_of 95 (Some 97) (Some 98) ≡ record { opens = false; closes = false }
+underscore_within_a_word = refl
+
+-- at the start of a line both open before a letter, and neither does before a space
+underscore_before_a_word : flags_of 95 None (Some 97) ≡ record { opens = true; closes = false }
+underscore_before_a_word = refl
+
+star_before_a_space : flags_of 42 None (Some 32) ≡ record { opens = false; closes = false }
+star_before_a_space = refl
+
+-- between a letter and a quotation mark, `*` can only close
+star_before_a_quotation_mark : flags_of 42 (Some 97) (Some 34) ≡ record { opens = false; closes = true }
+star_before_a_quotation_mark = refl
+
+-- between punctuation `_` can open and close
+underscore_between_punctuation : flags_of 95 (Some 46) (Some 40) ≡ record { opens = true; closes = true }
+underscore_between_punctuation = refl
+
+-- an apostrophe within a word can do neither
+apostrophe_within_a_word : flags_of 39 (Some 97) (Some 115) ≡ record { opens = false; closes = false }
+apostrophe_within_a_word = refl
