@@ -1,5 +1,6 @@
 -- Where the bytes that begin items end: between characters.
-use Rattle.std.proofs.Common.{◌≡◌, ◌≢◌, ℕ, zero, suc, ◌+◌, ◌-◌, ◌<◌, ◌≤◌, List, true, false, Option, Some, length, get_or, length-take-le, length-drop, drop, sym, ap, subst, ◌∙◌, arith, slice_range, slice_index}
+use Rattle.std.proofs.Common.{◌≡◌, ◌≢◌, ℕ, zero, suc, ◌+◌, ◌-◌, ◌<◌, ◌≤◌, List, true, false, Option, Some, length, get_or, length-take-le}
+use Rattle.std.proofs.Common.{length-drop, drop, sym, ap, subst, ◌∙◌, arith, slice_range, slice_index}
 use Rattle.std.proofs.lemmas.Bool.Decides.{nat_tests}
 use Rattle.std.proofs.lemmas.List.{get_or-take, get_or-drop}
 use Rattle.std.proofs.lemmas.List.Sums.{prefix_len_is}

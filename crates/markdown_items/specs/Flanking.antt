@@ -1,5 +1,6 @@
 -- Which delimiters can open, and which can close, by the characters around them (CommonMark 6.2).
-use Rattle.std.specs.Prelude.{ℕ, Bool, true, false, not, ◌==◌, ◌&&◌, ◌||◌, List, Option, Some, None, reverse, slice_get, slice_range}
+use Rattle.std.specs.Prelude.{ℕ, Bool, true, false, not, ◌==◌, ◌&&◌, ◌||◌, List, Option, Some, None, reverse}
+use Rattle.std.specs.Prelude.{slice_get, slice_range}
 use Rattle.std.specs.Char.{is_whitespace, is_ascii_punctuation}
 use Rattle.std.specs.Str.{chars}
 use Rattle.markdown_items.specs.declared.flanking.Flags.{Flags}

@@ -1,5 +1,6 @@
 -- What begins at a special byte of a line's content.
-use Rattle.std.specs.Prelude.{ℕ, ◌+◌, ◌-◌, true, not, ◌==◌, ◌&&◌, ◌||◌, List, Option, Some, None, slice_index, slice_range, if◌then◌else◌}
+use Rattle.std.specs.Prelude.{ℕ, ◌+◌, ◌-◌, true, not, ◌==◌, ◌&&◌, ◌||◌, List, Option, Some, None, slice_index}
+use Rattle.std.specs.Prelude.{slice_range, if◌then◌else◌}
 use Rattle.std.specs.Char.{is_ascii_punctuation}
 use Rattle.markdown_base.specs.WellFormed.{is_delimiter}
 use Rattle.markdown_base.specs.declared.item.ItemBody.TheVariants as body

@@ -1,5 +1,6 @@
 -- What the bytes of a line's content may be, apart from text.
-use Rattle.std.specs.Prelude.{◌≡◌, ◌≢◌, ℕ, ◌<◌, ◌≤◌, Bool, true, false, not, ◌==◌, ◌&&◌, ◌||◌, nat_le, nat_lt, ◌+◌, ◌-◌, List, Option, Some, None, slice_index, slice_range, codes, if◌then◌else◌}
+use Rattle.std.specs.Prelude.{◌≡◌, ◌≢◌, ℕ, ◌<◌, ◌≤◌, Bool, true, false, not, ◌==◌, ◌&&◌, ◌||◌, nat_le, nat_lt, ◌+◌}
+use Rattle.std.specs.Prelude.{◌-◌, List, Option, Some, None, slice_index, slice_range, codes, if◌then◌else◌}
 use Rattle.std.specs.Int.RustNames.{bit_and}
 use Rattle.std.specs.List.{list_any, prefix_len}
 use Rattle.markdown_base.specs.declared.item.ItemBody.{ItemBody}
