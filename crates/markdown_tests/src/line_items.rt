@@ -58,7 +58,8 @@ fn delimiter_runs(rt: HostRuntime) -> Result<(), Fail> {
         ),
         (
             "**a__",
-            "MaybeEmphasis(2, true, false) 0..1;MaybeEmphasis(1, true, false) 1..2;Text 2..3;MaybeEmphasis(2, false, true) 3..4;MaybeEmphasis(1, false, true) 4..5;",
+            "MaybeEmphasis(2, true, false) 0..1;MaybeEmphasis(1, true, false) 1..2;Text 2..3;\
+            MaybeEmphasis(2, false, true) 3..4;MaybeEmphasis(1, false, true) 4..5;",
         ),
         (
             "*_a",
@@ -179,7 +180,8 @@ fn options_add_items(rt: HostRuntime) -> Result<(), Fail> {
         (
             "~a~~",
             Options::ENABLE_STRIKETHROUGH,
-            "MaybeEmphasis(1, true, false) 0..1;Text 1..2;MaybeEmphasis(2, false, true) 2..3;MaybeEmphasis(1, false, true) 3..4;",
+            "MaybeEmphasis(1, true, false) 0..1;Text 1..2;MaybeEmphasis(2, false, true) 2..3;\
+            MaybeEmphasis(1, false, true) 3..4;",
         ),
         (
             "a~b",
@@ -196,7 +198,8 @@ fn options_add_items(rt: HostRuntime) -> Result<(), Fail> {
         (
             "\"a's\"",
             Options::ENABLE_SMART_PUNCTUATION,
-            "MaybeSmartQuote(34, true, false) 0..1;Text 1..2;MaybeSmartQuote(39, false, false) 2..3;Text 3..4;MaybeSmartQuote(34, false, true) 4..5;",
+            "MaybeSmartQuote(34, true, false) 0..1;Text 1..2;MaybeSmartQuote(39, false, false) 2..3;\
+            Text 3..4;MaybeSmartQuote(34, false, true) 4..5;",
         ),
         (
             "$a$",
@@ -206,7 +209,8 @@ fn options_add_items(rt: HostRuntime) -> Result<(), Fail> {
         (
             "a$$ $",
             Options::ENABLE_MATH,
-            "Text 0..1;MaybeMath(true, true, 0) 1..2;MaybeMath(false, true, 0) 2..3;Text 3..4;MaybeMath(false, false, 0) 4..5;",
+            "Text 0..1;MaybeMath(true, true, 0) 1..2;MaybeMath(false, true, 0) 2..3;Text 3..4;\
+            MaybeMath(false, false, 0) 4..5;",
         ),
     ] {
         assert_eq!(rt;
