@@ -16,11 +16,11 @@ use Rattle.markdown_base.specs.declared.tag.HeadingLevel.{HeadingLevel}
 use Rattle.markdown_base.specs.Arena.{Arena, appended, changed_at}
 use Rattle.markdown_base.specs.WellFormed.{PartCounts, source_of, is_delimiter}
 use Rattle.markdown_builder.specs.declared.open_block.OpenBlock.{OpenBlock}
-use Rattle.markdown_builder.specs.Bodies.{is_leaf, is_plain_block, is_settled, mark_byte}
+use Rattle.markdown_builder.specs.Bodies.{is_leaf, is_plain_block, is_settled, mark_byte, IsParent}
 use Rattle.markdown_builder.specs.BuilderView.{BuilderView, IsWhite, IsRunOf, follows_run, LastHasBody}
 use Rattle.markdown_builder.specs.Standing.{State, seen, with_item, AreOpen, IsSound}
 use Rattle.markdown_builder.specs.TreeSteps.{LastRenamed, texts_appended, run_marked}
-use Rattle.markdown_builder.proofs.BodiesLemmas.{item_over, IsParent, MayBePlaced, plain_placed, placed_fits, placed_new, block_plain, block_parent, settled_plain, settled_inline, settled_markup, rule_plain, plain, table_placed, heading_placed, one_text_more, text_placed, fenced_names, footnote_names, synthesized_names}
+use Rattle.markdown_builder.proofs.BodiesLemmas.{item_over, MayBePlaced, plain_placed, placed_fits, placed_new, block_plain, block_parent, settled_plain, settled_inline, settled_markup, rule_plain, plain, table_placed, heading_placed, one_text_more, text_placed, fenced_names, footnote_names, synthesized_names}
 use Rattle.markdown_builder.proofs.MarkLemmas.{mark_facts, one_source, two_source, run_source, run_boundary}
 use Rattle.markdown_builder.proofs.RunMarkLemmas.{delimiter_ascii, run_sound}
 use Rattle.markdown_builder.proofs.RunStepLemmas.{TextsStand, texts_stand}
