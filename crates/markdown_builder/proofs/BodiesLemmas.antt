@@ -1,6 +1,6 @@
 -- What the rules ask of a body alone, for the bodies that a builder places.
 use Rattle.std.proofs.Common.{◌≡◌, ℕ, ◌+◌, ◌<◌, ◌≤◌, List, Option, Some, None, true, false, refl, arith}
-use Rattle.std.specs.Prelude.{IfSome}
+use Rattle.std.specs.Prelude.{IfSome, IsTrue, Bool, ◌||◌, ◌&&◌}
 use Rattle.markdown_base.specs.declared.index.AlignmentIndex.{AlignmentIndex}
 use Rattle.markdown_base.specs.declared.index.CowIndex.{CowIndex}
 use Rattle.markdown_base.specs.declared.index.HeadingIndex.{HeadingIndex}
@@ -8,10 +8,12 @@ use Rattle.markdown_base.specs.declared.item.Item.{Item}
 use Rattle.markdown_base.specs.declared.item.ItemBody.{ItemBody}
 use Rattle.markdown_base.specs.declared.item.ItemBody.TheVariants as body
 use Rattle.markdown_base.specs.declared.tag.HeadingLevel.{HeadingLevel}
+use Rattle.markdown_base.specs.BlockTree.{Numbered}
+use Rattle.markdown_base.specs.Forest.{nil, node}
 use Rattle.markdown_base.specs.Item.{LiesIn, is_open, is_inline, is_childless, is_resolved, is_tight_paragraph, is_unplaced, text_named, alignments_named, attributes_named}
-use Rattle.markdown_base.specs.WellFormed.{MarkupIsThere, StandsOverMarkup, run_character, PartCounts, PartsAreNamed}
+use Rattle.markdown_base.specs.WellFormed.{BlocksAreSettled, ChainsAreKept, MarkupIsThere, StandsOverMarkup, run_character, PartCounts, PartsAreNamed}
 use Rattle.markdown_base.proofs.WellFormedLemmas.{HasMore}
-use Rattle.markdown_builder.specs.Bodies.{is_leaf, is_plain_block, is_settled}
+use Rattle.markdown_builder.specs.Bodies.{is_leaf, is_plain_block, IsParent, is_settled}
 use Rattle.markdown_builder.specs.BuilderRules.{ItemFits, NamesNew}
 
 -- a body that names nothing
@@ -33,11 +35,6 @@ plain unresolved no_run placed texts alignments attributes = record {
   alignments = alignments;
   attributes = attributes;
 }
-
--- a block that may have children
-pub record IsParent (b : ItemBody) : Type 0 where
-  pub inline : is_inline b ≡ false
-  pub childless : is_childless b ≡ false
 
 -- blocks that are opened as they are are plain
 pub block_plain : (b : ItemBody) → is_plain_block b ≡ true → IsPlain b
@@ -120,6 +117,31 @@ not_open (body.MaybeLinkClose reference) h = h
 not_open body.MaybeImage h = h
 not_open other h = refl
 
+-- one item below another is a chain that is kept just where the one above may have children
+pub chain_of_one : (above : ItemBody) (b : Numbered) → is_childless above ≡ false → ChainsAreKept above (node b nil nil)
+chain_of_one above b parent = record {
+  childless = λ h. cc (parent, h);
+  inline_only = open_inline b.item.body;
+}
+  where
+    open_inline : (b : ItemBody) → IsTrue (is_open b || false) → IsTrue (is_inline b && true)
+    open_inline (body.MaybeEmphasis count opens closes) h = refl
+    open_inline (body.MaybeMath opens closes context) h = refl
+    open_inline (body.MaybeSmartQuote quote opens closes) h = refl
+    open_inline (body.MaybeCode count escaped) h = refl
+    open_inline body.MaybeHtml h = refl
+    open_inline body.MaybeLinkOpen h = refl
+    open_inline (body.MaybeLinkClose reference) h = refl
+    open_inline body.MaybeImage h = refl
+    open_inline other h = cc (h)
+
+pub parent_of_one : (above : ItemBody) (b : Numbered) → ChainsAreKept above (node b nil nil) → is_childless above ≡ false
+parent_of_one above b k = of_test (is_childless above) k.childless
+  where
+    of_test : (v : Bool) → (IsTrue v → node b nil nil ≡ nil) → v ≡ false
+    of_test true h = let e = h refl in cc (e)
+    of_test false h = refl
+
 -- nor a character of a run
 pub block_no_run : (b : ItemBody) → is_inline b ≡ false → run_character b ≡ None
 block_no_run (body.MaybeEmphasis count opens closes) h = cc (h)
@@ -189,15 +211,19 @@ plain_placed counts b p = record {
   alignments = no_name (alignments_named b) (λ ix. counts.alignments ≤ ix) p.alignments;
 }
 
+-- a block with nothing below it is settled where it may stand in the tree
+pub settled_alone : (b : ItemBody) → is_unplaced b ≡ false → BlocksAreSettled b nil
+settled_alone b placed = record { placed = placed; tight = λ t. refl }
+
 -- it fits wherever it lies in the text, over its markup
 pub placed_fits : (text : List ℕ) (few many : PartCounts) (start end : ℕ) (b : ItemBody) → MayBePlaced few many b → MarkupIsThere text (item_over start end b)
     → LiesIn text (item_over start end b) → ItemFits text many (item_over start end b)
 placed_fits text few many start end b p markup range = record {
-  range = range;
-  unresolved = p.unresolved;
-  markup = markup;
-  named = p.named;
-  placed = p.placed;
+  ranges_lie_in = range;
+  nothing_resolved = p.unresolved;
+  markup_is_there = markup;
+  parts_are_named = p.named;
+  blocks_are_settled = settled_alone b p.placed;
 }
 
 -- and names what is new

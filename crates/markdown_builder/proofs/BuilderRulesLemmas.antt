@@ -7,12 +7,13 @@ use Rattle.markdown_base.specs.declared.item.ItemBody.{ItemBody}
 use Rattle.markdown_base.specs.declared.item.ItemBody.TheVariants as body
 use Rattle.markdown_base.specs.declared.node.Node.{Node}
 use Rattle.markdown_base.specs.ArenaForest.{links_of}
-use Rattle.markdown_base.specs.BlockTree.{item_at}
+use Rattle.markdown_base.specs.BlockTree.{Numbered, item_at, numbered}
 use Rattle.markdown_base.specs.Item.{is_inline, text_named, alignments_named}
-use Rattle.markdown_base.specs.WellFormed.{PartCounts}
+use Rattle.markdown_base.specs.WellFormed.{PartCounts, Precedes}
 use Rattle.markdown_base.proofs.WellFormedLemmas.{HasMore, named_more}
 use Rattle.markdown_builder.specs.Rising.{link_of, AreRising}
 use Rattle.markdown_builder.specs.BuilderRules.{NamesNew, MayReplace, ItemFits, LinkFits, KeepsNodes}
+use Rattle.markdown_builder.proofs.BodiesLemmas.{chain_of_one, parent_of_one}
 use Rattle.markdown_builder.proofs.NodeWriteLemmas.{Grows, Writes, item_beyond}
 
 -- two numbers are one, or they are not
@@ -79,11 +80,11 @@ same_item old new down at x g i n =
 -- an item fits where there are more parts
 pub fits_more : (text : List ℕ) (few many : PartCounts) (item : Item) → HasMore few many → ItemFits text few item → ItemFits text many item
 fits_more text few many item m f = record {
-  range = f.range;
-  unresolved = f.unresolved;
-  markup = f.markup;
-  named = named_more few many item.body m f.named;
-  placed = f.placed;
+  ranges_lie_in = f.ranges_lie_in;
+  nothing_resolved = f.nothing_resolved;
+  markup_is_there = f.markup_is_there;
+  parts_are_named = named_more few many item.body m f.parts_are_named;
+  blocks_are_settled = f.blocks_are_settled;
 }
 
 -- what is said of a name holds of this one
@@ -125,7 +126,8 @@ once_more name old new down at x count g low high once i j t e f =
 
 -- an append keeps all
 pub append_keeps : (text : List ℕ) (few many : PartCounts) (old new : List (Node Item)) (down : Bool) (at : ℕ) (x : Item) → KeepsNodes text few old
-    → Grows old new down at x → at < length old → HasMore few many → ItemFits text many x → NamesNew few x → LinkFits down (item_at old at) x
+    → Grows old new down at x → at < length old → HasMore few many → ItemFits text many x → NamesNew few x
+    → LinkFits down (numbered old at) (record { number = length old; item = x })
     → KeepsNodes text many new
 append_keeps text few many old new down at x k g low more fits names link = record {
   rising = append_rising old new down at x low k.rising g;
@@ -140,21 +142,21 @@ append_keeps text few many old new down at x k g low more fits names link = reco
       (λ (o : link_of (links_of old) d i ≡ Some j). old_fits d i j o)
       (which_link old new down at x g d i j e);
   texts = once_more text_named old new down at x few.texts g
-      (low_names text_named old few.texts refl k.root (λ i a b. (k.items i a b).named.text)) names.texts k.texts;
+      (low_names text_named old few.texts refl k.root (λ i a b. (k.items i a b).parts_are_named.text)) names.texts k.texts;
   alignments = once_more alignments_named old new down at x few.alignments g
-      (low_names alignments_named old few.alignments refl k.root (λ i a b. (k.items i a b).named.alignments)) names.alignments k.alignments;
+      (low_names alignments_named old few.alignments refl k.root (λ i a b. (k.items i a b).parts_are_named.alignments)) names.alignments k.alignments;
 }
   where
     before : (i : ℕ) → i < length new → (i ≡ length old → ⊥) → i < length old
     before i b q = ⊎_elim (λ (h : i < length old). h) (λ (h : length old ≤ i). absurd (q (omega (arith, h, b, g.size)))) (cases_lt i (length old))
 
-    new_fits : (d : Bool) (i j : ℕ) → IsNewLink (length old) down d at i j → LinkFits d (item_at new i) (item_at new j)
+    new_fits : (d : Bool) (i j : ℕ) → IsNewLink (length old) down d at i j → LinkFits d (numbered new i) (numbered new j)
     new_fits d i j n =
         let a : item_at new i ≡ item_at old at = ap (λ (m : ℕ). item_at new m) n.from ∙ g.old_items at low in
         let b : item_at new j ≡ x = ap (λ (m : ℕ). item_at new m) n.to ∙ g.new_item in
-        rw (a, b, n.side) link
+        rw (a, b, n.side, n.from, n.to) link
 
-    old_fits : (d : Bool) (i j : ℕ) → link_of (links_of old) d i ≡ Some j → LinkFits d (item_at new i) (item_at new j)
+    old_fits : (d : Bool) (i j : ℕ) → link_of (links_of old) d i ≡ Some j → LinkFits d (numbered new i) (numbered new j)
     old_fits d i j o =
         let r = k.rising.rises d i j o in
         let a : item_at new i ≡ item_at old i = g.old_items i (omega (arith, r.0, r.1)) in
@@ -164,20 +166,39 @@ append_keeps text few many old new down at x k g low more fits names link = reco
 -- ---- a written item
 
 -- a link fits with another item at its start
-pub fits_from : (d : Bool) (a b c : Item) → MayReplace a b → LinkFits d a c → LinkFits d b c
-fits_from true a b c m l = record { kind = l.kind ∙ sym m.leaf; parent = m.childless ∙ l.parent }
-fits_from false a b c m l = record {
+pub fits_from : (d : Bool) (a b : Numbered) (c : Numbered) → a.number ≡ b.number → MayReplace a.item b.item → LinkFits d a c → LinkFits d b c
+fits_from true a b c e m l = record {
+  kind = l.kind ∙ sym m.leaf;
+  chains_are_kept = chain_of_one b.item.body c (m.childless ∙ parent_of_one a.item.body c l.chains_are_kept);
+}
+fits_from false a b c e m l = record {
   kind = l.kind ∙ sym m.inline;
-  order = λ h. let i : is_inline a.body ≡ true = sym m.inline ∙ h in omega (arith, m.end i, l.order i);
+  inline_in_order = λ h k. let i : is_inline a.item.body ≡ true = sym m.inline ∙ h in
+      let p : Precedes a c = l.inline_in_order i k in
+      record { ends = omega (arith, m.end i, p.ends); numbers = omega (arith, e, p.numbers) };
 }
 
 -- and at its end
-fits_to : (d : Bool) (a b c : Item) → MayReplace a b → LinkFits d c a → LinkFits d c b
-fits_to true a b c m l = record { kind = m.inline ∙ l.kind; parent = l.parent }
-fits_to false a b c m l = record {
+fits_to : (d : Bool) (a b : Numbered) (c : Numbered) → a.number ≡ b.number → MayReplace a.item b.item → LinkFits d c a → LinkFits d c b
+fits_to true a b c e m l = record {
   kind = m.inline ∙ l.kind;
-  order = λ h. let i : is_inline a.body ≡ true = l.kind ∙ h in omega (arith, m.start i, l.order h);
+  chains_are_kept = chain_of_one c.item.body b (parent_of_one c.item.body a l.chains_are_kept);
 }
+fits_to false a b c e m l = record {
+  kind = m.inline ∙ l.kind;
+  inline_in_order = λ h k. let i : is_inline a.item.body ≡ true = sym m.inline ∙ k in
+      let p : Precedes c a = l.inline_in_order h i in
+      record { ends = omega (arith, m.start i, p.ends); numbers = omega (arith, e, p.numbers) };
+}
+
+-- what holds of the item of a number still does, where it does of the one that is written there
+pub stays_fit : (P : Numbered → Type 0) (old new : List (Node Item)) (at i : ℕ) (x : Item) → Writes old new at x
+    → (i ≡ at → P (record { number = i; item = x })) → P (numbered old i) → P (numbered new i)
+stays_fit P old new at i x w here elsewhere = ⊎_elim
+    (λ (q : i ≡ at). let e : item_at new i ≡ x = ap (λ (n : ℕ). item_at new n) q ∙ w.new_item in
+    subst (λ (y : Item). P (record { number = i; item = y })) (sym e) (here q))
+    (λ (q : i ≡ at → ⊥). subst (λ (y : Item). P (record { number = i; item = y })) (sym (w.old_items i q)) elsewhere)
+    (same_or_not i at)
 
 -- a written item keeps all
 pub write_keeps : (text : List ℕ) (counts : PartCounts) (old new : List (Node Item)) (at : ℕ) (x : Item) → KeepsNodes text counts old
@@ -198,20 +219,16 @@ write_keeps text counts old new at x k w low fits m = record {
   alignments = λ i j t e f. k.alignments i j t (named_before alignments_named m.alignments i t e) (named_before alignments_named m.alignments j t f);
 }
   where
-    left : (d : Bool) (i j : ℕ) → LinkFits d (item_at old i) (item_at old j) → LinkFits d (item_at new i) (item_at old j)
-    left d i j l = ⊎_elim
-        (λ (q : i ≡ at). let e : item_at new i ≡ x = ap (λ (n : ℕ). item_at new n) q ∙ w.new_item in
-        rw e (fits_from d (item_at old at) x (item_at old j) m (subst (λ (n : ℕ). LinkFits d (item_at old n) (item_at old j)) q l)))
-        (λ (q : i ≡ at → ⊥). rw (w.old_items i q) l)
-        (same_or_not i at)
+    replaced : (i : ℕ) → i ≡ at → MayReplace (item_at old i) x
+    replaced i q = subst (λ (n : ℕ). MayReplace (item_at old n) x) (sym q) m
 
-    right : (d : Bool) (i j : ℕ) → LinkFits d (item_at new i) (item_at old j) → LinkFits d (item_at new i) (item_at new j)
-    right d i j l = ⊎_elim
-        (λ (q : j ≡ at). let e : item_at new j ≡ x = ap (λ (n : ℕ). item_at new n) q ∙ w.new_item in
-        subst (λ (y : Item). LinkFits d (item_at new i) y) (sym e)
-        (fits_to d (item_at old at) x (item_at new i) m (subst (λ (n : ℕ). LinkFits d (item_at new i) (item_at old n)) q l)))
-        (λ (q : j ≡ at → ⊥). subst (λ (y : Item). LinkFits d (item_at new i) y) (sym (w.old_items j q)) l)
-        (same_or_not j at)
+    left : (d : Bool) (i j : ℕ) → LinkFits d (numbered old i) (numbered old j) → LinkFits d (numbered new i) (numbered old j)
+    left d i j l = stays_fit (λ y. LinkFits d y (numbered old j)) old new at i x w
+        (λ q. fits_from d (numbered old i) (record { number = i; item = x }) (numbered old j) refl (replaced i q) l) l
+
+    right : (d : Bool) (i j : ℕ) → LinkFits d (numbered new i) (numbered old j) → LinkFits d (numbered new i) (numbered new j)
+    right d i j l = stays_fit (λ y. LinkFits d (numbered new i) y) old new at j x w
+        (λ q. fits_to d (numbered old j) (record { number = j; item = x }) (numbered new i) refl (replaced j q) l) l
 
     named_before : (name : ItemBody → Option ℕ) → ((t : ℕ) → name x.body ≡ Some t → name (item_at old at).body ≡ Some t) → (i t : ℕ)
         → name (item_at new i).body ≡ Some t → name (item_at old i).body ≡ Some t

@@ -5,22 +5,19 @@ use Rattle.std.specs.Str.{IsCharBoundary}
 use Rattle.std.proofs.lemmas.Str.{IsCharBoundary-after_ascii}
 use Rattle.markdown_base.specs.declared.block_parts.LinkDef.{LinkDef}
 use Rattle.markdown_base.specs.declared.cow_str.CowStr.{CowStr}
-use Rattle.markdown_base.specs.declared.index.AlignmentIndex.{AlignmentIndex}
 use Rattle.markdown_base.specs.declared.index.CowIndex.{CowIndex}
-use Rattle.markdown_base.specs.declared.index.HeadingIndex.{HeadingIndex}
 use Rattle.markdown_base.specs.declared.item.Item.{Item}
 use Rattle.markdown_base.specs.declared.item.ItemBody.{ItemBody}
 use Rattle.markdown_base.specs.declared.item.ItemBody.TheVariants as body
 use Rattle.markdown_base.specs.declared.node.Node.{Node}
-use Rattle.markdown_base.specs.declared.tag.HeadingLevel.{HeadingLevel}
 use Rattle.markdown_base.specs.Arena.{Arena, appended, changed_at}
 use Rattle.markdown_base.specs.WellFormed.{PartCounts, source_of, is_delimiter}
 use Rattle.markdown_builder.specs.declared.open_block.OpenBlock.{OpenBlock}
-use Rattle.markdown_builder.specs.Bodies.{is_leaf, is_plain_block, is_settled, mark_byte}
+use Rattle.markdown_builder.specs.Bodies.{is_leaf, is_plain_block, is_settled, mark_byte, IsParent}
 use Rattle.markdown_builder.specs.BuilderView.{BuilderView, IsWhite, IsRunOf, follows_run, LastHasBody}
 use Rattle.markdown_builder.specs.Standing.{State, seen, with_item, AreOpen, IsSound}
 use Rattle.markdown_builder.specs.TreeSteps.{LastRenamed, texts_appended, run_marked}
-use Rattle.markdown_builder.proofs.BodiesLemmas.{item_over, IsParent, MayBePlaced, plain_placed, placed_fits, placed_new, block_plain, block_parent, settled_plain, settled_inline, settled_markup, rule_plain, plain, table_placed, heading_placed, one_text_more, text_placed, fenced_names, footnote_names, synthesized_names}
+use Rattle.markdown_builder.proofs.BodiesLemmas.{item_over, MayBePlaced, plain_placed, placed_fits, placed_new, block_plain, block_parent, settled_plain, settled_inline, settled_markup, rule_plain, plain, one_text_more, text_placed, synthesized_names}
 use Rattle.markdown_builder.proofs.MarkLemmas.{mark_facts, one_source, two_source, run_source, run_boundary}
 use Rattle.markdown_builder.proofs.RunMarkLemmas.{delimiter_ascii, run_sound}
 use Rattle.markdown_builder.proofs.RunStepLemmas.{TextsStand, texts_stand}
@@ -118,61 +115,6 @@ synthesize_keeps {s} now many end ix k e n more =
 pub pushed_keeps : {s : State} (many : PartCounts) → IsSound s → one_text_more s.counts many → IsSound (record s { counts = many })
 pushed_keeps {s} many k more =
     more_parts s many (record { texts = omega (arith, more.0); alignments = omega (arith, more.1); attributes = omega (arith, more.2) }) k
-
--- `open_fenced` and `open_footnote`
-pub fenced_keeps : {s : State} (now : BuilderView) (many : PartCounts) (ix : CowIndex) → IsSound s → seen s ≡ now → now.leaf ≡ false → ix.0 ≡ s.counts.texts
-    → one_text_more s.counts many → IsSound (after_opening s many (body.FencedCodeBlock ix))
-fenced_keeps {s} now many ix k e outside n more =
-    placed_keeps now many (body.FencedCodeBlock ix) k e outside (text_placed s.counts many (body.FencedCodeBlock ix) ix.0 n more (fenced_names ix))
-    (record { inline = refl; childless = refl })
-
-pub fenced_refused : {s : State} (now : BuilderView) (many : PartCounts) (ix : CowIndex) (tree : Arena Item) → IsSound s → seen s ≡ now → now.leaf ≡ false
-    → ix.0 ≡ s.counts.texts → one_text_more s.counts many → (tree ≡ s.tree) ⊎ (tree ≡ appended s.tree (item_over s.at s.at (body.FencedCodeBlock ix)))
-    → IsSound (record s { counts = many; tree = tree })
-fenced_refused {s} now many ix tree k e outside n more =
-    refused_keeps now many (body.FencedCodeBlock ix) tree k e outside (text_placed s.counts many (body.FencedCodeBlock ix) ix.0 n more (fenced_names ix))
-    (record { inline = refl; childless = refl })
-
-pub footnote_keeps : {s : State} (now : BuilderView) (many : PartCounts) (ix : CowIndex) → IsSound s → seen s ≡ now → now.leaf ≡ false → ix.0 ≡ s.counts.texts
-    → one_text_more s.counts many → IsSound (after_opening s many (body.FootnoteDefinition ix))
-footnote_keeps {s} now many ix k e outside n more =
-    placed_keeps now many (body.FootnoteDefinition ix) k e outside (text_placed s.counts many (body.FootnoteDefinition ix) ix.0 n more (footnote_names ix))
-    (record { inline = refl; childless = refl })
-
-pub footnote_refused : {s : State} (now : BuilderView) (many : PartCounts) (ix : CowIndex) (tree : Arena Item) → IsSound s → seen s ≡ now → now.leaf ≡ false
-    → ix.0 ≡ s.counts.texts → one_text_more s.counts many → (tree ≡ s.tree) ⊎ (tree ≡ appended s.tree (item_over s.at s.at (body.FootnoteDefinition ix)))
-    → IsSound (record s { counts = many; tree = tree })
-footnote_refused {s} now many ix tree k e outside n more =
-    refused_keeps now many (body.FootnoteDefinition ix) tree k e outside (text_placed s.counts many (body.FootnoteDefinition ix) ix.0 n more (footnote_names ix))
-    (record { inline = refl; childless = refl })
-
--- `open_table`
-pub table_keeps : {s : State} (now : BuilderView) (many : PartCounts) (ix : AlignmentIndex) → IsSound s → seen s ≡ now → now.leaf ≡ false
-    → ix.0 ≡ s.counts.alignments → many.alignments ≡ s.counts.alignments + 1 → many.texts ≡ s.counts.texts → many.attributes ≡ s.counts.attributes
-    → IsSound (after_opening s many (body.Table ix))
-table_keeps {s} now many ix k e outside n a t h =
-    placed_keeps now many (body.Table ix) k e outside (table_placed s.counts many ix n a t h) (record { inline = refl; childless = refl })
-
-pub table_refused : {s : State} (now : BuilderView) (many : PartCounts) (ix : AlignmentIndex) (tree : Arena Item) → IsSound s → seen s ≡ now → now.leaf ≡ false
-    → ix.0 ≡ s.counts.alignments → many.alignments ≡ s.counts.alignments + 1 → many.texts ≡ s.counts.texts → many.attributes ≡ s.counts.attributes
-    → (tree ≡ s.tree) ⊎ (tree ≡ appended s.tree (item_over s.at s.at (body.Table ix))) → IsSound (record s { counts = many; tree = tree })
-table_refused {s} now many ix tree k e outside n a t h =
-    refused_keeps now many (body.Table ix) tree k e outside (table_placed s.counts many ix n a t h) (record { inline = refl; childless = refl })
-
--- `open_heading`
-pub heading_keeps : {s : State} (now : BuilderView) (many : PartCounts) (level : HeadingLevel) (ix : HeadingIndex) → IsSound s → seen s ≡ now
-    → now.leaf ≡ false → ix.0 ≡ many.attributes → many.attributes ≡ s.counts.attributes + 1 → many.texts ≡ s.counts.texts
-    → many.alignments ≡ s.counts.alignments → IsSound (after_opening s many (body.Heading level (Some ix)))
-heading_keeps {s} now many level ix k e outside n h t a =
-    placed_keeps now many (body.Heading level (Some ix)) k e outside (heading_placed s.counts many level ix n h t a) (record { inline = refl; childless = refl })
-
-pub heading_refused : {s : State} (now : BuilderView) (many : PartCounts) (level : HeadingLevel) (ix : HeadingIndex) (tree : Arena Item) → IsSound s
-    → seen s ≡ now → now.leaf ≡ false → ix.0 ≡ many.attributes → many.attributes ≡ s.counts.attributes + 1 → many.texts ≡ s.counts.texts
-    → many.alignments ≡ s.counts.alignments → (tree ≡ s.tree) ⊎ (tree ≡ appended s.tree (item_over s.at s.at (body.Heading level (Some ix))))
-    → IsSound (record s { counts = many; tree = tree })
-heading_refused {s} now many level ix tree k e outside n h t a =
-    refused_keeps now many (body.Heading level (Some ix)) tree k e outside (heading_placed s.counts many level ix n h t a)
-    (record { inline = refl; childless = refl })
 
 -- `mark`
 pub mark_keeps : {s : State} (now : BuilderView) (b : ItemBody) → IsSound s → seen s ≡ now → now.leaf ≡ true → now.at < length now.text

@@ -23,11 +23,11 @@ use Rattle.markdown_builder.proofs.StepLemmas.{either_passes}
 top_inline : (text : List ℕ) (counts : PartCounts) (nodes : List (Node Item)) (j : ℕ) → KeepsNodes text counts nodes → IsOnTop (links_of nodes) j
     → is_inline (item_at nodes j).body ≡ false
 top_inline text counts nodes j k (first_block _ e) =
-    let x : StandsUnder (item_at nodes 0) (item_at nodes j) = k.links true 0 j e in
+    let x : StandsUnder (numbered nodes 0) (numbered nodes j) = k.links true 0 j e in
     let root : is_leaf (item_at nodes 0).body ≡ false = rw k.root refl in
     x.kind ∙ root
 top_inline text counts nodes j k (next_block i _ t e) =
-    let x : StandsAfter (item_at nodes i) (item_at nodes j) = k.links false i j e in
+    let x : StandsAfter (numbered nodes i) (numbered nodes j) = k.links false i j e in
     x.kind ∙ top_inline text counts nodes i k t
 
 -- nor resolved, so it is a block
@@ -40,7 +40,7 @@ top_block : (text : List ℕ) (counts : PartCounts) (nodes : List (Node Item)) (
     → is_block (item_at nodes j).body ≡ true
 top_block text counts nodes j k t =
     let low = top_low text counts nodes j k t in
-    let resolved = (k.items j low.0 low.1).unresolved in
+    let resolved = (k.items j low.0 low.1).nothing_resolved in
     rw (top_inline text counts nodes j k t, resolved) refl
 
 -- a test that a root passes

@@ -45,7 +45,7 @@ chain_kind text counts nodes v l (node i below after) k s h =
     let here = h i s.0 in (
       here,
       chain_kind text counts nodes v ((links_of nodes).next i) after k s.3
-          (λ j e. let x : StandsAfter (item_at nodes i) (item_at nodes j) = k.links false i j e in x.kind ∙ here),
+          (λ j e. let x : StandsAfter (numbered nodes i) (numbered nodes j) = k.links false i j e in x.kind ∙ here),
     )
 
 -- what is below a node is inline just where the node is a leaf
@@ -53,7 +53,7 @@ below_kind : (text : List ℕ) (counts : PartCounts) (nodes : List (Node Item)) 
     → Spells (links_of nodes) ((links_of nodes).child i) f → OfKind (is_leaf (item_at nodes i).body) (relabelled (numbered nodes) f)
 below_kind text counts nodes i f k s =
     chain_kind text counts nodes (is_leaf (item_at nodes i).body) ((links_of nodes).child i) f k s
-    (λ j e. let x : StandsUnder (item_at nodes i) (item_at nodes j) = k.links true i j e in x.kind)
+    (λ j e. let x : StandsUnder (numbered nodes i) (numbered nodes j) = k.links true i j e in x.kind)
 
 -- a chain of blocks has nothing open
 blocks_closed : (chain : List Numbered) → AllByRecursion (λ n. is_inline n.item.body ≡ false) chain → list_any (λ n. is_open n.item.body) chain ≡ false
@@ -87,15 +87,14 @@ childless : (text : List ℕ) (counts : PartCounts) (nodes : List (Node Item)) (
     → Spells (links_of nodes) ((links_of nodes).child i) f → IsTrue (is_childless (item_at nodes i).body) → relabelled (numbered nodes) f ≡ nil
 childless text counts nodes i nil k s c = refl
 childless text counts nodes i (node j below after) k s c =
-    let x : StandsUnder (item_at nodes i) (item_at nodes j) = k.links true i j s.0 in let e = x.parent in cc (c, e)
+    let x : StandsUnder (numbered nodes i) (numbered nodes j) = k.links true i j s.0 in let e = x.chains_are_kept.childless c in cc (e)
 
 -- inline items stand in order
 in_order : (text : List ℕ) (counts : PartCounts) (nodes : List (Node Item)) (i : ℕ) (f : Forest ℕ) → KeepsNodes text counts nodes
     → Spells (links_of nodes) ((links_of nodes).next i) f → InlineInOrder (numbered nodes i) (first_root (relabelled (numbered nodes) f))
 in_order text counts nodes i nil k s = tt
 in_order text counts nodes i (node j below after) k s =
-    let x : StandsAfter (item_at nodes i) (item_at nodes j) = k.links false i j s.0 in
-    λ a b. record { ends = x.order a; numbers = (k.rising.rises false i j s.0).0 }
+    let x : StandsAfter (numbered nodes i) (numbered nodes j) = k.links false i j s.0 in x.inline_in_order
 
 -- the item after another is the first of what is spelled behind it
 next_spelled : (nodes : List (Node Item)) (i : ℕ) (f : Forest ℕ) → Spells (links_of nodes) ((links_of nodes).next i) f
@@ -163,18 +162,18 @@ rules_at text counts nodes i below after k runs low high s t =
     let item = k.items i low high in
     let kind = below_kind text counts nodes i below k s in
     record {
-      ranges_lie_in = item.range;
+      ranges_lie_in = item.ranges_lie_in;
       inline_in_order = in_order text counts nodes i after k t;
       chains_are_kept = record {
         childless = childless text counts nodes i below k s;
         inline_only = only_inline (is_leaf (item_at nodes i).body) (relabelled (numbered nodes) below) kind;
       };
-      nothing_resolved = item.unresolved;
-      markup_is_there = item.markup;
+      nothing_resolved = item.nothing_resolved;
+      markup_is_there = item.markup_is_there;
       runs_are_whole = subst (λ (next : Option Numbered). RunsAreWhole text (numbered nodes i) next) (next_spelled nodes i after t) (runs i);
-      parts_are_named = item.named;
+      parts_are_named = item.parts_are_named;
       blocks_are_settled = record {
-        placed = item.placed;
+        placed = item.blocks_are_settled.placed;
         tight = not_in_tight (item_at nodes i).body (is_leaf (item_at nodes i).body) (relabelled (numbered nodes) below) refl kind;
       };
     }

@@ -1,5 +1,5 @@
 -- What an append and a written item make of a list of nodes, number by number.
-use Rattle.std.proofs.Common.{◌≡◌, ℕ, zero, suc, ◌+◌, ◌<◌, ◌≤◌, List, [], ◌∷◌, ◌++◌, Option, Some, None, Bool, true, false, map, length, refl, ap, ◌∙◌, arith}
+use Rattle.std.proofs.Common.{◌≡◌, ℕ, zero, suc, ◌+◌, ◌<◌, ◌≤◌, List, [], ◌∷◌, ◌++◌, Option, Some, None, Bool, true, false, map, length, refl, sym, ap, ◌∙◌, arith}
 use Rattle.std.specs.Prelude.{slice_index_or}
 use Rattle.std.proofs.lemmas.List.{length-append}
 use Rattle.markdown_base.specs.declared.item.Item.{Item}
@@ -83,66 +83,69 @@ pub place_follower : (nodes : List (Node Item)) (spine : List ℕ) (cursor : Opt
 place_follower nodes spine None = refl
 place_follower nodes spine (Some before) = refl
 
--- an append behind the node in focus
-grows_after : (old : List (Node Item)) (before : ℕ) (item : Item) → before < length old
-    → Grows old (changed_at before (λ n. record n { next = Some (length old) }) (old ++ record { item = item; child = None; next = None } ∷ [])) false before item
-grows_after old before item h =
-    let x : Node Item = record { item = item; child = None; next = None } in
-    let change : Node Item → Node Item = λ n. record n { next = Some (length old) } in
-    let more = old ++ x ∷ [] in
-    let l : length more ≡ length old + 1 = length-append old (x ∷ []) in
-    record {
-      size = length-changed_at before change more ∙ omega (arith, l);
-      old_items = λ i k. field_kept (λ n. n.item) no_item change (λ n. refl) before i more ∙ field_old (λ n. n.item) x no_item old i k;
-      new_item = field_kept (λ n. n.item) no_item change (λ n. refl) before (length old) more ∙ field_new (λ n. n.item) x no_item old;
-      other_links = others old before item;
-      new_link = field_here (λ n. n.next) None (Some (length old)) change (λ n. refl) before more (omega (arith, l, h));
-    }
-  where
-    others : (old : List (Node Item)) (before : ℕ) (item : Item) (d : Bool) (i : ℕ) → ((d ≡ false) × (i ≡ before) → ⊥)
-        → link_of (links_of (changed_at before (λ n. record n { next = Some (length old) }) (old ++ record { item = item; child = None; next = None } ∷ []))) d i
-        ≡ link_of (links_of old) d i
-    others old before item true i k =
-        field_kept (λ n. n.child) None (λ n. record n { next = Some (length old) }) (λ n. refl) before i (old ++ record { item = item; child = None; next = None } ∷ [])
-        ∙ field_more (λ n. n.child) (record { item = item; child = None; next = None }) None refl old i
-    others old before item false i k =
-        field_elsewhere (λ n. n.next) None (λ n. record n { next = Some (length old) }) before i (old ++ record { item = item; child = None; next = None } ∷ [])
-        (λ e. k (refl, e))
-        ∙ field_more (λ n. n.next) (record { item = item; child = None; next = None }) None refl old i
+-- a node's link, and the node with another
+abbrev link : Bool → Node Item → Option ℕ
+link true = λ n. n.child
+link false = λ n. n.next
 
--- an append below the node gone into last
-grows_below : (old : List (Node Item)) (parent : ℕ) (item : Item) → parent < length old
-    → Grows old (changed_at parent (λ n. record n { child = Some (length old) }) (old ++ record { item = item; child = None; next = None } ∷ [])) true parent item
-grows_below old parent item h =
-    let x : Node Item = record { item = item; child = None; next = None } in
-    let change : Node Item → Node Item = λ n. record n { child = Some (length old) } in
+abbrev linked : Bool → ℕ → Node Item → Node Item
+linked true to = λ n. record n { child = Some to }
+linked false to = λ n. record n { next = Some to }
+
+-- the link of a number is a field of its node
+link_field : (d : Bool) (nodes : List (Node Item)) (i : ℕ) → link_of (links_of nodes) d i ≡ slice_index_or (map (link d) nodes) i None
+link_field true nodes i = refl
+link_field false nodes i = refl
+
+-- a node that is linked keeps its item and has that link
+item_linked : (down : Bool) (to : ℕ) (n : Node Item) → (linked down to n).item ≡ n.item
+item_linked true to n = refl
+item_linked false to n = refl
+
+link_linked : (down : Bool) (to : ℕ) (n : Node Item) → link down (linked down to n) ≡ Some to
+link_linked true to n = refl
+link_linked false to n = refl
+
+-- other links stay
+others_linked : (down d : Bool) (to at i : ℕ) (nodes : List (Node Item)) → ((d ≡ down) × (i ≡ at) → ⊥)
+    → slice_index_or (map (link d) (changed_at at (linked down to) nodes)) i None ≡ slice_index_or (map (link d) nodes) i None
+others_linked true true to at i nodes k = field_elsewhere (link true) None (linked true to) at i nodes (λ e. k (refl, e))
+others_linked false false to at i nodes k = field_elsewhere (link false) None (linked false to) at i nodes (λ e. k (refl, e))
+others_linked true false to at i nodes k = field_kept (link false) None (linked true to) (λ n. refl) at i nodes
+others_linked false true to at i nodes k = field_kept (link true) None (linked false to) (λ n. refl) at i nodes
+
+-- a node without links
+abbrev alone : Item → Node Item
+alone item = record { item = item; child = None; next = None }
+
+link_alone : (d : Bool) (item : Item) → link d (alone item) ≡ None
+link_alone true item = refl
+link_alone false item = refl
+
+-- an append at a place
+grows_at : (down : Bool) (old : List (Node Item)) (at : ℕ) (item : Item) → at < length old
+    → Grows old (changed_at at (linked down (length old)) (old ++ alone item ∷ [])) down at item
+grows_at down old at item h =
+    let x = alone item in
+    let change = linked down (length old) in
     let more = old ++ x ∷ [] in
+    let new = changed_at at change more in
     let l : length more ≡ length old + 1 = length-append old (x ∷ []) in
     record {
-      size = length-changed_at parent change more ∙ omega (arith, l);
-      old_items = λ i k. field_kept (λ n. n.item) no_item change (λ n. refl) parent i more ∙ field_old (λ n. n.item) x no_item old i k;
-      new_item = field_kept (λ n. n.item) no_item change (λ n. refl) parent (length old) more ∙ field_new (λ n. n.item) x no_item old;
-      other_links = others old parent item;
-      new_link = field_here (λ n. n.child) None (Some (length old)) change (λ n. refl) parent more (omega (arith, l, h));
+      size = length-changed_at at change more ∙ omega (arith, l);
+      old_items = λ i k. field_kept (λ n. n.item) no_item change (item_linked down (length old)) at i more ∙ field_old (λ n. n.item) x no_item old i k;
+      new_item = field_kept (λ n. n.item) no_item change (item_linked down (length old)) at (length old) more ∙ field_new (λ n. n.item) x no_item old;
+      other_links = λ d i k. link_field d new i
+          ∙ (others_linked down d (length old) at i more k ∙ (field_more (link d) x None (link_alone d item) old i ∙ sym (link_field d old i)));
+      new_link = link_field down new at ∙ field_here (link down) None (Some (length old)) change (link_linked down (length old)) at more (omega (arith, l, h));
     }
-  where
-    others : (old : List (Node Item)) (parent : ℕ) (item : Item) (d : Bool) (i : ℕ) → ((d ≡ true) × (i ≡ parent) → ⊥)
-        → link_of (links_of (changed_at parent (λ n. record n { child = Some (length old) }) (old ++ record { item = item; child = None; next = None } ∷ []))) d i
-        ≡ link_of (links_of old) d i
-    others old parent item false i k =
-        field_kept (λ n. n.next) None (λ n. record n { child = Some (length old) }) (λ n. refl) parent i (old ++ record { item = item; child = None; next = None } ∷ [])
-        ∙ field_more (λ n. n.next) (record { item = item; child = None; next = None }) None refl old i
-    others old parent item true i k =
-        field_elsewhere (λ n. n.child) None (λ n. record n { child = Some (length old) }) parent i (old ++ record { item = item; child = None; next = None } ∷ [])
-        (λ e. k (refl, e))
-        ∙ field_more (λ n. n.child) (record { item = item; child = None; next = None }) None refl old i
 
 -- an append at a free place
 pub append_grows : (nodes : List (Node Item)) (spine : List ℕ) (cursor : Option ℕ) (item : Item)
     → place_at spine cursor < length nodes → link_of (links_of nodes) (place_down cursor) (place_at spine cursor) ≡ None
     → Grows nodes (appended (record { nodes = nodes; spine = spine; cursor = cursor }) item).nodes (place_down cursor) (place_at spine cursor) item
-append_grows nodes spine (Some before) item h free = rw free (grows_after nodes before item h)
-append_grows nodes spine None item h free = rw free (grows_below nodes (innermost spine) item h)
+append_grows nodes spine (Some before) item h free = rw free (grows_at false nodes before item h)
+append_grows nodes spine None item h free = rw free (grows_at true nodes (innermost spine) item h)
 
 -- ---- a written item
 

@@ -18,10 +18,11 @@ use Rattle.markdown_builder.specs.Rising.{link_of}
 use Rattle.markdown_builder.specs.BuilderRules.{ItemFits, MayReplace, KeepsRuns}
 use Rattle.markdown_builder.specs.Standing.{State, with_item, IsOpenAt, AreOpen, Stands, LastRun, IsSound}
 use Rattle.markdown_builder.specs.TreeSteps.{byte_text, texts_appended, run_item, run_marked}
+use Rattle.markdown_builder.proofs.BodiesLemmas.{settled_alone}
 use Rattle.markdown_builder.proofs.NodeWriteLemmas.{Writes, item_writes}
 use Rattle.markdown_builder.proofs.RunLemmas.{at_number, character_replaced, runs_rewritten}
 use Rattle.markdown_builder.proofs.RunStepLemmas.{MayPrecede, TextsStand, texts_stand}
-use Rattle.markdown_builder.proofs.StandingLemmas.{open_map}
+use Rattle.markdown_builder.proofs.StandingLemmas.{open_written}
 use Rattle.markdown_builder.proofs.WrittenLemmas.{written, all_true}
 
 -- a character of runs is ASCII
@@ -60,7 +61,7 @@ text_not_open : (nodes : List (Node Item)) (n a start : ℕ) (b : OpenBlock) →
 text_not_open nodes n a start b was z q =
     let inline : is_inline b.body ≡ true = sym (ap (λ (y : Item). is_inline y.body) q.item)
     ∙ (ap (λ (m : ℕ). is_inline (item_at nodes m).body) z ∙ ap (λ (y : Item). is_inline y.body) was) in
-    cc (inline, q.inline)
+    let none = q.parent.inline in cc (inline, none)
 
 -- a character of another byte ends a run
 byte_ends : (text : List ℕ) (byte : ℕ) (a c : Numbered) → byte_of text c.item ≡ byte → (byte == byte_of text a.item) ≡ false → EndsRun text a (Some c)
@@ -131,11 +132,11 @@ one_marked s byte end total opens closes t old m rooted run delimiter whole p r 
     let fit : ItemFits s.text s.counts (byte_text start) =
     subst (λ (y : Item). ItemFits s.text s.counts y) was (r.stands.nodes.items n (omega (arith, first, rooted)) in_old) in
     let fits : ItemFits s.text s.counts x = record {
-      range = record { ordered = fit.range.ordered; start = fit.range.start; end = fit.range.end };
-      unresolved = refl;
-      markup = tt;
-      named = record { text = tt; alignments = tt; attributes = tt };
-      placed = refl;
+      ranges_lie_in = record { ordered = fit.ranges_lie_in.ordered; start = fit.ranges_lie_in.start; end = fit.ranges_lie_in.end };
+      nothing_resolved = refl;
+      markup_is_there = tt;
+      parts_are_named = record { text = tt; alignments = tt; attributes = tt };
+      blocks_are_settled = settled_alone x.body refl;
     } in
     let replaces : MayReplace (item_at old.nodes n) x = subst (λ (y : Item). MayReplace y x) (sym was) (record {
       inline = refl;
@@ -146,14 +147,8 @@ one_marked s byte end total opens closes t old m rooted run delimiter whole p r 
       start = λ e. refl;
       end = λ e. refl;
     }) in
-    let blocks : AreOpen new old.spine s.blocks = open_map (λ a. ⊤) old.nodes new (λ a b l q. record {
-      positive = q.positive;
-      low = omega (arith, q.low, w.size);
-      last = w.all_links false a ∙ q.last;
-      item = w.old_items a (λ z. text_not_open old.nodes n a start b was z q) ∙ q.item;
-      inline = q.inline;
-      childless = q.childless;
-    }) old.spine s.blocks (all_true old.spine) r.stands.are_open in
+    let blocks : AreOpen new old.spine s.blocks =
+    open_written (λ a. ⊤) old.nodes new n x w (λ a b l q z. text_not_open old.nodes n a start b was z q) old.spine s.blocks (all_true old.spine) r.stands.are_open in
     let whole_here : RunsAreWhole s.text (at_number n x) (next_at old.nodes n) = record {
       one_byte = omega arith;
       delimiter = subst (λ (b : ℕ). IsTrue (is_delimiter b)) (sym same) delimiter;

@@ -19,7 +19,7 @@ use Rattle.markdown_builder.specs.declared.open_block.OpenBlock.{OpenBlock}
 use Rattle.markdown_builder.specs.Rising.{link_of, AreRising, IsOnTop, first_block, next_block, place_down, place_at}
 use Rattle.markdown_builder.specs.BuilderRules.{NamesNew, ItemFits, KeepsNodes}
 use Rattle.markdown_builder.specs.Standing.{State, IsOpenAt, AreOpen, IsTopPlace, IsUnderTop, is_in_definition, covered_to, AreCovered, Stands}
-use Rattle.markdown_builder.proofs.NodeWriteLemmas.{Grows, append_grows, item_beyond}
+use Rattle.markdown_builder.proofs.NodeWriteLemmas.{Grows, Writes, append_grows, item_beyond}
 use Rattle.markdown_builder.proofs.BuilderRulesLemmas.{same_or_not, same_item, append_keeps}
 
 -- what holds of each value holds of those of a list
@@ -48,6 +48,18 @@ open_map P old new h [] [] a o = tt
 open_map P old new h [] (b ∷ blocks) a o = o
 open_map P old new h (s ∷ spine) [] a o = o
 open_map P old new h (s ∷ spine) (b ∷ blocks) a o = (h s b a.0 o.0, o.1, open_map P old new h spine blocks a.1 o.2)
+
+-- and where an item is written that is none of theirs
+pub open_written : (P : ℕ → Type 0) (old new : List (Node Item)) (at : ℕ) (x : Item) → Writes old new at x
+    → ((s : ℕ) (b : OpenBlock) → P s → IsOpenAt old s b → s ≡ at → ⊥)
+    → (spine : List ℕ) (blocks : List OpenBlock) → AllByRecursion P spine → AreOpen old spine blocks → AreOpen new spine blocks
+open_written P old new at x w other spine blocks = open_map P old new (λ s b p o. record {
+  positive = o.positive;
+  low = omega (arith, o.low, w.size);
+  last = w.all_links false s ∙ o.last;
+  item = w.old_items s (other s b p o) ∙ o.item;
+  parent = o.parent;
+}) spine blocks
 
 -- their numbers are those of nodes
 open_low : (nodes : List (Node Item)) (spine : List ℕ) (blocks : List OpenBlock) → AreOpen nodes spine blocks
@@ -168,8 +180,7 @@ appended_fits s many x h more fits names kind low =
         low = omega (arith, o.low, g.size);
         last = g.other_links false t n ∙ o.last;
         item = g.old_items t o.low ∙ o.item;
-        inline = o.inline;
-        childless = o.childless;
+        parent = o.parent;
       }) s.tree.spine s.blocks (off_place s.tree.spine s.tree.spine s.tree.cursor h.behind) h.are_open;
       behind = open_low old s.tree.spine s.blocks h.are_open;
       top = top_appended old new s.tree.spine s.tree.cursor x g h.free h.top;

@@ -23,16 +23,16 @@ use Rattle.markdown_base.proofs.ArenaLemmas.{innermost-snoc, All-snoc, All-front
 use Rattle.markdown_base.proofs.ForestLemmas.{All-weaker}
 use Rattle.markdown_base.proofs.WellFormedLemmas.{HasMore}
 use Rattle.markdown_builder.specs.declared.open_block.OpenBlock.{OpenBlock}
-use Rattle.markdown_builder.specs.Bodies.{is_leaf}
+use Rattle.markdown_builder.specs.Bodies.{is_leaf, IsParent}
 use Rattle.markdown_builder.specs.BuilderView.{IsWhite}
 use Rattle.markdown_builder.specs.Rising.{link_of, IsOnTop, place_down, place_at}
 use Rattle.markdown_builder.specs.BuilderRules.{ItemFits, NamesNew, MayReplace, KeepsNodes}
 use Rattle.markdown_builder.specs.Standing.{State, open_item, entered, AreOpen, OnlyLastIsLeaf, IsTopPlace, IsUnderTop, is_in_definition, covered_to, AreCovered, IsSound}
-use Rattle.markdown_builder.proofs.BodiesLemmas.{item_over, IsParent, MayBePlaced, placed_fits, placed_new, block_markup, block_no_run}
+use Rattle.markdown_builder.proofs.BodiesLemmas.{item_over, MayBePlaced, placed_fits, placed_new, block_markup, block_no_run, chain_of_one}
 use Rattle.markdown_builder.proofs.BuilderRulesLemmas.{same_or_not, fits_more, write_keeps}
 use Rattle.markdown_builder.proofs.NodeWriteLemmas.{Writes, item_writes}
 use Rattle.markdown_builder.proofs.RunLemmas.{runs_appended, runs_written}
-use Rattle.markdown_builder.proofs.StandingLemmas.{appended_fits, IsInnermost, open_snoc, open_unsnoc, open_map, top_stays, not_inside, inside, covered_stays}
+use Rattle.markdown_builder.proofs.StandingLemmas.{appended_fits, IsInnermost, open_snoc, open_unsnoc, open_written, top_stays, not_inside, inside, covered_stays}
 
 -- of two tests one passes
 pub either_passes : (a b : Bool) → (a ≡ true) ⊎ IsTrue b → IsTrue (a || b)
@@ -87,7 +87,7 @@ begun text counts tree utf8 e = subst (λ (t : Arena Item). IsSound (beginning t
     };
     low = omega arith;
     free = refl;
-    fits = λ x k l. record { kind = k; parent = refl };
+    fits = λ x k l. record { kind = k; chains_are_kept = chain_of_one body.Root (record { number = 1; item = x }) refl };
     are_open = tt;
     leaves = refl;
     behind = tt;
@@ -113,10 +113,11 @@ covered_white : (text : List ℕ) (nodes : List (Node Item)) (definitions : List
 covered_white text nodes definitions from to c w p l dark =
     ⊎_elim (λ (h : p < from). c p h dark) (λ (h : from ≤ p). let q = w p h l in cc (q, dark)) (cases_lt p from)
 
--- bytes are stepped over: white space, where no block is open
-pub skipped : (s : State) (to : ℕ) → IsSound s → s.at ≤ to → IsCharBoundary s.text to → (s.leaf ≡ false → s.blocks ≡ [] → IsWhite s.text s.at to)
-    → IsSound (record s { at = to })
-skipped s to k low boundary white = record {
+-- a builder goes on to a place, where that much is covered, by the definitions that it has then
+moved : (s : State) (to : ℕ) (definitions : List (CowStr × LinkDef)) → IsSound s → s.at ≤ to → IsCharBoundary s.text to
+    → AreCovered s.text s.tree.nodes definitions (covered_to s.blocks to) → AllByRecursion (λ d. slice_index s.text d.1.span.start ≡ 91) definitions
+    → IsSound (record s { definitions = definitions; at = to })
+moved s to definitions k low boundary covered brackets = record {
   utf8 = k.utf8;
   stands = record {
     nodes = k.stands.nodes;
@@ -127,14 +128,20 @@ skipped s to k low boundary white = record {
     leaves = k.stands.leaves;
     behind = k.stands.behind;
     top = k.stands.top;
-    covered = over s.blocks k.stands.leaves k.stands.covered white;
+    covered = covered;
     boundary = boundary;
     begun = All-weaker (λ b. b.start ≤ s.at) (λ b. b.start ≤ to) (λ b h. omega (arith, h, low)) s.blocks k.stands.begun;
-    brackets = k.stands.brackets;
+    brackets = brackets;
   };
   runs = k.runs;
   last_run = k.last_run;
 }
+
+-- bytes are stepped over: white space, where no block is open
+pub skipped : (s : State) (to : ℕ) → IsSound s → s.at ≤ to → IsCharBoundary s.text to → (s.leaf ≡ false → s.blocks ≡ [] → IsWhite s.text s.at to)
+    → IsSound (record s { at = to })
+skipped s to k low boundary white =
+    moved s to s.definitions k low boundary (over s.blocks k.stands.leaves k.stands.covered white) k.stands.brackets
   where
     over : (blocks : List OpenBlock) → OnlyLastIsLeaf blocks s.leaf → AreCovered s.text s.tree.nodes s.definitions (covered_to blocks s.at)
         → (s.leaf ≡ false → blocks ≡ [] → IsWhite s.text s.at to) → AreCovered s.text s.tree.nodes s.definitions (covered_to blocks to)
@@ -165,7 +172,7 @@ pub added : (s : State) (many : PartCounts) (to : ℕ) (b : ItemBody) (run : Opt
 added s many to b run k more fits names kind no_run =
     let x : Item = item_over s.at to b in
     let a = appended_fits s many x k.stands more fits names kind (omega arith) in
-    let low : s.at ≤ to = fits.range.ordered in
+    let low : s.at ≤ to = fits.ranges_lie_in.ordered in
     let n = length s.tree.nodes in
     let none : run_character (item_at (appended s.tree x).nodes n).body ≡ None = ap (λ (y : Item). run_character y.body) a.grows.new_item ∙ no_run in
     record {
@@ -174,13 +181,13 @@ added s many to b run k more fits names kind no_run =
         nodes = a.nodes;
         low = omega (arith, a.grows.size);
         free = a.free false;
-        fits = λ y e l. rw a.grows.new_item (record { kind = e ∙ sym kind; order = λ h. l });
+        fits = λ y e l. rw a.grows.new_item (record { kind = e ∙ sym kind; inline_in_order = λ h i. record { ends = l; numbers = omega (arith, a.grows.size) } });
         are_open = a.are_open;
         leaves = k.stands.leaves;
         behind = a.behind;
         top = a.top;
         covered = covered_added s.text (appended s.tree x).nodes s.definitions s.tree.spine s.blocks n s.at to b a.are_open a.top a.grows.new_item a.covered;
-        boundary = fits.range.end;
+        boundary = fits.ranges_lie_in.end;
         begun = All-weaker (λ q. q.start ≤ s.at) (λ q. q.start ≤ to) (λ q h. omega (arith, h, low)) s.blocks k.stands.begun;
         brackets = k.stands.brackets;
       };
@@ -231,14 +238,13 @@ opened s many b k outside placed parent =
         nodes = a.nodes;
         low = rw i (omega (arith, a.grows.size));
         free = rw i (a.free true);
-        fits = λ y e l. rw (i, a.grows.new_item) (record { kind = e; parent = parent.childless });
+        fits = λ y e l. rw (i, a.grows.new_item) (record { kind = e; chains_are_kept = chain_of_one b (record { number = length new; item = y }) parent.childless });
         are_open = open_snoc new n block s.tree.spine s.blocks a.are_open a.behind (record {
           positive = k.stands.nodes.rooted;
           low = omega (arith, a.grows.size);
           last = a.free false;
           item = a.grows.new_item;
-          inline = parent.inline;
-          childless = parent.childless;
+          parent = parent;
         });
         leaves = leaves_open s.blocks block (subst (λ (l : Bool). OnlyLastIsLeaf s.blocks l) outside k.stands.leaves);
         behind = tt;
@@ -311,11 +317,11 @@ block_replaces a b was inline leaf childless texts alignments = record {
 closed_fits : (text : List ℕ) (counts : PartCounts) (b : ItemBody) (start end : ℕ) → is_inline b ≡ false → start ≤ end → IsCharBoundary text end
     → ItemFits text counts (item_over start start b) → ItemFits text counts (item_over start end b)
 closed_fits text counts b start end h low boundary f = record {
-  range = record { ordered = low; start = f.range.start; end = boundary };
-  unresolved = f.unresolved;
-  markup = block_markup b (source_of text (item_over start end b)) h;
-  named = f.named;
-  placed = f.placed;
+  ranges_lie_in = record { ordered = low; start = f.ranges_lie_in.start; end = boundary };
+  nothing_resolved = f.nothing_resolved;
+  markup_is_there = block_markup b (source_of text (item_over start end b)) h;
+  parts_are_named = f.parts_are_named;
+  blocks_are_settled = f.blocks_are_settled;
 }
 
 -- the outermost open block, or the one that was left, is on top
@@ -374,22 +380,16 @@ closed s spine blocks n block k whole split =
     let start : block.start ≤ at = All-last (λ b. b.start ≤ at) blocks block begun_all in
     let fit : ItemFits s.text s.counts (open_item block) = subst (λ (y : Item). ItemFits s.text s.counts y) h.item (k.stands.nodes.items n h.positive h.low) in
     let nodes : KeepsNodes s.text s.counts made = write_keeps s.text s.counts old made n x k.stands.nodes w h.positive
-    (closed_fits s.text s.counts block.body block.start at h.inline start k.stands.boundary fit)
-    (rw h.item (block_replaces (open_item block) x h.inline h.inline refl refl (λ t e. e) (λ t e. e))) in
+    (closed_fits s.text s.counts block.body block.start at h.parent.inline start k.stands.boundary fit)
+    (rw h.item (block_replaces (open_item block) x h.parent.inline h.parent.inline refl refl (λ t e. e) (λ t e. e))) in
     let links : (d : Bool) (i j : ℕ) → link_of (links_of old) d i ≡ Some j → link_of (links_of made) d i ≡ Some j = λ d i j q. w.all_links d i ∙ q in
-    let opens : AreOpen made spine blocks = open_map (λ t. t < n) old made (λ t b l q. record {
-      positive = q.positive;
-      low = omega (arith, q.low, w.size);
-      last = w.all_links false t ∙ q.last;
-      item = w.old_items t (λ z. absurd (omega (arith, z, l))) ∙ q.item;
-      inline = q.inline;
-      childless = q.childless;
-    }) spine blocks o.above o.others in
+    let opens : AreOpen made spine blocks =
+    open_written (λ t. t < n) old made n x w (λ t b l q z. absurd (omega (arith, z, l))) spine blocks o.above o.others in
     let top_was : IsTopPlace old (spine ++ n ∷ []) None = whole_top old s.tree.spine spine n s.tree.cursor split k.stands.top in
     let top : IsTopPlace made spine (Some n) = top_closed old made spine n links top_was in
     let covered_was : AreCovered s.text old s.definitions (covered_to (blocks ++ block ∷ []) at) =
     subst (λ (y : List OpenBlock). AreCovered s.text old s.definitions (covered_to y at)) whole k.stands.covered in
-    let none : run_character x.body ≡ None = block_no_run block.body h.inline in
+    let none : run_character x.body ≡ None = block_no_run block.body h.parent.inline in
     let none_was : run_character (item_at old n).body ≡ None = ap (λ (y : Item). run_character y.body) h.item ∙ none in
     let none_now : run_character (item_at made n).body ≡ None = ap (λ (y : Item). run_character y.body) w.new_item ∙ none in
     record {
@@ -398,7 +398,7 @@ closed s spine blocks n block k whole split =
         nodes = nodes;
         low = omega (arith, h.low, w.size);
         free = w.all_links false n ∙ h.last;
-        fits = λ y q l. rw w.new_item (record { kind = q ∙ sym h.inline; order = λ z. let i = h.inline in cc (z, i) });
+        fits = λ y q l. rw w.new_item (record { kind = q ∙ sym h.parent.inline; inline_in_order = λ z v. let i = h.parent.inline in cc (z, i) });
         are_open = opens;
         leaves = leaves_closed blocks block s.leaf (subst (λ (y : List OpenBlock). OnlyLastIsLeaf y s.leaf) whole k.stands.leaves);
         behind = o.above;
@@ -440,25 +440,9 @@ in_last definitions d p h =
 -- a definition is added, which stands from here up to a place
 pub defined : (s : State) (to : ℕ) (d : CowStr × LinkDef) → IsSound s → s.at ≤ to → IsCharBoundary s.text to → slice_index s.text s.at ≡ 91
     → d.1.span ≡ record { start = s.at; end = to } → IsSound (record s { definitions = s.definitions ++ d ∷ []; at = to })
-defined s to d k low boundary bracket span = record {
-  utf8 = k.utf8;
-  stands = record {
-    nodes = k.stands.nodes;
-    low = k.stands.low;
-    free = k.stands.free;
-    fits = λ x e l. k.stands.fits x e (omega (arith, l, low));
-    are_open = k.stands.are_open;
-    leaves = k.stands.leaves;
-    behind = k.stands.behind;
-    top = k.stands.top;
-    covered = over s.blocks k.stands.covered;
-    boundary = boundary;
-    begun = All-weaker (λ b. b.start ≤ s.at) (λ b. b.start ≤ to) (λ b h. omega (arith, h, low)) s.blocks k.stands.begun;
-    brackets = All-snoc (λ x. slice_index s.text x.1.span.start ≡ 91) s.definitions d k.stands.brackets (rw span bracket);
-  };
-  runs = k.runs;
-  last_run = k.last_run;
-}
+defined s to d k low boundary bracket span =
+    moved s to (s.definitions ++ d ∷ []) k low boundary (over s.blocks k.stands.covered)
+    (All-snoc (λ x. slice_index s.text x.1.span.start ≡ 91) s.definitions d k.stands.brackets (rw span bracket))
   where
     widened : (end : ℕ) → AreCovered s.text s.tree.nodes s.definitions end → AreCovered s.text s.tree.nodes (s.definitions ++ d ∷ []) end
     widened end c p l dark = ⊎_elim (λ (b : IsUnderTop s.tree.nodes p). inl b)

@@ -9,32 +9,32 @@ use Rattle.markdown_base.specs.declared.item.ItemBody.TheVariants as body
 use Rattle.markdown_base.specs.declared.node.Node.{Node}
 use Rattle.markdown_base.specs.Arena.{Arena}
 use Rattle.markdown_base.specs.ArenaForest.{links_of}
-use Rattle.markdown_base.specs.BlockTree.{item_at}
+use Rattle.markdown_base.specs.BlockTree.{Numbered, item_at, numbered}
 use Rattle.markdown_base.specs.Coverage.{is_inside}
 use Rattle.markdown_base.specs.Item.{range_of, is_inline, text_named, alignments_named}
 use Rattle.markdown_base.specs.WellFormed.{source_of, PartCounts, run_character, byte_of}
 use Rattle.markdown_base.proofs.ArenaLemmas.{All-snoc, All-front, All-last}
 use Rattle.markdown_builder.specs.declared.open_block.OpenBlock.{OpenBlock}
-use Rattle.markdown_builder.specs.Bodies.{is_leaf}
+use Rattle.markdown_builder.specs.Bodies.{is_leaf, IsParent}
 use Rattle.markdown_builder.specs.Rising.{link_of, place_down, place_at}
 use Rattle.markdown_builder.specs.BuilderRules.{ItemFits, LinkFits, MayReplace, KeepsNodes}
 use Rattle.markdown_builder.specs.Standing.{State, open_item, with_item, IsOpenAt, AreOpen, OnlyLastIsLeaf, IsTopPlace, covered_to, AreCovered, Stands, LastRun, IsSound}
 use Rattle.markdown_builder.specs.TreeSteps.{IsFilledParagraph, tight, Tightens, none_tight, one_tight}
-use Rattle.markdown_builder.proofs.BodiesLemmas.{item_over, IsParent, MayBePlaced, placed_fits, block_no_run, block_markup}
-use Rattle.markdown_builder.proofs.BuilderRulesLemmas.{same_or_not, fits_from, write_keeps}
+use Rattle.markdown_builder.proofs.BodiesLemmas.{item_over, MayBePlaced, placed_fits, block_no_run, block_markup, settled_alone}
+use Rattle.markdown_builder.proofs.BuilderRulesLemmas.{same_or_not, fits_from, stays_fit, write_keeps}
 use Rattle.markdown_builder.proofs.NodeWriteLemmas.{Writes, item_writes}
 use Rattle.markdown_builder.proofs.RunLemmas.{runs_written}
-use Rattle.markdown_builder.proofs.StandingLemmas.{IsInnermost, open_snoc, open_unsnoc, open_map, top_stays, covered_stays}
+use Rattle.markdown_builder.proofs.StandingLemmas.{IsInnermost, open_snoc, open_unsnoc, open_written, top_stays, covered_stays}
 use Rattle.markdown_builder.proofs.StepLemmas.{block_replaces}
 
 -- what may come at a place may come where an item of the same kind is written
 still_fits : (old new : List (Node Item)) (number place : ℕ) (x y : Item) (d : Bool) → Writes old new number x → MayReplace (item_at old number) x
-    → LinkFits d (item_at old place) y → LinkFits d (item_at new place) y
-still_fits old new number place x y d w m l = ⊎_elim
-    (λ (q : place ≡ number). let e : item_at new place ≡ x = ap (λ (n : ℕ). item_at new n) q ∙ w.new_item in
-    rw e (fits_from d (item_at old number) x y m (subst (λ (n : ℕ). LinkFits d (item_at old n) y) q l)))
-    (λ (q : place ≡ number → ⊥). rw (w.old_items place q) l)
-    (same_or_not place number)
+    → LinkFits d (numbered old place) (record { number = length old; item = y }) → LinkFits d (numbered new place) (record { number = length new; item = y })
+still_fits old new number place x y d w m l =
+    let z : Numbered = record { number = length old; item = y } in
+    subst (λ (n : ℕ). LinkFits d (numbered new place) (record { number = n; item = y })) (sym w.size)
+    (stays_fit (λ (a : Numbered). LinkFits d a z) old new number place x w
+    (λ q. fits_from d (numbered old place) (record { number = place; item = x }) z refl (subst (λ (n : ℕ). MayReplace (item_at old n) x) (sym q) m) l) l)
 
 -- what stands on top stays there
 top_kept : (old new : List (Node Item)) → ((d : Bool) (i j : ℕ) → link_of (links_of old) d i ≡ Some j → link_of (links_of new) d i ≡ Some j)
@@ -137,24 +137,18 @@ made_tight s number k low p =
     let new = (with_item s.tree number x).nodes in
     let w : Writes old new number x = item_writes old number x low in
     let positive = not_root s.text s.counts old number k.stands.nodes p in
-    let range = (k.stands.nodes.items number positive low).range in
+    let range = (k.stands.nodes.items number positive low).ranges_lie_in in
     let was : is_inline item.body ≡ false = rw p.body refl in
     let fits : ItemFits s.text s.counts x = record {
-      range = record { ordered = range.ordered; start = range.start; end = range.end };
-      unresolved = refl;
-      markup = tt;
-      named = record { text = tt; alignments = tt; attributes = tt };
-      placed = refl;
+      ranges_lie_in = record { ordered = range.ordered; start = range.start; end = range.end };
+      nothing_resolved = refl;
+      markup_is_there = tt;
+      parts_are_named = record { text = tt; alignments = tt; attributes = tt };
+      blocks_are_settled = settled_alone body.TightParagraph refl;
     } in
     let m : MayReplace item x = block_replaces item x was refl (rw p.body refl) (rw p.body refl) (λ t e. cc (e)) (λ t e. cc (e)) in
-    let opens : AreOpen new s.tree.spine s.blocks = open_map (λ t. ⊤) old new (λ t b l q. record {
-      positive = q.positive;
-      low = omega (arith, q.low, w.size);
-      last = w.all_links false t ∙ q.last;
-      item = w.old_items t (λ z. not_open old number t b p z q) ∙ q.item;
-      inline = q.inline;
-      childless = q.childless;
-    }) s.tree.spine s.blocks (all_true s.tree.spine) k.stands.are_open in
+    let opens : AreOpen new s.tree.spine s.blocks =
+    open_written (λ t. ⊤) old new number x w (λ t b l q z. not_open old number t b p z q) s.tree.spine s.blocks (all_true s.tree.spine) k.stands.are_open in
     block_written s number x s.blocks k low was refl
     (written s number x s.blocks k.stands positive low fits m refl refl opens k.stands.leaves refl k.stands.begun)
 
@@ -203,26 +197,19 @@ changed s spine blocks n block b k whole split leaf placed no_text no_alignments
     let start : block.start ≤ at = All-last (λ c. c.start ≤ at) blocks block begun_was in
     let same_leaf : is_leaf b ≡ is_leaf block.body = leaf ∙ leaf_last blocks block s.leaf leaves_was in
     let fit : ItemFits s.text s.counts (open_item block) = subst (λ (y : Item). ItemFits s.text s.counts y) h.item (k.stands.nodes.items n h.positive h.low) in
-    let was : is_inline (item_at old n).body ≡ false = ap (λ (y : Item). is_inline y.body) h.item ∙ h.inline in
-    let m : MayReplace (item_at old n) x = rw h.item (block_replaces (open_item block) x h.inline parent.inline same_leaf (parent.childless ∙ sym h.childless)
+    let was : is_inline (item_at old n).body ≡ false = ap (λ (y : Item). is_inline y.body) h.item ∙ h.parent.inline in
+    let m : MayReplace (item_at old n) x = rw h.item (block_replaces (open_item block) x h.parent.inline parent.inline same_leaf (parent.childless ∙ sym h.parent.childless)
     (λ t e. cc (no_text, e)) (λ t e. cc (no_alignments, e))) in
     let fits = placed_fits s.text s.counts s.counts block.start block.start b placed
-    (block_markup b (source_of s.text x) parent.inline) (record { ordered = omega arith; start = fit.range.start; end = fit.range.start }) in
-    let others : AreOpen new spine blocks = open_map (λ t. t < n) old new (λ t c l q. record {
-      positive = q.positive;
-      low = omega (arith, q.low, w.size);
-      last = w.all_links false t ∙ q.last;
-      item = w.old_items t (λ z. absurd (omega (arith, z, l))) ∙ q.item;
-      inline = q.inline;
-      childless = q.childless;
-    }) spine blocks o.above o.others in
+    (block_markup b (source_of s.text x) parent.inline) (record { ordered = omega arith; start = fit.ranges_lie_in.start; end = fit.ranges_lie_in.start }) in
+    let others : AreOpen new spine blocks =
+    open_written (λ t. t < n) old new n x w (λ t c l q z. absurd (omega (arith, z, l))) spine blocks o.above o.others in
     let opens : AreOpen new (spine ++ n ∷ []) (blocks ++ other ∷ []) = open_snoc new n other spine blocks others o.above (record {
       positive = h.positive;
       low = omega (arith, h.low, w.size);
       last = w.all_links false n ∙ h.last;
       item = w.new_item;
-      inline = parent.inline;
-      childless = parent.childless;
+      parent = parent;
     }) in
     block_written s n x (blocks ++ other ∷ []) k h.low was parent.inline
     (written s n x (blocks ++ other ∷ []) k.stands h.positive h.low fits m (rw h.item refl) (rw h.item refl)

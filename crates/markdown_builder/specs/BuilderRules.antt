@@ -1,36 +1,39 @@
--- The rules of a block result, said of each number and of each link: what a builder keeps, whatever the tree.
+-- What a builder keeps, whatever the tree, said of each number and of each link: the rules of a block result, each
+-- as `KeepsRules` states it under the same name, where one item stands below another or after it; and that each chain
+-- is of one kind, from which they follow for chains of any length.
 use Rattle.std.specs.Prelude.{◌≡◌, ℕ, ◌<◌, ◌≤◌, Bool, true, false, List, Some, IfSome, length}
 use Rattle.markdown_base.specs.declared.item.Item.{Item}
 use Rattle.markdown_base.specs.declared.item.ItemBody.TheVariants as body
 use Rattle.markdown_base.specs.declared.node.Node.{Node}
 use Rattle.markdown_base.specs.ArenaForest.{links_of}
 use Rattle.markdown_base.specs.ArenaRules.{next_at}
-use Rattle.markdown_base.specs.BlockTree.{item_at, numbered}
-use Rattle.markdown_base.specs.Item.{is_inline, is_childless, is_unplaced, text_named, alignments_named}
-use Rattle.markdown_base.specs.WellFormed.{MarkupIsThere, NothingResolved, PartCounts, PartsAreNamed, RangesLieIn, RunsAreWhole}
+use Rattle.markdown_base.specs.BlockTree.{Numbered, item_at, numbered}
+use Rattle.markdown_base.specs.Forest.{nil, node}
+use Rattle.markdown_base.specs.Item.{is_inline, is_childless, text_named, alignments_named}
+use Rattle.markdown_base.specs.WellFormed.{BlocksAreSettled, ChainsAreKept, InlineInOrder, MarkupIsThere, NothingResolved, PartCounts, PartsAreNamed, RangesLieIn, RunsAreWhole}
 use Rattle.markdown_builder.specs.Bodies.{is_leaf}
 use Rattle.markdown_builder.specs.Rising.{link_of, AreRising}
 
--- what the rules say of one item alone
+-- the rules of one item alone, with nothing below it
 pub record ItemFits (text : List ℕ) (counts : PartCounts) (item : Item) : Type 0 where
-  pub range : RangesLieIn text item
-  pub unresolved : NothingResolved item.body
-  pub markup : MarkupIsThere text item
-  pub named : PartsAreNamed counts item.body
-  pub placed : is_unplaced item.body ≡ false
+  pub ranges_lie_in : RangesLieIn text item
+  pub nothing_resolved : NothingResolved item.body
+  pub markup_is_there : MarkupIsThere text item
+  pub parts_are_named : PartsAreNamed counts item.body
+  pub blocks_are_settled : BlocksAreSettled item.body nil
 
 -- the first item below another: inline items stand in leaves alone
-pub record StandsUnder (a b : Item) : Type 0 where
-  pub kind : is_inline b.body ≡ is_leaf a.body
-  pub parent : is_childless a.body ≡ false
+pub record StandsUnder (a b : Numbered) : Type 0 where
+  pub kind : is_inline b.item.body ≡ is_leaf a.item.body
+  pub chains_are_kept : ChainsAreKept a.item.body (node b nil nil)
 
--- the item after another: of one kind, and inline items in order
-pub record StandsAfter (a b : Item) : Type 0 where
-  pub kind : is_inline b.body ≡ is_inline a.body
-  pub order : is_inline a.body ≡ true → a.end ≤ b.start
+-- the item after another: of one kind
+pub record StandsAfter (a b : Numbered) : Type 0 where
+  pub kind : is_inline b.item.body ≡ is_inline a.item.body
+  pub inline_in_order : InlineInOrder a (Some b)
 
--- what the rules say of a link
-abbrev pub LinkFits : Bool → Item → Item → Type 0
+-- what is kept at a link
+abbrev pub LinkFits : Bool → Numbered → Numbered → Type 0
 LinkFits true a b = StandsUnder a b
 LinkFits false a b = StandsAfter a b
 
@@ -40,7 +43,7 @@ pub record KeepsNodes (text : List ℕ) (counts : PartCounts) (nodes : List (Nod
   pub rooted : 0 < length nodes
   pub root : (item_at nodes 0).body ≡ body.Root
   pub items : (i : ℕ) → 0 < i → i < length nodes → ItemFits text counts (item_at nodes i)
-  pub links : (down : Bool) (i j : ℕ) → link_of (links_of nodes) down i ≡ Some j → LinkFits down (item_at nodes i) (item_at nodes j)
+  pub links : (down : Bool) (i j : ℕ) → link_of (links_of nodes) down i ≡ Some j → LinkFits down (numbered nodes i) (numbered nodes j)
   pub texts : (i j t : ℕ) → text_named (item_at nodes i).body ≡ Some t → text_named (item_at nodes j).body ≡ Some t → i ≡ j
   pub alignments : (i j t : ℕ) → alignments_named (item_at nodes i).body ≡ Some t → alignments_named (item_at nodes j).body ≡ Some t → i ≡ j
 

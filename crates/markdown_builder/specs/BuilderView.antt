@@ -3,6 +3,7 @@ use Rattle.std.specs.Prelude.{◌≡◌, ℕ, ◌<◌, ◌≤◌, Bool, true, fa
 use Rattle.std.specs.Char.{is_ascii_whitespace}
 use Rattle.markdown_base.specs.declared.item.ItemBody.{ItemBody}
 use Rattle.markdown_builder.specs.declared.open_block.OpenBlock.{OpenBlock}
+use Rattle.markdown_builder.specs.Bodies.{is_leaf}
 
 pub record BuilderView : Type 0 where
   -- the text
@@ -31,10 +32,9 @@ abbrev pub follows_run : Option ℕ → ℕ → Bool
 follows_run None byte = false
 follows_run (Some before) byte = byte == before
 
--- a block that begins here is open, inside those that were; whether it is a leaf
-pub record GoesInto (old new : BuilderView) (leaf : Bool) : Type 0 where
-  pub block : OpenBlock
-  pub now : new ≡ record old { blocks = old.blocks ++ block ∷ []; leaf = leaf; run = None }
+-- a block with a body begins here, inside those that were open
+abbrev pub Opens : BuilderView → BuilderView → ItemBody → Type 0
+Opens old new body = new ≡ record old { blocks = old.blocks ++ record { start = old.at; body = body } ∷ []; leaf = is_leaf body; run = None }
 
 -- the innermost open block, where there is one, has another body
 abbrev pub LastHasBody : List OpenBlock → List OpenBlock → ItemBody → Type 0

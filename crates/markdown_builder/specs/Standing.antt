@@ -9,12 +9,12 @@ use Rattle.markdown_base.specs.declared.item.Item.{Item}
 use Rattle.markdown_base.specs.declared.node.Node.{Node}
 use Rattle.markdown_base.specs.Arena.{Arena, appended, changed_at, child_of}
 use Rattle.markdown_base.specs.ArenaForest.{links_of}
-use Rattle.markdown_base.specs.BlockTree.{item_at}
+use Rattle.markdown_base.specs.BlockTree.{item_at, numbered}
 use Rattle.markdown_base.specs.Coverage.{is_inside}
-use Rattle.markdown_base.specs.Item.{range_of, is_inline, is_childless}
+use Rattle.markdown_base.specs.Item.{range_of, is_inline}
 use Rattle.markdown_base.specs.WellFormed.{PartCounts, run_character, byte_of}
 use Rattle.markdown_builder.specs.declared.open_block.OpenBlock.{OpenBlock}
-use Rattle.markdown_builder.specs.Bodies.{is_leaf}
+use Rattle.markdown_builder.specs.Bodies.{is_leaf, IsParent}
 use Rattle.markdown_builder.specs.BuilderView.{BuilderView}
 use Rattle.markdown_builder.specs.Rising.{link_of, IsOnTop, place_down, place_at}
 use Rattle.markdown_builder.specs.BuilderRules.{LinkFits, KeepsNodes, KeepsRuns}
@@ -55,8 +55,7 @@ pub record IsOpenAt (nodes : List (Node Item)) (s : ℕ) (block : OpenBlock) : T
   pub low : s < length nodes
   pub last : (links_of nodes).next s ≡ None
   pub item : item_at nodes s ≡ open_item block
-  pub inline : is_inline block.body ≡ false
-  pub childless : is_childless block.body ≡ false
+  pub parent : IsParent block.body
 
 -- the blocks gone into are the open ones, and their numbers rise
 abbrev pub AreOpen : List (Node Item) → List ℕ → List OpenBlock → Type 0
@@ -103,7 +102,7 @@ pub record Stands (s : State) : Type 0 where
   pub low : place_at s.tree.spine s.tree.cursor < length s.tree.nodes
   pub free : link_of (links_of s.tree.nodes) (place_down s.tree.cursor) (place_at s.tree.spine s.tree.cursor) ≡ None
   pub fits : (x : Item) → is_inline x.body ≡ s.leaf → s.at ≤ x.start
-      → LinkFits (place_down s.tree.cursor) (item_at s.tree.nodes (place_at s.tree.spine s.tree.cursor)) x
+      → LinkFits (place_down s.tree.cursor) (numbered s.tree.nodes (place_at s.tree.spine s.tree.cursor)) (record { number = length s.tree.nodes; item = x })
   pub are_open : AreOpen s.tree.nodes s.tree.spine s.blocks
   pub leaves : OnlyLastIsLeaf s.blocks s.leaf
   pub behind : IfSome s.tree.cursor (λ c. AllByRecursion (λ o. o < c) s.tree.spine)

@@ -54,11 +54,12 @@ impl<'a> Model for Builder<'a> {
 impl<'a> Builder<'a> {
     ghost use Rattle.std.specs.Prelude.{◌≡◌, ℕ, ◌+◌, ◌≤◌, ◌<◌, ◌++◌, ◌∷◌, [], true, false, Some, None, length, slice_index, slice_get, IfOk, MatchOption};
     ghost use Rattle.std.specs.Str.{IsCharBoundary};
+    ghost use Rattle.markdown_base.specs.declared.item.ItemBody.TheVariants as variant;
     ghost use Rattle.markdown_base.specs.Coverage.{Covers};
     ghost use Rattle.markdown_base.specs.WellFormed.{IsWellFormed, is_delimiter};
     ghost use Rattle.markdown_builder.specs.declared.open_block.OpenBlock.{OpenBlock};
     ghost use Rattle.markdown_builder.specs.Bodies.{is_leaf, is_plain_block, is_settled, mark_byte};
-    ghost use Rattle.markdown_builder.specs.BuilderView.{IsWhite, IsRunOf, follows_run, GoesInto, LastHasBody};
+    ghost use Rattle.markdown_builder.specs.BuilderView.{IsWhite, IsRunOf, follows_run, Opens, LastHasBody};
 
     /// Nothing is made yet.
     pub fn new(alloc: Global, text: &'a str) -> Result<Builder<'a>, AllocError>
@@ -132,13 +133,9 @@ impl<'a> Builder<'a> {
     pub fn open(&mut self, body: ItemBody) -> Result<(), AllocError>
         requires block { is_plain_block body ≡ true }
         requires outside { self.old.leaf ≡ false }
-        ensures { IfOk result (λ _. self.new ≡ record self.old { blocks = self.old.blocks ++ record { start = self.old.at; body = body } ∷ []; leaf = is_leaf body; run = None }) }
+        ensures { IfOk result (λ _. Opens self.old self.new body) }
     {
-        let block = OpenBlock {
-            start: self.at,
-            body,
-        };
-        enter(&mut self.tree, &mut self.blocks, block)?;
+        enter(&mut self.tree, &mut self.blocks, self.at, body)?;
         self.leaf = is_leaf(body);
         self.run = None;
         Ok(())
@@ -183,14 +180,15 @@ impl<'a> Builder<'a> {
     /// Opens a fenced code block with an info string.
     pub fn open_fenced(&mut self, info: CowStr<'a>) -> Result<(), AllocError>
         requires { self.old.leaf ≡ false }
-        ensures { IfOk result (λ _. GoesInto self.old self.new true) }
+        ensures { IfOk result (λ _. (ix : _) × Opens self.old self.new (variant.FencedCodeBlock ix)) }
     {
         let ix = push_text(&mut self.cows, info)?;
-        let block = OpenBlock {
-            start: self.at,
-            body: ItemBody::FencedCodeBlock(ix),
-        };
-        enter(&mut self.tree, &mut self.blocks, block)?;
+        enter(
+            &mut self.tree,
+            &mut self.blocks,
+            self.at,
+            ItemBody::FencedCodeBlock(ix),
+        )?;
         self.leaf = true;
         self.run = None;
         Ok(())
@@ -199,15 +197,16 @@ impl<'a> Builder<'a> {
     /// Opens a footnote definition with a name, which is listed as defined.
     pub fn open_footnote(&mut self, name: CowStr<'a>, listed: CowStr<'a>) -> Result<(), AllocError>
         requires { self.old.leaf ≡ false }
-        ensures { IfOk result (λ _. GoesInto self.old self.new false) }
+        ensures { IfOk result (λ _. (ix : _) × Opens self.old self.new (variant.FootnoteDefinition ix)) }
     {
         self.footnotes.push(listed)?;
         let ix = push_text(&mut self.cows, name)?;
-        let block = OpenBlock {
-            start: self.at,
-            body: ItemBody::FootnoteDefinition(ix),
-        };
-        enter(&mut self.tree, &mut self.blocks, block)?;
+        enter(
+            &mut self.tree,
+            &mut self.blocks,
+            self.at,
+            ItemBody::FootnoteDefinition(ix),
+        )?;
         self.leaf = false;
         self.run = None;
         Ok(())
@@ -220,15 +219,16 @@ impl<'a> Builder<'a> {
         attributes: HeadingAttributes<'a>,
     ) -> Result<(), AllocError>
         requires { self.old.leaf ≡ false }
-        ensures { IfOk result (λ _. GoesInto self.old self.new true) }
+        ensures { IfOk result (λ _. (ix : _) × Opens self.old self.new (variant.Heading level (Some ix))) }
     {
         self.headings.push(attributes)?;
         let ix = HeadingIndex(self.headings.len());
-        let block = OpenBlock {
-            start: self.at,
-            body: ItemBody::Heading(level, Some(ix)),
-        };
-        enter(&mut self.tree, &mut self.blocks, block)?;
+        enter(
+            &mut self.tree,
+            &mut self.blocks,
+            self.at,
+            ItemBody::Heading(level, Some(ix)),
+        )?;
         self.leaf = true;
         self.run = None;
         Ok(())
@@ -237,15 +237,16 @@ impl<'a> Builder<'a> {
     /// Opens a table with the alignments of its columns.
     pub fn open_table(&mut self, alignments: Vec<Alignment>) -> Result<(), AllocError>
         requires { self.old.leaf ≡ false }
-        ensures { IfOk result (λ _. GoesInto self.old self.new false) }
+        ensures { IfOk result (λ _. (ix : _) × Opens self.old self.new (variant.Table ix)) }
     {
         let ix = AlignmentIndex(self.alignments.len());
         self.alignments.push(alignments)?;
-        let block = OpenBlock {
-            start: self.at,
-            body: ItemBody::Table(ix),
-        };
-        enter(&mut self.tree, &mut self.blocks, block)?;
+        enter(
+            &mut self.tree,
+            &mut self.blocks,
+            self.at,
+            ItemBody::Table(ix),
+        )?;
         self.leaf = false;
         self.run = None;
         Ok(())

@@ -1,7 +1,7 @@
 //! What a builder does to its tree, a step at a time.
 ghost use Rattle.std.specs.Prelude.{◌≡◌, ℕ, ◌+◌, ◌-◌, ◌<◌, ◌≤◌, ◌⊎◌, List, ◌++◌, ◌∷◌, [], Some, length, IfOk, IfSome, IfNone, OnErr};
 ghost use Rattle.markdown_base.specs.Arena.{appended, changed_at};
-ghost use Rattle.markdown_builder.specs.Standing.{entered, open_item};
+ghost use Rattle.markdown_builder.specs.Standing.{entered};
 ghost use Rattle.markdown_builder.specs.TreeSteps.{LastRenamed, texts_appended, run_marked};
 
 use crate::open_block::OpenBlock;
@@ -25,20 +25,21 @@ fn go_into(tree: &mut Tree<Item>, item: Item) -> Result<(), AllocError>
 pub fn enter(
     tree: &mut Tree<Item>,
     blocks: &mut Vec<OpenBlock>,
-    block: OpenBlock,
+    start: usize,
+    body: ItemBody,
 ) -> Result<(), AllocError>
-    ensures entered { IfOk result (λ _. tree.new ≡ entered tree.old (open_item block)) }
-    ensures opened { IfOk result (λ _. blocks.new.items ≡ blocks.old.items ++ block ∷ []) }
-    ensures refused { OnErr result ((tree.new ≡ tree.old) ⊎ (tree.new ≡ appended tree.old (open_item block))) }
+    ensures entered { IfOk result (λ _. tree.new ≡ entered tree.old (record { start = start; end = start; body = body })) }
+    ensures opened { IfOk result (λ _. blocks.new.items ≡ blocks.old.items ++ record { start = start; body = body } ∷ []) }
+    ensures refused { OnErr result ((tree.new ≡ tree.old) ⊎ (tree.new ≡ appended tree.old (record { start = start; end = start; body = body }))) }
     ensures stays { OnErr result (blocks.new.items ≡ blocks.old.items) }
 {
     let item = Item {
-        start: block.start,
-        end: block.start,
-        body: block.body,
+        start,
+        end: start,
+        body,
     };
     go_into(tree, item)?;
-    match blocks.push(block) {
+    match blocks.push(OpenBlock { start, body }) {
         Ok(()) => Ok(()),
         Err(refused) => {
             tree.pop();

@@ -11,6 +11,7 @@ use markdown_base::tree::Tree;
 use markdown_inline::runs::gather_offsets;
 use markdown_inline::walk::Parser;
 use markdown_spans::blocks::Blocks;
+use markdown_spans::defs::RefDefs;
 use markdown_tests::builders::{append_block, item, no_parts, one_text, text};
 use std::alloc::{AllocError, Global};
 use std::test::Fail;
@@ -121,6 +122,11 @@ fn a_long_chain(rt: HostRuntime) -> Result<(), Fail> {
     Ok(())
 }
 
+/// Whether a label is defined.
+fn is_defined(definitions: &RefDefs<'_>, label: &str) -> bool {
+    matches!(definitions.get(label), Ok(Some(_)))
+}
+
 #[test]
 fn definitions_stay(rt: HostRuntime) -> Result<(), Fail> {
     let alloc = rt.alloc();
@@ -132,13 +138,16 @@ fn definitions_stay(rt: HostRuntime) -> Result<(), Fail> {
     };
     parts.definitions.push((CowStr::from("foo"), definition))?;
     let mut parser = parser_of(alloc, OPEN, open_items(alloc)?, parts)?;
-    assert!(rt; parser.reference_definitions().get("FOO")?.is_some());
+    let at_first = is_defined(parser.reference_definitions(), "FOO");
     for _ in 0..5 {
         drop(parser.next());
     }
-    assert!(rt; parser.reference_definitions().get("foo")?.is_some());
+    let in_between = is_defined(parser.reference_definitions(), "foo");
     let iter = parser.into_offset_iter();
-    assert!(rt; iter.reference_definitions().get("foo")?.is_some());
-    assert_eq!(rt; iter.work().items, 9);
+    let at_last = is_defined(iter.reference_definitions(), "foo");
+    let items = iter.work().items;
+    drop(iter);
+    assert_eq!(rt; [at_first, in_between, at_last], [true; 3]);
+    assert_eq!(rt; items, 9);
     Ok(())
 }

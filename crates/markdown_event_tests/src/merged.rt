@@ -2,14 +2,19 @@
 ghost use Rattle.std.specs.Iterator.{IsFinite};
 
 use crate::notes::notes_of;
+use markdown_base::cow_str::CowStr;
 use markdown_base::event::Event;
 use markdown_base::fault::Fault;
 use markdown_inline::walk::Parser;
 use markdown_out::html::push_html;
+use markdown_out::laws::a_mapped_iterator_can_be_merged;
 use markdown_out::merge::{TextMergeStream, TextMergeWithOffset};
-use markdown_render::merged::merged_html;
+use markdown_render::merged::{merged_html, offsets_can_be_merged};
 use std::alloc::Global;
+use std::ops::Range;
 use std::test::Fail;
+
+type Placed<'a> = Result<(Event<'a>, Range<usize>), Fault>;
 
 /// A soft break as a hard one, and all else as it is.
 fn harden<'a>(item: Result<Event<'a>, Fault>) -> Result<Event<'a>, Fault> {
@@ -49,6 +54,26 @@ fn html_of_a_merge(rt: HostRuntime) -> Result<(), Fail> {
     let alloc = rt.alloc();
     let html = merged_html(alloc, Parser::new(alloc, "a\nb")?)?;
     assert_eq!(rt; html.as_str(), "<p>a\nb</p>\n");
+    Ok(())
+}
+
+/// A soft break as a text of one space, and all else as it is.
+fn soften<'a>(placed: Placed<'a>) -> Placed<'a> {
+    match placed {
+        Ok((Event::SoftBreak, range)) => Ok((Event::Text(CowStr::Borrowed(" ")), range)),
+        other => other,
+    }
+}
+
+#[test]
+fn ranges_of_a_merged_map(rt: HostRuntime) -> Result<(), Fail> {
+    let alloc = rt.alloc();
+    let iter = Parser::new(alloc, "a\nb")?.into_offset_iter();
+    offsets_can_be_merged(&iter);
+    let mapped = iter.map(soften);
+    a_mapped_iterator_can_be_merged(&mapped);
+    let notes = notes_of(alloc, TextMergeWithOffset::new(alloc, mapped))?;
+    assert_eq!(rt; notes.as_str(), "<p>0..3 [a b]0..3 </p>0..3 ");
     Ok(())
 }
 

@@ -35,17 +35,39 @@ fn merged<'a>(alloc: Global, items: Vec<Item<'a>>) -> Result<String, Fail> {
     Ok(notes)
 }
 
+/// A text of the letter `a`, `b` or `c`, a rule for a dash, an error for `!`, and else an empty text.
+fn item_of<'a>(sign: char) -> Item<'a> {
+    match sign {
+        'a' => text("a"),
+        'b' => text("b"),
+        'c' => text("c"),
+        '-' => Ok(Event::Rule),
+        '!' => Err(Fault::Memory),
+        _ => text(""),
+    }
+}
+
+/// Such an item for each character.
+fn items_of<'a>(alloc: Global, signs: &str) -> Result<Vec<Item<'a>>, Fail> {
+    let mut items = Vec::new(alloc);
+    for sign in signs.chars() {
+        items.push(item_of(sign))?;
+    }
+    Ok(items)
+}
+
 #[test]
 fn runs(rt: HostRuntime) -> Result<(), Fail> {
     let alloc = rt.alloc();
-    let empty_run = vec![in alloc; Ok(Event::Rule), text(""), text(""), Ok(Event::Rule)]?;
-    assert_eq!(rt; merged(alloc, empty_run)?.as_str(), "--");
-    let nothing = vec![in alloc; text(""), text("")]?;
-    assert_eq!(rt; merged(alloc, nothing)?.as_str(), "");
-    let lone_empty = vec![in alloc; Ok(Event::Rule), text(""), Ok(Event::Rule)]?;
-    assert_eq!(rt; merged(alloc, lone_empty)?.as_str(), "-[]-");
-    let around_error = vec![in alloc; text("a"), text("b"), Err(Fault::Memory), text("c")]?;
-    assert_eq!(rt; merged(alloc, around_error)?.as_str(), "[ab]![c]");
+    for (signs, expected) in [
+        ("-__-", "--"),
+        ("__", ""),
+        ("-_-", "-[]-"),
+        ("ab!c", "[ab]![c]"),
+    ] {
+        let notes = merged(alloc, items_of(alloc, signs)?)?;
+        assert_eq!(rt; notes.as_str(), expected);
+    }
     Ok(())
 }
 
@@ -55,18 +77,20 @@ fn ranged<'a>(event: Event<'a>, range: Range<usize>) -> Ranged<'a> {
     Ok((event, range))
 }
 
-/// The merge of these items up to its first None, written down, each with its range.
+/// Writes an item down as `push_item` does, and then its range.
+fn push_ranged<'a>(alloc: Global, notes: &mut String, item: Ranged<'a>) -> Result<(), Fail> {
+    let (event, range) = item?;
+    push_item(notes, Ok(event))?;
+    let place = format!(in alloc; "{}..{} ", range.start, range.end)?;
+    notes.push_str(place.as_str())?;
+    Ok(())
+}
+
+/// The merge of these items up to its first None or error, written down, each with its range.
 fn merged_ranges<'a>(alloc: Global, items: Vec<Ranged<'a>>) -> Result<String, Fail> {
     let mut notes = String::new(alloc);
     for item in TextMergeWithOffset::new(alloc, items.into_iter()) {
-        match item {
-            Ok((event, range)) => {
-                push_item(&mut notes, Ok(event))?;
-                let place = format!(in alloc; "{}..{} ", range.start, range.end)?;
-                notes.push_str(place.as_str())?;
-            }
-            Err(fault) => push_item(&mut notes, Err(fault))?,
-        }
+        push_ranged(alloc, &mut notes, item)?;
     }
     Ok(notes)
 }

@@ -12,7 +12,7 @@ use Rattle.std.specs.Map.{lookup}
 use Rattle.std.proofs.lemmas.Bool.Decides.{nat_tests}
 use Rattle.std.proofs.lemmas.Map.Text.{is_eq-slice_cmp}
 use Rattle.markdown_base.specs.CowText.{text_of}
-use Rattle.markdown_out.specs.LookBacks.{is_same_name}
+use Rattle.markdown_out.specs.LookBacks.{is_same_name, with_name}
 use Rattle.markdown_out.specs.FootnoteNames.{name_cmp, name_at, first_names, names_in, IsNumbered}
 use Rattle.markdown_out.specs.declared.html.names.Name.{Name}
 
@@ -88,6 +88,21 @@ length-inserted k v (e ∷ es) h = by (name_cmp k e.0) (length-inserted k v es) 
     by Less rest n = refl
     by Equal rest n = cc
     by Greater rest n = ap suc (rest n)
+
+-- where the entries are as many as before, the value found for a name, written there again, changes nothing
+pub insert_same : (k : Name) (v : ℕ) (es : Entries) → lookup (is_at (name_cmp k)) es ≡ Some v
+    → length (insert_entry name_cmp es k v) ≡ length es → insert_entry name_cmp es k v ≡ es
+insert_same k v [] f l = cc
+insert_same k v (e ∷ es) f l = by (name_cmp k e.0) (insert_same k v es) f l
+  where
+    by : (o : Ordering)
+        → (lookup (is_at (name_cmp k)) es ≡ Some v → length (insert_entry name_cmp es k v) ≡ length es → insert_entry name_cmp es k v ≡ es)
+        → cond (is_eq o) (Some e.1) (lookup (is_at (name_cmp k)) es) ≡ Some v
+        → length (match_ordering o ((k, v) ∷ e ∷ es) ((e.0, v) ∷ es) (e ∷ insert_entry name_cmp es k v)) ≡ length (e ∷ es)
+        → match_ordering o ((k, v) ∷ e ∷ es) ((e.0, v) ∷ es) (e ∷ insert_entry name_cmp es k v) ≡ e ∷ es
+    by Less rest f l = absurd (omega (arith, l))
+    by Equal rest f l = let q : e.1 ≡ v = cc (f) in ap (λ x. (e.0, x) ∷ es) (sym q)
+    by Greater rest f l = ap (λ x. e ∷ x) (rest f (omega (arith, l)))
 
 -- the other names stay at their places
 name_at-other : (k : Name) (v i : ℕ) (es : Entries) → IsAbsent k es → (v == i) ≡ false
@@ -239,6 +254,14 @@ prefix_len-≤ p (x ∷ xs) =
 -- how many names there are
 pub length-names_in : (es : Entries) → length (names_in es) ≡ length es
 length-names_in es = length-first_names (length es) es
+
+-- a name that is known adds nothing, and a new one goes behind all
+pub with_known : (name : List ℕ) (names : List (List ℕ)) → list_any (is_same_name name) names ≡ true → with_name name names ≡ names
+with_known name names e = ap (λ b. if b then names else names ++ name ∷ []) e
+
+pub with_new : (name : List ℕ) (names : List (List ℕ)) → list_any (is_same_name name) names ≡ false
+    → with_name name names ≡ names ++ name ∷ []
+with_new name names e = ap (λ b. if b then names else names ++ name ∷ []) e
 
 -- a name is among the names, at this place
 pub record IsKnown (k : Name) (es : Entries) (p : ℕ) : Type 0 where

@@ -2,6 +2,7 @@ pub mod ByteListsLemmas
 pub mod EscapesLemmas
 pub mod EventHtmlLemmas
 pub mod FootnoteNamesLemmas
+pub mod FootnotePartsLemmas
 pub mod HtmlCorrectLemmas
 pub mod ImageHtmlLemmas
 pub mod WriterLemmas

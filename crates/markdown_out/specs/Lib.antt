@@ -17,6 +17,7 @@ pub mod OutLaws
 pub mod Escaped
 pub mod Writer
 pub mod FootnoteNames
+pub mod FootnoteParts
 pub mod TakenAnswers
 pub mod AdvanceSteps
 -- Words of other crates that the clauses stand on.

@@ -26,7 +26,8 @@ of_events step p old html empty r =
     record { answers = all.0; merged = λ later. rw (all.1 later) (rw empty at r.stands) }
 
 -- the HTML of a new merge over a parser
-pub merged : {F : Type 0} (step : F → Question → Option Answer → F → Type 0) (can : Parser F → Type 0) (rest : Parser F → Count) (m : TextMergeStream (Parser F)) (p : Parser F) (old html : List ℕ)
+pub merged : {F : Type 0} (step : F → Question → Option Answer → F → Type 0) (can : Parser F → Type 0) (rest : Parser F → Count)
+    (m : TextMergeStream (Parser F)) (p : Parser F) (old html : List ℕ)
     → stream_state m ≡ record { iter = p; held = []; over = false } → old ≡ []
     → IsRendered (merge_steps nowhere (item_view bare) (NextGives step IsEventOf) can rest stream_state) m old html
     → IsMergedHtmlOf p html
@@ -37,4 +38,5 @@ merged {F} step can rest m p old html new empty r =
     } in
     let of = rendered-merged (NextGives step IsEventOf) can rest stream_state (stays_ended step) m old html begun r in
     of_events step p old html empty
-    (subst (λ (q : Parser F). IsRenderedMerged (NextGives step IsEventOf) q old html) (ap (λ (s : MergeState (Parser F) (Unit {0})). s.iter) new) of)
+    (subst (λ (q : Parser F). IsRenderedMerged (NextGives step IsEventOf) q old html)
+    (ap (λ (s : MergeState (Parser F) (Unit {0})). s.iter) new) of)

@@ -10,8 +10,8 @@ use Rattle.markdown_inline.proofs.RunLemmas.{drained_unasked}
 use Rattle.markdown_out.specs.HtmlCorrect.{IsRendered}
 use Rattle.markdown_render.specs.Rendering.{IsRenderingOf}
 
-pub rendering : {F : Type 0} (step : F → Question → Option Answer → F → Type 0) (text old html : List ℕ) (p : Parser F) → IsUtf8 text → old ≡ []
-    → ReadsText text no_options p → parser_callback p ≡ None → IsRendered (NextGives step IsEventOf) p old html
+pub rendering : {F : Type 0} (step : F → Question → Option Answer → F → Type 0) (text old html : List ℕ) (p : Parser F)
+    → IsUtf8 text → old ≡ [] → ReadsText text no_options p → parser_callback p ≡ None → IsRendered (NextGives step IsEventOf) p old html
     → IsRenderingOf text html
 rendering {F} step text old html p utf8 empty of none r =
     let left = λ (answers : Answers). of.2 answers ∙ ap (λ (c : Option F). reading_of of.0 (is_some c) answers) none in

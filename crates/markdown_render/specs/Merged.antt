@@ -11,4 +11,5 @@ use Rattle.markdown_out.specs.OutLaws.{merged_events}
 -- for the answers given, this is the HTML of the merge of all events that were left
 pub record IsMergedHtmlOf {F : Type 0} (p : Parser F) (html : List ℕ) : Type 0 where
   pub answers : Answers
-  pub merged : (later : Answers) → html ≡ html_of (merged_events (map (λ e. e.0) (events_of (elements p (answers ++ later)))))
+  pub merged : (later : Answers)
+      → html ≡ html_of (merged_events (map (λ e. e.0) (events_of (elements p (answers ++ later)))))

@@ -15,7 +15,8 @@ module _ {W : Type 0} (contents : W → Option (List ℕ)) (read : Option (List 
   -- Where nothing failed the writer has the HTML of the bytes read, as far as these are known. Where writing
   -- failed, or memory was refused, nothing is said of it. Else nothing was written.
   abbrev pub Leaves : Result (Unit {0}) Failure → Type 0
-  Leaves (Ok done) = IfSome read (λ bytes. (html : List ℕ) × IsRenderingOf bytes html × Appends (contents old) (contents new) html)
+  Leaves (Ok done) = IfSome read (λ bytes.
+      (html : List ℕ) × IsRenderingOf bytes html × Appends (contents old) (contents new) html)
   Leaves (Err WriteFailed) = Unit {0}
   Leaves (Err (Fault Memory)) = Unit {0}
   Leaves (Err other) = new ≡ old

@@ -28,7 +28,8 @@ pub fn offsets_can_be_merged<'input, F: BrokenLinkCallback<'input>>(iter: &Offse
     requires { IfSome (parser_callback (offset_parser iter.now)) F.can_ask }
     ensures stays_ended { StaysEnded (λ o r t. NextGives F.answers IsPlacedOf (offset_parser o) r (offset_parser t)) }
     ensures merges { CanMerge (λ o r t. NextGives F.answers IsPlacedOf (offset_parser o) r (offset_parser t))
-        (λ o. IfSome (parser_callback (offset_parser o)) F.can_ask) (λ o. at_most (parser_steps (offset_parser o))) iter.now }
+        (λ o. IfSome (parser_callback (offset_parser o)) F.can_ask) (λ o. at_most (parser_steps (offset_parser o)))
+        iter.now }
 {}
 
 /// The HTML of what is left of a parser, neighbouring texts as one.

@@ -1,5 +1,6 @@
 //! The program, over any reader and two writers.
-ghost use Rattle.std.specs.Prelude.{◌≡◌, ◌≢◌, ◌≤◌, ◌<◌, ◌⊎◌, ℕ, List, length, Result, IfOk, IfErr, IfSome, OnOk, string_bytes};
+ghost use Rattle.std.specs.Prelude.{◌≡◌, ◌≢◌, ◌≤◌, ◌<◌, ◌⊎◌, ℕ, List, length, string_bytes};
+ghost use Rattle.std.specs.Prelude.{Result, IfOk, IfErr, IfSome, OnOk};
 ghost use Rattle.std.specs.Str.{IsUtf8};
 ghost use Rattle.std.specs.IoError.{error_kind};
 ghost use Rattle.std.specs.Io.KnownBytes.{Appends};
@@ -15,10 +16,14 @@ use std::io::{self, ErrorKind, Read, Write};
 
 /// What failed.
 #[derive(Debug, Drop)]
-enum Failure {
+pub enum Failure {
+    /// A call of the reader.
     ReadFailed,
+    /// The input is not UTF-8.
     NotText,
+    /// Rendering, or memory was refused wherever it was.
     Fault(Fault),
+    /// A call of the output writer.
     WriteFailed,
 }
 
@@ -95,8 +100,13 @@ fn print<W: Write>(out: &mut W, html: &str) -> Result<(), Failure>
         .map_err(|error| failure_of(error, Failure::WriteFailed))
 }
 
-/// Reads, renders and writes.
-fn convert<R: Read, W: Write>(alloc: Global, input: &mut R, out: &mut W) -> Result<(), Failure>
+/// Reads all of `input`, renders it and writes the HTML to `out`.
+///
+/// # Errors
+///
+/// What failed first. Where writing failed, or memory was refused, nothing is said of what `out` has then; else it is
+/// as it was.
+pub fn convert<R: Read, W: Write>(alloc: Global, input: &mut R, out: &mut W) -> Result<(), Failure>
     ensures leaves { Leaves W.contents (R.remaining input.old) out.old out.new result }
     ensures not_text { IfSome (R.remaining input.old) (λ bytes.
         (IsUtf8 bytes → ⊥) → (result ≢ Ok tt) × (out.new ≡ out.old)) }
@@ -106,9 +116,9 @@ fn convert<R: Read, W: Write>(alloc: Global, input: &mut R, out: &mut W) -> Resu
     print(out, html.as_str())
 }
 
-/// Says on `err`, in one line, what failed, and answers the exit status. Where that can't be written the status is the
-/// same.
-fn report<E: Write>(outcome: Result<(), Failure>, err: &mut E) -> u8
+/// Says on `err`, in one line, what failed, and answers the exit status: 0 where nothing failed, else 1. Where that
+/// can't be written the status is the same.
+pub fn report<E: Write>(outcome: Result<(), Failure>, err: &mut E) -> u8
     ensures status { result ≡ status_of outcome }
     ensures quiet { OnOk outcome (err.new ≡ err.old) }
 {
@@ -122,10 +132,10 @@ fn report<E: Write>(outcome: Result<(), Failure>, err: &mut E) -> u8
     }
 }
 
-/// Reads all of `input` as Markdown and writes its HTML to `out`. Every word is an option that is not
-/// known. Answers the exit status: 0 where all was written; 2 where there is a word, and nothing is read
-/// or written then; else 1. What failed is said on `err`, in one line. Where that can't be written the
-/// status is the same.
+/// Reads all of `input` as Markdown and writes its HTML to `out`: what `convert` does, whose outcome `report` tells.
+/// Every word is an option that is not known. Answers the exit status: 0 where all was written; 2 where there is a
+/// word, and nothing is read or written then; else 1. What failed is said on `err`, in one line. Where that can't be
+/// written the status is the same.
 pub fn run<R: Read, W: Write, E: Write>(
     alloc: Global,
     words: &[String],

@@ -1,95 +1,83 @@
 //! The numbers of footnotes, their references and their definitions.
 ghost use Rattle.std.specs.Prelude.{◌≡◌, ◌++◌, ◌∷◌, [], OnOk, OnErr, IfErr};
-ghost use Rattle.std.specs.Prelude.{None, not};
+ghost use Rattle.std.specs.Prelude.{None};
 ghost use Rattle.std.specs.String.{string_bytes};
 ghost use Rattle.markdown_base.specs.CowText.{text_of};
 ghost use Rattle.markdown_base.specs.Event.{start as start_event, footnote_reference};
 ghost use Rattle.markdown_base.specs.Event.{footnote_definition};
 ghost use Rattle.markdown_base.specs.declared.fault.Fault.TheVariants.{Memory};
 ghost use Rattle.markdown_out.specs.AltText.{alt_parts};
-ghost use Rattle.markdown_out.specs.ByteLists.{Appends, AppendsPart, ends_line, joined};
-ghost use Rattle.markdown_out.specs.EventHtml.{outside_parts, reference_parts};
-ghost use Rattle.markdown_out.specs.TagHtml.{start_parts, definition_parts};
-ghost use Rattle.markdown_out.specs.LookBacks.{is_same_name, with_name};
-ghost use Rattle.std.specs.List.{list_any};
+ghost use Rattle.markdown_out.specs.ByteLists.{Appends, AppendsPart, joined};
+ghost use Rattle.markdown_out.specs.EventHtml.{outside_parts};
+ghost use Rattle.markdown_out.specs.TagHtml.{start_parts};
+ghost use Rattle.markdown_out.specs.LookBacks.{footnote_number};
+ghost use Rattle.markdown_out.specs.FootnoteParts.{to_reference_number, to_definition_number};
 
 use super::names::Name;
-use super::pieces::{line_break, put};
+use super::pieces::{line_break, push_pieces, put};
 use super::{OpenImage, Piece, Writer};
 use itoa::Buffer;
 use markdown_base::cow_str::CowStr;
 use markdown_base::fault::Fault;
 use std::alloc::AllocError;
 
-/// Appends a footnote's reference.
-fn put_reference<'x>(
-    s: &mut String,
-    fresh: &mut bool,
-    name: &'x str,
-    number: &'x str,
-) -> Result<(), AllocError>
-    ensures ok { OnOk result (Appends s.old s.new (joined (reference_parts name.now number.now))) }
-    ensures fresh { OnOk result (fresh.new ≡ ends_line fresh.old
-        (joined (reference_parts name.now number.now))) }
-    ensures err { OnErr result (AppendsPart s.old s.new
-        (joined (reference_parts name.now number.now))) }
+/// Appends what comes before the number of a reference.
+fn push_reference(s: &mut String, name: &str) -> Result<(), AllocError>
+    ensures ok { OnOk result (Appends s.old s.new (joined (to_reference_number name.now))) }
+    ensures err { OnErr result (AppendsPart s.old s.new (joined (to_reference_number name.now))) }
 {
-    put(
+    push_pieces(
         s,
-        fresh,
         &[
             Piece::Raw("<sup class=\"footnote-reference\"><a href=\"#"),
             Piece::Attribute(name),
             Piece::Raw("\">"),
-            Piece::Raw(number),
-            Piece::Raw("</a></sup>"),
         ],
     )
 }
 
-/// Appends a footnote's Start.
-fn put_definition<'x>(
-    s: &mut String,
-    fresh: &mut bool,
-    name: &'x str,
-    number: &'x str,
-) -> Result<(), AllocError>
-    ensures ok { OnOk result (Appends s.old s.new (joined (definition_parts fresh.old name.now
-        number.now))) }
-    ensures fresh { OnOk result (fresh.new ≡ ends_line fresh.old
-        (joined (definition_parts fresh.old name.now number.now))) }
-    ensures err { OnErr result (AppendsPart s.old s.new (joined (definition_parts fresh.old name.now
-        number.now))) }
+/// Appends what comes before the number of a definition.
+fn push_definition(s: &mut String, fresh: bool, name: &str) -> Result<(), AllocError>
+    ensures ok { OnOk result (Appends s.old s.new (joined (to_definition_number fresh name.now))) }
+    ensures err { OnErr result (AppendsPart s.old s.new (joined (to_definition_number fresh name.now))) }
 {
-    let first = line_break(*fresh);
-    put(
+    let first = line_break(fresh);
+    push_pieces(
         s,
-        fresh,
         &[
             Piece::Raw(first),
             Piece::Raw("<div class=\"footnote-definition\" id=\""),
             Piece::Attribute(name),
             Piece::Raw("\"><sup class=\"footnote-definition-label\">"),
-            Piece::Raw(number),
-            Piece::Raw("</sup>"),
         ],
     )
 }
 
 impl<'a> Writer<'a> {
+    ghost use Rattle.markdown_out.specs.FootnoteParts.{after_number};
     ghost use Rattle.markdown_out.specs.Writer.{view, view_in, view_after, after_alt_reference};
 
-    /// The name is known from now on.
-    fn know(&mut self, is_new: bool, name: Name<'a>) -> Result<(), AllocError>
-        requires { is_new ≡ not (list_any (is_same_name (text_of name.text)) self.old.names) }
-        ensures { OnOk result (view self.new ≡ record (view self.old) {
-          names = with_name (text_of name.entry.text) self.old.names;
-        }) }
+    /// Appends the number of a name, which is known from now on, and what comes after it.
+    fn put_number(
+        &mut self,
+        s: &mut String,
+        name: Name<'a>,
+        after: &'static str,
+    ) -> Result<(), AllocError>
+        ensures ok { OnOk result (Appends s.old s.new (joined (footnote_number (view self.old)
+            (text_of name.entry.text) ∷ after.now ∷ []))) }
+        ensures told { OnOk result (view self.new ≡ after_number (view self.old)
+            (text_of name.entry.text) after.now) }
+        ensures err { OnErr result (AppendsPart s.old s.new (joined (footnote_number (view self.old)
+            (text_of name.entry.text) ∷ after.now ∷ []))) }
     {
-        if is_new {
-            return self.names.add(name);
-        }
-        Ok(())
+        let number = self.names.number_of(name)?;
+        let mut digits = Buffer::new();
+        put(
+            s,
+            &mut self.fresh,
+            &[Piece::Raw(digits.format(number)), Piece::Raw(after)],
+        )
     }
 
     /// A footnote's definition.
@@ -107,15 +95,8 @@ impl<'a> Writer<'a> {
             (footnote_definition (text_of name.entry))))) }
     {
         let name = Name { text: name };
-        let footnote = self.names.number_of(&name);
-        let mut digits = Buffer::new();
-        put_definition(
-            s,
-            &mut self.fresh,
-            name.text.as_str(),
-            digits.format(footnote.number),
-        )?;
-        self.know(footnote.is_new, name)
+        push_definition(s, self.fresh, name.text.as_str())?;
+        self.put_number(s, name, "</sup>")
     }
 
     /// A footnote's reference outside images.
@@ -133,15 +114,8 @@ impl<'a> Writer<'a> {
             (footnote_reference (text_of name.entry))))) }
     {
         let name = Name { text: name };
-        let footnote = self.names.number_of(&name);
-        let mut digits = Buffer::new();
-        put_reference(
-            s,
-            &mut self.fresh,
-            name.text.as_str(),
-            digits.format(footnote.number),
-        )?;
-        self.know(footnote.is_new, name)
+        push_reference(s, name.text.as_str())?;
+        self.put_number(s, name, "</a></sup>")
     }
 
     /// A footnote's reference in an image.
@@ -157,16 +131,8 @@ impl<'a> Writer<'a> {
         ensures err { OnErr result (AppendsPart s.old s.new (joined (alt_parts (view self.old)
             (footnote_reference (text_of name.entry))))) }
     {
-        let name = Name { text: name };
-        let footnote = self.names.number_of(&name);
-        let mut digits = Buffer::new();
-        let number = digits.format(footnote.number);
-        put(
-            s,
-            &mut self.fresh,
-            &[Piece::Raw("["), Piece::Raw(number), Piece::Raw("]")],
-        )?;
-        self.know(footnote.is_new, name)
+        push_pieces(s, &[Piece::Raw("[")])?;
+        self.put_number(s, Name { text: name }, "]")
     }
 
     /// The same, where the image stays open.

@@ -1,14 +1,14 @@
 //! The names of footnotes, each at its place among the names as they first came. An ordered map keeps
 //! them, so that no choice of names makes a look-up slow.
-ghost use Rattle.std.specs.Prelude.{◌≡◌, ◌++◌, ◌+◌, ◌∷◌, [], false, not, OnOk};
-ghost use Rattle.std.specs.List.{list_any};
+ghost use Rattle.std.specs.Prelude.{◌≡◌, ◌+◌, [], IfOk, OnOk};
 ghost use Rattle.markdown_base.specs.CowText.{text_of};
-ghost use Rattle.markdown_out.specs.LookBacks.{is_same_name, place};
+ghost use Rattle.markdown_out.specs.LookBacks.{place, with_name};
 
 use markdown_base::cow_str::CowStr;
 use std::alloc::{AllocError, Global};
 use std::cmp::Ordering;
 use std::collections::BTreeMap;
+use std::collections::btree_map::Entry;
 use std::marker::Model;
 
 /// A footnote's name, ordered by its bytes.
@@ -89,14 +89,6 @@ impl<'a> Model for FootnoteNames<'a> {
     ghost invariant = { λ n. IsNumbered n.places.entries };
 }
 
-/// The number of a footnote.
-#[derive(Clone, Copy, Drop)]
-pub(super) struct Number {
-    pub number: usize,
-    /// Whether its name did not come before.
-    pub is_new: bool,
-}
-
 impl<'a> FootnoteNames<'a> {
     /// No name came yet.
     pub(super) fn new(alloc: Global) -> Self
@@ -107,31 +99,19 @@ impl<'a> FootnoteNames<'a> {
         }
     }
 
-    /// The number of a name: one more than its place, or than that of the last where it is new.
-    pub(super) fn number_of(&self, name: &Name<'a>) -> Number
-        ensures number { result.number ≡ place (text_of name.now.text) self.now + 1 }
-        ensures is_new { result.is_new ≡ not (list_any (is_same_name (text_of name.now.text)) self.now) }
+    /// The number of a name: one more than its place among the names, of which it is the last where it is new. The map is
+    /// searched once.
+    pub(super) fn number_of(&mut self, name: Name<'a>) -> Result<usize, AllocError>
+        ensures number { IfOk result (λ number. number ≡ place (text_of name.entry.text) self.old + 1) }
+        ensures known { OnOk result (self.new ≡ with_name (text_of name.entry.text) self.old) }
     {
         let count = self.places.len();
-        match self.places.get(name) {
-            Some(place) => Number {
-                number: *place + 1,
-                is_new: false,
-            },
-            None => Number {
-                number: count + 1,
-                is_new: true,
-            },
+        match self.places.entry(name)? {
+            Entry::Occupied(known) => Ok(*known.into_mut() + 1),
+            Entry::Vacant(unknown) => {
+                unknown.insert(count);
+                Ok(count + 1)
+            }
         }
-    }
-
-    /// One more name.
-    pub(super) fn add(&mut self, name: Name<'a>) -> Result<(), AllocError>
-        requires { list_any (is_same_name (text_of name.text)) self.old ≡ false }
-        ensures { OnOk result (self.new ≡ self.old ++ text_of name.entry.text ∷ []) }
-    {
-        let place = self.places.len();
-        self.places.insert(name, place)?;
-        Ok(())
     }
 }

@@ -1,7 +1,7 @@
 //! What an event outside images writes.
 ghost use Rattle.std.specs.Prelude.{◌≡◌, ◌++◌, ◌∷◌, [], None, OnOk, OnErr, codes};
 ghost use Rattle.std.specs.String.{string_bytes};
-ghost use Rattle.markdown_base.specs.Event.{event_view};
+ghost use Rattle.markdown_base.specs.Event.{event_view, text, task_list_marker};
 ghost use Rattle.markdown_out.specs.ByteLists.{Appends, AppendsPart, ends_line, joined};
 ghost use Rattle.markdown_out.specs.Escapes.{text_escaped, attribute_escaped};
 ghost use Rattle.markdown_out.specs.EventHtml.{outside_parts};
@@ -59,6 +59,41 @@ fn put_math<'x>(
 impl<'a> Writer<'a> {
     ghost use Rattle.markdown_out.specs.Writer.{view, view_after};
 
+    /// A Text outside images; in metadata it writes nothing.
+    fn text(&mut self, s: &mut String, words: &str) -> Result<(), AllocError>
+        requires { self.old.image ≡ None }
+        ensures ok { OnOk result (Appends s.old s.new (joined (outside_parts (view self.old)
+            (text words.now)))) }
+        ensures told { OnOk result (view self.new ≡ view_after (view self.old) (text words.now)) }
+        ensures err { OnErr result (AppendsPart s.old s.new (joined (outside_parts (view self.old)
+            (text words.now)))) }
+    {
+        if self.in_metadata {
+            return Ok(());
+        }
+        if words.is_empty() {
+            self.fresh = false;
+        }
+        put(s, &mut self.fresh, &[Piece::Text(words)])
+    }
+
+    /// The box of a task, checked where it is done.
+    fn task_list_marker(&mut self, s: &mut String, done: bool) -> Result<(), AllocError>
+        requires { self.old.image ≡ None }
+        ensures ok { OnOk result (Appends s.old s.new (joined (outside_parts (view self.old)
+            (task_list_marker done)))) }
+        ensures told { OnOk result (view self.new ≡ view_after (view self.old)
+            (task_list_marker done)) }
+        ensures err { OnErr result (AppendsPart s.old s.new (joined (outside_parts (view self.old)
+            (task_list_marker done)))) }
+    {
+        if done {
+            self.raw(s, "<input disabled=\"\" type=\"checkbox\" checked=\"\"/>\n")
+        } else {
+            self.raw(s, "<input disabled=\"\" type=\"checkbox\"/>\n")
+        }
+    }
+
     /// An event outside images.
     pub(super) fn outside(&mut self, s: &mut String, event: Event<'a>) -> Result<(), AllocError>
         requires { self.old.image ≡ None }
@@ -72,16 +107,7 @@ impl<'a> Writer<'a> {
         match event {
             Event::Start(tag) => self.start(s, tag),
             Event::End(tag) => self.end(s, tag),
-            Event::Text(text) => {
-                if self.in_metadata {
-                    return Ok(());
-                }
-                let text = text.as_str();
-                if text.is_empty() {
-                    self.fresh = false;
-                }
-                put(s, &mut self.fresh, &[Piece::Text(text)])
-            }
+            Event::Text(text) => self.text(s, text.as_str()),
             Event::Code(text) => put_code(s, &mut self.fresh, text.as_str()),
             Event::InlineMath(text) => {
                 put_math(
@@ -105,13 +131,7 @@ impl<'a> Writer<'a> {
             Event::SoftBreak => self.raw(s, "\n"),
             Event::HardBreak => self.raw(s, "<br />\n"),
             Event::Rule => self.line(s, "<hr />\n"),
-            Event::TaskListMarker(true) => {
-                self.raw(s, "<input disabled=\"\" type=\"checkbox\" checked=\"\"/>\n")
-            }
-            Event::TaskListMarker(false) => self.raw(
-                s,
-                "<input disabled=\"\" type=\"checkbox\"/>\n",
-            ),
+            Event::TaskListMarker(done) => self.task_list_marker(s, done),
         }
     }
 }

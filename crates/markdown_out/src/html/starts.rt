@@ -63,19 +63,9 @@ impl<'a> Writer<'a> {
             Tag::DefinitionList => self.line(s, "<dl>\n"),
             Tag::DefinitionListTitle => self.line(s, "<dt>"),
             Tag::DefinitionListDefinition => self.line(s, "<dd>"),
-            Tag::Table(alignments) => {
-                self.alignments = alignments;
-                self.raw(s, "<table>")
-            }
-            Tag::TableHead => {
-                self.in_head = true;
-                self.column = 0;
-                self.raw(s, "<thead><tr>")
-            }
-            Tag::TableRow => {
-                self.column = 0;
-                self.raw(s, "<tr>")
-            }
+            Tag::Table(alignments) => self.table(s, alignments),
+            Tag::TableHead => self.table_head(s),
+            Tag::TableRow => self.table_row(s),
             Tag::TableCell => self.cell(s),
             Tag::Emphasis => self.raw(s, "<em>"),
             Tag::Strong => self.raw(s, "<strong>"),

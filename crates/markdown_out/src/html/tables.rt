@@ -1,8 +1,8 @@
-//! The cells of a table.
-ghost use Rattle.std.specs.Prelude.{◌≡◌, ◌++◌, OnOk, OnErr};
+//! What the Starts of tables, of their heads and rows and of cells write.
+ghost use Rattle.std.specs.Prelude.{◌≡◌, ◌++◌, None, OnOk, OnErr};
 ghost use Rattle.std.specs.Option.{option_copied};
 ghost use Rattle.std.specs.String.{string_bytes};
-ghost use Rattle.markdown_base.specs.Event.{table_cell};
+ghost use Rattle.markdown_base.specs.Event.{start as start_event, table, table_head, table_row, table_cell};
 ghost use Rattle.markdown_out.specs.ByteLists.{Appends, AppendsPart, ends_line, joined};
 ghost use Rattle.markdown_out.specs.TagHtml.{cell_style, start_parts};
 
@@ -24,7 +24,50 @@ fn style_of(alignment: Option<&Alignment>) -> &'static str
 }
 
 impl<'a> Writer<'a> {
-    ghost use Rattle.markdown_out.specs.Writer.{view, after_bytes};
+    ghost use Rattle.markdown_out.specs.Writer.{view, view_after, after_bytes};
+
+    /// A table's Start outside images.
+    pub(super) fn table(
+        &mut self,
+        s: &mut String,
+        alignments: Vec<Alignment>,
+    ) -> Result<(), AllocError>
+        requires { self.old.image ≡ None }
+        ensures ok { OnOk result (Appends s.old s.new (joined (start_parts (view self.old)
+            (table alignments.items)))) }
+        ensures told { OnOk result (view self.new ≡ view_after (view self.old)
+            (start_event (table alignments.items))) }
+        ensures err { OnErr result (AppendsPart s.old s.new (joined (start_parts (view self.old)
+            (table alignments.items)))) }
+    {
+        self.alignments = alignments;
+        self.raw(s, "<table>")
+    }
+
+    /// The Start of a table's head outside images.
+    pub(super) fn table_head(&mut self, s: &mut String) -> Result<(), AllocError>
+        requires { self.old.image ≡ None }
+        ensures ok { OnOk result (Appends s.old s.new (joined (start_parts (view self.old) table_head))) }
+        ensures told { OnOk result (view self.new ≡ view_after (view self.old) (start_event table_head)) }
+        ensures err { OnErr result (AppendsPart s.old s.new (joined (start_parts (view self.old)
+            table_head))) }
+    {
+        self.in_head = true;
+        self.column = 0;
+        self.raw(s, "<thead><tr>")
+    }
+
+    /// The Start of a row of a table's body outside images.
+    pub(super) fn table_row(&mut self, s: &mut String) -> Result<(), AllocError>
+        requires { self.old.image ≡ None }
+        ensures ok { OnOk result (Appends s.old s.new (joined (start_parts (view self.old) table_row))) }
+        ensures told { OnOk result (view self.new ≡ view_after (view self.old) (start_event table_row)) }
+        ensures err { OnErr result (AppendsPart s.old s.new (joined (start_parts (view self.old)
+            table_row))) }
+    {
+        self.column = 0;
+        self.raw(s, "<tr>")
+    }
 
     /// A cell's Start.
     pub(super) fn cell(&mut self, s: &mut String) -> Result<(), AllocError>

@@ -3,7 +3,8 @@ use Rattle.std.proofs.Common.{◌≡◌, ◌+◌, Some, length, refl, ap, ◌∙
 use Rattle.std.proofs.lemmas.List.{length-append}
 use Rattle.markdown_base.specs.declared.index.HeadingIndex.{HeadingIndex}
 use Rattle.markdown_base.specs.declared.item.ItemBody.TheVariants as body
-use Rattle.markdown_builder.proofs.CallLemmas.{heading_keeps, heading_refused}
+use Rattle.markdown_builder.proofs.BodiesLemmas.{heading_placed}
+use Rattle.markdown_builder.proofs.CallLemmas.{placed_keeps, refused_keeps}
 use Rattle.markdown_builder.proofs.builder.Builder.open_heading.Goals as goal
 
 pub invariant_of-self-in_err-enter : goal.invariant_of-self-in_err-enter
@@ -12,8 +13,8 @@ invariant_of-self-in_err-enter c =
     let more : length c.push.new.self.items ≡ length c.self.inside.headings.items + 1 = ap length c.in_ok-push.ensures.items ∙ length-append c.self.inside.headings.items _ in
     let last : ix.0 ≡ length c.push.new.self.items = omega (arith, c.len.ensures, c.push.new.self.ok.0) in
     rw c.in_err-enter.ensures.stays
-    (heading_refused c.args.self.now _ c.args.level ix c.enter.new.tree c.self.invariant c.self.view_is c.requires last more refl refl
-    c.in_err-enter.ensures.refused)
+    (refused_keeps c.args.self.now _ (body.Heading c.args.level (Some ix)) c.enter.new.tree c.self.invariant c.self.view_is c.requires (heading_placed _ _ c.args.level ix last more refl refl)
+    (record { inline = refl; childless = refl }) c.in_err-enter.ensures.refused)
 
 pub invariant_of-self-2 : goal.invariant_of-self-2
 invariant_of-self-2 c =
@@ -21,11 +22,8 @@ invariant_of-self-2 c =
     let more : length c.push.new.self.items ≡ length c.self.inside.headings.items + 1 = ap length c.in_ok-push.ensures.items ∙ length-append c.self.inside.headings.items _ in
     let last : ix.0 ≡ length c.push.new.self.items = omega (arith, c.len.ensures, c.push.new.self.ok.0) in
     rw (c.in_ok-enter.ensures.entered, c.in_ok-enter.ensures.opened)
-    (heading_keeps c.args.self.now _ c.args.level ix c.self.invariant c.self.view_is c.requires last more refl refl)
+    (placed_keeps c.args.self.now _ (body.Heading c.args.level (Some ix)) c.self.invariant c.self.view_is c.requires (heading_placed _ _ c.args.level ix last more refl refl)
+    (record { inline = refl; childless = refl }))
 
 pub returns : goal.returns
-returns c =
-    rw (← c.self.view_is) (record {
-      block = record { start = c.self.inside.at; body = body.Heading c.args.level (Some (record { 0 = c.len.result })) };
-      now = rw c.in_ok-enter.ensures.opened refl;
-    })
+returns c = rw (← c.self.view_is) (record { 0 = c.len.result }, rw c.in_ok-enter.ensures.opened refl)

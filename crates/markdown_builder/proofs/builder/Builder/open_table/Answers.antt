@@ -3,7 +3,8 @@ use Rattle.std.proofs.Common.{◌≡◌, ◌+◌, length, refl, ap, ◌∙◌, a
 use Rattle.std.proofs.lemmas.List.{length-append}
 use Rattle.markdown_base.specs.declared.index.AlignmentIndex.{AlignmentIndex}
 use Rattle.markdown_base.specs.declared.item.ItemBody.TheVariants as body
-use Rattle.markdown_builder.proofs.CallLemmas.{table_keeps, table_refused}
+use Rattle.markdown_builder.proofs.BodiesLemmas.{table_placed}
+use Rattle.markdown_builder.proofs.CallLemmas.{placed_keeps, refused_keeps}
 use Rattle.markdown_builder.proofs.builder.Builder.open_table.Goals as goal
 
 pub invariant_of-self-in_err-enter : goal.invariant_of-self-in_err-enter
@@ -12,7 +13,8 @@ invariant_of-self-in_err-enter c =
     let more : length c.push.new.self.items ≡ length c.self.inside.alignments.items + 1 = ap length c.in_ok-push.ensures.items ∙ length-append c.self.inside.alignments.items _ in
     let last : ix.0 ≡ length c.self.inside.alignments.items = omega (arith, c.len.ensures, c.self.inside.alignments.ok.0) in
     rw c.in_err-enter.ensures.stays
-    (table_refused c.args.self.now _ ix c.enter.new.tree c.self.invariant c.self.view_is c.requires last more refl refl c.in_err-enter.ensures.refused)
+    (refused_keeps c.args.self.now _ (body.Table ix) c.enter.new.tree c.self.invariant c.self.view_is c.requires (table_placed _ _ ix last more refl refl)
+    (record { inline = refl; childless = refl }) c.in_err-enter.ensures.refused)
 
 pub invariant_of-self-2 : goal.invariant_of-self-2
 invariant_of-self-2 c =
@@ -20,11 +22,8 @@ invariant_of-self-2 c =
     let more : length c.push.new.self.items ≡ length c.self.inside.alignments.items + 1 = ap length c.in_ok-push.ensures.items ∙ length-append c.self.inside.alignments.items _ in
     let last : ix.0 ≡ length c.self.inside.alignments.items = omega (arith, c.len.ensures, c.self.inside.alignments.ok.0) in
     rw (c.in_ok-enter.ensures.entered, c.in_ok-enter.ensures.opened)
-    (table_keeps c.args.self.now _ ix c.self.invariant c.self.view_is c.requires last more refl refl)
+    (placed_keeps c.args.self.now _ (body.Table ix) c.self.invariant c.self.view_is c.requires (table_placed _ _ ix last more refl refl)
+    (record { inline = refl; childless = refl }))
 
 pub returns : goal.returns
-returns c =
-    rw (← c.self.view_is) (record {
-      block = record { start = c.self.inside.at; body = body.Table (record { 0 = c.len.result }) };
-      now = rw c.in_ok-enter.ensures.opened refl;
-    })
+returns c = rw (← c.self.view_is) (record { 0 = c.len.result }, rw c.in_ok-enter.ensures.opened refl)

@@ -1,0 +1,23 @@
+-- A footnote's number among the bytes of its event: what comes before it, and what the writer remembers behind it. Only
+-- private clauses cite this.
+use Rattle.std.specs.Prelude.{ℕ, Bool, List, [], ◌∷◌, codes}
+use Rattle.markdown_out.specs.ByteLists.{joined, ends_line}
+use Rattle.markdown_out.specs.Escapes.{attribute_escaped}
+use Rattle.markdown_out.specs.LookBacks.{Past, footnote_number, with_name}
+use Rattle.markdown_out.specs.TagHtml.{new_line}
+
+-- a reference up to its number, and a definition
+abbrev pub to_reference_number : List ℕ → List (List ℕ)
+to_reference_number name = codes "<sup class=\"footnote-reference\"><a href=\"#" ∷ attribute_escaped name ∷ codes "\">" ∷ []
+
+abbrev pub to_definition_number : Bool → List ℕ → List (List ℕ)
+to_definition_number fresh name =
+    new_line fresh ∷ codes "<div class=\"footnote-definition\" id=\"" ∷ attribute_escaped name
+    ∷ codes "\"><sup class=\"footnote-definition-label\">" ∷ []
+
+-- what the writer remembers after the number of a name and what comes behind it
+abbrev pub after_number : Past → List ℕ → List ℕ → Past
+after_number past name after = record past {
+  fresh = ends_line past.fresh (joined (footnote_number past name ∷ after ∷ []));
+  names = with_name name past.names;
+}
