@@ -1,14 +1,12 @@
 -- What an item begins with, by what it names, and what is left in the tables.
-use Rattle.markdown_base.specs.declared.event.Event.TheVariants as step
 use Rattle.markdown_base.specs.declared.item.ItemBody.TheVariants as body
-use Rattle.std.proofs.Common.{◌≡◌, ℕ, zero, suc, ◌-◌, ◌<◌, ◌≤◌, List, [], ◌∷◌, ◌++◌, map, take, Option, Some, None, length, refl, sym, ap, arith, get_or, set}
+use Rattle.std.proofs.Common.{◌≡◌, ℕ, zero, suc, ◌-◌, ◌<◌, ◌≤◌, List, [], ◌∷◌, Option, Some, None, length, refl, sym, ap, arith, get_or, set}
 use Rattle.std.specs.Prelude.{IfSome, slice_range}
-use Rattle.std.proofs.Math.Seq.{take-suc}
 use Rattle.std.specs.Borrow.{Bor}
 use Rattle.std.specs.declared.alloc.Global.{Global}
 use Rattle.std.specs.declared.ops.Range.{Range}
 use Rattle.std.specs.declared.vec.Vec.{Vec}
-use Rattle.std.proofs.lemmas.List.{length-set, map-append}
+use Rattle.std.proofs.lemmas.List.{length-set}
 use Rattle.markdown_base.specs.CowText.{text_of}
 use Rattle.markdown_base.specs.Event.{EventView, event_view}
 use Rattle.markdown_base.specs.Item.{text_named, alignments_named}
@@ -24,7 +22,7 @@ use Rattle.markdown_base.specs.declared.item.ItemBody.{ItemBody}
 use Rattle.markdown_base.specs.declared.tag.Alignment.{Alignment}
 use Rattle.markdown_base.specs.declared.tag.HeadingLevel.{HeadingLevel}
 use Rattle.markdown_spans.specs.Allocations.{Allocated, LinkParts, LeavesEmptyCow, LeavesEmptyLink, LeavesEmptyAlignment}
-use Rattle.markdown_chains.specs.Document.{Shape, leaf, sliced, made}
+use Rattle.markdown_chains.specs.Document.{leaf, sliced, made}
 use Rattle.markdown_chains.specs.Tables.{Tables, Named, some_text, some_link, some_alignments, text_at, link_at, link_view, link_named, alignments_at, attributes_at, attributes_view, size_for, tables_of, NamesEntries, IsSameEntry}
 use Rattle.markdown_chains.specs.Totals.{same, times_named}
 use Rattle.markdown_chains.proofs.TablesLemmas.{same_entry-refl}
@@ -60,12 +58,6 @@ heading_named tables level (Some ix) h = h.attributes
 
 pub place_within : (headings : List HeadingAttributes) (ix : HeadingIndex) → (1 ≤ ix.0) × (ix.0 ≤ length headings) → ix.0 - 1 < length headings
 place_within headings ix h = omega (arith, h.0, h.1)
-
--- one more was copied
-pub copied_more : {A B : Type 0} (view : A → B) (xs copies : List A) (i : ℕ) (x copy : A) → map view copies ≡ map view (take i xs) → i < length xs → x ≡ get_or xs i x → view copy ≡ view x
-    → map view (copies ++ copy ∷ []) ≡ map view (take (suc i) xs)
-copied_more view xs copies i x copy h l is e =
-    rw (take-suc xs i x l, ← is, map-append view copies (copy ∷ []), map-append view (take i xs) (x ∷ []), h, e) refl
 
 -- and one that is beside a replaced one
 text_at-set : (cows : List CowStr) (n m : ℕ) (c : CowStr) → same m n ≡ 0 → text_at (set cows n c) m ≡ text_at cows m
