@@ -38,6 +38,7 @@ shape-same tables tables' source (body.FootnoteDefinition ix) h e = rw (h (some_
 shape-same tables tables' source (body.Table ix) h e = rw (h (some_alignments ix.0) (omega (arith, same-refl ix.0))) refl
 shape-same tables tables' source (body.Link ix) h e = rw (h (some_link ix.0) (omega (arith, same-refl ix.0))) refl
 shape-same tables tables' source (body.Image ix) h e = rw (h (some_link ix.0) (omega (arith, same-refl ix.0))) refl
+shape-same tables tables' source (body.Heading level named) h e = rw e refl
 shape-same tables tables' source other h e = refl
 
 pub label-same : (source : List ℕ) (tables tables' : Tables) (nodes nodes' : List (Node Item)) (n : ℕ) → Stays tables tables' nodes nodes' n → label_at source tables' nodes' n ≡ label_at source tables nodes n

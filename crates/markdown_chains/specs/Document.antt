@@ -3,13 +3,13 @@ use Rattle.markdown_base.specs.declared.item.ItemBody.TheVariants as body
 use Rattle.std.specs.Prelude.{ℕ, Bool, true, false, ◌||◌, if◌then◌else◌, nat_eq, Option, Some, None, List, [], ◌∷◌, encode_utf8, slice_range}
 use Rattle.std.specs.declared.ops.Range.{Range}
 use Rattle.markdown_base.specs.BlockTree.{tree_of}
-use Rattle.markdown_base.specs.Event.{TagView, EventView, text, code, inline_math, display_math, html, inline_html, footnote_reference, soft_break, hard_break, rule, task_list_marker, paragraph, block_quote, indented_code, fenced_code, html_block, list, list_item, footnote_definition, definition_list, definition_list_title, definition_list_definition, table, table_head, table_row, table_cell, emphasis, strong, strikethrough, superscript, subscript, link, image, metadata_block}
+use Rattle.markdown_base.specs.Event.{TagView, EventView, text, code, inline_math, display_math, html, inline_html, footnote_reference, soft_break, hard_break, rule, task_list_marker, paragraph, heading, block_quote, indented_code, fenced_code, html_block, list, list_item, footnote_definition, definition_list, definition_list_title, definition_list_definition, table, table_head, table_row, table_cell, emphasis, strong, strikethrough, superscript, subscript, link, image, metadata_block}
 use Rattle.markdown_base.specs.Forest.{Forest, relabelled}
 use Rattle.markdown_base.specs.Item.{is_open, is_block, range_of}
 use Rattle.markdown_base.specs.declared.item.Item.{Item}
 use Rattle.markdown_base.specs.declared.item.ItemBody.{ItemBody}
 use Rattle.markdown_base.specs.declared.node.Node.{Node}
-use Rattle.markdown_chains.specs.Tables.{Tables, text_at, link_at, alignments_at}
+use Rattle.markdown_chains.specs.Tables.{Tables, text_at, link_at, alignments_at, attributes_for, heading_with}
 
 -- where a text of an event comes from: it is a slice of the source, or it may have been made
 pub data Origin : Type 0 where
@@ -81,6 +81,11 @@ container_of body.Superscript = Some superscript
 container_of body.Subscript = Some subscript
 container_of other = None
 
+-- what its Start opens, of a heading, with what stands in braces behind it
+abbrev pub heading_of : Tables → ItemBody → Option TagView
+heading_of tables (body.Heading level named) = Some (heading (heading_with level (attributes_for tables.headings named)))
+heading_of tables other = None
+
 -- math, in a line or on lines of its own
 abbrev pub math : (display : Bool) → List ℕ → EventView
 math false t = inline_math t
@@ -120,7 +125,7 @@ enclosed_or None other = other
 
 -- how a body reads over the bytes that it stands over, by what items name
 abbrev pub shape_of : Tables → List ℕ → ItemBody → Shape
-shape_of tables source b = enclosed_or (container_of b) (other_shape tables source b)
+shape_of tables source b = enclosed_or (container_of b) (enclosed_or (heading_of tables b) (other_shape tables source b))
 
 -- a body that is a block's
 abbrev pub block_of : ItemBody → Option ItemBody

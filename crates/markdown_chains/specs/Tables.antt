@@ -1,17 +1,20 @@
 -- What items name by number: texts, links, the alignments of tables and the attributes of headings.
 use Rattle.markdown_base.specs.declared.item.ItemBody.TheVariants as body
-use Rattle.std.specs.Prelude.{◌≡◌, ℕ, zero, suc, ◌<◌, ◌≤◌, List, [], ◌∷◌, ◌++◌, Option, Some, None, IfSome, length}
+use Rattle.std.specs.Prelude.{◌≡◌, ℕ, zero, suc, ◌-◌, ◌<◌, ◌≤◌, List, [], ◌∷◌, ◌++◌, map, Option, Some, None, IfSome, length}
+use Rattle.std.specs.Option.{option_map}
 use Rattle.std.specs.declared.alloc.Global.{Global}
 use Rattle.std.specs.declared.vec.Vec.{Vec}
 use Rattle.std.proofs.Props.{props}
 use Rattle.markdown_base.specs.CowText.{text_of}
-use Rattle.markdown_base.specs.Event.{LinkView}
+use Rattle.markdown_base.specs.Event.{LinkView, HeadingView, attribute_view}
 use Rattle.markdown_base.specs.Item.{text_named, alignments_named, attributes_named}
 use Rattle.markdown_base.specs.declared.block_parts.BlockParts.{BlockParts}
 use Rattle.markdown_base.specs.declared.block_parts.HeadingAttributes.{HeadingAttributes}
 use Rattle.markdown_base.specs.declared.cow_str.CowStr.{CowStr}
+use Rattle.markdown_base.specs.declared.index.HeadingIndex.{HeadingIndex}
 use Rattle.markdown_base.specs.declared.item.ItemBody.{ItemBody}
 use Rattle.markdown_base.specs.declared.tag.Alignment.{Alignment}
+use Rattle.markdown_base.specs.declared.tag.HeadingLevel.{HeadingLevel}
 use Rattle.markdown_base.specs.declared.tag.LinkType.TheVariants.{ShortcutUnknown}
 use Rattle.markdown_spans.specs.Allocations.{Allocated, LinkParts}
 
@@ -54,6 +57,33 @@ abbrev pub alignments_at : List (Vec Alignment Global) → ℕ → List Alignmen
 alignments_at [] ix = []
 alignments_at (a ∷ alignments) zero = a.items
 alignments_at (a ∷ alignments) (suc ix) = alignments_at alignments ix
+
+-- what stands in braces behind a heading: names, each with its value where there is one
+pub record AttributesView : Type 0 where
+  pub id : Option (List ℕ)
+  pub classes : List (List ℕ)
+  pub attributes : List (List ℕ × Option (List ℕ))
+
+abbrev pub attributes_view : HeadingAttributes → AttributesView
+attributes_view a = record { id = option_map text_of a.id; classes = map text_of a.classes.items; attributes = map attribute_view a.attrs.items }
+
+abbrev pub no_attributes : AttributesView
+no_attributes = record { id = None; classes = []; attributes = [] }
+
+-- those of a place in the table
+abbrev pub attributes_at : List HeadingAttributes → ℕ → AttributesView
+attributes_at [] n = no_attributes
+attributes_at (a ∷ headings) zero = attributes_view a
+attributes_at (a ∷ headings) (suc n) = attributes_at headings n
+
+-- those of a heading, which are numbered from 1, or none
+abbrev pub attributes_for : List HeadingAttributes → Option HeadingIndex → AttributesView
+attributes_for headings None = no_attributes
+attributes_for headings (Some ix) = attributes_at headings (ix.0 - 1)
+
+-- a heading with attributes
+abbrev pub heading_with : HeadingLevel → AttributesView → HeadingView
+heading_with level a = record { level = level; id = a.id; classes = a.classes; attributes = a.attributes }
 
 -- the number of the link that a body names
 abbrev pub link_named : ItemBody → Option ℕ

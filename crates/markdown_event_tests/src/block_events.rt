@@ -1,15 +1,16 @@
 //! The events of each body of a block result, with their ranges, over trees made by hand.
 use bitflags::Flags;
-use markdown_base::block_parts::BlockParts;
-use markdown_base::index::{AlignmentIndex, CowIndex};
+use markdown_base::block_parts::{BlockParts, HeadingAttributes};
+use markdown_base::cow_str::CowStr;
+use markdown_base::index::{AlignmentIndex, CowIndex, HeadingIndex};
 use markdown_base::item::ItemBody;
 use markdown_base::options::Options;
-use markdown_base::tag::{Alignment, BlockQuoteKind, MetadataBlockKind};
+use markdown_base::tag::{Alignment, BlockQuoteKind, HeadingLevel, MetadataBlockKind};
 use markdown_inline::walk::Parser;
 use markdown_out::html::push_html;
 use markdown_spans::blocks::Blocks;
 use markdown_tests::builders::{Outline, item, no_parts, one_text, text, tree_of};
-use std::alloc::Global;
+use std::alloc::{AllocError, Global};
 use std::test::Fail;
 
 /// A parser of a tree over a text.
@@ -161,6 +162,43 @@ fn a_table(rt: HostRuntime) -> Result<(), Fail> {
         Text(\"a\") 0..1 End(TableCell) 0..1 Start(TableCell) 1..2 End(TableCell) 1..2 \
         End(TableHead) 0..2 Start(TableRow) 2..3 End(TableRow) 2..3 End(Table) 0..3 ";
     assert_eq!(rt; events_of(alloc, parser)?.as_str(), events);
+    Ok(())
+}
+
+/// Attributes with an identifier, a class, a name with a value and one without.
+fn attributes<'a>(alloc: Global) -> Result<HeadingAttributes<'a>, AllocError> {
+    let classes = vec![in alloc; CowStr::Borrowed("c")]?;
+    let attrs = vec![in alloc;
+        (CowStr::Borrowed("k"), Some(CowStr::Borrowed("v"))),
+        (CowStr::Borrowed("n"), None),
+    ]?;
+    Ok(HeadingAttributes {
+        id: Some(CowStr::Borrowed("i")),
+        classes,
+        attrs,
+    })
+}
+
+#[test]
+fn headings_that_share_attributes(rt: HostRuntime) -> Result<(), Fail> {
+    let alloc = rt.alloc();
+    let mut parts = no_parts(alloc);
+    parts.headings.push(attributes(alloc)?)?;
+    let shared = ItemBody::Heading(HeadingLevel::H2, Some(HeadingIndex(1)));
+    let outline = [
+        (0, item(0, 1, ItemBody::Heading(HeadingLevel::H6, None))),
+        (0, item(1, 2, shared)),
+        (0, item(2, 3, shared)),
+    ];
+    let parser = parser_of(alloc, "abc", &outline, parts)?;
+    let shown = "Heading { level: H2, id: Some(\"i\"), classes: [\"c\"], \
+        attrs: [(\"k\", Some(\"v\")), (\"n\", None)] }";
+    let events = format!(in alloc;
+        "Start(Heading {{ level: H6, id: None, classes: [], attrs: [] }}) 0..1 End(Heading(H6)) 0..1 \
+        Start({}) 1..2 End(Heading(H2)) 1..2 Start({}) 2..3 End(Heading(H2)) 2..3 ",
+        shown, shown
+    )?;
+    assert_eq!(rt; events_of(alloc, parser)?.as_str(), events.as_str());
     Ok(())
 }
 

@@ -1,7 +1,7 @@
 -- What an item begins with, by what it names, and what is left in the tables.
-use Rattle.markdown_base.specs.declared.event.Event.TheVariants as step
-use Rattle.std.proofs.Common.{◌≡◌, ℕ, zero, suc, ◌<◌, ◌≤◌, List, [], ◌∷◌, Option, Some, length, refl, sym, ap, arith, get_or, set}
-use Rattle.std.specs.Prelude.{slice_range}
+use Rattle.markdown_base.specs.declared.item.ItemBody.TheVariants as body
+use Rattle.std.proofs.Common.{◌≡◌, ℕ, zero, suc, ◌-◌, ◌<◌, ◌≤◌, List, [], ◌∷◌, Option, Some, None, length, refl, sym, ap, arith, get_or, set}
+use Rattle.std.specs.Prelude.{IfSome, slice_range}
 use Rattle.std.specs.Borrow.{Bor}
 use Rattle.std.specs.declared.alloc.Global.{Global}
 use Rattle.std.specs.declared.ops.Range.{Range}
@@ -10,17 +10,20 @@ use Rattle.std.proofs.lemmas.List.{length-set}
 use Rattle.markdown_base.specs.CowText.{text_of}
 use Rattle.markdown_base.specs.Event.{EventView, event_view}
 use Rattle.markdown_base.specs.Item.{text_named, alignments_named}
+use Rattle.markdown_base.specs.declared.block_parts.HeadingAttributes.{HeadingAttributes}
 use Rattle.markdown_base.specs.declared.cow_str.CowStr.{CowStr}
 use Rattle.markdown_base.specs.declared.cow_str.CowStr.TheVariants.{Borrowed}
 use Rattle.markdown_base.specs.declared.event.Event.{Event}
 use Rattle.markdown_base.specs.declared.index.AlignmentIndex.{AlignmentIndex}
 use Rattle.markdown_base.specs.declared.index.CowIndex.{CowIndex}
+use Rattle.markdown_base.specs.declared.index.HeadingIndex.{HeadingIndex}
 use Rattle.markdown_base.specs.declared.index.LinkIndex.{LinkIndex}
 use Rattle.markdown_base.specs.declared.item.ItemBody.{ItemBody}
 use Rattle.markdown_base.specs.declared.tag.Alignment.{Alignment}
+use Rattle.markdown_base.specs.declared.tag.HeadingLevel.{HeadingLevel}
 use Rattle.markdown_spans.specs.Allocations.{Allocated, LinkParts, LeavesEmptyCow, LeavesEmptyLink, LeavesEmptyAlignment}
-use Rattle.markdown_chains.specs.Document.{Shape, leaf, sliced, made}
-use Rattle.markdown_chains.specs.Tables.{Tables, Named, some_text, some_link, some_alignments, text_at, link_at, link_view, link_named, alignments_at, size_for, tables_of, IsSameEntry}
+use Rattle.markdown_chains.specs.Document.{leaf, sliced, made}
+use Rattle.markdown_chains.specs.Tables.{Tables, Named, some_text, some_link, some_alignments, text_at, link_at, link_view, link_named, alignments_at, attributes_at, attributes_view, size_for, tables_of, NamesEntries, IsSameEntry}
 use Rattle.markdown_chains.specs.Totals.{same, times_named}
 use Rattle.markdown_chains.proofs.TablesLemmas.{same_entry-refl}
 use Rattle.markdown_inline.specs.Slices.{texts_of}
@@ -41,6 +44,20 @@ pub alignments_at-read : (alignments : List (Vec Alignment Global)) (n : ℕ) (c
 alignments_at-read [] n c l e = absurd (omega (arith, l))
 alignments_at-read (d ∷ alignments) zero c l e = ap (λ (v : Vec Alignment Global). v.items) (sym e)
 alignments_at-read (d ∷ alignments) (suc n) c l e = alignments_at-read alignments n c (omega (arith, l)) e
+
+pub attributes_at-read : (headings : List HeadingAttributes) (n : ℕ) (c : HeadingAttributes) → n < length headings → c ≡ get_or headings n c → attributes_at headings n ≡ attributes_view c
+attributes_at-read [] n c l e = absurd (omega (arith, l))
+attributes_at-read (d ∷ headings) zero c l e = ap attributes_view (sym e)
+attributes_at-read (d ∷ headings) (suc n) c l e = attributes_at-read headings n c (omega (arith, l)) e
+
+-- the attributes of a heading are there
+pub heading_named : (tables : Tables) (level : HeadingLevel) (named : Option HeadingIndex) → NamesEntries tables (body.Heading level named)
+    → IfSome named (λ ix. (1 ≤ ix.0) × (ix.0 ≤ length tables.headings))
+heading_named tables level None h = tt
+heading_named tables level (Some ix) h = h.attributes
+
+pub place_within : (headings : List HeadingAttributes) (ix : HeadingIndex) → (1 ≤ ix.0) × (ix.0 ≤ length headings) → ix.0 - 1 < length headings
+place_within headings ix h = omega (arith, h.0, h.1)
 
 -- and one that is beside a replaced one
 text_at-set : (cows : List CowStr) (n m : ℕ) (c : CowStr) → same m n ≡ 0 → text_at (set cows n c) m ≡ text_at cows m

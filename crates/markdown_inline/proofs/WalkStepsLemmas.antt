@@ -1,39 +1,28 @@
 -- The moves of a walk, over the tree and the tables of a program.
-use Rattle.markdown_base.specs.declared.event.Event.TheVariants as step
-use Rattle.std.proofs.Common.{◌≡◌, ℕ, zero, suc, ◌+◌, ◌<◌, ◌≤◌, false, List, [], ◌∷◌, ◌++◌, map, Option, Some, None, length, refl, sym, ap, arith, get_or, set}
+use Rattle.std.proofs.Common.{◌≡◌, ℕ, ◌+◌, ◌<◌, ◌≤◌, false, List, [], ◌∷◌, ◌++◌, map, Option, Some, None, length, refl, arith}
 use Rattle.std.specs.Prelude.{slice_range}
-use Rattle.std.proofs.lemmas.List.{length-set}
 use Rattle.markdown_base.specs.Arena.{Arena, child_of, sibling_of}
 use Rattle.markdown_base.specs.ArenaForest.{links_of}
 use Rattle.markdown_base.specs.BlockTree.{item_at}
-use Rattle.markdown_base.specs.CowText.{text_of}
 use Rattle.markdown_inline.specs.Elements.{Placed, Reading, event}
 use Rattle.markdown_chains.specs.Setting.{Rules, Setting, Known, setting_of}
 use Rattle.markdown_base.specs.Event.{EventView, TagView, start, end}
-use Rattle.markdown_base.specs.Item.{range_of, text_named}
-use Rattle.markdown_base.specs.declared.cow_str.CowStr.{CowStr}
-use Rattle.markdown_base.specs.declared.index.CowIndex.{CowIndex}
+use Rattle.markdown_base.specs.Item.{range_of}
 use Rattle.markdown_base.specs.declared.item.Item.{Item}
-use Rattle.markdown_base.specs.declared.item.ItemBody.{ItemBody}
 use Rattle.markdown_base.specs.declared.node.Node.{Node}
 use Rattle.markdown_base.specs.declared.tag.TagEnd.{TagEnd}
 use Rattle.markdown_base.proofs.ArenaForestLemmas.{opens}
-use Rattle.markdown_spans.specs.Allocations.{Allocated, LeavesEmptyCow}
+use Rattle.markdown_spans.specs.Allocations.{Allocated}
 use Rattle.markdown_inline.specs.Counts.{items_ahead, tree_items, unless_ended, LeavesAhead}
 use Rattle.markdown_inline.proofs.CountLemmas.{items-end}
 use Rattle.markdown_inline.specs.Walk.{ended, left_of, closing}
-use Rattle.markdown_base.specs.declared.event.Event.{Event}
-use Rattle.markdown_base.specs.declared.cow_str.CowStr.TheVariants.{Borrowed}
-use Rattle.std.specs.Borrow.{Bor}
-use Rattle.std.specs.declared.ops.Range.{Range}
-use Rattle.markdown_chains.specs.Totals.{same, naming, times_named}
+use Rattle.markdown_chains.specs.Totals.{same, naming}
 use Rattle.markdown_inline.specs.WalkTotals.{named_left}
 use Rattle.markdown_chains.specs.Places.{IsPlaced}
 use Rattle.markdown_inline.specs.Standing.{Stands}
-use Rattle.markdown_chains.specs.Document.{Origin, sliced, text_over, leaf, enclosed, plain, shape_of}
-use Rattle.markdown_chains.specs.Tables.{Tables, Named, some_text, some_link, some_alignments, text_at, size_for, tables_of, IsSameEntry}
-use Rattle.markdown_chains.proofs.TablesLemmas.{same_entry-refl}
-use Rattle.markdown_inline.specs.WalkSteps.{OpensWith, TreeStands, HasEnded, Went, IsRefused, TakesOnly, tree_left, tree_steps}
+use Rattle.markdown_chains.specs.Document.{Origin, leaf, enclosed, plain, shape_of}
+use Rattle.markdown_chains.specs.Tables.{Tables, Named, tables_of}
+use Rattle.markdown_inline.specs.WalkSteps.{TreeStands, HasEnded, Went, IsRefused, TakesOnly, tree_left, tree_steps}
 use Rattle.markdown_inline.proofs.LeftFrameLemmas.{left_framed}
 use Rattle.markdown_inline.proofs.WalkLemmas.{Moves, moves_on, moves_past, moves_in, moves_past_in, moves_in_plain, moves_out, left_of-end, steps-some, steps-end, stands-end, AllReach-last}
 

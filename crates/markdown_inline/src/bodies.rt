@@ -1,5 +1,5 @@
 //! How an item that is not open begins and ends, by its body.
-ghost use Rattle.std.specs.Prelude.{◌≡◌, ◌<◌, ◌∷◌, [], Some, false, slice_range, length};
+ghost use Rattle.std.specs.Prelude.{◌≡◌, ◌<◌, ◌∷◌, [], IfOk, OnErr, Some, false, slice_range, length};
 ghost use Rattle.std.specs.Option.{option_map};
 ghost use Rattle.markdown_base.specs.Event.{event_view, tag_view, link, image};
 ghost use Rattle.markdown_base.specs.CowText.{text_of};
@@ -10,12 +10,14 @@ ghost use Rattle.markdown_chains.specs.Tables.{NamesEntries, link_at, tables_of}
 ghost use Rattle.markdown_inline.specs.Slices.{texts_of};
 ghost use Rattle.markdown_inline.specs.WalkSteps.{ClosesTo, OpensTo, TakesOnly};
 
+use crate::heading::heading_tag;
 use markdown_base::cow_str::CowStr;
 use markdown_base::event::Event;
 use markdown_base::index::LinkIndex;
 use markdown_base::item::{Item, ItemBody};
 use markdown_base::tag::{CodeBlockKind, Tag, TagEnd};
 use markdown_spans::defs::Allocations;
+use std::alloc::{AllocError, Global};
 
 /// How an item begins.
 #[derive(Drop)]
@@ -28,17 +30,27 @@ pub enum Opening<'a> {
     Plain,
 }
 
-/// How an item that is not open begins, by its body. A text, a link or alignments that it names are taken.
-pub fn open_item<'a>(text: &'a str, tables: &mut Allocations<'a>, item: Item) -> Opening<'a>
+/// How an item that is not open begins, by its body. A text, a link or alignments that it names are taken, and heading
+/// attributes copied. After an error, where memory for the copies is refused, the tables are as before.
+pub fn open_item<'a>(
+    alloc: Global,
+    text: &'a str,
+    tables: &mut Allocations<'a>,
+    item: Item,
+) -> Result<Opening<'a>, AllocError>
     requires lies { LiesIn text.now item }
     requires settled { is_open item.body ≡ false }
     requires named { NamesEntries (tables_of tables.old) item.body }
-    ensures opens { OpensTo text.entry.now (shape_of (tables_of tables.old) (slice_range text.entry.now item.start item.end) item.body) result }
-    ensures taken { TakesOnly item.body tables.old tables.new }
+    ensures opens { IfOk result (OpensTo text.entry.now (shape_of (tables_of tables.old) (slice_range text.entry.now item.start item.end) item.body)) }
+    ensures taken { IfOk result (λ _. TakesOnly item.body tables.old tables.new) }
+    ensures refused { OnErr result (tables.new ≡ tables.old) }
 {
-    match container_tag(item.body) {
-        Some(tag) => Opening::Start(tag),
-        None => open_other(text, tables, item),
+    if let Some(tag) = container_tag(item.body) {
+        return Ok(Opening::Start(tag));
+    }
+    match heading_tag(alloc, tables, item.body)? {
+        Some(tag) => Ok(Opening::Start(tag)),
+        None => Ok(open_other(text, tables, item)),
     }
 }
 
@@ -164,6 +176,7 @@ pub fn close_item(body: ItemBody) -> Option<TagEnd>
     match container_tag(body) {
         Some(tag) => Some(tag.to_end()),
         None => match body {
+            ItemBody::Heading(level, _) => Some(TagEnd::Heading(level)),
             ItemBody::FencedCodeBlock(_) => Some(TagEnd::CodeBlock),
             ItemBody::FootnoteDefinition(_) => Some(TagEnd::FootnoteDefinition),
             ItemBody::Table(_) => Some(TagEnd::Table),

@@ -3,6 +3,7 @@
 #![tactic(auto)]
 
 mod bodies;
+mod heading;
 pub mod runs;
 mod step;
 pub mod walk;

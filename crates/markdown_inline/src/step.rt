@@ -8,7 +8,7 @@ use markdown_base::event::Event;
 use markdown_base::item::Item;
 use markdown_base::tree::Tree;
 use markdown_spans::defs::Allocations;
-use std::alloc::AllocError;
+use std::alloc::{AllocError, Global};
 use std::ops::Range;
 
 /// What one step of a walk did.
@@ -44,6 +44,7 @@ pub fn step_out<'a>(text: &'a str, tables: &Allocations<'a>, tree: &mut Tree<Ite
 
 /// A step at the node in focus.
 pub fn step_at<'a>(
+    alloc: Global,
     text: &'a str,
     tables: &mut Allocations<'a>,
     tree: &mut Tree<Item>,
@@ -58,7 +59,8 @@ pub fn step_at<'a>(
     if item.body.is_open() {
         return Ok(Step::Chain(ix));
     }
-    match open_item(text, tables, item) {
+    let opening = open_item(alloc, text, tables, item)?;
+    match opening {
         Opening::Leaf(event) => {
             tree.next_sibling(ix);
             Ok(Step::Give(event, item.start..item.end))
@@ -76,6 +78,7 @@ pub fn step_at<'a>(
 
 /// One step of the walk over a tree. After a refusal the tree is as before.
 pub fn take_step<'a>(
+    alloc: Global,
     text: &'a str,
     tables: &mut Allocations<'a>,
     tree: &mut Tree<Item>,
@@ -86,6 +89,6 @@ pub fn take_step<'a>(
 {
     match tree.cur() {
         None => Ok(step_out(text, tables, tree)),
-        Some(ix) => step_at(text, tables, tree, ix),
+        Some(ix) => step_at(alloc, text, tables, tree, ix),
     }
 }

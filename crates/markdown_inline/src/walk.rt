@@ -30,6 +30,8 @@ pub enum Move<'a> {
 /// comes.
 #[derive(Drop)]
 pub struct Parser<'input, F = DefaultBrokenLinkCallback> {
+    /// For copies of heading attributes.
+    alloc: Global,
     tree: Tree<Item>,
     resolver: Resolver<'input, F>,
     ghost stands: { Stands resolver.text.now (tables_of resolver.tables) tree.nodes tree.cursor tree.spine } by { Stands-prop resolver.text.now (tables_of resolver.tables) tree.nodes tree.cursor tree.spine },
@@ -55,6 +57,7 @@ impl<'input, F: BrokenLinkCallback<'input>> Parser<'input, F> {
         ensures keeps { Keeps self.old self.new }
     {
         match take_step(
+            self.alloc,
             self.resolver.text,
             &mut self.resolver.tables,
             &mut self.tree,
@@ -215,6 +218,7 @@ impl<'input, F: BrokenLinkCallback<'input>> Parser<'input, F> {
         let mut tree = tree;
         tree.reset();
         Ok(Parser {
+            alloc,
             tree,
             resolver: Resolver {
                 text,

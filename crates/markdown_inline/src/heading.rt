@@ -1,0 +1,122 @@
+//! The Start of a heading, with what stands in braces behind it. Two headings may name the same attributes, so they
+//! are copied where texts are taken.
+ghost use Rattle.std.specs.Prelude.{◌≡◌, IfOk, IfSome, map};
+ghost use Rattle.std.specs.Option.{option_map};
+ghost use Rattle.markdown_base.specs.CowText.{text_of};
+ghost use Rattle.markdown_base.specs.Event.{attribute_view, heading, tag_view};
+ghost use Rattle.markdown_spans.specs.Allocations.{HasHeading};
+ghost use Rattle.markdown_chains.specs.Document.{heading_of};
+ghost use Rattle.markdown_chains.specs.Tables.{NamesEntries, attributes_for, attributes_view, heading_with, tables_of};
+
+use markdown_base::block_parts::HeadingAttributes;
+use markdown_base::cow_str::CowStr;
+use markdown_base::index::HeadingIndex;
+use markdown_base::item::ItemBody;
+use markdown_base::tag::{HeadingLevel, Tag};
+use markdown_spans::defs::Allocations;
+use std::alloc::{AllocError, Global};
+
+/// What the Start of a heading opens, where a body is one. An error where memory for copies is refused.
+pub fn heading_tag<'a>(
+    alloc: Global,
+    tables: &Allocations<'a>,
+    body: ItemBody,
+) -> Result<Option<Tag<'a>>, AllocError>
+    requires { NamesEntries (tables_of tables.now) body }
+    ensures { IfOk result (λ tag. option_map tag_view tag ≡ heading_of (tables_of tables.now) body) }
+{
+    match body {
+        ItemBody::Heading(level, named) => {
+            let tag = heading_start(alloc, tables, level, named)?;
+            Ok(Some(tag))
+        }
+        _ => Ok(None),
+    }
+}
+
+/// A heading with the attributes that it names, or with none.
+fn heading_start<'a>(
+    alloc: Global,
+    tables: &Allocations<'a>,
+    level: HeadingLevel,
+    named: Option<HeadingIndex>,
+) -> Result<Tag<'a>, AllocError>
+    requires { IfSome named (HasHeading tables.now) }
+    ensures { IfOk result (λ tag. tag_view tag ≡ heading (heading_with level (attributes_for tables.now.headings named))) }
+{
+    match named {
+        None => Ok(Tag::Heading {
+            level,
+            id: None,
+            classes: Vec::new(alloc),
+            attrs: Vec::new(alloc),
+        }),
+        Some(ix) => heading_copy(alloc, level, &tables[ix]),
+    }
+}
+
+/// A heading with a copy of its attributes.
+fn heading_copy<'a>(
+    alloc: Global,
+    level: HeadingLevel,
+    attributes: &HeadingAttributes<'a>,
+) -> Result<Tag<'a>, AllocError>
+    ensures { IfOk result (λ tag. tag_view tag ≡ heading (heading_with level (attributes_view attributes.now))) }
+{
+    let id = copy_of(alloc, &attributes.id)?;
+    let classes = class_copies(alloc, &attributes.classes)?;
+    let attrs = attribute_copies(alloc, &attributes.attrs)?;
+    Ok(Tag::Heading {
+        level,
+        id,
+        classes,
+        attrs,
+    })
+}
+
+/// A copy of a text, where there is one.
+fn copy_of<'a>(alloc: Global, text: &Option<CowStr<'a>>) -> Result<Option<CowStr<'a>>, AllocError>
+    ensures { IfOk result (λ copy. option_map text_of copy ≡ option_map text_of text.now) }
+{
+    match text {
+        None => Ok(None),
+        Some(text) => Ok(Some(text.try_clone(alloc)?)),
+    }
+}
+
+/// Copies of classes.
+fn class_copies<'a>(alloc: Global, classes: &[CowStr<'a>]) -> Result<Vec<CowStr<'a>>, AllocError>
+    ensures { IfOk result (λ copies. map text_of copies.items ≡ map text_of classes.now) }
+{
+    let mut copies = Vec::new(alloc);
+    for class in classes {
+        copies.push(class.try_clone(alloc)?)?;
+    }
+    Ok(copies)
+}
+
+/// A copy of a name with its value.
+fn attribute_copy<'a>(
+    alloc: Global,
+    attribute: &(CowStr<'a>, Option<CowStr<'a>>),
+) -> Result<(CowStr<'a>, Option<CowStr<'a>>), AllocError>
+    ensures { IfOk result (λ copy. attribute_view copy ≡ attribute_view attribute.now) }
+{
+    let name = attribute.0.try_clone(alloc)?;
+    let value = copy_of(alloc, &attribute.1)?;
+    Ok((name, value))
+}
+
+/// Copies of names with their values.
+fn attribute_copies<'a>(
+    alloc: Global,
+    attributes: &[(CowStr<'a>, Option<CowStr<'a>>)],
+) -> Result<Vec<(CowStr<'a>, Option<CowStr<'a>>)>, AllocError>
+    ensures { IfOk result (λ copies. map attribute_view copies.items ≡ map attribute_view attributes.now) }
+{
+    let mut copies = Vec::new(alloc);
+    for attribute in attributes {
+        copies.push(attribute_copy(alloc, attribute)?)?;
+    }
+    Ok(copies)
+}
