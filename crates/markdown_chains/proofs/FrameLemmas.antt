@@ -16,7 +16,7 @@ use Rattle.markdown_base.proofs.ArenaForestLemmas.{height, height-followed, fore
 use Rattle.markdown_chains.specs.Places.{IsSameAt, label_at, trees_from, IsPlaced}
 use Rattle.markdown_chains.specs.Totals.{total, same, naming, times_named, weight_at}
 use Rattle.markdown_chains.specs.Document.{Plain, shape_of, block_of}
-use Rattle.markdown_chains.specs.Tables.{Tables, Named, some_text, IsSameEntry, IsNoShorter}
+use Rattle.markdown_chains.specs.Tables.{Tables, Named, some_text, some_link, some_alignments, IsSameEntry, IsNoShorter}
 use Rattle.markdown_chains.proofs.TablesLemmas.{same-refl, entries-longer}
 
 -- a node stays, and so do the entries that it names
@@ -29,6 +29,15 @@ pub record Stays (tables tables' : Tables) (nodes nodes' : List (Node Item)) (n 
 shape-same : (tables tables' : Tables) (source : List ℕ) (body : ItemBody) → ((m : Named) → 0 < times_named m body → IsSameEntry tables tables' m) → tables'.headings ≡ tables.headings
     → shape_of tables' source body ≡ shape_of tables source body
 shape-same tables tables' source (body.SynthesizeText ix) h e = rw (h (some_text ix.0) (omega (arith, same-refl ix.0))) refl
+shape-same tables tables' source (body.OwnedInlineHtml ix) h e = rw (h (some_text ix.0) (omega (arith, same-refl ix.0))) refl
+shape-same tables tables' source (body.Code ix) h e = rw (h (some_text ix.0) (omega (arith, same-refl ix.0))) refl
+shape-same tables tables' source (body.Math ix display) h e = rw (h (some_text ix.0) (omega (arith, same-refl ix.0))) refl
+shape-same tables tables' source (body.FootnoteReference ix) h e = rw (h (some_text ix.0) (omega (arith, same-refl ix.0))) refl
+shape-same tables tables' source (body.FencedCodeBlock ix) h e = rw (h (some_text ix.0) (omega (arith, same-refl ix.0))) refl
+shape-same tables tables' source (body.FootnoteDefinition ix) h e = rw (h (some_text ix.0) (omega (arith, same-refl ix.0))) refl
+shape-same tables tables' source (body.Table ix) h e = rw (h (some_alignments ix.0) (omega (arith, same-refl ix.0))) refl
+shape-same tables tables' source (body.Link ix) h e = rw (h (some_link ix.0) (omega (arith, same-refl ix.0))) refl
+shape-same tables tables' source (body.Image ix) h e = rw (h (some_link ix.0) (omega (arith, same-refl ix.0))) refl
 shape-same tables tables' source other h e = refl
 
 pub label-same : (source : List ℕ) (tables tables' : Tables) (nodes nodes' : List (Node Item)) (n : ℕ) → Stays tables tables' nodes nodes' n → label_at source tables' nodes' n ≡ label_at source tables nodes n

@@ -1,15 +1,15 @@
 -- Small facts of numbers, texts and shapes in an arena.
 use Rattle.markdown_base.specs.declared.item.ItemBody.TheVariants as body
-use Rattle.std.proofs.Common.{◌≡◌, ℕ, ◌≤◌, Bool, true, false, List, Option, refl, arith, ◌||◌}
+use Rattle.std.proofs.Common.{◌≡◌, ℕ, ◌≤◌, Bool, true, false, List, Option, refl, arith}
 use Rattle.markdown_base.specs.ArenaForest.{Links, Spells}
 use Rattle.markdown_base.specs.BlockTree.{item_at}
 use Rattle.markdown_base.specs.Forest.{Forest, nil, node, Each}
-use Rattle.markdown_base.specs.Item.{is_open, is_inline, is_resolved}
+use Rattle.markdown_base.specs.Item.{is_open}
 use Rattle.markdown_base.specs.declared.item.Item.{Item}
 use Rattle.markdown_base.specs.declared.item.ItemBody.{ItemBody}
 use Rattle.markdown_base.specs.declared.node.Node.{Node}
 use Rattle.markdown_chains.specs.Places.{IsPlaced}
-use Rattle.markdown_chains.specs.Document.{unresolved, is_unresolved, shape_of, uncarried}
+use Rattle.markdown_chains.specs.Document.{unresolved, is_unresolved, shape_of}
 use Rattle.markdown_chains.specs.Totals.{total, same, naming, weight_if}
 use Rattle.markdown_chains.specs.Tables.{Tables, Named, number_of, size_for}
 use Rattle.markdown_chains.proofs.TablesLemmas.{same-apart, named-apart}
@@ -30,20 +30,12 @@ named-past source tables nodes (node ix below after) n h z =
 -- an open item is not read before its chain is resolved
 pub shape-open : (tables : Tables) (source : List ℕ) (b : ItemBody) → is_open b ≡ true → shape_of tables source b ≡ unresolved b
 shape-open tables source body.Paragraph h = cc h
-shape-open tables source body.TightParagraph h = cc h
 shape-open tables source other h = cc h
-
-open_uncarried : (source : List ℕ) (b : ItemBody) (is inline : Bool) → is_open b ≡ is → is_unresolved (uncarried is inline source b) ≡ true → is ≡ true
-open_uncarried source b true inline e h = refl
-open_uncarried source b false true e h = cc h
-open_uncarried source b false false e h = cc h
 
 -- what is not read before its chain is resolved is open
 pub open-unresolved : (tables : Tables) (source : List ℕ) (b : ItemBody) → is_unresolved (shape_of tables source b) ≡ true → is_open b ≡ true
 open-unresolved tables source body.Paragraph h = cc h
-open-unresolved tables source body.TightParagraph h = cc h
-open-unresolved tables source (body.SynthesizeText ix) h = cc h
-open-unresolved tables source other h = open_uncarried source other (is_open other) (is_inline other || is_resolved other) refl h
+open-unresolved tables source other h = cc h
 
 -- a node weighs two at least
 pub some_weight : (is_open : Bool) → 2 ≤ weight_if is_open

@@ -1,15 +1,15 @@
 -- The tree of a document, as its items read. Chains of inline items in it may be open.
 use Rattle.markdown_base.specs.declared.item.ItemBody.TheVariants as body
-use Rattle.std.specs.Prelude.{ℕ, Bool, true, false, ◌||◌, if◌then◌else◌, List, [], ◌∷◌, Option, Some, None, slice_range}
+use Rattle.std.specs.Prelude.{ℕ, Bool, true, false, ◌||◌, if◌then◌else◌, nat_eq, Option, Some, None, List, [], ◌∷◌, encode_utf8, slice_range}
 use Rattle.std.specs.declared.ops.Range.{Range}
 use Rattle.markdown_base.specs.BlockTree.{tree_of}
-use Rattle.markdown_base.specs.Event.{TagView, EventView, text, soft_break, hard_break, paragraph}
+use Rattle.markdown_base.specs.Event.{TagView, EventView, text, code, inline_math, display_math, html, inline_html, footnote_reference, soft_break, hard_break, rule, task_list_marker, paragraph, block_quote, indented_code, fenced_code, html_block, list, list_item, footnote_definition, definition_list, definition_list_title, definition_list_definition, table, table_head, table_row, table_cell, emphasis, strong, strikethrough, superscript, subscript, link, image, metadata_block}
 use Rattle.markdown_base.specs.Forest.{Forest, relabelled}
-use Rattle.markdown_base.specs.Item.{is_open, is_inline, is_resolved, is_block, range_of}
+use Rattle.markdown_base.specs.Item.{is_open, is_block, range_of}
 use Rattle.markdown_base.specs.declared.item.Item.{Item}
 use Rattle.markdown_base.specs.declared.item.ItemBody.{ItemBody}
 use Rattle.markdown_base.specs.declared.node.Node.{Node}
-use Rattle.markdown_chains.specs.Tables.{Tables, text_at}
+use Rattle.markdown_chains.specs.Tables.{Tables, text_at, link_at, alignments_at}
 
 -- where a text of an event comes from: it is a slice of the source, or it may have been made
 pub data Origin : Type 0 where
@@ -55,22 +55,72 @@ text_over source = leaf (text source) (sliced ∷ [])
 abbrev pub as_text : {A : Type 0} → List ℕ → Label A → Label A
 as_text source a = shaped (text_over (slice_range source a.part.range.start a.part.range.end)) a
 
--- a body that names nothing: open; else, where it is not carried yet, a Text over its range in a chain of inline
--- items, and elsewhere what is below it alone
-abbrev pub uncarried : (is_open is_inline : Bool) → List ℕ → ItemBody → Shape
-uncarried true is_inline source b = unresolved b
-uncarried false true source b = text_over source
-uncarried false false source b = plain
+-- the byte at the end of an ordered list's marker (CommonMark 5.2)
+abbrev pub is_ordered : (marker : ℕ) → Bool
+is_ordered marker = nat_eq marker 46 || nat_eq marker 41
+
+-- what its Start opens, of a body that names nothing
+abbrev pub container_of : ItemBody → Option TagView
+container_of body.Paragraph = Some paragraph
+container_of (body.BlockQuote kind) = Some (block_quote kind)
+container_of body.IndentCodeBlock = Some indented_code
+container_of body.HtmlBlock = Some html_block
+container_of (body.List tight marker first) = Some (list (if is_ordered marker then Some first else None))
+container_of (body.ListItem indent) = Some list_item
+container_of (body.MetadataBlock kind) = Some (metadata_block kind)
+container_of (body.DefinitionList tight) = Some definition_list
+container_of body.DefinitionListTitle = Some definition_list_title
+container_of (body.DefinitionListDefinition indent) = Some definition_list_definition
+container_of body.TableHead = Some table_head
+container_of body.TableRow = Some table_row
+container_of body.TableCell = Some table_cell
+container_of body.Emphasis = Some emphasis
+container_of body.Strong = Some strong
+container_of body.Strikethrough = Some strikethrough
+container_of body.Superscript = Some superscript
+container_of body.Subscript = Some subscript
+container_of other = None
+
+-- math, in a line or on lines of its own
+abbrev pub math : (display : Bool) → List ℕ → EventView
+math false t = inline_math t
+math true t = display_math t
+
+-- what gives no event: it is not read before its chain is resolved, or what is below it is read alone
+abbrev pub unless_open : (is_open : Bool) → ItemBody → Shape
+unless_open true b = unresolved b
+unless_open false b = plain
+
+-- how the other bodies read, over the bytes that they stand over, by what they name
+abbrev pub other_shape : Tables → List ℕ → ItemBody → Shape
+other_shape tables source (body.Text escaped) = text_over source
+other_shape tables source (body.SynthesizeText ix) = leaf (text (text_at tables.cows ix.0)) (made ∷ [])
+other_shape tables source (body.SynthesizeChar c) = leaf (text (encode_utf8 c)) (made ∷ [])
+other_shape tables source (body.Code ix) = leaf (code (text_at tables.cows ix.0)) (made ∷ [])
+other_shape tables source (body.Math ix display) = leaf (math display (text_at tables.cows ix.0)) (made ∷ [])
+other_shape tables source body.Html = leaf (html source) (sliced ∷ [])
+other_shape tables source body.InlineHtml = leaf (inline_html source) (sliced ∷ [])
+other_shape tables source (body.OwnedInlineHtml ix) = leaf (inline_html (text_at tables.cows ix.0)) (made ∷ [])
+other_shape tables source (body.FootnoteReference ix) = leaf (footnote_reference (text_at tables.cows ix.0)) (made ∷ [])
+other_shape tables source body.SoftBreak = leaf soft_break []
+other_shape tables source (body.HardBreak backslash) = leaf hard_break []
+other_shape tables source body.Rule = leaf rule []
+other_shape tables source (body.TaskListMarker done) = leaf (task_list_marker done) []
+other_shape tables source (body.FencedCodeBlock ix) = enclosed (fenced_code (text_at tables.cows ix.0))
+other_shape tables source (body.FootnoteDefinition ix) = enclosed (footnote_definition (text_at tables.cows ix.0))
+other_shape tables source (body.Table ix) = enclosed (table (alignments_at tables.alignments ix.0))
+other_shape tables source (body.Link ix) = enclosed (link (link_at tables.links ix.0))
+other_shape tables source (body.Image ix) = enclosed (image (link_at tables.links ix.0))
+other_shape tables source b = unless_open (is_open b) b
+
+-- a tree where there is a tag, and else as it reads without
+abbrev pub enclosed_or : Option TagView → Shape → Shape
+enclosed_or (Some tag) other = enclosed tag
+enclosed_or None other = other
 
 -- how a body reads over the bytes that it stands over, by what items name
 abbrev pub shape_of : Tables → List ℕ → ItemBody → Shape
-shape_of tables source body.Paragraph = enclosed paragraph
-shape_of tables source body.TightParagraph = plain
-shape_of tables source (body.Text escaped) = text_over source
-shape_of tables source body.SoftBreak = leaf soft_break []
-shape_of tables source (body.HardBreak backslash) = leaf hard_break []
-shape_of tables source (body.SynthesizeText ix) = leaf (text (text_at tables.cows ix.0)) (made ∷ [])
-shape_of tables source other = uncarried (is_open other) (is_inline other || is_resolved other) source other
+shape_of tables source b = enclosed_or (container_of b) (other_shape tables source b)
 
 -- a body that is a block's
 abbrev pub block_of : ItemBody → Option ItemBody

@@ -3,6 +3,8 @@
 #![tactic(auto)]
 
 #[cfg(test)]
+mod block_events;
+#[cfg(test)]
 mod chains;
 #[cfg(test)]
 mod escapes;

@@ -4,6 +4,7 @@ pub mod CountLemmas
 pub mod LeftFrameLemmas
 pub mod WalkLemmas
 pub mod ChainLemmas
+pub mod TakingLemmas
 pub mod WalkStepsLemmas
 pub mod ParserLemmas
 pub mod StartLemmas

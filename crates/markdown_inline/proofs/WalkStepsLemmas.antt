@@ -45,55 +45,6 @@ over source item = slice_range source item.start item.end
 any_rules : Rules
 any_rules = record { options = record { 0 = 0 }; definitions = []; is_footnote = λ name. false; asks = false }
 
--- a text that is read and replaced
-pub text_at-read : (cows : List CowStr) (n : ℕ) (c : CowStr) → n < length cows → c ≡ get_or cows n c → text_at cows n ≡ text_of c
-text_at-read [] n c l e = absurd (omega (arith, l))
-text_at-read (d ∷ cows) zero c l e = ap text_of (sym e)
-text_at-read (d ∷ cows) (suc n) c l e = text_at-read cows n c (omega (arith, l)) e
-
-text_at-set : (cows : List CowStr) (n m : ℕ) (c : CowStr) → same m n ≡ 0 → text_at (set cows n c) m ≡ text_at cows m
-text_at-set [] n m c h = refl
-text_at-set (d ∷ cows) zero zero c h = cc h
-text_at-set (d ∷ cows) zero (suc m) c h = refl
-text_at-set (d ∷ cows) (suc n) zero c h = refl
-text_at-set (d ∷ cows) (suc n) (suc m) c h = text_at-set cows n m c h
-
-same_length : {A : Type 0} (xs ys : List A) → length ys ≡ length xs → length xs ≤ length ys
-same_length xs ys e = omega (arith, e)
-
--- nothing was taken
-pub takes_nothing : (body : ItemBody) (held : Allocated) → TakesOnly body held held
-takes_nothing body held = record { tables = refl; longer = record { sizes = λ n. omega arith; headings = refl }; others = λ n h. same_entry-refl (tables_of held) n }
-
--- how often a body that names a text alone names an entry
-abbrev same_text : Named → ℕ → ℕ
-same_text (some_text n) ix = same n ix
-same_text (some_link n) ix = 0
-same_text (some_alignments n) ix = 0
-
--- the text that a body names was taken
-text_taken : (tables : Tables) (ix : ℕ) (left : CowStr) (n : Named) → same_text n ix ≡ 0 → IsSameEntry tables (record tables { cows = set tables.cows ix left }) n
-text_taken tables ix left (some_text n) h = text_at-set tables.cows ix n left h
-text_taken tables ix left (some_link n) h = refl
-text_taken tables ix left (some_alignments n) h = refl
-
-text_sizes : (tables : Tables) (ix : ℕ) (left : CowStr) (n : Named) → size_for tables n ≤ size_for (record tables { cows = set tables.cows ix left }) n
-text_sizes tables ix left (some_text n) = same_length tables.cows (set tables.cows ix left) (length-set tables.cows ix left)
-text_sizes tables ix left (some_link n) = omega arith
-text_sizes tables ix left (some_alignments n) = omega arith
-
-text_apart : (n : Named) (b : ItemBody) (ix : ℕ) → text_named b ≡ Some ix → times_named n b ≡ 0 → same_text n ix ≡ 0
-text_apart (some_text n) b ix e h = rw e at h
-text_apart (some_link n) b ix e h = refl
-text_apart (some_alignments n) b ix e h = refl
-
-pub takes_named : (body : ItemBody) (held held' : Allocated) (ix : CowIndex) → text_named body ≡ Some ix.0 → LeavesEmptyCow held held' ix → TakesOnly body held held'
-takes_named body held held' ix e l = rw l.others (record {
-  tables = refl;
-  longer = record { sizes = λ n. text_sizes (tables_of held) ix.0 l.left n; headings = refl };
-  others = λ n h. text_taken (tables_of held) ix.0 l.left n (text_apart n body ix.0 e h);
-})
-
 -- after a move an entry that is taken, and is not named any more, changes nothing of what is left
 taken_after : (source : List ℕ) (nodes : List (Node Item)) (ix : ℕ) (held held' : Allocated) (m : Option ℕ) (deeper : List ℕ) (rules : Rules)
     → TakesOnly (item_at nodes ix).body held held' → ((n : Named) → naming nodes n ix + named_left nodes m deeper n ≤ 1) → Stands source (tables_of held) nodes m deeper
@@ -201,8 +152,3 @@ refused_at source tables s t ix w e same = record { same = same; steps = steps_a
 -- a walk that was stopped is over
 pub stopped : (s t : Arena Item) → t ≡ record s { spine = []; cursor = None } → HasEnded t
 stopped s t e = rw e (record { cursor = refl; spine = refl })
-
--- an event that is the source's text over a range
-pub opens_slice : (source : List ℕ) (range : Range ℕ) (e : Event) → ((slice : Bor (List ℕ)) × (e ≡ step.Text (Borrowed slice)) × (slice.now ≡ slice_range source range.start range.end))
-    → OpensWith source (text_over (slice_range source range.start range.end)) e
-opens_slice source range e (slice, is, over) = rw is (record { origins = sliced ∷ []; is_leaf = rw over refl; texts = ((range, over), tt) })

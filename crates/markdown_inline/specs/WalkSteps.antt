@@ -1,5 +1,5 @@
 -- What one step of a walk over a tree gives.
-use Rattle.markdown_inline.specs.declared.step.Opening.TheVariants as opening
+use Rattle.markdown_inline.specs.declared.bodies.Opening.TheVariants as opening
 use Rattle.markdown_inline.specs.declared.step.Step.TheVariants as step
 use Rattle.std.specs.Prelude.{◌≡◌, ℕ, ◌<◌, true, List, [], ◌∷◌, ◌++◌, map, Option, Some, None}
 use Rattle.std.specs.declared.ops.Range.{Range}
@@ -22,7 +22,7 @@ use Rattle.markdown_chains.specs.Tables.{Tables, Named, tables_of, IsSameEntry, 
 use Rattle.markdown_inline.specs.WalkTotals.{steps_of}
 use Rattle.markdown_inline.specs.Counts.{tree_items, LeavesAhead}
 use Rattle.markdown_inline.specs.Walk.{left_of, closing}
-use Rattle.markdown_inline.specs.declared.step.Opening.{Opening}
+use Rattle.markdown_inline.specs.declared.bodies.Opening.{Opening}
 use Rattle.markdown_inline.specs.declared.step.Step.{Step}
 
 -- an item of this shape begins with an event, whose texts are of the origins that the shape names

@@ -2,6 +2,7 @@
 //! is resolved when the walk reaches it.
 #![tactic(auto)]
 
+mod bodies;
 pub mod laws;
 pub mod runs;
 mod step;

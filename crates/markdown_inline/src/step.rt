@@ -1,14 +1,11 @@
 //! One step of a walk over a tree of items, with what they name.
-ghost use Rattle.std.specs.Prelude.{◌≡◌, ◌<◌, None, Some, false, MatchResult, IfSome, length, slice_range};
-ghost use Rattle.markdown_base.specs.Item.{LiesIn, is_open};
-ghost use Rattle.markdown_chains.specs.Document.{shape_of};
-ghost use Rattle.markdown_chains.specs.Tables.{tables_of, NamesEntries};
-ghost use Rattle.markdown_inline.specs.WalkSteps.{StepGives, TreeStands, IsRefused, OpensTo, ClosesTo, TakesOnly};
+ghost use Rattle.std.specs.Prelude.{◌≡◌, ◌<◌, None, Some, MatchResult, IfSome};
+ghost use Rattle.markdown_chains.specs.Tables.{tables_of};
+ghost use Rattle.markdown_inline.specs.WalkSteps.{StepGives, TreeStands, IsRefused};
 
-use markdown_base::cow_str::CowStr;
+use crate::bodies::{Opening, close_item, open_item};
 use markdown_base::event::Event;
-use markdown_base::item::{Item, ItemBody};
-use markdown_base::tag::{Tag, TagEnd};
+use markdown_base::item::Item;
 use markdown_base::tree::Tree;
 use markdown_spans::defs::Allocations;
 use std::alloc::AllocError;
@@ -24,60 +21,6 @@ pub enum Step<'a> {
     Give(Event<'a>, Range<usize>),
     /// It stands before an open item, from which on the chain is to be resolved.
     Chain(usize),
-}
-
-/// How an item begins.
-#[derive(Drop)]
-pub enum Opening<'a> {
-    /// One event, and no children are walked.
-    Leaf(Event<'a>),
-    /// A Start, and then its children.
-    Start(Tag<'a>),
-    /// Its children alone.
-    Plain,
-}
-
-/// The source's text over an item.
-fn slice_of<'a>(text: &'a str, item: Item) -> Event<'a>
-    requires { LiesIn text.now item }
-    ensures { (slice : _) × (result ≡ Event.Text (CowStr.Borrowed slice)) × (slice.now ≡ slice_range text.entry.now item.start item.end) }
-{
-    Event::Text(CowStr::Borrowed(&text[item.start..item.end]))
-}
-
-/// How an item that is not open begins, by its body. The text that it names is taken.
-pub fn open_item<'a>(text: &'a str, tables: &mut Allocations<'a>, item: Item) -> Opening<'a>
-    requires lies { LiesIn text.now item }
-    requires settled { is_open item.body ≡ false }
-    requires named { NamesEntries (tables_of tables.old) item.body }
-    ensures opens { OpensTo text.entry.now (shape_of (tables_of tables.old) (slice_range text.entry.now item.start item.end) item.body) result }
-    ensures taken { TakesOnly item.body tables.old tables.new }
-{
-    match item.body {
-        ItemBody::Paragraph => Opening::Start(Tag::Paragraph),
-        ItemBody::TightParagraph => Opening::Plain,
-        ItemBody::Text { .. } => Opening::Leaf(slice_of(text, item)),
-        ItemBody::SoftBreak => Opening::Leaf(Event::SoftBreak),
-        ItemBody::HardBreak(_) => Opening::Leaf(Event::HardBreak),
-        ItemBody::SynthesizeText(ix) => Opening::Leaf(Event::Text(tables.take_cow(ix))),
-        other => {
-            if other.is_inline() || other.is_resolved() {
-                Opening::Leaf(slice_of(text, item))
-            } else {
-                Opening::Plain
-            }
-        }
-    }
-}
-
-/// How a tree ends, by its root's body.
-pub fn close_item(body: ItemBody) -> Option<TagEnd>
-    ensures { ClosesTo body result }
-{
-    match body {
-        ItemBody::Paragraph => Some(TagEnd::Paragraph),
-        _ => None,
-    }
 }
 
 /// A step out of the node gone into last. The tables are as they were.

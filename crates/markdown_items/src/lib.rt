@@ -1,6 +1,13 @@
-//! The inline items of one line's content, as the block pass appends them to a paragraph: a Text for now.
+//! The inline items of one line's content, as a block pass appends them to the leaf that it stands in.
 #![tactic(auto)]
 
-mod line;
+mod around;
+mod delimiter_run;
+mod extensions;
+mod flanking;
+mod found;
+mod line_items;
+mod marks;
+mod special;
 
-pub use line::items;
+pub use line_items::items;

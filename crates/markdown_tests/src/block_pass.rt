@@ -81,7 +81,7 @@ fn breaks(rt: HostRuntime) -> Result<(), Fail> {
         ),
         (
             "a\\\\\nb",
-            "0 Paragraph 0..5;1 Text 0..3;1 SoftBreak 3..4;1 Text 4..5;",
+            "0 Paragraph 0..5;1 Text 0..1;1 Text 2..3;1 SoftBreak 3..4;1 Text 4..5;",
         ),
         (
             "\\\nb",

@@ -1,0 +1,148 @@
+-- What an item begins with, by what it names, and what is left in the tables.
+use Rattle.markdown_base.specs.declared.event.Event.TheVariants as step
+use Rattle.std.proofs.Common.{◌≡◌, ℕ, zero, suc, ◌<◌, ◌≤◌, List, [], ◌∷◌, Option, Some, length, refl, sym, ap, arith, get_or, set}
+use Rattle.std.specs.Prelude.{slice_range}
+use Rattle.std.specs.Borrow.{Bor}
+use Rattle.std.specs.declared.alloc.Global.{Global}
+use Rattle.std.specs.declared.ops.Range.{Range}
+use Rattle.std.specs.declared.vec.Vec.{Vec}
+use Rattle.std.proofs.lemmas.List.{length-set}
+use Rattle.markdown_base.specs.CowText.{text_of}
+use Rattle.markdown_base.specs.Event.{EventView, event_view}
+use Rattle.markdown_base.specs.Item.{text_named, alignments_named}
+use Rattle.markdown_base.specs.declared.cow_str.CowStr.{CowStr}
+use Rattle.markdown_base.specs.declared.cow_str.CowStr.TheVariants.{Borrowed}
+use Rattle.markdown_base.specs.declared.event.Event.{Event}
+use Rattle.markdown_base.specs.declared.index.AlignmentIndex.{AlignmentIndex}
+use Rattle.markdown_base.specs.declared.index.CowIndex.{CowIndex}
+use Rattle.markdown_base.specs.declared.index.LinkIndex.{LinkIndex}
+use Rattle.markdown_base.specs.declared.item.ItemBody.{ItemBody}
+use Rattle.markdown_base.specs.declared.tag.Alignment.{Alignment}
+use Rattle.markdown_spans.specs.Allocations.{Allocated, LinkParts, LeavesEmptyCow, LeavesEmptyLink, LeavesEmptyAlignment}
+use Rattle.markdown_chains.specs.Document.{Shape, leaf, sliced, made}
+use Rattle.markdown_chains.specs.Tables.{Tables, Named, some_text, some_link, some_alignments, text_at, link_at, link_view, link_named, alignments_at, size_for, tables_of, IsSameEntry}
+use Rattle.markdown_chains.specs.Totals.{same, times_named}
+use Rattle.markdown_chains.proofs.TablesLemmas.{same_entry-refl}
+use Rattle.markdown_inline.specs.Slices.{texts_of}
+use Rattle.markdown_inline.specs.WalkSteps.{OpensWith, TakesOnly}
+
+-- an entry that is read
+pub text_at-read : (cows : List CowStr) (n : ℕ) (c : CowStr) → n < length cows → c ≡ get_or cows n c → text_at cows n ≡ text_of c
+text_at-read [] n c l e = absurd (omega (arith, l))
+text_at-read (d ∷ cows) zero c l e = ap text_of (sym e)
+text_at-read (d ∷ cows) (suc n) c l e = text_at-read cows n c (omega (arith, l)) e
+
+pub link_at-read : (links : List LinkParts) (n : ℕ) (c : LinkParts) → n < length links → c ≡ get_or links n c → link_at links n ≡ link_view c
+link_at-read [] n c l e = absurd (omega (arith, l))
+link_at-read (d ∷ links) zero c l e = ap link_view (sym e)
+link_at-read (d ∷ links) (suc n) c l e = link_at-read links n c (omega (arith, l)) e
+
+pub alignments_at-read : (alignments : List (Vec Alignment Global)) (n : ℕ) (c : Vec Alignment Global) → n < length alignments → c ≡ get_or alignments n c → alignments_at alignments n ≡ c.items
+alignments_at-read [] n c l e = absurd (omega (arith, l))
+alignments_at-read (d ∷ alignments) zero c l e = ap (λ (v : Vec Alignment Global). v.items) (sym e)
+alignments_at-read (d ∷ alignments) (suc n) c l e = alignments_at-read alignments n c (omega (arith, l)) e
+
+-- and one that is beside a replaced one
+text_at-set : (cows : List CowStr) (n m : ℕ) (c : CowStr) → same m n ≡ 0 → text_at (set cows n c) m ≡ text_at cows m
+text_at-set [] n m c h = refl
+text_at-set (d ∷ cows) zero zero c h = cc h
+text_at-set (d ∷ cows) zero (suc m) c h = refl
+text_at-set (d ∷ cows) (suc n) zero c h = refl
+text_at-set (d ∷ cows) (suc n) (suc m) c h = text_at-set cows n m c h
+
+link_at-set : (links : List LinkParts) (n m : ℕ) (c : LinkParts) → same m n ≡ 0 → link_at (set links n c) m ≡ link_at links m
+link_at-set [] n m c h = refl
+link_at-set (d ∷ links) zero zero c h = cc h
+link_at-set (d ∷ links) zero (suc m) c h = refl
+link_at-set (d ∷ links) (suc n) zero c h = refl
+link_at-set (d ∷ links) (suc n) (suc m) c h = link_at-set links n m c h
+
+alignments_at-set : (alignments : List (Vec Alignment Global)) (n m : ℕ) (c : Vec Alignment Global) → same m n ≡ 0 → alignments_at (set alignments n c) m ≡ alignments_at alignments m
+alignments_at-set [] n m c h = refl
+alignments_at-set (d ∷ alignments) zero zero c h = cc h
+alignments_at-set (d ∷ alignments) zero (suc m) c h = refl
+alignments_at-set (d ∷ alignments) (suc n) zero c h = refl
+alignments_at-set (d ∷ alignments) (suc n) (suc m) c h = alignments_at-set alignments n m c h
+
+same_length : {A : Type 0} (xs ys : List A) → length ys ≡ length xs → length xs ≤ length ys
+same_length xs ys e = omega (arith, e)
+
+-- nothing was taken
+pub takes_nothing : (body : ItemBody) (held : Allocated) → TakesOnly body held held
+takes_nothing body held = record { tables = refl; longer = record { sizes = λ n. omega arith; headings = refl }; others = λ n h. same_entry-refl (tables_of held) n }
+
+-- the text that a body names was taken
+text_others : (tables : Tables) (b : ItemBody) (ix : ℕ) (left : CowStr) (n : Named) → text_named b ≡ Some ix → times_named n b ≡ 0 → IsSameEntry tables (record tables { cows = set tables.cows ix left }) n
+text_others tables b ix left (some_text n) e h = text_at-set tables.cows ix n left (rw e at h)
+text_others tables b ix left (some_link n) e h = refl
+text_others tables b ix left (some_alignments n) e h = refl
+
+text_sizes : (tables : Tables) (ix : ℕ) (left : CowStr) (n : Named) → size_for tables n ≤ size_for (record tables { cows = set tables.cows ix left }) n
+text_sizes tables ix left (some_text n) = same_length tables.cows (set tables.cows ix left) (length-set tables.cows ix left)
+text_sizes tables ix left (some_link n) = omega arith
+text_sizes tables ix left (some_alignments n) = omega arith
+
+pub takes_text : (b : ItemBody) (held held' : Allocated) (ix : CowIndex) → text_named b ≡ Some ix.0 → LeavesEmptyCow held held' ix → TakesOnly b held held'
+takes_text b held held' ix e l = rw l.others (record {
+  tables = refl;
+  longer = record { sizes = λ n. text_sizes (tables_of held) ix.0 l.left n; headings = refl };
+  others = λ n h. text_others (tables_of held) b ix.0 l.left n e h;
+})
+
+-- the link was
+link_others : (tables : Tables) (b : ItemBody) (ix : ℕ) (left : LinkParts) (n : Named) → link_named b ≡ Some ix → times_named n b ≡ 0 → IsSameEntry tables (record tables { links = set tables.links ix left }) n
+link_others tables b ix left (some_text n) e h = refl
+link_others tables b ix left (some_link n) e h = link_at-set tables.links ix n left (rw e at h)
+link_others tables b ix left (some_alignments n) e h = refl
+
+link_sizes : (tables : Tables) (ix : ℕ) (left : LinkParts) (n : Named) → size_for tables n ≤ size_for (record tables { links = set tables.links ix left }) n
+link_sizes tables ix left (some_text n) = omega arith
+link_sizes tables ix left (some_link n) = same_length tables.links (set tables.links ix left) (length-set tables.links ix left)
+link_sizes tables ix left (some_alignments n) = omega arith
+
+pub takes_link : (b : ItemBody) (held held' : Allocated) (ix : LinkIndex) → link_named b ≡ Some ix.0 → LeavesEmptyLink held held' ix → TakesOnly b held held'
+takes_link b held held' ix e l = rw l.others (record {
+  tables = refl;
+  longer = record { sizes = λ n. link_sizes (tables_of held) ix.0 l.left n; headings = refl };
+  others = λ n h. link_others (tables_of held) b ix.0 l.left n e h;
+})
+
+-- the alignments were
+alignments_others : (tables : Tables) (b : ItemBody) (ix : ℕ) (left : Vec Alignment Global) (n : Named) → alignments_named b ≡ Some ix → times_named n b ≡ 0
+    → IsSameEntry tables (record tables { alignments = set tables.alignments ix left }) n
+alignments_others tables b ix left (some_text n) e h = refl
+alignments_others tables b ix left (some_link n) e h = refl
+alignments_others tables b ix left (some_alignments n) e h = alignments_at-set tables.alignments ix n left (rw e at h)
+
+alignments_sizes : (tables : Tables) (ix : ℕ) (left : Vec Alignment Global) (n : Named) → size_for tables n ≤ size_for (record tables { alignments = set tables.alignments ix left }) n
+alignments_sizes tables ix left (some_text n) = omega arith
+alignments_sizes tables ix left (some_link n) = omega arith
+alignments_sizes tables ix left (some_alignments n) = same_length tables.alignments (set tables.alignments ix left) (length-set tables.alignments ix left)
+
+pub takes_alignments : (b : ItemBody) (held held' : Allocated) (ix : AlignmentIndex) → alignments_named b ≡ Some ix.0 → LeavesEmptyAlignment held held' ix → TakesOnly b held held'
+takes_alignments b held held' ix e l = rw l.others (record {
+  tables = refl;
+  longer = record { sizes = λ n. alignments_sizes (tables_of held) ix.0 l.left n; headings = refl };
+  others = λ n h. alignments_others (tables_of held) b ix.0 l.left n e h;
+})
+
+-- an event of one text that is a slice of the source
+pub opens_slice : (source : List ℕ) (range : Range ℕ) (view : List ℕ → EventView) (e : CowStr → Event) (c : CowStr)
+    → ((slice : Bor (List ℕ)) × (c ≡ Borrowed slice) × (slice.now ≡ slice_range source range.start range.end))
+    → ((d : CowStr) → event_view (e d) ≡ view (text_of d)) → ((d : CowStr) → texts_of (e d) ≡ d ∷ [])
+    → OpensWith source (leaf (view (slice_range source range.start range.end)) (sliced ∷ [])) (e c)
+opens_slice source range view e c (slice, is, over) viewed texts = rw is (record {
+  origins = sliced ∷ [];
+  is_leaf = rw (viewed (Borrowed slice), over) refl;
+  texts = rw (texts (Borrowed slice)) ((range, over), tt);
+})
+
+-- an event of one text that is named, and is taken
+pub opens_made : (source : List ℕ) (cows : List CowStr) (n : ℕ) (view : List ℕ → EventView) (e : CowStr → Event) (c : CowStr) → n < length cows → c ≡ get_or cows n c
+    → ((d : CowStr) → event_view (e d) ≡ view (text_of d)) → ((d : CowStr) → texts_of (e d) ≡ d ∷ [])
+    → OpensWith source (leaf (view (text_at cows n)) (made ∷ [])) (e c)
+opens_made source cows n view e c within read viewed texts = record {
+  origins = made ∷ [];
+  is_leaf = rw (viewed c, text_at-read cows n c within read) refl;
+  texts = rw (texts c) (tt, tt);
+}

@@ -1,0 +1,3 @@
+pub mod FlankingLemmas
+pub mod ItemLemmas
+pub mod SpecialLemmas

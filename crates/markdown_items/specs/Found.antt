@@ -1,0 +1,82 @@
+-- What begins at a special byte of a line's content.
+use Rattle.std.specs.Prelude.{ℕ, ◌+◌, ◌-◌, true, not, ◌==◌, ◌&&◌, ◌||◌, List, Option, Some, None, slice_index}
+use Rattle.std.specs.Prelude.{slice_range, if◌then◌else◌}
+use Rattle.std.specs.Char.{is_ascii_punctuation}
+use Rattle.markdown_base.specs.WellFormed.{is_delimiter}
+use Rattle.markdown_base.specs.declared.item.ItemBody.TheVariants as body
+use Rattle.markdown_scan.specs.Entity.{entity}
+use Rattle.markdown_items.specs.declared.flanking.Flags.{Flags}
+use Rattle.markdown_items.specs.declared.found.Found.{Found}
+use Rattle.markdown_items.specs.declared.found.Found.TheVariants as found
+use Rattle.markdown_items.specs.declared.found.Line.{Line}
+use Rattle.markdown_items.specs.Flanking.{character_before, character_after}
+use Rattle.markdown_items.specs.LineItems.{run_end, run_flags, math_mark, quote_mark}
+
+-- where reading goes on after what was found at a place
+abbrev pub next_after : ℕ → Found → ℕ
+next_after at (found.Text next) = next
+next_after at found.Escape = at + 2
+next_after at (found.Mark mark) = at + 1
+next_after at found.Image = at + 2
+next_after at (found.Backticks stop) = stop
+next_after at (found.EscapedBackticks stop) = stop
+next_after at (found.Run stop flags) = stop
+next_after at (found.Entity stop character) = stop
+
+-- A backslash before ASCII punctuation stands in no item, and what it escapes begins a text (CommonMark 2.4); backticks
+-- after it are an item. Any other backslash is text.
+unfoldable pub escape_at : List ℕ → ℕ → ℕ → Found
+escape_at text end at =
+    if (at + 1 == end) || not (is_ascii_punctuation (slice_index text (at + 1))) then found.Text (at + 1)
+    else if slice_index text (at + 1) == 96 then found.EscapedBackticks (run_end text (at + 1) end)
+    else found.Escape
+
+-- what was read as an entity at a place, or nothing
+abbrev pub entity_found : ℕ → Option (ℕ × ℕ) → Found
+entity_found at None = found.Text (at + 1)
+entity_found at (Some read) = found.Entity (at + read.0) read.1
+
+-- an entity that ends within the line's content
+unfoldable pub entity_at : List ℕ → ℕ → ℕ → Found
+entity_at text end at = entity_found at (entity (slice_range text at end))
+
+-- a `!` before a `[` begins an image with it, and is text alone
+unfoldable pub image_at : List ℕ → ℕ → ℕ → Found
+image_at text end at =
+    if (at + 1 == end) || not (slice_index text (at + 1) == 91) then found.Text (at + 1) else found.Image
+
+-- a run up to a place, with its flags if it is a delimiter run
+abbrev pub run_found : ℕ → Option Flags → Found
+run_found stop None = found.Text stop
+run_found stop (Some flags) = found.Run stop flags
+
+-- the whole run at a place, a delimiter run or text
+unfoldable pub run_at : Line → List ℕ → ℕ → Found
+run_at line text at =
+    let stop = run_end text at line.end in
+    run_found stop (run_flags line.extensions (slice_index text at) (stop - at)
+    (character_before text line.start at) (character_after text stop line.end))
+
+-- a `$` or a quotation mark, where it is more than text
+unfoldable pub mark_at : Line → List ℕ → ℕ → Found
+mark_at line text at =
+    let byte = slice_index text at in
+    let before = character_before text line.start at in
+    let after = character_after text (at + 1) line.end in
+    if (byte == 36) && line.extensions.math then found.Mark (math_mark before after)
+    else if ((byte == 39) || (byte == 34)) && line.extensions.quotes then found.Mark (quote_mark byte before after)
+    else found.Text (at + 1)
+
+-- what begins at a place in a line's content, by its byte
+unfoldable pub found_at : Line → List ℕ → ℕ → Found
+found_at line text at =
+    let byte = slice_index text at in
+    if byte == 92 then escape_at text line.end at
+    else if byte == 96 then found.Backticks (run_end text at line.end)
+    else if byte == 38 then entity_at text line.end at
+    else if byte == 33 then image_at text line.end at
+    else if byte == 60 then found.Mark body.MaybeHtml
+    else if byte == 91 then found.Mark body.MaybeLinkOpen
+    else if byte == 93 then found.Mark (body.MaybeLinkClose true)
+    else if is_delimiter byte then run_at line text at
+    else mark_at line text at

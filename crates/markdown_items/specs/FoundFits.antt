@@ -1,0 +1,54 @@
+-- For private clauses: what is found in a line's content fits it, and how a builder goes on with it.
+use Rattle.std.specs.Prelude.{◌≡◌, ℕ, ◌+◌, ◌<◌, ◌≤◌, true, nat_lt, List, Option, Some, None, slice_index, if◌then◌else◌}
+use Rattle.std.specs.Str.{IsCharBoundary}
+use Rattle.markdown_base.specs.WellFormed.{is_delimiter}
+use Rattle.markdown_builder.specs.Bodies.{mark_byte}
+use Rattle.markdown_builder.specs.BuilderView.{BuilderView, IsRunOf, follows_run}
+use Rattle.markdown_items.specs.declared.found.Found.{Found}
+use Rattle.markdown_items.specs.declared.found.Found.TheVariants as found
+use Rattle.markdown_items.specs.declared.found.Line.{Line}
+use Rattle.markdown_items.specs.LineItems.{is_special}
+
+-- a special byte stands at a place in a line's content
+pub record IsAtSpecial (text : List ℕ) (line : Line) (at : ℕ) : Type 0 where
+  pub start : IsCharBoundary text line.start
+  pub begun : line.start ≤ at
+  pub more : at < line.end
+  pub end : IsCharBoundary text line.end
+  pub special : is_special (slice_index text at) ≡ true
+
+-- something goes on from a place up to another, in a line's content that stops before `end`
+pub record GoesOn (end at next : ℕ) : Type 0 where
+  pub past : at < next
+  pub within : next ≤ end
+
+-- what a builder asks of the item that is found at a place in a line's content that stops before `end`
+abbrev pub FoundFits : List ℕ → ℕ → ℕ → Found → Type 0
+FoundFits text end at (found.Text next) = GoesOn end at next
+FoundFits text end at found.Escape = (at + 1 < end) × IsCharBoundary text (at + 1)
+FoundFits text end at (found.Mark body) = mark_byte body ≡ Some (slice_index text at)
+FoundFits text end at found.Image = (at + 1 < end) × (slice_index text at ≡ 33) × (slice_index text (at + 1) ≡ 91)
+FoundFits text end at (found.Backticks stop) = GoesOn end at stop × IsRunOf 96 text at stop
+FoundFits text end at (found.EscapedBackticks stop) =
+    GoesOn end (at + 1) stop × IsRunOf 96 text (at + 1) stop × IsCharBoundary text (at + 1)
+FoundFits text end at (found.Run stop flags) =
+    GoesOn end at stop × IsRunOf (slice_index text at) text at stop × (is_delimiter (slice_index text at) ≡ true)
+FoundFits text end at (found.Entity stop character) = GoesOn end at stop × IsCharBoundary text stop
+
+-- the run that was appended last, once there is text up to a place: none, if there is any text
+abbrev pub run_after_text : BuilderView → ℕ → Option ℕ
+run_after_text view to = if nat_lt view.at to then None else view.run
+
+-- The text before a place and the item that is found there are appended. What is left of a run whose first characters
+-- were appended last is text.
+abbrev pub view_after : BuilderView → ℕ → Found → BuilderView
+view_after view at (found.Text next) = view
+view_after view at found.Escape = record view { at = at + 1; run = run_after_text view at }
+view_after view at (found.Mark body) = record view { at = at + 1; run = None }
+view_after view at found.Image = record view { at = at + 2; run = None }
+view_after view at (found.Backticks stop) = record view { at = stop; run = None }
+view_after view at (found.EscapedBackticks stop) = record view { at = stop; run = None }
+view_after view at (found.Run stop flags) =
+    if follows_run (run_after_text view at) (slice_index view.text at) then view
+    else record view { at = stop; run = Some (slice_index view.text at) }
+view_after view at (found.Entity stop character) = record view { at = stop; run = None }

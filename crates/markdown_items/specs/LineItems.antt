@@ -1,0 +1,75 @@
+-- What the bytes of a line's content may be, apart from text.
+use Rattle.std.specs.Prelude.{◌≡◌, ◌≢◌, ℕ, ◌<◌, ◌≤◌, Bool, true, false, not, ◌==◌, ◌&&◌, ◌||◌, nat_le, nat_lt, ◌+◌}
+use Rattle.std.specs.Prelude.{◌-◌, List, Option, Some, None, slice_index, slice_range, codes, if◌then◌else◌}
+use Rattle.std.specs.Int.RustNames.{bit_and}
+use Rattle.std.specs.List.{list_any, prefix_len}
+use Rattle.markdown_base.specs.declared.item.ItemBody.{ItemBody}
+use Rattle.markdown_base.specs.declared.item.ItemBody.TheVariants as body
+use Rattle.markdown_builder.specs.BuilderView.{IsRunOf}
+use Rattle.markdown_items.specs.declared.extensions.Extensions.{Extensions}
+use Rattle.markdown_items.specs.declared.flanking.Flags.{Flags}
+use Rattle.markdown_items.specs.Flanking.{is_white, flags_of}
+
+-- a set of options has one of them
+abbrev pub has : ℕ → ℕ → Bool
+has options option = bit_and options option == option
+
+-- what the options turn on: `~` with strikethrough (8) or subscript (16384), `^` with superscript (8192),
+-- quotation marks with smart punctuation (32), math (1024)
+abbrev pub extensions_of : ℕ → Extensions
+extensions_of options = record {
+  tildes = has options 8 || has options 16384;
+  carets = has options 8192;
+  quotes = has options 32;
+  math = has options 1024;
+}
+
+-- a backslash stands before a place in a line's content that begins at `start`, where a text begins
+abbrev pub is_escaped : List ℕ → ℕ → ℕ → Bool
+is_escaped text start at = nat_lt start at && (slice_index text (at - 1) == 92)
+
+-- the bytes that may begin something else than text
+abbrev pub is_special : ℕ → Bool
+is_special byte = list_any (λ b. b == byte) (codes "!\"$&'*<[\\]^_`~")
+
+-- `found` is the first place from `from` on whose byte may begin something else than text, or `end`
+pub record IsFirstSpecial (text : List ℕ) (from end found : ℕ) : Type 0 where
+  pub low : from ≤ found
+  pub high : found ≤ end
+  pub plain : (at : ℕ) → from ≤ at → at < found → is_special (slice_index text at) ≡ false
+  pub stops : found < end → is_special (slice_index text found) ≡ true
+
+-- where the run of the byte at a place stops, in a line's content that stops before `end`
+abbrev pub run_end : List ℕ → ℕ → ℕ → ℕ
+run_end text at end = at + prefix_len (λ b. b == slice_index text at) (slice_range text at end)
+
+-- the whole run of the byte at `at` stops before `stop`, in a line's content that stops before `end`
+pub record IsWholeRun (text : List ℕ) (at end stop : ℕ) : Type 0 where
+  pub run : IsRunOf (slice_index text at) text at stop
+  pub within : stop ≤ end
+  pub whole : stop < end → slice_index text stop ≢ slice_index text at
+
+-- so many of a character are a delimiter run, whatever stands around them: any of `*` and `_` (CommonMark 6.2),
+-- one or two `~`, any of `^`
+abbrev pub makes_run : Extensions → ℕ → ℕ → Bool
+makes_run extensions byte count =
+    if (byte == 42) || (byte == 95) then true
+    else if byte == 126 then extensions.tildes && nat_le count 2
+    else if byte == 94 then extensions.carets
+    else false
+
+-- the flags of a delimiter run between two characters, where it is one: with neither flag it is text
+abbrev pub run_flags : Extensions → ℕ → ℕ → Option ℕ → Option ℕ → Option Flags
+run_flags extensions byte count before after =
+    let flags = flags_of byte before after in
+    if makes_run extensions byte count && (flags.opens || flags.closes) then Some flags else None
+
+-- a `$` between two characters can open if no white space follows, and close if none precedes; its brace
+-- context is 0
+abbrev pub math_mark : Option ℕ → Option ℕ → ItemBody
+math_mark before after = body.MaybeMath (not (is_white after)) (not (is_white before)) 0
+
+-- a quotation mark between two characters
+abbrev pub quote_mark : ℕ → Option ℕ → Option ℕ → ItemBody
+quote_mark byte before after =
+    let flags = flags_of byte before after in body.MaybeSmartQuote byte flags.opens flags.closes

@@ -1,0 +1,47 @@
+//! The characters around a delimiter, and their kinds (CommonMark 2.1).
+ghost use Rattle.std.specs.Prelude.{◌≡◌, ◌≤◌};
+ghost use Rattle.std.specs.Str.{IsCharBoundary};
+ghost use Rattle.markdown_items.specs.Flanking.{character_before, character_after, is_white, is_punctuation};
+
+/// The character before `at` in a line's content that begins at `start`: none at its first byte.
+pub fn character_before(text: &str, start: usize, at: usize) -> Option<char>
+    requires ordered { start ≤ at }
+    requires start { IsCharBoundary text.now start }
+    requires at { IsCharBoundary text.now at }
+    ensures { result ≡ character_before text.now start at }
+{
+    let mut characters = text[start..at].chars();
+    let last = characters.next_back();
+    let _front = characters.as_str();
+    last
+}
+
+/// The character at `at` in a line's content that stops before `end`: none at its end.
+pub fn character_after(text: &str, at: usize, end: usize) -> Option<char>
+    requires ordered { at ≤ end }
+    requires at { IsCharBoundary text.now at }
+    requires end { IsCharBoundary text.now end }
+    ensures { result ≡ character_after text.now at end }
+{
+    text[at..end].chars().next()
+}
+
+/// Whether it is Unicode white space; what stands around a line's content is a line ending.
+pub fn is_white(character: Option<char>) -> bool
+    ensures { result ≡ is_white character }
+{
+    match character {
+        Some(character) => character.is_whitespace(),
+        None => true,
+    }
+}
+
+/// Whether it is ASCII punctuation.
+pub fn is_punctuation(character: Option<char>) -> bool
+    ensures { result ≡ is_punctuation character }
+{
+    match character {
+        Some(character) => character.is_ascii_punctuation(),
+        None => false,
+    }
+}

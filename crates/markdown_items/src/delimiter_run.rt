@@ -1,0 +1,55 @@
+//! Delimiter runs: where they end, and which of them are items (CommonMark 6.2).
+ghost use Rattle.std.specs.Prelude.{◌≡◌, ◌<◌, ◌≤◌, length};
+ghost use Rattle.markdown_items.specs.LineItems.{IsWholeRun, run_end, makes_run, run_flags};
+
+use crate::extensions::Extensions;
+use crate::flanking::{Flags, flags_of};
+
+/// Where the run of the byte at `at` stops, in a line's content that stops before `end`.
+pub fn run_end(text: &str, at: usize, end: usize) -> usize
+    requires more { at < end }
+    requires within { end ≤ length text.now }
+    ensures value { result ≡ run_end text.now at end }
+    ensures whole { IsWholeRun text.now at end result }
+{
+    let bytes = text.as_bytes();
+    for stop in at + 1..end {
+        if bytes[stop] != bytes[at] {
+            return stop;
+        }
+    }
+    end
+}
+
+/// Whether so many of a character are a delimiter run, whatever stands around them.
+fn makes_run(extensions: Extensions, byte: u8, count: usize) -> bool
+    ensures { result ≡ makes_run extensions byte count }
+{
+    match byte {
+        b'*' | b'_' => true,
+        b'~' => extensions.tildes && count <= 2,
+        b'^' => extensions.carets,
+        _ => false,
+    }
+}
+
+/// The flags of a delimiter run between two characters, where it is one. With neither flag it is text.
+pub fn run_flags(
+    extensions: Extensions,
+    byte: u8,
+    count: usize,
+    before: Option<char>,
+    after: Option<char>,
+) -> Option<Flags>
+    ensures { result ≡ run_flags extensions byte count before after }
+{
+    if !makes_run(extensions, byte, count) {
+        return None;
+    }
+    let flags = flags_of(byte, before, after);
+    if flags.opens || flags.closes {
+        Some(flags)
+    } else {
+        None
+    }
+}

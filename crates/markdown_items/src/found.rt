@@ -1,0 +1,163 @@
+//! What begins at a special byte of a line's content.
+ghost use Rattle.std.specs.Prelude.{◌≡◌, ◌<◌, ◌^◌, true, slice_index};
+ghost use Rattle.markdown_base.specs.WellFormed.{is_delimiter};
+ghost use Rattle.markdown_items.specs.Found.{next_after, escape_at, entity_at, image_at, run_at, mark_at, found_at};
+ghost use Rattle.markdown_items.specs.FoundFits.{IsAtSpecial, FoundFits};
+
+use crate::around::{character_after, character_before};
+use crate::delimiter_run::{run_end, run_flags};
+use crate::extensions::Extensions;
+use crate::flanking::Flags;
+use crate::marks::{math_mark, quote_mark};
+use markdown_base::item::ItemBody;
+use markdown_scan::entity::scan_entity;
+use markdown_scan::laws::entity_begins_and_ends;
+
+/// A line's content, from `start` up to `end`, and what is read in it beyond CommonMark.
+#[derive(Clone, Copy)]
+pub struct Line {
+    pub start: usize,
+    pub end: usize,
+    pub extensions: Extensions,
+}
+
+/// What begins at a special byte. All places are byte offsets into the text.
+#[derive(Clone, Copy)]
+pub enum Found {
+    /// Text, up to this place at least.
+    Text(usize),
+    /// A backslash that stands in no item: a text begins after it (CommonMark 2.4).
+    Escape,
+    /// An open item of one byte.
+    Mark(ItemBody),
+    /// A `![`.
+    Image,
+    /// Backticks up to this place.
+    Backticks(usize),
+    /// A backslash that stands in no item, and backticks up to this place.
+    EscapedBackticks(usize),
+    /// A delimiter run up to this place.
+    Run(usize, Flags),
+    /// An entity up to this place, and the character that it stands for (CommonMark 2.5).
+    Entity(usize, char),
+}
+
+impl Found {
+    /// Where reading goes on, if it was found at `at`.
+    pub fn next(self, at: usize) -> usize
+        requires { next_after at self < 2 ^ 64 }
+        ensures { result ≡ next_after at self }
+    {
+        match self {
+            Found::Escape | Found::Image => at + 2,
+            Found::Mark(_) => at + 1,
+            Found::Text(next)
+            | Found::Backticks(next)
+            | Found::EscapedBackticks(next)
+            | Found::Run(next, _)
+            | Found::Entity(next, _) => next,
+        }
+    }
+}
+
+/// What begins at a backslash.
+#[tactic(auto, unfolding(crate::specs::Found::escape_at))]
+fn find_escape(text: &str, line: Line, at: usize) -> Found
+    requires { IsAtSpecial text.now line at }
+    ensures value { result ≡ escape_at text.now line.end at }
+    ensures fits { FoundFits text.now line.end at result }
+{
+    let bytes = text.as_bytes();
+    if at + 1 == line.end || !bytes[at + 1].is_ascii_punctuation() {
+        return Found::Text(at + 1);
+    }
+    if bytes[at + 1] == b'`' {
+        return Found::EscapedBackticks(run_end(text, at + 1, line.end));
+    }
+    Found::Escape
+}
+
+/// What begins at a `&`.
+#[tactic(auto, unfolding(crate::specs::Found::entity_at))]
+fn find_entity(text: &str, line: Line, at: usize) -> Found
+    requires { IsAtSpecial text.now line at }
+    ensures value { result ≡ entity_at text.now line.end at }
+    ensures fits { FoundFits text.now line.end at result }
+{
+    let bytes = &text.as_bytes()[at..line.end];
+    entity_begins_and_ends(bytes);
+    match scan_entity(bytes) {
+        Some((length, character)) => Found::Entity(at + length, character),
+        None => Found::Text(at + 1),
+    }
+}
+
+/// What begins at a `!`.
+#[tactic(auto, unfolding(crate::specs::Found::image_at))]
+fn find_image(text: &str, line: Line, at: usize) -> Found
+    requires here { IsAtSpecial text.now line at }
+    requires byte { slice_index text.now at ≡ 33 }
+    ensures value { result ≡ image_at text.now line.end at }
+    ensures fits { FoundFits text.now line.end at result }
+{
+    if at + 1 == line.end || text.as_bytes()[at + 1] != b'[' {
+        Found::Text(at + 1)
+    } else {
+        Found::Image
+    }
+}
+
+/// What the run at `at` is: a delimiter run, or text.
+#[tactic(auto, using(crate::proofs::ItemLemmas::past_run), unfolding(crate::specs::Found::run_at))]
+fn find_run(text: &str, line: Line, at: usize) -> Found
+    requires here { IsAtSpecial text.now line at }
+    requires byte { is_delimiter (slice_index text.now at) ≡ true }
+    ensures value { result ≡ run_at line text.now at }
+    ensures fits { FoundFits text.now line.end at result }
+{
+    let stop = run_end(text, at, line.end);
+    let before = character_before(text, line.start, at);
+    let after = character_after(text, stop, line.end);
+    let byte = text.as_bytes()[at];
+    match run_flags(line.extensions, byte, stop - at, before, after) {
+        Some(flags) => Found::Run(stop, flags),
+        None => Found::Text(stop),
+    }
+}
+
+/// What begins at a `$` or a quotation mark.
+#[tactic(auto, using(crate::proofs::ItemLemmas::past_special), unfolding(crate::specs::Found::mark_at))]
+fn find_mark(text: &str, line: Line, at: usize) -> Found
+    requires { IsAtSpecial text.now line at }
+    ensures value { result ≡ mark_at line text.now at }
+    ensures fits { FoundFits text.now line.end at result }
+{
+    let byte = text.as_bytes()[at];
+    let before = character_before(text, line.start, at);
+    let after = character_after(text, at + 1, line.end);
+    match byte {
+        b'$' if line.extensions.math => Found::Mark(math_mark(before, after)),
+        b'\'' | b'"' if line.extensions.quotes => Found::Mark(quote_mark(byte, before, after)),
+        _ => Found::Text(at + 1),
+    }
+}
+
+/// What begins at a special byte.
+#[tactic(auto, unfolding(crate::specs::Found::found_at))]
+pub fn find(text: &str, line: Line, at: usize) -> Found
+    requires { IsAtSpecial text.now line at }
+    ensures value { result ≡ found_at line text.now at }
+    ensures fits { FoundFits text.now line.end at result }
+{
+    match text.as_bytes()[at] {
+        b'\\' => find_escape(text, line, at),
+        b'`' => Found::Backticks(run_end(text, at, line.end)),
+        b'&' => find_entity(text, line, at),
+        b'!' => find_image(text, line, at),
+        b'<' => Found::Mark(ItemBody::MaybeHtml),
+        b'[' => Found::Mark(ItemBody::MaybeLinkOpen),
+        b']' => Found::Mark(ItemBody::MaybeLinkClose(true)),
+        b'*' | b'_' | b'~' | b'^' => find_run(text, line, at),
+        _ => find_mark(text, line, at),
+    }
+}

@@ -1,0 +1,285 @@
+//! The items of a line: what each text becomes, by the rules of inlines (CommonMark 2.4, 2.5, 6.2) and the options.
+use crate::block_rules::is_well_formed;
+use markdown_base::item::ItemBody;
+use markdown_base::options::Options;
+use markdown_builder::builder::Builder;
+use markdown_items::items;
+use std::alloc::{AllocError, Global};
+use std::test::Fail;
+
+/// The items of the part of a text from `start` up to `end`, each with its range.
+fn part_listed(
+    alloc: Global,
+    text: &str,
+    start: usize,
+    end: usize,
+    options: Options,
+) -> Result<String, AllocError> {
+    let mut list = String::new(alloc);
+    if !text.is_char_boundary(start) || !text.is_char_boundary(end) || start > end {
+        return Ok(list);
+    }
+    let mut builder = Builder::new(alloc, text)?;
+    builder.open(ItemBody::Paragraph)?;
+    builder.skip(start);
+    items(&mut builder, end, options)?;
+    builder.skip(text.as_bytes().len());
+    builder.close();
+    let (tree, _parts) = builder.finish();
+    for ix in 2..tree.len() {
+        let item = *tree.item(ix);
+        let row = match item.body {
+            ItemBody::Text {
+                backslash_escaped: false,
+            } => format!(in alloc; "Text {}..{};", item.start, item.end)?,
+            ItemBody::Text {
+                backslash_escaped: true,
+            } => format!(in alloc; "Escaped {}..{};", item.start, item.end)?,
+            body => format!(in alloc; "{body:?} {}..{};", item.start, item.end)?,
+        };
+        list.push_str(row.as_str())?;
+    }
+    Ok(list)
+}
+
+/// The items of a whole text as one line.
+fn listed(alloc: Global, text: &str, options: Options) -> Result<String, AllocError> {
+    part_listed(alloc, text, 0, text.as_bytes().len(), options)
+}
+
+#[test]
+fn delimiter_runs(rt: HostRuntime) -> Result<(), Fail> {
+    for (text, want) in [
+        ("", ""),
+        ("hello world", "Text 0..11;"),
+        (
+            "*a*",
+            "MaybeEmphasis(1, true, false) 0..1;Text 1..2;MaybeEmphasis(1, false, true) 2..3;",
+        ),
+        (
+            "**a__",
+            "MaybeEmphasis(2, true, false) 0..1;MaybeEmphasis(1, true, false) 1..2;Text 2..3;\
+            MaybeEmphasis(2, false, true) 3..4;MaybeEmphasis(1, false, true) 4..5;",
+        ),
+        (
+            "*_a",
+            "MaybeEmphasis(1, true, false) 0..1;MaybeEmphasis(1, true, false) 1..2;Text 2..3;",
+        ),
+        (
+            "a*b",
+            "Text 0..1;MaybeEmphasis(1, true, true) 1..2;Text 2..3;",
+        ),
+        ("a_b", "Text 0..3;"),
+        ("a__b_c", "Text 0..6;"),
+        ("* a", "Text 0..3;"),
+        ("a ** b *", "Text 0..8;"),
+        (
+            "a._b",
+            "Text 0..2;MaybeEmphasis(1, true, false) 2..3;Text 3..4;",
+        ),
+        (
+            "a_.b",
+            "Text 0..1;MaybeEmphasis(1, false, true) 1..2;Text 2..4;",
+        ),
+        (
+            "._.",
+            "Text 0..1;MaybeEmphasis(1, true, true) 1..2;Text 2..3;",
+        ),
+        (
+            "a*\"b",
+            "Text 0..1;MaybeEmphasis(1, false, true) 1..2;Text 2..4;",
+        ),
+        ("*\u{a0}a", "Text 0..4;"),
+        ("*\u{2003}a", "Text 0..5;"),
+        (
+            "é*é",
+            "Text 0..2;MaybeEmphasis(1, true, true) 2..3;Text 3..5;",
+        ),
+        // punctuation outside of ASCII is none
+        (
+            "a*“",
+            "Text 0..1;MaybeEmphasis(1, true, true) 1..2;Text 2..5;",
+        ),
+        ("a+b=c.", "Text 0..6;"),
+    ] {
+        assert_eq!(rt;
+            listed(rt.alloc(), text, Options::ENABLE_GFM)?.as_str(),
+            want,
+            "{text:?}"
+        );
+    }
+    Ok(())
+}
+
+#[test]
+fn escapes_and_code(rt: HostRuntime) -> Result<(), Fail> {
+    for (text, want) in [
+        ("\\*a*", "Escaped 1..3;MaybeEmphasis(1, false, true) 3..4;"),
+        (
+            "\\**a",
+            "Escaped 1..2;MaybeEmphasis(1, true, false) 2..3;Text 3..4;",
+        ),
+        ("a\\\\b", "Text 0..1;Escaped 2..4;"),
+        ("a\\b\\é", "Text 0..6;"),
+        ("a\\", "Text 0..2;"),
+        ("\\", "Text 0..1;"),
+        ("\\\\\\", "Escaped 1..3;"),
+        ("\\!\\[", "Escaped 1..2;Escaped 3..4;"),
+        ("*\\*", "MaybeEmphasis(1, true, false) 0..1;Escaped 2..3;"),
+        (
+            "`a``",
+            "MaybeCode(1, false) 0..1;Text 1..2;MaybeCode(2, false) 2..4;",
+        ),
+        (
+            "\\`a\\``",
+            "MaybeCode(1, true) 1..2;Text 2..3;MaybeCode(2, true) 4..6;",
+        ),
+        ("\\\\`", "Escaped 1..2;MaybeCode(1, false) 2..3;"),
+    ] {
+        assert_eq!(rt;
+            listed(rt.alloc(), text, Options::ENABLE_GFM)?.as_str(),
+            want,
+            "{text:?}"
+        );
+    }
+    Ok(())
+}
+
+#[test]
+fn brackets_and_entities(rt: HostRuntime) -> Result<(), Fail> {
+    for (text, want) in [
+        (
+            "[a]",
+            "MaybeLinkOpen 0..1;Text 1..2;MaybeLinkClose(true) 2..3;",
+        ),
+        ("![]", "MaybeImage 0..2;MaybeLinkClose(true) 2..3;"),
+        ("!a![", "Text 0..2;MaybeImage 2..4;"),
+        ("a!", "Text 0..2;"),
+        ("[[", "MaybeLinkOpen 0..1;MaybeLinkOpen 1..2;"),
+        ("a<b>", "Text 0..1;MaybeHtml 1..2;Text 2..4;"),
+        (
+            "a&amp;b&#65;",
+            "Text 0..1;SynthesizeText(CowIndex(0)) 1..6;Text 6..7;SynthesizeText(CowIndex(1)) 7..12;",
+        ),
+        ("&copy;&amp", "Text 0..10;"),
+        ("&&gt;", "Text 0..1;SynthesizeText(CowIndex(0)) 1..5;"),
+        ("~a~ ^b^ 'c' \"d\" $e$", "Text 0..19;"),
+    ] {
+        assert_eq!(rt;
+            listed(rt.alloc(), text, Options::ENABLE_GFM)?.as_str(),
+            want,
+            "{text:?}"
+        );
+    }
+    Ok(())
+}
+
+#[test]
+fn options_add_items(rt: HostRuntime) -> Result<(), Fail> {
+    for (text, options, want) in [
+        (
+            "~a~~",
+            Options::ENABLE_STRIKETHROUGH,
+            "MaybeEmphasis(1, true, false) 0..1;Text 1..2;MaybeEmphasis(2, false, true) 2..3;\
+            MaybeEmphasis(1, false, true) 3..4;",
+        ),
+        (
+            "a~b",
+            Options::ENABLE_SUBSCRIPT,
+            "Text 0..1;MaybeEmphasis(1, true, true) 1..2;Text 2..3;",
+        ),
+        ("a~~~b", Options::ENABLE_SUBSCRIPT, "Text 0..5;"),
+        ("a^b", Options::ENABLE_SUBSCRIPT, "Text 0..3;"),
+        (
+            "a^^b",
+            Options::ENABLE_SUPERSCRIPT,
+            "Text 0..1;MaybeEmphasis(2, true, true) 1..2;MaybeEmphasis(1, true, true) 2..3;Text 3..4;",
+        ),
+        (
+            "\"a's\"",
+            Options::ENABLE_SMART_PUNCTUATION,
+            "MaybeSmartQuote(34, true, false) 0..1;Text 1..2;MaybeSmartQuote(39, false, false) 2..3;\
+            Text 3..4;MaybeSmartQuote(34, false, true) 4..5;",
+        ),
+        (
+            "$a$",
+            Options::ENABLE_MATH,
+            "MaybeMath(true, false, 0) 0..1;Text 1..2;MaybeMath(false, true, 0) 2..3;",
+        ),
+        (
+            "a$$ $",
+            Options::ENABLE_MATH,
+            "Text 0..1;MaybeMath(true, true, 0) 1..2;MaybeMath(false, true, 0) 2..3;Text 3..4;\
+            MaybeMath(false, false, 0) 4..5;",
+        ),
+    ] {
+        assert_eq!(rt;
+            listed(rt.alloc(), text, options)?.as_str(),
+            want,
+            "{text:?}"
+        );
+    }
+    Ok(())
+}
+
+#[test]
+fn a_line_is_read_alone(rt: HostRuntime) -> Result<(), Fail> {
+    for (text, start, end, want) in [
+        ("hello world", 6, 11, "Text 6..11;"),
+        (
+            "x*a*y",
+            1,
+            4,
+            "MaybeEmphasis(1, true, false) 1..2;Text 2..3;MaybeEmphasis(1, false, true) 3..4;",
+        ),
+        (
+            "\\*a",
+            1,
+            3,
+            "MaybeEmphasis(1, true, false) 1..2;Text 2..3;",
+        ),
+        ("&amp;", 0, 4, "Text 0..4;"),
+        ("a![", 0, 2, "Text 0..2;"),
+        ("a\\*", 0, 2, "Text 0..2;"),
+        ("a``", 0, 2, "Text 0..1;MaybeCode(1, false) 1..2;"),
+    ] {
+        let list = part_listed(rt.alloc(), text, start, end, Options::ENABLE_GFM)?;
+        assert_eq!(rt; list.as_str(), want, "{text:?}");
+    }
+    Ok(())
+}
+
+#[test]
+fn a_run_that_was_cut_stays_one_run(rt: HostRuntime) -> Result<(), Fail> {
+    let mut builder = Builder::new(rt.alloc(), "a**b")?;
+    builder.open(ItemBody::Paragraph)?;
+    items(&mut builder, 2, Options::ENABLE_GFM)?;
+    items(&mut builder, 4, Options::ENABLE_GFM)?;
+    builder.close();
+    let (tree, _parts) = builder.finish();
+    assert_eq!(rt; tree.len(), 5);
+    assert_eq!(rt; tree.item(3).body, ItemBody::MaybeEmphasis(1, false, true));
+    assert_eq!(rt;
+        tree.item(4).body,
+        ItemBody::Text {
+            backslash_escaped: false,
+        }
+    );
+    assert!(rt; is_well_formed(rt.alloc(), "a**b", tree)?);
+    Ok(())
+}
+
+#[test]
+fn entities_are_kept(rt: HostRuntime) -> Result<(), Fail> {
+    let text = "&lt;&#xe9;";
+    let mut builder = Builder::new(rt.alloc(), text)?;
+    builder.open(ItemBody::Paragraph)?;
+    items(&mut builder, 10, Options::ENABLE_GFM)?;
+    builder.close();
+    let (tree, parts) = builder.finish();
+    assert_eq!(rt; tree.len(), 4);
+    assert_eq!(rt; parts.cows.len(), 2);
+    assert_eq!(rt; parts.cows[0].as_str(), "<");
+    assert_eq!(rt; parts.cows[1].as_str(), "é");
+    Ok(())
+}
