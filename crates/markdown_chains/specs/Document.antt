@@ -145,6 +145,14 @@ Plain = Label (Unit {0})
 abbrev pub label_of : List ℕ → Tables → Item → Plain
 label_of source tables item = record { tag = tt; part = part_of source tables item }
 
+-- the tags of what is made: the first, the second, and so on; and of the characters of a run, from the first's tag
+pub record Tags (A : Type 0) : Type 0 where
+  pub fresh : ℕ → A
+  pub further : A → ℕ → A
+
+abbrev pub plain_tags : Tags (Unit {0})
+plain_tags = record { fresh = λ n. tt; further = λ a n. tt }
+
 -- the tree of a document: its blocks, and in them its chains, which may be open
 abbrev pub document : List ℕ → Tables → List (Node Item) → Forest Plain
 document source tables nodes = relabelled (λ n. label_of source tables n.item) (tree_of nodes)

@@ -28,7 +28,7 @@ use Rattle.markdown_inline.specs.Reading.{opened, settled_reading, then_resolved
 use Rattle.markdown_inline.specs.Walk.{around, left_of}
 use Rattle.markdown_chains.specs.Places.{label_at, trees_from, IsPlaced}
 use Rattle.markdown_resolver.specs.Resolved.{Resolved, resolved, all_paired}
-use Rattle.markdown_chains.specs.Document.{Plain, Shape, leaf, enclosed, plain, unresolved, is_unresolved, shape_of}
+use Rattle.markdown_chains.specs.Document.{plain_tags, Plain, Shape, leaf, enclosed, plain, unresolved, is_unresolved, shape_of}
 use Rattle.markdown_resolver.specs.Kept.{IsSettled, GivesFirst, Begins}
 use Rattle.markdown_chains.specs.Totals.{same, naming}
 use Rattle.markdown_chains.specs.Tables.{Tables, Named, number_of, size_for}
@@ -63,7 +63,7 @@ opened-begins (enclosed tag) range inside after whole known h = record { first =
 opened-begins plain range inside after whole known h = absurd h
 opened-begins (unresolved b) range inside after whole known h = absurd h
 
-reading-begins : (f : Forest Plain) (s : Setting) (after : Reading) (known : Known) → Begins f → BeginsWithEvent (settled_reading (all_paired s f) after known)
+reading-begins : (f : Forest Plain) (s : Setting) (after : Reading) (known : Known) → Begins f → BeginsWithEvent (settled_reading (all_paired s plain_tags f) after known)
 reading-begins nil s after known h = absurd h
 reading-begins (node a below later) s after known h = opened-begins a.part.shape a.part.range _ _ _ known h
 
@@ -89,7 +89,7 @@ above_named source tables nodes spine n r l = ⊎_elim (λ h. h) (λ h. absurd (
 
 -- what is above a chain stays when the chain is resolved
 above_chain : {C : Type 0} (step : C → Question → Option Answer → C → Type 0) (s : Setting) (first : ℕ) (spine : List ℕ) (old new : Stage C)
-    → Stands s.text old.tables old.nodes (Some first) spine → ResolvesFrom step s.text (resolved s (above_at s.text old.nodes spine)) (Some first) old new
+    → Stands s.text old.tables old.nodes (Some first) spine → ResolvesFrom step s.text (resolved s plain_tags (above_at s.text old.nodes spine)) (Some first) old new
     → AboveFramed s old.tables new.tables old.nodes new.nodes spine
 unfolding left_total
 above_chain step s first spine old new w r =
@@ -127,7 +127,7 @@ are_above source tables nodes first spine w = nodes_above (links_of nodes) nodes
 
 pub moves_chain : {C : Type 0} (step : C → Question → Option Answer → C → Type 0) (s : Setting) (first : ℕ) (spine : List ℕ) (old new : Stage C)
     → Stands s.text old.tables old.nodes (Some first) spine → is_open (item_at old.nodes first).body ≡ true
-    → (r : ResolvesFrom step s.text (resolved s (above_at s.text old.nodes spine)) (Some first) old new)
+    → (r : ResolvesFrom step s.text (resolved s plain_tags (above_at s.text old.nodes spine)) (Some first) old new)
     → ChainMoves s old.tables new.tables old.nodes new.nodes first spine (known_at old) (known_at new) r.questions r.answers
 unfolding left_of left_total items_ahead
 moves_chain step s first spine old new w e r =
@@ -139,11 +139,11 @@ moves_chain step s first spine old new w e r =
     let chain = trees_from s.text old.tables old.nodes (Some first) in
     let blocks = above_at s.text old.nodes spine in
     let after = around s (no_blocks s.text) old.tables old.nodes spine nothing in
-    let settled : IsSettled made = rw (r.resolves []) at (resolved-settled s blocks chain (known_at old (r.answers ++ [])) ready.quiet_below) in
+    let settled : IsSettled made = rw (r.resolves []) at (resolved-settled s plain_tags blocks chain (known_at old (r.answers ++ [])) ready.quiet_below) in
     let begins : Begins made =
-    rw (rw o.here at (r.resolves [])) at (resolved-begins s blocks (label_at s.text old.tables old.nodes first) (trees_from s.text old.tables old.nodes (child_of old.nodes first)) (trees_from s.text old.tables old.nodes (sibling_of old.nodes first)) (known_at old (r.answers ++ [])) (ap is_unresolved open_shape)) in
-    let before : reading s blocks chain after ≡ chain_reading s blocks chain after = rw o.here (opened-open (label_at s.text old.tables old.nodes first).part.shape _ _ _ _ (ap is_unresolved open_shape)) in
-    let now : reading s (above_at s.text new.nodes spine) made (around s (no_blocks s.text) new.tables new.nodes spine nothing) ≡ settled_reading (all_paired s made) after =
+    rw (rw o.here at (r.resolves [])) at (resolved-begins s plain_tags blocks (label_at s.text old.tables old.nodes first) (trees_from s.text old.tables old.nodes (child_of old.nodes first)) (trees_from s.text old.tables old.nodes (sibling_of old.nodes first)) (known_at old (r.answers ++ [])) (ap is_unresolved open_shape)) in
+    let before : reading s plain_tags blocks chain after ≡ chain_reading s plain_tags blocks chain after = rw o.here (opened-open (label_at s.text old.tables old.nodes first).part.shape _ _ _ _ (ap is_unresolved open_shape)) in
+    let now : reading s plain_tags (above_at s.text new.nodes spine) made (around s (no_blocks s.text) new.tables new.nodes spine nothing) ≡ settled_reading (all_paired s plain_tags made) after =
     rw (above.blocks (no_blocks s.text), above.around (no_blocks s.text) nothing) (reading-settled s blocks made after settled) in
     let n = opens (links_of new.nodes) (IsPlaced s.text new.tables new.nodes) first r.reaches in
     let item = item_at new.nodes first in
@@ -174,21 +174,21 @@ moves_chain step s first spine old new w e r =
 -- what is left before a chain, where its first item is open
 before_chain : (s : Setting) (tables : Tables) (nodes : List (Node Item)) (first : ℕ) (spine : List ℕ) (known : Known)
     → Stands s.text tables nodes (Some first) spine → is_open (item_at nodes first).body ≡ true
-    → left_of s tables nodes (Some first) spine known ≡ then_resolved s (resolved s (above_at s.text nodes spine) (trees_from s.text tables nodes (Some first)) known) (around s (no_blocks s.text) tables nodes spine nothing)
+    → left_of s tables nodes (Some first) spine known ≡ then_resolved s plain_tags (resolved s plain_tags (above_at s.text nodes spine) (trees_from s.text tables nodes (Some first)) known) (around s (no_blocks s.text) tables nodes spine nothing)
 unfolding left_of
 before_chain s tables nodes first spine known w e =
     let o = opens (links_of nodes) (IsPlaced s.text tables nodes) first w.walk.here in
     let open_shape = shape-open tables (slice_range s.text (item_at nodes first).start (item_at nodes first).end) (item_at nodes first).body e in
     let blocks = above_at s.text nodes spine in
     let after = around s (no_blocks s.text) tables nodes spine nothing in
-    let whole : reading s blocks (trees_from s.text tables nodes (Some first)) after ≡ chain_reading s blocks (trees_from s.text tables nodes (Some first)) after =
+    let whole : reading s plain_tags blocks (trees_from s.text tables nodes (Some first)) after ≡ chain_reading s plain_tags blocks (trees_from s.text tables nodes (Some first)) after =
     rw o.here (opened-open (label_at s.text tables nodes first).part.shape _ _ _ _ (ap is_unresolved open_shape)) in
     ap (λ (x : Reading). x known) whole
 
 more_questions : (s : Setting) (r : Resolved (Unit {0})) (after : Reading) (questions others : List Question) → r.questions ≡ questions ++ others
-    → (es : List Element) × (then_resolved s r after ≡ map question questions ++ es)
+    → (es : List Element) × (then_resolved s plain_tags r after ≡ map question questions ++ es)
 more_questions s r after questions others e =
-    (map question others ++ settled_reading (all_paired s r.forest) after r.known, rw e (simp (map-append, append_assoc)))
+    (map question others ++ settled_reading (all_paired s plain_tags r.forest) after r.known, rw e (simp (map-append, append_assoc)))
 
 -- where memory is refused on the way, what was left begins with the questions asked
 pub stops_chain : {C : Type 0} (step : C → Question → Option Answer → C → Type 0) (s : Setting) (first : ℕ) (spine : List ℕ) (old : Stage C) (d : Option C)
@@ -198,4 +198,4 @@ stops_chain step s first spine old d w e r later =
     let b = r.begins later in
     let known = known_at old (r.answers ++ later) in
     rw (before_chain s old.tables old.nodes first spine known w e)
-    (more_questions s (resolved s (above_at s.text old.nodes spine) (chain_at s.text old (Some first)) known) (around s (no_blocks s.text) old.tables old.nodes spine nothing) r.questions b.0 b.1)
+    (more_questions s (resolved s plain_tags (above_at s.text old.nodes spine) (chain_at s.text old (Some first)) known) (around s (no_blocks s.text) old.tables old.nodes spine nothing) r.questions b.0 b.1)

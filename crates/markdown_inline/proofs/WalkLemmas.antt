@@ -24,7 +24,7 @@ use Rattle.markdown_chains.specs.Totals.{total, same, naming, weight_at}
 use Rattle.markdown_chains.specs.Tables.{Tables, Named}
 use Rattle.markdown_inline.specs.WalkTotals.{climbed, left_total, named_left, one_if, waits_at, steps_of}
 use Rattle.markdown_inline.specs.Standing.{AboveKept, Stands}
-use Rattle.markdown_chains.specs.Document.{Origin, leaf, enclosed, plain, shape_of}
+use Rattle.markdown_chains.specs.Document.{plain_tags, Origin, leaf, enclosed, plain, shape_of}
 use Rattle.markdown_chains.proofs.PlaceLemmas.{some_weight}
 
 -- a walk went from l below spine to m below deeper, and gave these events
@@ -77,7 +77,7 @@ AboveKept-last source tables nodes (j ∷ js) ix a = AboveKept-last source table
 around-snoc : (s : Setting) (above : Above) (tables : Tables) (nodes : List (Node Item)) (spine : List ℕ) (ix : ℕ) (after : Reading)
     → around s above tables nodes (spine ++ ix ∷ []) after
     ≡ ended (closing (item_at nodes ix).body) (range_of (item_at nodes ix))
-    (reading s (inside_all nodes spine above) (trees_from s.text tables nodes (sibling_of nodes ix)) (around s above tables nodes spine after))
+    (reading s plain_tags (inside_all nodes spine above) (trees_from s.text tables nodes (sibling_of nodes ix)) (around s above tables nodes spine after))
 around-snoc s above tables nodes [] ix after = refl
 around-snoc s above tables nodes (j ∷ js) ix after = around-snoc s (inside_item (item_at nodes j) above) tables nodes js ix _
 
@@ -200,7 +200,7 @@ moves_out s tables nodes ix spine given w h a =
         here_kept = (AboveKept-last s.text tables nodes spine ix w.above_kept).0;
         above_kept = AboveKept-front s.text tables nodes spine ix w.above_kept;
       };
-      left = λ known. rw (forest_at-none (links_of nodes), around-snoc s (no_blocks s.text) tables nodes spine ix nothing) (h (reading s (above_at s.text nodes spine) (trees_from s.text tables nodes (sibling_of nodes ix)) (around s (no_blocks s.text) tables nodes spine nothing)) known);
+      left = λ known. rw (forest_at-none (links_of nodes), around-snoc s (no_blocks s.text) tables nodes spine ix nothing) (h (reading s plain_tags (above_at s.text nodes spine) (trees_from s.text tables nodes (sibling_of nodes ix)) (around s (no_blocks s.text) tables nodes spine nothing)) known);
       items = rw (forest_at-none (links_of nodes), items_around-snoc s.text tables nodes spine ix 0) (a (first_items (trees_from s.text tables nodes (sibling_of nodes ix)) (items_around s.text tables nodes spine 0)));
       falls = let waits = waits_once nodes (sibling_of nodes ix) in rw (forest_at-none (links_of nodes), climbed-snoc (λ ix. 1) (weight_at nodes) (links_of nodes) spine ix) (omega arith);
     }

@@ -1,6 +1,7 @@
 -- how a document reads
 pub mod Elements
 pub mod Reading
+pub mod ReadingLaw
 -- what contracts speak of
 pub mod ParserLeft
 pub mod Slices

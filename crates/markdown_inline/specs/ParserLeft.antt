@@ -10,7 +10,7 @@ use Rattle.markdown_spans.specs.Definitions.{Labelled, firsts}
 use Rattle.markdown_spans.specs.Folding.{is_match}
 use Rattle.markdown_spans.specs.declared.blocks.Blocks.{Blocks}
 use Rattle.markdown_chains.specs.Above.{no_blocks}
-use Rattle.markdown_chains.specs.Document.{document}
+use Rattle.markdown_chains.specs.Document.{plain_tags, document}
 use Rattle.markdown_inline.specs.Counts.{tree_items}
 use Rattle.markdown_inline.specs.Elements.{Element, nothing}
 use Rattle.markdown_inline.specs.Reading.{reading}
@@ -45,7 +45,7 @@ rules_of blocks asks = record {
 -- the reading of a block result, for these answers, where there is somebody to ask and where not
 abbrev pub reading_of : Blocks → Bool → Answers → List Element
 reading_of blocks asks answers =
-    reading (setting_of (block_text blocks) (rules_of blocks asks)) (no_blocks (block_text blocks)) (document (block_text blocks) (tables_at_start (block_parts blocks)) (block_tree blocks).nodes) nothing (known_at_start (block_text blocks) answers)
+    reading (setting_of (block_text blocks) (rules_of blocks asks)) plain_tags (no_blocks (block_text blocks)) (document (block_text blocks) (tables_at_start (block_parts blocks)) (block_tree blocks).nodes) nothing (known_at_start (block_text blocks) answers)
 
 -- the text that a parser reads
 abbrev pub parser_text : {F : Type 0} → Parser F → List ℕ

@@ -4,7 +4,7 @@ use Rattle.std.specs.Prelude.{ℕ, List, [], ◌++◌, map}
 use Rattle.std.specs.declared.ops.Range.{Range}
 use Rattle.markdown_base.specs.Event.{start, end, end_of}
 use Rattle.markdown_base.specs.Forest.{Forest, nil, node}
-use Rattle.markdown_chains.specs.Document.{Shape, leaf, enclosed, plain, unresolved, Label}
+use Rattle.markdown_chains.specs.Document.{Tags, Shape, leaf, enclosed, plain, unresolved, Label}
 use Rattle.markdown_inline.specs.Elements.{Element, question, Reading, then_reads}
 use Rattle.markdown_resolver.specs.Resolved.{Resolved, resolved, all_paired}
 use Rattle.markdown_chains.specs.Above.{Above, inside_label}
@@ -25,16 +25,16 @@ settled_reading (node a below later) after =
     opened a.part.shape a.part.range (λ inner. settled_reading below inner) (settled_reading later after) (settled_reading later after)
 
 -- the questions of a chain, the forest that it is resolved to, and what comes after it, with what is known then
-abbrev pub then_resolved : {A : Type 0} → Setting → Resolved A → Reading → List Element
-then_resolved s r after = map question r.questions ++ settled_reading (all_paired s r.forest) after r.known
+abbrev pub then_resolved : {A : Type 0} → Setting → Tags A → Resolved A → Reading → List Element
+then_resolved s tags r after = map question r.questions ++ settled_reading (all_paired s tags r.forest) after r.known
 
-abbrev pub chain_reading : {A : Type 0} → Setting → Above → Forest (Label A) → Reading → Reading
-chain_reading s above chain after known = then_resolved s (resolved s above chain known) after
+abbrev pub chain_reading : {A : Type 0} → Setting → Tags A → Above → Forest (Label A) → Reading → Reading
+chain_reading s tags above chain after known = then_resolved s tags (resolved s tags above chain known) after
 
 -- the reading of a forest, below the blocks that are open above it, and of what comes after it: a chain is resolved
 -- from its first open item on
-abbrev pub reading : {A : Type 0} → Setting → Above → Forest (Label A) → Reading → Reading
-reading s above nil after = after
-reading s above (node a below later) after =
-    opened a.part.shape a.part.range (λ inner. reading s (inside_label a above) below inner) (reading s above later after)
-    (chain_reading s above (node a below later) after)
+abbrev pub reading : {A : Type 0} → Setting → Tags A → Above → Forest (Label A) → Reading → Reading
+reading s tags above nil after = after
+reading s tags above (node a below later) after =
+    opened a.part.shape a.part.range (λ inner. reading s tags (inside_label a above) below inner) (reading s tags above later after)
+    (chain_reading s tags above (node a below later) after)

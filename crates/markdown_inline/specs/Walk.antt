@@ -9,7 +9,7 @@ use Rattle.markdown_base.specs.declared.item.Item.{Item}
 use Rattle.markdown_base.specs.declared.item.ItemBody.{ItemBody}
 use Rattle.markdown_base.specs.declared.node.Node.{Node}
 use Rattle.markdown_base.specs.declared.tag.TagEnd.{TagEnd}
-use Rattle.markdown_chains.specs.Document.{Shape, leaf, enclosed, plain, unresolved, shape_of}
+use Rattle.markdown_chains.specs.Document.{plain_tags, Shape, leaf, enclosed, plain, unresolved, shape_of}
 use Rattle.markdown_inline.specs.Elements.{Reading, nothing, then_reads}
 use Rattle.markdown_inline.specs.Reading.{reading}
 use Rattle.markdown_chains.specs.Above.{Above, no_blocks, inside_item, above_at}
@@ -40,9 +40,9 @@ around s above tables nodes [] after = after
 around s above tables nodes (ix ∷ deeper) after =
     around s (inside_item (item_at nodes ix) above) tables nodes deeper
     (ended (closing (item_at nodes ix).body) (range_of (item_at nodes ix))
-    (reading s above (trees_from s.text tables nodes (sibling_of nodes ix)) after))
+    (reading s plain_tags above (trees_from s.text tables nodes (sibling_of nodes ix)) after))
 
 -- what is left of a walk
 unfoldable pub left_of : Setting → Tables → List (Node Item) → Option ℕ → List ℕ → Reading
 left_of s tables nodes cursor spine =
-    reading s (above_at s.text nodes spine) (trees_from s.text tables nodes cursor) (around s (no_blocks s.text) tables nodes spine nothing)
+    reading s plain_tags (above_at s.text nodes spine) (trees_from s.text tables nodes cursor) (around s (no_blocks s.text) tables nodes spine nothing)

@@ -4,6 +4,7 @@
 
 mod bodies;
 mod heading;
+pub mod laws;
 pub mod runs;
 mod step;
 pub mod walk;

@@ -2,7 +2,7 @@
 use Rattle.std.proofs.Common.{◌≡◌, ℕ, Bool, true, false, List, [], ◌∷◌, refl, ap, ◌∙◌}
 use Rattle.markdown_base.specs.Forest.{Forest, nil, node}
 use Rattle.markdown_base.specs.declared.item.ItemBody.{ItemBody}
-use Rattle.markdown_chains.specs.Document.{Shape, leaf, enclosed, plain, unresolved, Label, is_unresolved}
+use Rattle.markdown_chains.specs.Document.{Tags, Shape, leaf, enclosed, plain, unresolved, Label, is_unresolved}
 use Rattle.markdown_resolver.specs.Kept.{IsQuiet, IsQuietBelow, IsKept, IsSettled, Begins}
 use Rattle.markdown_resolver.specs.Pairing.{paired, as_closed, text_if}
 use Rattle.markdown_resolver.specs.PassOne.{Entry, done, Progress, begun, is_quiet, text_unless, waits_for_pairing, read, read_all, trees_onto}
@@ -23,45 +23,45 @@ module _ {A : Type 0} where
   closed_unless source a (unresolved b) e = closed_text source a b (waits_for_pairing b) e refl
 
   -- forests that pair to the same do so behind a left list
-  paired-onto : (s : Setting) (left : List (Entry A)) (f g : Forest (Label A)) → paired s f ≡ paired s g → paired s (trees_onto left f) ≡ paired s (trees_onto left g)
+  paired-onto : (s : Setting) (tags : Tags A) (left : List (Entry A)) (f g : Forest (Label A)) → paired s tags f ≡ paired s tags g → paired s tags (trees_onto left f) ≡ paired s tags (trees_onto left g)
   unfolding paired
-  paired-onto s [] f g h = h
-  paired-onto s (done a below ∷ left) f g h = paired-onto s left (node a below f) (node a below g) (ap (λ (t : Forest (Label A)). node (as_closed s.text a) below t) h)
+  paired-onto s tags [] f g h = h
+  paired-onto s tags (done a below ∷ left) f g h = paired-onto s tags left (node a below f) (node a below g) (ap (λ (t : Forest (Label A)). node (as_closed s.text a) below t) h)
 
   -- pass one leaves to pairing what it is given
-  paired-read : (s : Setting) (above : Above) (chain : Forest (Label A)) (p : Progress A) → paired s (trees_onto (read_all s above chain p).left nil) ≡ paired s (trees_onto p.left chain)
+  paired-read : (s : Setting) (tags : Tags A) (above : Above) (chain : Forest (Label A)) (p : Progress A) → paired s tags (trees_onto (read_all s tags above chain p).left nil) ≡ paired s tags (trees_onto p.left chain)
   unfolding paired read_all
-  paired-read s above nil p = refl
-  paired-read s above (node a below rest) p =
-      paired-read s above rest (read s above a below p)
-      ∙ paired-onto s p.left (node (text_unless (is_quiet a.part.shape) s.text a) below rest) (node a below rest)
-      (ap (λ (b : Label A). node b below (paired s rest)) (closed_unless s.text a a.part.shape refl))
+  paired-read s tags above nil p = refl
+  paired-read s tags above (node a below rest) p =
+      paired-read s tags above rest (read s tags above a below p)
+      ∙ paired-onto s tags p.left (node (text_unless (is_quiet a.part.shape) s.text a) below rest) (node a below rest)
+      (ap (λ (b : Label A). node b below (paired s tags rest)) (closed_unless s.text a a.part.shape refl))
 
-  asked-read : (s : Setting) (above : Above) (chain : Forest (Label A)) (p : Progress A) → (read_all s above chain p).asked ≡ p.asked
+  asked-read : (s : Setting) (tags : Tags A) (above : Above) (chain : Forest (Label A)) (p : Progress A) → (read_all s tags above chain p).asked ≡ p.asked
   unfolding read_all
-  asked-read s above nil p = refl
-  asked-read s above (node a below rest) p = asked-read s above rest (read s above a below p)
+  asked-read s tags above nil p = refl
+  asked-read s tags above (node a below rest) p = asked-read s tags above rest (read s tags above a below p)
 
-  known-read : (s : Setting) (above : Above) (chain : Forest (Label A)) (p : Progress A) → (read_all s above chain p).known ≡ p.known
+  known-read : (s : Setting) (tags : Tags A) (above : Above) (chain : Forest (Label A)) (p : Progress A) → (read_all s tags above chain p).known ≡ p.known
   unfolding read_all
-  known-read s above nil p = refl
-  known-read s above (node a below rest) p = known-read s above rest (read s above a below p)
+  known-read s tags above nil p = refl
+  known-read s tags above (node a below rest) p = known-read s tags above rest (read s tags above a below p)
 
   -- a chain asks nothing, and what is open in it is a Text
-  pub resolved-texts : (s : Setting) (above : Above) (chain : Forest (Label A)) (known : Known) → resolved s above chain known ≡ record { questions = []; forest = paired s chain; known = known }
+  pub resolved-texts : (s : Setting) (tags : Tags A) (above : Above) (chain : Forest (Label A)) (known : Known) → resolved s tags above chain known ≡ record { questions = []; forest = paired s tags chain; known = known }
   unfolding resolved
-  resolved-texts s above chain known = rw (asked-read s above chain (begun known), known-read s above chain (begun known), paired-read s above chain (begun known)) refl
+  resolved-texts s tags above chain known = rw (asked-read s tags above chain (begun known), known-read s tags above chain (begun known), paired-read s tags above chain (begun known)) refl
 
   -- so does a chain that waits for pairing alone, and it keeps what is known
-  pub resolved-quiet : (s : Setting) (above : Above) (chain : Forest (Label A)) (known : Known) → IsQuiet chain → resolved s above chain known ≡ record { questions = []; forest = paired s chain; known = known }
-  resolved-quiet s above chain known q = resolved-texts s above chain known
+  pub resolved-quiet : (s : Setting) (tags : Tags A) (above : Above) (chain : Forest (Label A)) (known : Known) → IsQuiet chain → resolved s tags above chain known ≡ record { questions = []; forest = paired s tags chain; known = known }
+  resolved-quiet s tags above chain known q = resolved-texts s tags above chain known
 
   -- pairing a chain and the chains below it may be done in either order
-  pub all_paired-paired : (s : Setting) (chain : Forest (Label A)) → all_paired s (paired s chain) ≡ paired s (all_paired s chain)
+  pub all_paired-paired : (s : Setting) (tags : Tags A) (chain : Forest (Label A)) → all_paired s tags (paired s tags chain) ≡ paired s tags (all_paired s tags chain)
   unfolding paired
-  all_paired-paired s nil = refl
-  all_paired-paired s (node a below after) =
-      ap (λ (f : Forest (Label A)). node (as_closed s.text a) (paired_if_open s (all_paired s below)) f) (all_paired-paired s after)
+  all_paired-paired s tags nil = refl
+  all_paired-paired s tags (node a below after) =
+      ap (λ (f : Forest (Label A)). node (as_closed s.text a) (paired_if_open s tags (all_paired s tags below)) f) (all_paired-paired s tags after)
 
   quiet_below : (f : Forest (Label A)) → IsQuiet f → IsQuietBelow f
   quiet_below nil q = tt
@@ -82,16 +82,16 @@ module _ {A : Type 0} where
   closed_if source a false e = e
 
   -- a paired chain is settled
-  paired-settled : (s : Setting) (chain : Forest (Label A)) → IsQuietBelow chain → IsSettled (paired s chain)
+  paired-settled : (s : Setting) (tags : Tags A) (chain : Forest (Label A)) → IsQuietBelow chain → IsSettled (paired s tags chain)
   unfolding paired
-  paired-settled s nil q = tt
-  paired-settled s (node a below after) q = (closed_if s.text a (is_unresolved a.part.shape) refl, q.0, paired-settled s after q.1)
+  paired-settled s tags nil q = tt
+  paired-settled s tags (node a below after) q = (closed_if s.text a (is_unresolved a.part.shape) refl, q.0, paired-settled s tags after q.1)
 
   -- so is a resolved one
-  pub resolved-settled : (s : Setting) (above : Above) (chain : Forest (Label A)) (known : Known) → IsQuietBelow chain → IsSettled (resolved s above chain known).forest
-  resolved-settled s above chain known q = rw (resolved-texts s above chain known) (paired-settled s chain q)
+  pub resolved-settled : (s : Setting) (tags : Tags A) (above : Above) (chain : Forest (Label A)) (known : Known) → IsQuietBelow chain → IsSettled (resolved s tags above chain known).forest
+  resolved-settled s tags above chain known q = rw (resolved-texts s tags above chain known) (paired-settled s tags chain q)
 
   -- a chain whose first item is open gives an event at once, after its questions
-  pub resolved-begins : (s : Setting) (above : Above) (a : Label A) (below after : Forest (Label A)) (known : Known) → is_unresolved a.part.shape ≡ true → Begins (resolved s above (node a below after) known).forest
+  pub resolved-begins : (s : Setting) (tags : Tags A) (above : Above) (a : Label A) (below after : Forest (Label A)) (known : Known) → is_unresolved a.part.shape ≡ true → Begins (resolved s tags above (node a below after) known).forest
   unfolding paired
-  resolved-begins s above a below after known h = rw (resolved-texts s above (node a below after) known, h) tt
+  resolved-begins s tags above a below after known h = rw (resolved-texts s tags above (node a below after) known, h) tt

@@ -15,7 +15,7 @@ use Rattle.markdown_base.proofs.ArenaLemmas.{length-changed_at}
 use Rattle.markdown_chains.specs.Places.{IsSameAt, IsPlaced}
 use Rattle.markdown_chains.specs.Stages.{Stage, weight_in, items_from}
 use Rattle.markdown_resolver.specs.Chains.{ResolvesFrom, CanResolve}
-use Rattle.markdown_chains.specs.Document.{Plain, is_unresolved, shape_of, label_of}
+use Rattle.markdown_chains.specs.Document.{plain_tags, Plain, is_unresolved, shape_of, label_of}
 use Rattle.markdown_resolver.specs.Pairing.{paired, as_closed}
 use Rattle.markdown_resolver.specs.Resolved.{Resolved, resolved}
 use Rattle.markdown_chains.specs.Above.{Above}
@@ -106,7 +106,7 @@ label_settled source tables item false e =
 
 -- where all that is open in a chain is a Text
 abbrev texts : Setting → Forest Plain → Known → Resolved (Unit {0})
-texts s chain known = record { questions = []; forest = paired s chain; known = known }
+texts s chain known = record { questions = []; forest = paired s plain_tags chain; known = known }
 
 -- the node is there
 pub node_within : (source : List ℕ) (tables : Tables) (nodes : List (Node Item)) (ix : ℕ) → CanResolve source tables nodes (Some ix) → ix < length nodes
@@ -260,7 +260,7 @@ texts_none step s now =
       resolves = λ later. rw e refl;
     }
 
-pub whole_all : {C : Type 0} (step : C → Question → Option Answer → C → Type 0) (s : Setting) (above : Above) (first : ℕ) (at : Option ℕ) (old now : Stage C) → at ≡ None → Whole step s first at old now → ResolvesFrom step s.text (resolved s above) (Some first) old now
+pub whole_all : {C : Type 0} (step : C → Question → Option Answer → C → Type 0) (s : Setting) (above : Above) (first : ℕ) (at : Option ℕ) (old now : Stage C) → at ≡ None → Whole step s first at old now → ResolvesFrom step s.text (resolved s plain_tags above) (Some first) old now
 unfolding Whole
 whole_all step s above first at old now none w =
     let r = (rw none at w) now (texts_none step s now) in
@@ -278,5 +278,5 @@ whole_all step s above first at old now none w =
       answers = r.answers;
       questions = r.questions;
       asked = r.asked;
-      resolves = λ later. resolved-texts s above _ _ ∙ r.resolves later;
+      resolves = λ later. resolved-texts s plain_tags above _ _ ∙ r.resolves later;
     }

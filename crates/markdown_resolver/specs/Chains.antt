@@ -18,7 +18,7 @@ use Rattle.markdown_resolver.specs.Resolved.{Resolved, resolved}
 use Rattle.markdown_chains.specs.Above.{Above, above_cursor}
 use Rattle.markdown_chains.specs.Setting.{Setting, Known}
 use Rattle.markdown_chains.specs.Places.{IsPlaced, trees_from, IsSameAt}
-use Rattle.markdown_chains.specs.Document.{Plain}
+use Rattle.markdown_chains.specs.Document.{plain_tags, Plain}
 use Rattle.markdown_chains.specs.Stages.{Stage, chain_at, known_at, named_in, stage, times_in, weight_in}
 use Rattle.markdown_chains.specs.Tables.{Tables, Named, number_of, size_for, HasGrown}
 
@@ -66,7 +66,7 @@ pub record ResolvesChain {C : Type 0} (step : C → Question → Option Answer �
   -- of the tables the texts, the links and the uses of footnotes change: what their names are stays
   pub tables : held' ≡ record held { cows = held'.cows; links = held'.links; footdefs = held'.footdefs }
   pub footnotes : (name : List ℕ) → is_some (footnote_at held'.footdefs name) ≡ is_some (footnote_at held.footdefs name)
-  pub chain : ResolvesFrom step s.text (resolved s (above_cursor s.text old)) (Some first) (stage old held limit callback) (stage new held' limit' callback')
+  pub chain : ResolvesFrom step s.text (resolved s plain_tags (above_cursor s.text old)) (Some first) (stage old held limit callback) (stage new held' limit' callback')
 
 -- memory was refused on the way: the callback went by these questions, with which those of the chain begin, and
 -- these answers
@@ -75,4 +75,4 @@ pub record StopsIn {C : Type 0} (step : C → Question → Option Answer → C �
   pub questions : List Question
   pub asked : Asks step old.callback questions answers callback'
   pub begins : (later : Answers) → (others : List Question)
-      × ((resolved s above (chain_at s.text old (Some first)) (known_at old (answers ++ later))).questions ≡ questions ++ others)
+      × ((resolved s plain_tags above (chain_at s.text old (Some first)) (known_at old (answers ++ later))).questions ≡ questions ++ others)

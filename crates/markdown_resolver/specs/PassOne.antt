@@ -5,7 +5,7 @@ use Rattle.std.specs.Prelude.{ℕ, Bool, true, false, List, [], ◌∷◌}
 use Rattle.markdown_base.specs.Forest.{Forest, nil, node}
 use Rattle.markdown_base.specs.Questions.{Question}
 use Rattle.markdown_base.specs.declared.item.ItemBody.{ItemBody}
-use Rattle.markdown_chains.specs.Document.{Shape, leaf, enclosed, plain, unresolved, Label, as_text}
+use Rattle.markdown_chains.specs.Document.{Tags, Shape, leaf, enclosed, plain, unresolved, Label, as_text}
 use Rattle.markdown_chains.specs.Above.{Above}
 use Rattle.markdown_chains.specs.Setting.{Setting, Known}
 
@@ -41,17 +41,17 @@ text_unless true source a = a
 text_unless false source a = as_text source a
 
 -- a tree of the chain is read, below the blocks that are open above it
-abbrev pub read : {A : Type 0} → Setting → Above → Label A → Forest (Label A) → Progress A → Progress A
-read s above a below p = record {
+abbrev pub read : {A : Type 0} → Setting → Tags A → Above → Label A → Forest (Label A) → Progress A → Progress A
+read s tags above a below p = record {
   left = done (text_unless (is_quiet a.part.shape) s.text a) below ∷ p.left;
   asked = p.asked;
   known = p.known;
 }
 
 -- all of them are read
-unfoldable pub read_all : {A : Type 0} → Setting → Above → Forest (Label A) → Progress A → Progress A
-read_all s above nil p = p
-read_all s above (node a below rest) p = read_all s above rest (read s above a below p)
+unfoldable pub read_all : {A : Type 0} → Setting → Tags A → Above → Forest (Label A) → Progress A → Progress A
+read_all s tags above nil p = p
+read_all s tags above (node a below rest) p = read_all s tags above rest (read s tags above a below p)
 
 -- the trees of a left list, from left to right, and then those given
 abbrev pub trees_onto : {A : Type 0} → List (Entry A) → Forest (Label A) → Forest (Label A)
