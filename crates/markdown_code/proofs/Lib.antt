@@ -1,0 +1,2 @@
+pub mod ContainerPrefixLemmas
+pub mod ContainerPrefixRows

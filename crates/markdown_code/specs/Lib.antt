@@ -1,0 +1,5 @@
+-- the rules of a chain that ask nobody
+pub mod ContainerPrefix
+-- of the representation
+pub mod BlocksAbove
+pub mod PrefixView

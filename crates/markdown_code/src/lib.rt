@@ -1,0 +1,4 @@
+//! The rules of a chain that ask nobody: container prefixes, code spans, math spans, and what stands after a `<`.
+#![tactic(auto)]
+
+pub mod prefixes;
