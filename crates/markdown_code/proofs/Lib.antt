@@ -1,2 +1,4 @@
 pub mod ContainerPrefixLemmas
 pub mod ContainerPrefixRows
+pub mod CodeTextLemmas
+pub mod CodeTextRows

@@ -2,3 +2,4 @@
 #![tactic(auto)]
 
 pub mod prefixes;
+pub mod span_text;
