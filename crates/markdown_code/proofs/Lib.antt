@@ -2,3 +2,4 @@ pub mod ContainerPrefixLemmas
 pub mod ContainerPrefixRows
 pub mod CodeTextLemmas
 pub mod CodeTextRows
+pub mod AfterLessLemmas
