@@ -1,5 +1,5 @@
 -- A text from which prefixes of lines were removed is a text.
-use Rattle.std.proofs.Common.{◌≡◌, ℕ, suc, zero, ◌+◌, ◌-◌, ◌<◌, ◌≤◌, Bool, true, false, not, ◌&&◌, ◌||◌, ◌==◌, List, [], ◌∷◌, ◌++◌, Option, Some, None, IfSome, length, get_or, take, drop, arith, refl, sym, ap, ◌∙◌, IsUtf8, IsCharBoundary, encode_utf8, inl, inr, subst}
+use Rattle.std.proofs.Common.{◌≡◌, ℕ, suc, zero, ◌+◌, ◌-◌, ◌<◌, ◌≤◌, Bool, true, false, ◌&&◌, ◌==◌, List, [], ◌∷◌, ◌++◌, Option, Some, None, length, get_or, take, drop, arith, refl, ap, IsUtf8, IsCharBoundary, encode_utf8, inl, inr, subst}
 use Rattle.std.specs.Prelude.{if◌then◌else◌, option_and_then}
 use Rattle.std.specs.Option.{option_map}
 use Rattle.std.specs.List.{list_all}
@@ -8,9 +8,9 @@ use Rattle.std.proofs.Math.Utf8.{scalar, scalars, encodes}
 use Rattle.std.proofs.lemmas.Option.{same_Some}
 use Rattle.std.proofs.lemmas.Bool.Decides.{nat_tests, leb_tells}
 use Rattle.std.proofs.lemmas.Str.{encode_ascii, IsUtf8-take, IsUtf8-drop, IsUtf8-nil, IsCharBoundary-after_ascii, char_from_byte}
-use Rattle.markdown_scan.specs.LinePrefix.{ends_line, prefix_after}
-use Rattle.markdown_scan.specs.LineEnd.{line_feed, carriage_return, begins_line_feed}
-use Rattle.markdown_scan.proofs.LabelCharacterLemmas.{IsHigh, high_encode, encode_nonempty}
+use Rattle.markdown_scan.specs.LinePrefix.{ends_line}
+use Rattle.markdown_scan.specs.LineEnd.{line_feed, carriage_return}
+use Rattle.markdown_scan.proofs.LabelCharacterLemmas.{IsHigh, high_encode}
 use Rattle.markdown_raw_html.specs.HtmlTag.{html_tag}
 use Rattle.markdown_raw_html.specs.TagText.{text_in, text_past}
 use Rattle.markdown_raw_html.specs.TagSource.{tag_at, tag_of, tag_lengths}
@@ -18,7 +18,7 @@ use Rattle.markdown_raw_html.proofs.RawHtmlLawsLemmas.{tag_between}
 use Rattle.markdown_raw_html.proofs.HtmlTagLemmas.{IsWithin-html_tag}
 use Rattle.markdown_scan.specs.Beginnings.{StandsBetween}
 use Rattle.markdown_scan.specs.Autolink.{web_autolink}
-use Rattle.markdown_code.specs.AfterLess.{Markup, html, html_at, is_unbroken, markup_at}
+use Rattle.markdown_code.specs.AfterLess.{html, html_at, is_unbroken, markup_at}
 use Rattle.markdown_code.specs.PrefixView.{length_by}
 use Rattle.markdown_code.specs.declared.prefixes.ContainerPrefix.{ContainerPrefix}
 use Rattle.markdown_code.proofs.ContainerPrefixLemmas.{IsAsciiPrefix, length_by_is_ascii}

@@ -1,9 +1,8 @@
 -- The text of a span, piece by piece.
-use Rattle.std.proofs.Common.{◌≡◌, ℕ, suc, zero, ◌+◌, ◌-◌, ◌<◌, ◌≤◌, Bool, true, false, not, ◌&&◌, ◌||◌, ◌==◌, List, [], ◌∷◌, ◌++◌, Option, Some, None, IfSome, length, get_or, take, drop, append_assoc, arith, refl, sym, ap, ◌∙◌, IsUtf8, IsCharBoundary, length-append, subst, append-nil, encode_utf8, codes}
+use Rattle.std.proofs.Common.{◌≡◌, ℕ, suc, zero, ◌+◌, ◌-◌, ◌<◌, ◌≤◌, Bool, true, false, not, ◌&&◌, ◌||◌, ◌==◌, List, [], ◌∷◌, ◌++◌, Option, Some, None, length, get_or, take, drop, append_assoc, arith, refl, sym, ap, ◌∙◌, IsUtf8, IsCharBoundary, subst, append-nil}
 use Rattle.std.specs.Prelude.{is_some}
 use Rattle.std.specs.List.{list_all}
 use Rattle.std.specs.Char.{is_ascii}
-use Rattle.std.specs.Option.{option_or, option_map, option_map_or}
 use Rattle.std.proofs.lemmas.Bool.Decides.{nat_tests}
 use Rattle.std.proofs.lemmas.List.{get_or-take, length-drop, length-take-le, drop_more, take_more, drop-drop, take-append-drop, drop_all, take_all, drop-take}
 use Rattle.std.proofs.Math.Seq.{take-append-add}
@@ -14,8 +13,8 @@ use Rattle.markdown_scan.specs.Backslash.{backslash}
 use Rattle.markdown_scan.specs.Beginnings.{begins_with}
 use Rattle.markdown_scan.specs.LineEnd.{line_ending, begins_line_feed, line_feed, carriage_return}
 use Rattle.markdown_scan.proofs.BoundaryLemmas.{before_ascii_of_rest, after_ascii_of_rest}
-use Rattle.markdown_scan.proofs.BeginsWithLemmas.{begins_with-split, begins_with-fits}
-use Rattle.markdown_code.specs.CodeText.{Piece, piece_at, ending_piece, pipe_piece, begins_escaped_pipe, replaced_past, shown_ending, is_sliced, has_outer_spaces, without_outer_spaces, is_space}
+use Rattle.markdown_scan.proofs.BeginsWithLemmas.{begins_with-split}
+use Rattle.markdown_code.specs.CodeText.{Piece, piece_at, begins_escaped_pipe, replaced_past, shown_ending, is_sliced, has_outer_spaces, is_space}
 use Rattle.markdown_code.specs.PrefixView.{length_by}
 use Rattle.markdown_code.specs.declared.span_text.SpanKind.{SpanKind}
 use Rattle.markdown_code.specs.declared.prefixes.ContainerPrefix.{ContainerPrefix}

@@ -1,7 +1,6 @@
 -- Texts of code and math spans, worked.
-use Rattle.std.proofs.Common.{◌≡◌, ℕ, List, [], ◌∷◌, ◌++◌, Bool, true, false, None, refl}
+use Rattle.std.proofs.Common.{◌≡◌, ℕ, List, [], ◌∷◌, ◌++◌, true, false, None, refl}
 use Rattle.std.specs.Prelude.{codes}
-use Rattle.markdown_base.specs.declared.item.ItemBody.{ItemBody}
 use Rattle.markdown_base.specs.declared.item.ItemBody.TheVariants as body
 use Rattle.markdown_code.specs.CodeText.{span_text, is_sliced, replaced_past}
 use Rattle.markdown_code.specs.ContainerPrefix.{prefix_length}

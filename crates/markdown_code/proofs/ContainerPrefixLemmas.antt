@@ -1,7 +1,7 @@
 -- What is taken of a line is ASCII bytes of its beginning.
-use Rattle.std.proofs.Common.{◌≡◌, ℕ, zero, suc, ◌+◌, ◌-◌, ◌≤◌, ◌<◌, List, [], ◌∷◌, ◌++◌, Option, Some, None, Bool, true, false, ◌==◌, ◌||◌, ◌&&◌, length, take, drop, get_or, refl, sym, ◌∙◌, ap, arith, append_assoc, length-append, map, drop-cons}
+use Rattle.std.proofs.Common.{◌≡◌, ℕ, suc, ◌+◌, ◌-◌, ◌≤◌, ◌<◌, List, [], ◌∷◌, ◌++◌, Option, Some, None, Bool, true, false, ◌==◌, ◌||◌, ◌&&◌, length, take, drop, get_or, refl, sym, ◌∙◌, ap, arith, append_assoc, length-append, map, drop-cons}
 use Rattle.std.specs.Prelude.{nat_lt, nat_le, IfSome, slice_index}
-use Rattle.std.specs.List.{list_all, AllByRecursion}
+use Rattle.std.specs.List.{list_all}
 use Rattle.std.specs.Char.{is_ascii}
 use Rattle.std.proofs.Math.Seq.{take-append_seam}
 use Rattle.std.proofs.lemmas.List.{drop_all}
@@ -9,8 +9,8 @@ use Rattle.std.proofs.lemmas.List.Folds.{list_all-append}
 use Rattle.std.proofs.lemmas.Bool.Decides.{nat_tests}
 use Rattle.markdown_base.specs.declared.item.ItemBody.{ItemBody}
 use Rattle.markdown_base.specs.declared.item.ItemBody.TheVariants as body
-use Rattle.markdown_scan.specs.LineStart.{LineLeft, Space, space_width, column_after, next_column, wider, no_space, space_from, space, is_line_over, begins_marker, past_marker, past_byte}
-use Rattle.markdown_code.specs.ContainerPrefix.{past_marker_next, past_indented, past_indent, past_block, past_blocks, prefix_length}
+use Rattle.markdown_scan.specs.LineStart.{LineLeft, space_width, column_after, space_from, space, is_line_over, begins_marker, past_byte}
+use Rattle.markdown_code.specs.ContainerPrefix.{past_marker_next, past_indent, past_block, past_blocks, prefix_length}
 use Rattle.markdown_code.specs.BlocksAbove.{blocks_above}
 use Rattle.markdown_code.specs.PrefixView.{length_by}
 use Rattle.markdown_code.specs.declared.prefixes.ContainerPrefix.{ContainerPrefix}

@@ -3,3 +3,5 @@ pub mod ContainerPrefixRows
 pub mod CodeTextLemmas
 pub mod CodeTextRows
 pub mod AfterLessLemmas
+pub mod AfterLessRows
+pub mod CloserRows

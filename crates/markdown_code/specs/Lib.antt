@@ -2,6 +2,7 @@
 pub mod ContainerPrefix
 pub mod CodeText
 pub mod AfterLess
+pub mod Closers
 -- of the representation
 pub mod BlocksAbove
 pub mod PrefixView

@@ -1,5 +1,5 @@
 -- What a `MarkupFound` says.
-use Rattle.std.specs.Prelude.{ℕ, List, Option, Some, None, string_bytes}
+use Rattle.std.specs.Prelude.{ℕ, Some, None, string_bytes}
 use Rattle.markdown_code.specs.AfterLess.{Markup, autolink, html}
 use Rattle.markdown_code.specs.declared.after_less.MarkupFound.{MarkupFound}
 use Rattle.markdown_code.specs.declared.after_less.MarkupFound.TheVariants.{Autolink, Html, OwnedHtml}

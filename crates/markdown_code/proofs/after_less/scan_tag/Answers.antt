@@ -1,5 +1,4 @@
-use Rattle.std.proofs.Common.{◌≡◌, Some, None, sym, ◌∙◌, ap, List, ℕ}
-use Rattle.std.specs.Option.{option_map}
+use Rattle.std.proofs.Common.{sym}
 use Rattle.markdown_code.proofs.AfterLessLemmas.{tag_is_text}
 use Rattle.markdown_code.proofs.after_less.scan_tag.Goals as goal
 

@@ -1,4 +1,4 @@
-use Rattle.std.proofs.Common.{◌≡◌, ◌∙◌, ap, arith, sym, true}
+use Rattle.std.proofs.Common.{◌≡◌, ◌∙◌, arith, sym, true}
 use Rattle.std.proofs.lemmas.Str.{IsCharBoundary-after_ascii}
 use Rattle.markdown_code.specs.CodeText.{has_outer_spaces}
 use Rattle.markdown_code.proofs.CodeTextLemmas.{spaced}

@@ -4,10 +4,9 @@ use Rattle.markdown_base.specs.BlockTree.{item_at, no_item}
 use Rattle.markdown_base.specs.declared.item.Item.{Item}
 use Rattle.markdown_scan.specs.LineStart.{LineLeft}
 use Rattle.markdown_scan.specs.LineView.{line_left}
-use Rattle.markdown_code.specs.BlocksAbove.{blocks_above}
 use Rattle.markdown_code.specs.ContainerPrefix.{past_block}
 use Rattle.markdown_code.specs.PrefixView.{length_by}
-use Rattle.markdown_code.proofs.ContainerPrefixLemmas.{IsAsciiPrefix, length_by_is_ascii, reading_ends, reading_stops}
+use Rattle.markdown_code.proofs.ContainerPrefixLemmas.{length_by_is_ascii, reading_ends, reading_stops}
 use Rattle.markdown_code.proofs.prefixes.ContainerPrefix.length_of.Goals as goal
 
 pub returns-then-not-take_block-clause-value : goal.returns-then-not-take_block-clause-value

@@ -1,4 +1,4 @@
-use Rattle.std.proofs.Common.{◌≡◌, ◌<◌, ◌+◌, Some, None, length, arith, sym, ◌∙◌, drop}
+use Rattle.std.proofs.Common.{◌<◌, ◌+◌, length, arith, sym, drop}
 use Rattle.std.proofs.Math.Nat.{sub-zero}
 use Rattle.std.proofs.lemmas.List.{take_rest, length-drop}
 use Rattle.markdown_code.specs.CodeText.{Piece, piece_at}
