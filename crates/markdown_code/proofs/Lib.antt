@@ -5,3 +5,4 @@ pub mod CodeTextRows
 pub mod AfterLessLemmas
 pub mod AfterLessRows
 pub mod CloserRows
+pub mod CodeSearchLemmas

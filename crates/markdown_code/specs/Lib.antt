@@ -5,5 +5,7 @@ pub mod AfterLess
 pub mod Closers
 -- of the representation
 pub mod BlocksAbove
+pub mod ChainInArena
+pub mod CodeSearch
 pub mod PrefixView
 pub mod MarkupView

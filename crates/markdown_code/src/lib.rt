@@ -2,5 +2,6 @@
 #![tactic(auto)]
 
 pub mod after_less;
+pub mod code_closers;
 pub mod prefixes;
 pub mod span_text;
