@@ -7,7 +7,7 @@ use Rattle.std.specs.Char.{is_ascii}
 use Rattle.std.proofs.Math.Utf8.{scalar, scalars, encodes}
 use Rattle.std.proofs.lemmas.Option.{same_Some}
 use Rattle.std.proofs.lemmas.Bool.Decides.{nat_tests, leb_tells}
-use Rattle.std.proofs.lemmas.Str.{encode_ascii, IsUtf8-take, IsUtf8-drop, IsUtf8-nil, IsCharBoundary-after_ascii, char_from_byte}
+use Rattle.std.proofs.lemmas.Str.{encode_ascii, IsUtf8-take, IsUtf8-drop, IsUtf8-nil, IsCharBoundary-after_ascii, char_from_byte, IsCharBoundary-start}
 use Rattle.markdown_scan.specs.LinePrefix.{ends_line}
 use Rattle.markdown_scan.specs.LineEnd.{line_feed, carriage_return}
 use Rattle.markdown_scan.proofs.LabelCharacterLemmas.{IsHigh, high_encode}
@@ -153,3 +153,14 @@ unbroken_html skipped text start at none h = cases (html_at skipped text start a
     cases None h = refl
     cases (Some (end, None)) h = refl
     cases (Some (end, Some bytes)) h = cc
+
+-- what ends with `>` ends between two characters
+pub closed_boundary : (text : List ℕ) (end : ℕ) → IsUtf8 text → end ≤ length text → get_or text (end - 1) 0 ≡ 62 → IsCharBoundary text end
+closed_boundary text zero utf8 within closed = IsCharBoundary-start text utf8
+closed_boundary text (suc n) utf8 within closed =
+    let before : suc n - 1 ≡ n = omega arith in
+    let after : n + 1 ≡ suc n = omega arith in
+    let last : get_or text n 0 ≡ 62 = rw before at closed in
+    let here : n < length text = omega arith in
+    let low : get_or text n 0 < 128 = omega (arith, last) in
+    rw after at (IsCharBoundary-after_ascii text n utf8 here low)

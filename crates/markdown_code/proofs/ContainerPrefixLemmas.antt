@@ -10,7 +10,7 @@ use Rattle.std.proofs.lemmas.Bool.Decides.{nat_tests}
 use Rattle.markdown_base.specs.declared.item.ItemBody.{ItemBody}
 use Rattle.markdown_base.specs.declared.item.ItemBody.TheVariants as body
 use Rattle.markdown_scan.specs.LineStart.{LineLeft, space_width, column_after, space_from, space, is_line_over, begins_marker, past_byte}
-use Rattle.markdown_code.specs.ContainerPrefix.{past_marker_next, past_indent, past_block, past_blocks, prefix_length}
+use Rattle.markdown_code.specs.ContainerPrefix.{past_marker_next, past_indent, past_block, past_blocks, prefix_length, in_table, is_table_cell}
 use Rattle.markdown_code.specs.BlocksAbove.{blocks_above}
 use Rattle.markdown_code.specs.PrefixView.{length_by}
 use Rattle.markdown_code.specs.declared.prefixes.ContainerPrefix.{ContainerPrefix}
@@ -146,3 +146,9 @@ reading_stops gfm block spine i line within none =
 pub reading_ends : (gfm : Bool) (block : ℕ → ItemBody) (spine : List ℕ) (i : ℕ) (line : LineLeft) → length spine ≤ i
     → past_blocks gfm (map block (drop i spine)) line ≡ line
 reading_ends gfm block spine i line past = rw (drop_all i spine past) refl
+
+-- the innermost block tells whether a chain stands in a table
+pub in_table_last : (block : ℕ → ItemBody) (outer : List ℕ) (ix : ℕ) → in_table (map block (outer ++ ix ∷ [])) ≡ is_table_cell (block ix)
+in_table_last block [] ix = refl
+in_table_last block (a ∷ []) ix = refl
+in_table_last block (a ∷ b ∷ outer) ix = in_table_last block (b ∷ outer) ix

@@ -1,9 +1,9 @@
 //! What stands after a `<`: an autolink, raw HTML, or nothing.
-ghost use Rattle.std.specs.Prelude.{◌≡◌, ◌≤◌, ◌+◌, ℕ, List, None, Some, length, IfOk, IfSome, IsOk, true, string_bytes, option_and_then};
+ghost use Rattle.std.specs.Prelude.{◌≡◌, ◌≤◌, ◌+◌, ◌-◌, ℕ, List, slice_index, None, Some, length, IfOk, IfSome, IsOk, true, string_bytes, option_and_then};
 ghost use Rattle.std.specs.Option.{option_map};
 ghost use Rattle.std.specs.Str.{IsCharBoundary, IsUtf8};
-ghost use Rattle.markdown_code.specs.AfterLess.{declared_end, html_at, is_unbroken, markup_at};
-ghost use Rattle.markdown_code.specs.MarkupView.{markup_of};
+ghost use Rattle.markdown_code.specs.AfterLess.{declared_end, html_at, is_unbroken, markup_at, unbroken};
+ghost use Rattle.markdown_code.specs.MarkupView.{end_of, markup_of};
 ghost use Rattle.markdown_code.specs.PrefixView.{length_by};
 ghost use Rattle.markdown_raw_html.specs.TagSource.{tag_at};
 
@@ -29,6 +29,7 @@ fn scan_declared(scanner: &mut RawHtmlScanner<'_>, at: usize) -> Option<usize>
     requires { at ≤ length scanner.old.text.now }
     ensures value { result ≡ declared_end scanner.old.text.now at }
     ensures within { IfSome result (λ end. end ≤ length scanner.old.text.now) }
+    ensures closed { IfSome result (λ end. slice_index scanner.old.text.now (end - 1) ≡ 62) }
     ensures text { scanner.new.text ≡ scanner.old.text }
 {
     if let Some(end) = scanner.scan_comment(at) {
@@ -60,11 +61,25 @@ fn scan_tag(
     ensures value { IfOk result (λ found. option_map (λ tag. (tag.0, option_map string_bytes tag.1)) found
         ≡ tag_at (λ rest. Some (length_by prefix.now rest)) text.now start) }
     ensures plain { option_and_then (λ tag. tag.1) (tag_at (λ rest. Some (length_by prefix.now rest)) text.now start) ≡ None → IsOk result }
+    ensures boundary { IfOk result (λ found. IfSome found (λ tag. IsCharBoundary text.now tag.0)) }
 {
     match scan_html_tag(alloc, text, start, prefix)? {
         None => Ok(None),
         Some((end, None)) => Ok(Some((end, None))),
         Some((end, Some(bytes))) => Ok(Some((end, Some(into_text(bytes))))),
+    }
+}
+
+/// Raw HTML that ends before this byte, without a prefix inside.
+#[tactic(auto, using(crate::proofs::AfterLessLemmas::closed_boundary))]
+fn as_html(text: &str, end: Option<usize>) -> Option<(usize, Option<String>)>
+    requires { IfSome end (λ end. (end ≤ length text.now) × (slice_index text.now (end - 1) ≡ 62)) }
+    ensures value { option_map (λ tag. (tag.0, option_map string_bytes tag.1)) result ≡ unbroken end }
+    ensures boundary { IfSome result (λ tag. IsCharBoundary text.now tag.0) }
+{
+    match end {
+        Some(end) => Some((end, None)),
+        None => None,
     }
 }
 
@@ -82,16 +97,13 @@ fn scan_html(
     ensures value { IfOk result (λ found. option_map (λ tag. (tag.0, option_map string_bytes tag.1)) found
         ≡ html_at (λ rest. Some (length_by prefix.now rest)) text.now start at) }
     ensures plain { option_and_then (λ tag. tag.1) (html_at (λ rest. Some (length_by prefix.now rest)) text.now start at) ≡ None → IsOk result }
+    ensures boundary { IfOk result (λ found. IfSome found (λ tag. IsCharBoundary text.now tag.0)) }
     ensures same { scanner.new.text ≡ scanner.old.text }
 {
-    let found = match text.as_bytes().get(at) {
-        Some(b'!') => scan_declared(scanner, at + 1),
-        Some(b'?') => scanner.scan_processing_instruction(at + 1),
-        _ => return scan_tag(alloc, text, start, prefix),
-    };
-    match found {
-        Some(end) => Ok(Some((end, None))),
-        None => Ok(None),
+    match text.as_bytes().get(at) {
+        Some(b'!') => Ok(as_html(text, scan_declared(scanner, at + 1))),
+        Some(b'?') => Ok(as_html(text, scanner.scan_processing_instruction(at + 1))),
+        _ => scan_tag(alloc, text, start, prefix),
     }
 }
 
@@ -113,6 +125,7 @@ pub fn scan_after_less<'t>(
     ensures value { IfOk result (λ found. option_map markup_of found
         ≡ markup_at (λ rest. Some (length_by prefix.now rest)) text.entry.now start at) }
     ensures plain { is_unbroken (markup_at (λ rest. Some (length_by prefix.now rest)) text.entry.now start at) ≡ true → IsOk result }
+    ensures boundary { IfOk result (λ found. IfSome found (λ markup. IsCharBoundary text.entry.now (end_of markup))) }
     ensures same { scanner.new.text ≡ scanner.old.text }
 {
     if let Some((end, uri)) = scan_web_autolink(text, at) {

@@ -3,7 +3,7 @@ ghost use Rattle.std.specs.Prelude.{◌≡◌, ◌≤◌, None, Some, if◌then�
 ghost use Rattle.std.specs.List.{list_all};
 ghost use Rattle.std.specs.Char.{is_ascii};
 ghost use Rattle.markdown_code.specs.BlocksAbove.{HasBlocks};
-ghost use Rattle.markdown_code.specs.ContainerPrefix.{past_indent, past_marker_next, past_block};
+ghost use Rattle.markdown_code.specs.ContainerPrefix.{is_table_cell, past_indent, past_marker_next, past_block};
 ghost use Rattle.markdown_scan.specs.LineView.{line_left};
 ghost use Rattle.markdown_scan.specs.LineStart.{space};
 
@@ -49,8 +49,15 @@ fn take_block(line: &mut LineStart<'_>, block: ItemBody, gfm_footnotes: bool) ->
     }
 }
 
+/// Whether it is a cell of a table.
+fn is_table_cell(body: ItemBody) -> bool
+    ensures { result ≡ is_table_cell body }
+{
+    matches!(body, ItemBody::TableCell)
+}
+
 impl<'t> ContainerPrefix<'t> {
-    ghost use Rattle.markdown_code.specs.PrefixView.{length_by};
+    ghost use Rattle.markdown_code.specs.PrefixView.{length_by, stands_in_table};
 
     /// Those of a tree whose walk stands in the chain.
     pub fn new(tree: &'t Tree<Item>, gfm_footnotes: bool) -> ContainerPrefix<'t>
@@ -78,6 +85,16 @@ impl<'t> ContainerPrefix<'t> {
             }
         }
         line.bytes_scanned()
+    }
+
+    /// Whether the chain stands in a table: its block, the innermost of those above, is a cell.
+    pub fn is_in_table(&self) -> bool
+        ensures { result ≡ stands_in_table self.now }
+    {
+        match self.tree.peek_up() {
+            Some(ix) => is_table_cell(self.tree.item(ix).body),
+            None => false,
+        }
     }
 }
 
