@@ -130,6 +130,7 @@ tag_is_text prefix text start end bytes utf8 boundary e =
         → take n (text_in (λ rest. Some (length_by prefix rest)) (drop start text)) ≡ bytes
     part n true h = cc
     part n false h = same_Some (take n (text_in (λ rest. Some (length_by prefix rest)) (drop start text))) bytes h
+
     cases : (found : Option ℕ) → html_tag (text_in (λ rest. Some (length_by prefix rest)) (drop start text)) ≡ found
         → option_map (λ n. tag_of (λ rest. Some (length_by prefix rest)) start (drop start text)
         (tag_lengths (λ rest. Some (length_by prefix rest)) (drop start text) n)) found ≡ Some (end, Some bytes) → IsUtf8 bytes
@@ -137,7 +138,7 @@ tag_is_text prefix text start end bytes utf8 boundary e =
     cases (Some n) f h =
         let lengths : ℕ × ℕ = tag_lengths (λ rest. Some (length_by prefix rest)) (drop start text) n in
         let pair : tag_of (λ rest. Some (length_by prefix rest)) start (drop start text) lengths ≡ (end, Some bytes) =
-            same_Some (tag_of (λ rest. Some (length_by prefix rest)) start (drop start text) lengths) (end, Some bytes) h in
+        same_Some (tag_of (λ rest. Some (length_by prefix rest)) start (drop start text) lengths) (end, Some bytes) h in
         let is = part n (lengths.1 == lengths.0) (ap (λ (p : ℕ × Option (List ℕ)). p.1) pair) in
         subst (λ (xs : List ℕ). IsUtf8 xs) is (tag_text (text_in (λ rest. Some (length_by prefix rest)) (drop start text)) n
         (joined_is_text (length_by prefix) (length_by_is_ascii prefix) (drop start text) (IsUtf8-drop text start utf8 boundary)) f)

@@ -26,8 +26,8 @@ prefix_joined bytes n m first second = record {
   within = omega (arith, first.within, second.within, length-drop n bytes);
   ascii =
       let whole : take (n + m) bytes ≡ take n bytes ++ take m (drop n bytes) =
-          ap (λ k. take (k + m) bytes) (sym (length-take-le n bytes first.within))
-          ∙ (ap (λ xs. take (length (take n bytes) + m) xs) (sym (take-append-drop n bytes)) ∙ take-append-add (take n bytes) (drop n bytes) m) in
+      ap (λ k. take (k + m) bytes) (sym (length-take-le n bytes first.within))
+      ∙ (ap (λ xs. take (length (take n bytes) + m) xs) (sym (take-append-drop n bytes)) ∙ take-append-add (take n bytes) (drop n bytes) m) in
       ap (list_all is_ascii) whole ∙ (list_all-append is_ascii (take n bytes) (take m (drop n bytes)) ∙ rw (first.ascii, second.ascii) refl);
 }
 
@@ -222,7 +222,7 @@ spaced (b ∷ []) e = cases (b == 32) refl
 spaced (b ∷ c ∷ bytes) e =
     let all = b ∷ c ∷ bytes in
     let ends : (is_space b && is_space (get_or all (length all - 1) 0)) ≡ true =
-        first_of (is_space b && is_space (get_or all (length all - 1) 0)) (not (list_all is_space all)) e in
+    first_of (is_space b && is_space (get_or all (length all - 1) 0)) (not (list_all is_space all)) e in
     record {
       two = omega arith;
       first = space_is b (first_of (is_space b) (is_space (get_or all (length all - 1) 0)) ends);
@@ -232,6 +232,7 @@ spaced (b ∷ c ∷ bytes) e =
     first_of : (a b : Bool) → (a && b) ≡ true → a ≡ true
     first_of true b e = refl
     first_of false b e = cc
+
     space_is : (b : ℕ) → (b == 32) ≡ true → b ≡ 32
     space_is b e = grind (arith, nat_tests)
 

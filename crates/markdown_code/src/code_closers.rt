@@ -29,7 +29,12 @@ impl CodeRun {
     ghost use Rattle.markdown_code.specs.CodeSearch.{FindsCode, LooksForCode, NotesCode, run_of};
 
     /// Whether an item is exactly so many backticks; where it is not, and is backticks, they are noted.
-    fn is_closer(runs: &mut Vec<CodeRun>, number: usize, body: ItemBody, wanted: usize) -> Result<bool, AllocError>
+    fn is_closer(
+        runs: &mut Vec<CodeRun>,
+        number: usize,
+        body: ItemBody,
+        wanted: usize,
+    ) -> Result<bool, AllocError>
         ensures value { IfOk result (λ closes. closes ≡ is_code_of wanted body) }
         ensures noted { IfOk result (λ closes. closes ≡ false → runs.new.items ≡ runs.old.items ++ run_of number body) }
     {

@@ -40,7 +40,12 @@ impl SpanKind {
     }
 
     /// What the bytes begin with that does not stand for itself: how many bytes it takes, and what it becomes.
-    fn scan_piece(self, bytes: &[u8], in_table: bool, prefix: &ContainerPrefix<'_>) -> Option<(usize, &'static str)>
+    fn scan_piece(
+        self,
+        bytes: &[u8],
+        in_table: bool,
+        prefix: &ContainerPrefix<'_>,
+    ) -> Option<(usize, &'static str)>
         ensures value { option_map (λ p. record { taken = p.0; shown = p.1.now }) result
             ≡ code.piece_at self in_table (length_by prefix.now) bytes.now }
         ensures within { IfSome result (λ p. p.0 ≤ length bytes.now) }
@@ -57,7 +62,12 @@ impl SpanKind {
     }
 
     /// What stands before the first such piece, what the piece becomes, and what stands after it.
-    fn split_at_piece<'t>(self, text: &'t str, in_table: bool, prefix: &ContainerPrefix<'_>) -> Option<(&'t str, &'static str, &'t str)>
+    fn split_at_piece<'t>(
+        self,
+        text: &'t str,
+        in_table: bool,
+        prefix: &ContainerPrefix<'_>,
+    ) -> Option<(&'t str, &'static str, &'t str)>
         ensures none { IfNone result (code.lines_joined self in_table (length_by prefix.now) text.now ≡ text.now) }
         ensures some { IfSome result (λ parts. code.lines_joined self in_table (length_by prefix.now) text.now
             ≡ parts.0.now ++ (parts.1.now ++ code.lines_joined self in_table (length_by prefix.now) parts.2.now)) }
@@ -74,7 +84,13 @@ impl SpanKind {
     }
 
     /// A copy of the text with its lines joined.
-    fn join_lines(self, alloc: Global, text: &str, in_table: bool, prefix: &ContainerPrefix<'_>) -> Result<String, AllocError>
+    fn join_lines(
+        self,
+        alloc: Global,
+        text: &str,
+        in_table: bool,
+        prefix: &ContainerPrefix<'_>,
+    ) -> Result<String, AllocError>
         ensures { IfOk result (λ made. string_bytes made ≡ code.lines_joined self in_table (length_by prefix.now) text.now) }
     {
         let mut made = String::new(alloc);

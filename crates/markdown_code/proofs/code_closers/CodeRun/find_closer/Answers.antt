@@ -24,14 +24,14 @@ search-smaller c =
 pub returns-then-branch-clause-found : goal.returns-then-branch-clause-found
 returns-then-branch-clause-found c =
     let hit : is_code_of c.args.wanted (item_at c.args.tree.now.nodes c.in-Some.ix).body ≡ true =
-        ap (λ (item : Item). is_code_of c.args.wanted item.body) (sym (c.item.ensures no_item)) ∙ (sym c.in_ok-is_closer.ensures.value ∙ c.if-branch.true) in
+    ap (λ (item : Item). is_code_of c.args.wanted item.body) (sym (c.item.ensures no_item)) ∙ (sym c.in_ok-is_closer.ensures.value ∙ c.if-branch.true) in
     (search_ends c.args.tree.now.nodes c.args.first c.args.wanted c.args.visits.now c.args.runs.now.items c.in-Some.ix c.search.visits c.search.runs.items
     (rw c.in-Some.is at c.search.invariant.searching) hit).finds
 
 pub returns-then-branch-clause-counted : goal.returns-then-branch-clause-counted
 returns-then-branch-clause-counted c =
     let hit : is_code_of c.args.wanted (item_at c.args.tree.now.nodes c.in-Some.ix).body ≡ true =
-        ap (λ (item : Item). is_code_of c.args.wanted item.body) (sym (c.item.ensures no_item)) ∙ (sym c.in_ok-is_closer.ensures.value ∙ c.if-branch.true) in
+    ap (λ (item : Item). is_code_of c.args.wanted item.body) (sym (c.item.ensures no_item)) ∙ (sym c.in_ok-is_closer.ensures.value ∙ c.if-branch.true) in
     rw c.count_visit.ensures
     (search_ends c.args.tree.now.nodes c.args.first c.args.wanted c.args.visits.now c.args.runs.now.items c.in-Some.ix c.search.visits c.search.runs.items
     (rw c.in-Some.is at c.search.invariant.searching) hit).looks
@@ -39,13 +39,13 @@ returns-then-branch-clause-counted c =
 pub search-preserved : goal.search-preserved
 search-preserved c =
     let miss : is_code_of c.args.wanted (item_at c.args.tree.now.nodes c.in-Some.ix).body ≡ false =
-        ap (λ (item : Item). is_code_of c.args.wanted item.body) (sym (c.item.ensures no_item)) ∙ (sym c.in_ok-is_closer.ensures.value ∙ c.if-branch.false) in
+    ap (λ (item : Item). is_code_of c.args.wanted item.body) (sym (c.item.ensures no_item)) ∙ (sym c.in_ok-is_closer.ensures.value ∙ c.if-branch.false) in
     let noted = c.in_ok-is_closer.ensures.noted c.if-branch.false
-        ∙ ap (λ (item : Item). c.search.runs.items ++ run_of c.in-Some.ix item.body) (c.item.ensures no_item) in
+    ∙ ap (λ (item : Item). c.search.runs.items ++ run_of c.in-Some.ix item.body) (c.item.ensures no_item) in
     record {
       searching = rw (c.next-link.ensures.value, c.count_visit.ensures)
-    (search_goes_on c.args.tree.now.nodes c.args.first c.args.wanted c.args.visits.now c.args.runs.now.items c.in-Some.ix c.search.visits c.search.runs.items
-    c.is_closer.new.runs.items (rw c.in-Some.is at c.search.invariant.searching) miss noted);
+          (search_goes_on c.args.tree.now.nodes c.args.first c.args.wanted c.args.visits.now c.args.runs.now.items c.in-Some.ix c.search.visits c.search.runs.items
+          c.is_closer.new.runs.items (rw c.in-Some.is at c.search.invariant.searching) miss noted);
       fits = rw c.count_visit.ensures (capped (c.search.visits + 1) (2 ^ 128 - 1));
     }
 
