@@ -18,6 +18,8 @@ pub mod builders;
 #[cfg(test)]
 mod callbacks;
 #[cfg(test)]
+mod code;
+#[cfg(test)]
 mod look_ups;
 #[cfg(test)]
 mod texts;
