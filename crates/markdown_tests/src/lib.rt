@@ -18,6 +18,7 @@ pub mod builders;
 #[cfg(test)]
 mod callbacks;
 #[cfg(test)]
+mod code;
 mod line_items;
 #[cfg(test)]
 mod look_ups;
