@@ -1,6 +1,8 @@
 pub mod SeparatorLemmas
 pub mod TitleLemmas
+pub mod ReferenceLemmas
 pub mod LookupLemmas
+pub mod LookupLawsLemmas
 pub mod OpenerLemmas
 -- worked rows
 pub mod TailRows

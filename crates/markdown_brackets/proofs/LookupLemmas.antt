@@ -1,12 +1,12 @@
 -- Look-ups, case by case.
-use Rattle.std.proofs.Common.{◌≡◌, ℕ, ◌-◌, ◌==◌, ◌++◌, Bool, true, false, List, [], ◌∷◌, Option, Some, None, cond, refl, sym, ◌∙◌, ap, subst, is_some, ◌<◌, MatchOption, arith}
+use Rattle.std.proofs.Common.{◌≡◌, ℕ, ◌==◌, Bool, true, false, List, [], ◌∷◌, Option, Some, None, cond, refl, sym, ◌∙◌, ap, subst, is_some, ◌<◌, MatchOption, arith}
 use Rattle.std.proofs.lemmas.Bool.Decides.{nat_tests}
 use Rattle.markdown_base.specs.BlockParts.{definition_view}
 use Rattle.markdown_base.specs.Questions.{Question, Answer, Answers}
 use Rattle.markdown_base.specs.declared.block_parts.LinkDef.{LinkDef}
 use Rattle.markdown_spans.specs.Definitions as definitions
 use Rattle.markdown_spans.specs.Definitions.{Labelled}
-use Rattle.markdown_brackets.specs.Lookup.{Target, LookedUp, look_up, finds, finds_nothing, defined_target, defined_or_asked, limit_after, asked}
+use Rattle.markdown_brackets.specs.Lookup.{Target, look_up, finds_nothing, defined_target, defined_or_asked, limit_after, asked}
 use Rattle.markdown_brackets.specs.LookupView.{LooksUp, IsAnswered, FindsTarget, target_by}
 
 -- at a limit of 0

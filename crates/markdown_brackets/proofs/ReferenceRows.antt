@@ -1,8 +1,8 @@
 -- Labels, forms of references and look-ups, as the definitions read them.
-use Rattle.std.proofs.Common.{◌≡◌, ℕ, Bool, true, false, List, [], ◌∷◌, Option, Some, None, codes, refl, replicate}
+use Rattle.std.proofs.Common.{◌≡◌, ℕ, true, false, List, [], ◌∷◌, Option, Some, None, codes, refl}
 use Rattle.markdown_base.specs.Questions.{Question}
 use Rattle.markdown_base.specs.declared.item.Item.{Item}
-use Rattle.markdown_base.specs.declared.item.ItemBody.TheVariants.{MaybeLinkOpen, MaybeLinkClose, Text}
+use Rattle.markdown_base.specs.declared.item.ItemBody.TheVariants.{MaybeLinkOpen, MaybeLinkClose}
 use Rattle.markdown_base.specs.declared.tag.LinkType.TheVariants.{Shortcut, ShortcutUnknown}
 use Rattle.markdown_brackets.specs.Lookup as lookup
 use Rattle.markdown_brackets.specs.Reference.{label_at, own_label, form_at, reference, collapsed, shortcut}

@@ -1,6 +1,6 @@
 -- Tails of links, and bodies of wikilinks, as the definitions read them.
-use Rattle.std.proofs.Common.{◌≡◌, ℕ, ◌++◌, Bool, true, false, List, [], ◌∷◌, Option, Some, None, codes, refl, replicate, if◌then◌else◌, nat_lt}
-use Rattle.markdown_brackets.specs.LinkTail.{LinkTail, link_tail}
+use Rattle.std.proofs.Common.{◌≡◌, ℕ, ◌++◌, true, false, List, [], Option, Some, None, codes, refl, replicate, if◌then◌else◌, nat_lt}
+use Rattle.markdown_brackets.specs.LinkTail.{link_tail}
 use Rattle.markdown_brackets.specs.Wikilink.{wikilink_body, shows_name, shows_nothing, shows_from}
 
 -- lines have no prefix

@@ -8,6 +8,7 @@ pub mod Reference
 pub mod ReferenceView
 pub mod Lookup
 pub mod LookupView
+pub mod LookupLaws
 pub mod FootnoteUse
 pub mod Wikilink
 pub mod WikilinkView

@@ -1,6 +1,5 @@
 -- Look-ups of link labels: definitions, and questions about labels that are defined nowhere.
 use Rattle.std.specs.Prelude.{ℕ, ◌+◌, ◌-◌, Bool, ◌==◌, List, [], ◌∷◌, Option, Some, None, if◌then◌else◌, length, unwrap_or}
-use Rattle.std.specs.Option.{option_map}
 use Rattle.markdown_base.specs.BlockParts.{DefinitionView, definition_view}
 use Rattle.markdown_base.specs.Questions.{Question, Answer, Answers}
 use Rattle.markdown_base.specs.declared.block_parts.LinkDef.{LinkDef}

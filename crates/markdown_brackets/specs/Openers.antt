@@ -1,5 +1,5 @@
 -- Openers `[` and `![` that wait for a `]`, the nearest first.
-use Rattle.std.specs.Prelude.{ℕ, Bool, true, ◌&&◌, if◌then◌else◌, List, [], ◌∷◌, nat_le}
+use Rattle.std.specs.Prelude.{ℕ, Bool, true, ◌&&◌, if◌then◌else◌, List, [], ◌∷◌, map, nat_le}
 use Rattle.markdown_brackets.specs.declared.openers.Opener.{Opener}
 
 -- an opener, and whether it may still become a link
@@ -19,3 +19,12 @@ disabled w = record { opener = w.opener; is_live = w.opener.is_image && w.is_liv
 abbrev pub before : ℕ → List Waiting → List Waiting
 before node [] = []
 before node (w ∷ waiting) = if nat_le node w.opener.node then before node waiting else w ∷ waiting
+
+-- what a finished link leaves before its opener, and a finished image
+abbrev pub before_link : Opener → List Waiting → List Waiting
+before_link opener waiting =
+    if opener.is_image then before opener.node waiting else map disabled (before opener.node waiting)
+
+-- what a finished wikilink leaves, in either form
+abbrev pub before_wikilink : ℕ → List Waiting → List Waiting
+before_wikilink node waiting = map disabled (before node waiting)

@@ -1,5 +1,5 @@
 //! What byte stands at a place of a text.
-ghost use Rattle.std.specs.Prelude.{◌≡◌, ◌≢◌, ◌==◌, ◌<◌, ◌+◌, IfSome, IsTrue, length, slice_index};
+ghost use Rattle.std.specs.Prelude.{◌≡◌, ◌≢◌, ◌==◌, ◌<◌, ◌+◌, IfSome, IsTrue, drop, length, slice_index};
 ghost use Rattle.std.specs.Option.{option_map};
 ghost use Rattle.markdown_brackets.specs.Reference.{stripped};
 
@@ -17,6 +17,7 @@ pub(crate) fn after_byte(text: &str, byte: u8) -> Option<&str>
     requires some { byte ≢ 0 }
     requires ascii { byte < 128 }
     ensures value { option_map (λ rest. rest.now) result ≡ stripped byte text.now }
+    ensures rest { IfSome result (λ rest. rest.now ≡ drop 1 text.now) }
     ensures shorter { IfSome result (λ rest. length rest.now + 1 ≡ length text.now) }
 {
     if stands_at(text, 0, byte) {

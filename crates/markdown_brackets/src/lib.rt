@@ -3,8 +3,10 @@
 #![tactic(auto)]
 
 mod byte_at;
+pub mod chain_openers;
 pub mod footnote;
 pub mod items_after;
+pub mod laws;
 pub mod link_tail;
 pub mod link_title;
 pub mod look_up;

@@ -1,10 +1,10 @@
 //! Labels, and the form of a reference (CommonMark 6.3).
-ghost use Rattle.std.specs.Prelude.{◌≡◌, ◌≤◌, ◌+◌, ◌<◌, ◌^◌, ◌&&◌, true, Some, IfOk, IfSome, drop, length};
+ghost use Rattle.std.specs.Prelude.{◌≡◌, ◌≤◌, ◌+◌, ◌<◌, ◌^◌, ◌&&◌, true, Some, IfOk, IfSome, drop, length, slice_range};
 ghost use Rattle.std.specs.Option.{option_map};
 ghost use Rattle.std.specs.Str.{IsCharBoundary};
 ghost use Rattle.markdown_scan.specs.Label.{link_label};
 ghost use Rattle.markdown_brackets.specs.Reference as def;
-ghost use Rattle.markdown_brackets.specs.ReferenceView.{label_view, form_view, BorrowsLabel};
+ghost use Rattle.markdown_brackets.specs.ReferenceView.{label_view, form_view, BorrowsLabel, BorrowsName};
 
 use crate::byte_at::after_byte;
 use crate::footnote::FootnoteStyle;
@@ -47,6 +47,7 @@ fn scan_name<'t, R: LineRule>(
     requires { before + length text.now < 2 ^ 64 }
     ensures value { IfOk result (λ found. option_map label_view found ≡ def.label_past is_footnote before (link_label (R.skipped rule.now) in_table text.now)) }
     ensures borrowed { IfOk result (λ found. IfSome found (BorrowsLabel before text.now)) }
+    ensures kind { IfOk result (λ found. IfSome found (λ l. l.is_footnote ≡ is_footnote)) }
     ensures within { IfOk result (λ found. IfSome found (λ l. l.length ≤ before + length text.now)) }
 {
     match scan_link_label(alloc, text, rule, in_table)? {
@@ -68,6 +69,8 @@ fn scan_after_caret<'t, R: LineRule>(
 ) -> Result<Option<FoundLabel<'t>>, AllocError>
     requires { 1 + length text.now < 2 ^ 64 }
     ensures value { IfOk result (λ found. option_map label_view found ≡ def.label_past true 2 (def.label_after 94 (R.skipped rule.now) in_table text.now)) }
+    ensures borrowed { IfOk result (λ found. IfSome found (BorrowsLabel 2 (drop 1 text.now))) }
+    ensures kind { IfOk result (λ found. IfSome found (λ l. l.is_footnote ≡ true)) }
     ensures within { IfOk result (λ found. IfSome found (λ l. l.length ≤ 1 + length text.now)) }
 {
     match after_byte(text, b'^') {
@@ -86,6 +89,8 @@ fn scan_footnote_label<'t, R: LineRule>(
 ) -> Result<Option<FoundLabel<'t>>, AllocError>
     requires { 1 + length text.now < 2 ^ 64 }
     ensures value { IfOk result (λ found. option_map label_view found ≡ def.footnote_label style (R.skipped rule.now) in_table text.now) }
+    ensures borrowed { IfOk result (λ found. IfSome found (BorrowsLabel 2 (drop 1 text.now))) }
+    ensures kind { IfOk result (λ found. IfSome found (λ l. l.is_footnote ≡ true)) }
     ensures within { IfOk result (λ found. IfSome found (λ l. l.length ≤ 1 + length text.now)) }
 {
     match style {
@@ -105,6 +110,7 @@ pub fn scan_label<'t, R: LineRule>(
     in_table: bool,
 ) -> Result<Option<FoundLabel<'t>>, AllocError>
     ensures value { IfOk result (λ found. option_map label_view found ≡ def.label_at style (R.skipped rule.now) in_table text.now) }
+    ensures borrowed { IfOk result (λ found. IfSome found (BorrowsName text.now)) }
     ensures within { IfOk result (λ found. IfSome found (λ l. l.length ≤ length text.now)) }
 {
     let Some(rest) = after_byte(text, b'[') else {
@@ -118,7 +124,8 @@ pub fn scan_label<'t, R: LineRule>(
 
 // A label of exactly so many bytes.
 fn of_length(label: FoundLabel<'_>, length: usize) -> Option<FoundLabel<'_>>
-    ensures { option_map label_view result ≡ def.of_length length (Some (label_view label.entry)) }
+    ensures value { option_map label_view result ≡ def.of_length length (Some (label_view label.entry)) }
+    ensures same { IfSome result (λ l. l ≡ label.entry) }
 {
     if label.length == length {
         return Some(label);
@@ -141,7 +148,8 @@ pub fn scan_own_label<'t, R: LineRule>(
     requires start { IsCharBoundary text.now start }
     requires end { IsCharBoundary text.now end }
     requires order { start ≤ end }
-    ensures { IfOk result (λ found. option_map label_view found ≡ def.own_label style (R.skipped rule.now) in_table text.now start end) }
+    ensures value { IfOk result (λ found. option_map label_view found ≡ def.own_label style (R.skipped rule.now) in_table text.now start end) }
+    ensures borrowed { IfOk result (λ found. IfSome found (BorrowsName (slice_range text.now start end))) }
 {
     match scan_label(alloc, &text[start..end], style, rule, in_table)? {
         None => Ok(None),

@@ -1,4 +1,4 @@
-use Rattle.std.proofs.Common.{◌≡◌, ◌<◌, ◌++◌, [], ◌∷◌, get_or, length, slice_range, string_bytes, sym, ◌∙◌, ap, arith, append_assoc, drop, true, false, ◌+◌, ℕ, List, Bool}
+use Rattle.std.proofs.Common.{◌<◌, ◌++◌, [], ◌∷◌, get_or, length, slice_range, string_bytes, sym, ◌∙◌, ap, arith, append_assoc, drop, true, false, ◌+◌, ℕ, List, Bool}
 use Rattle.std.specs.Option.{option_map}
 use Rattle.markdown_scan.specs.Backslash.{is_bare}
 use Rattle.std.proofs.lemmas.Bool.{false≢true}

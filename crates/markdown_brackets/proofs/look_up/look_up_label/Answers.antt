@@ -1,7 +1,4 @@
 use Rattle.std.proofs.Common.{◌<◌, arith, is_some}
-use Rattle.std.specs.Option.{option_map}
-use Rattle.markdown_base.specs.CowText.{text_of}
-use Rattle.markdown_brackets.specs.LookupView.{target_view}
 use Rattle.markdown_brackets.proofs.LookupLemmas.{LooksUp-at_zero, LooksUp-found}
 use Rattle.markdown_brackets.proofs.look_up.look_up_label.Goals as goal
 

@@ -1,4 +1,4 @@
-use Rattle.std.proofs.Common.{sym, drop, length}
+use Rattle.std.proofs.Common.{sym}
 use Rattle.std.proofs.lemmas.Str.{IsCharBoundary-start}
 use Rattle.std.proofs.lemmas.List.{take_rest}
 use Rattle.markdown_brackets.proofs.SeparatorLemmas.{line_ending_is_ascii, if_some, after_ascii, after_more_ascii, BeginsAscii}
