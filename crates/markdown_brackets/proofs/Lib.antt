@@ -4,6 +4,7 @@ pub mod ReferenceLemmas
 pub mod LookupLemmas
 pub mod LookupLawsLemmas
 pub mod OpenerLemmas
+pub mod LeftListLemmas
 -- worked rows
 pub mod TailRows
 pub mod ReferenceRows

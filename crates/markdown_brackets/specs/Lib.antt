@@ -14,7 +14,9 @@ pub mod Wikilink
 pub mod WikilinkView
 -- openers that wait
 pub mod Openers
+pub mod OpenerStack
+-- the left list of a chain, for whoever resolves it
+pub mod LeftList
 -- for private clauses
 pub mod TitleText
 pub mod TitlePart
-pub mod OpenerStack

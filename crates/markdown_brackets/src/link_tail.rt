@@ -1,7 +1,9 @@
 //! The tail of an inline link (CommonMark 6.3).
-ghost use Rattle.std.specs.Prelude.{◌≡◌, ℕ, Some, IfOk};
+ghost use Rattle.std.specs.Prelude.{◌≡◌, ◌≤◌, ◌+◌, ℕ, Some, IfOk, IfSome, drop, length};
+ghost use Rattle.std.specs.Option.{option_map};
 ghost use Rattle.std.specs.Str.{IsCharBoundary};
-ghost use Rattle.markdown_brackets.specs.LinkTail.{link_tail, past_separator};
+ghost use Rattle.markdown_scan.specs.Destination.{destination};
+ghost use Rattle.markdown_brackets.specs.LinkTail.{link_tail, max_nesting, past_separator};
 ghost use Rattle.markdown_brackets.specs.LinkTailView.{ReadsTail, BorrowsTail};
 ghost use Rattle.markdown_brackets.specs.LinkTitle.{title_at};
 ghost use Rattle.markdown_brackets.specs.TitlePart.{IsTitlePart};
@@ -36,6 +38,16 @@ fn past_separator<R: LineRule>(text: &str, at: usize, rule: &R) -> usize
     ensures boundary { IsCharBoundary text.now result }
 {
     at + scan_separator(&text[at..], rule)
+}
+
+// The length and the text of the destination at the byte `at`.
+fn scan_destination(text: &str, at: usize) -> Option<(usize, &str)>
+    requires { IsCharBoundary text.now at }
+    ensures value { option_map (λ p. (p.0, p.1.now)) result ≡ destination max_nesting (drop at text.now) }
+    ensures within { IfSome result (λ p. at + p.0 ≤ length text.now) }
+    ensures boundary { IfSome result (λ p. IsCharBoundary text.now (at + p.0)) }
+{
+    scan_link_destination(text, at, MAX_NESTING)
 }
 
 // The byte after the title at the byte `at`, if there is one, and after the separator behind it; and the title.
@@ -77,7 +89,7 @@ pub fn scan_link_tail<'t, R: LineRule, I: ItemsAfter>(
         return Ok(None);
     }
     let start = past_separator(text, at + 1, rule);
-    let Some((length, written)) = scan_link_destination(text, start, MAX_NESTING) else {
+    let Some((length, written)) = scan_destination(text, start) else {
         return Ok(None);
     };
     let next = past_separator(text, start + length, rule);
