@@ -1,5 +1,5 @@
--- The left list of a chain while its items are read: trees that are done, and openers `[` and `![` that wait, the nearest
--- first. Trees are of any type; each opener carries the tree that it is where nothing becomes of it.
+-- The left list of a chain while its items are read: trees that are done, and openers `[` and `![` that wait, the
+-- nearest first. Trees are of any type; each opener carries the tree that it is where nothing becomes of it.
 use Rattle.std.specs.Prelude.{ℕ, Bool, true, false, not, ◌==◌, List, [], ◌∷◌, map, if◌then◌else◌, Option, Some, None}
 use Rattle.markdown_brackets.specs.Openers.{Waiting}
 

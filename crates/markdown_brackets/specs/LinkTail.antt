@@ -1,6 +1,6 @@
 -- The tail of an inline link (CommonMark 6.3): what stands after its `]`, `(destination "title")`. `skipped` says how
--- many bytes of what follows a line ending are its line's prefix; `starts` gives, of a byte, the start of the first item
--- after the `]` whose end is past it.
+-- many bytes of what follows a line ending are its line's prefix; `starts` gives, of a byte, the start of the first
+-- item after the `]` whose end is past it.
 use Rattle.std.specs.Prelude.{ℕ, ◌+◌, Bool, false, ◌==◌, List, [], Option, Some, None, if◌then◌else◌, drop, slice_index}
 use Rattle.markdown_scan.specs.Destination.{destination}
 use Rattle.markdown_brackets.specs.LinkTitle.{Title, title_at}

@@ -10,7 +10,8 @@ use Rattle.markdown_brackets.specs.declared.reference.FoundLabel.{FoundLabel}
 abbrev pub label_view : FoundLabel → def.FoundLabel
 label_view l = record { is_footnote = l.is_footnote; length = l.length; name = text_of l.name }
 
--- its text is a slice of the source, where it is what stands in these bytes, after the first `before` bytes of the label
+-- its text is a slice of the source, where it is what stands in these bytes, which are those after the first `before`
+-- bytes of the label
 abbrev pub BorrowsLabel : ℕ → List ℕ → FoundLabel → Type 0
 BorrowsLabel before bytes l = text_of l.name ≡ take (l.length - before - 1) bytes → IsBorrowed l.name
 

@@ -20,8 +20,8 @@ pub enum FootnoteStyle {
     Old,
 }
 
-/// Whether a footnote label of this name is a reference. If it is defined, one more use of it is counted. The only error
-/// is `Fault::Memory`; then nothing has changed.
+/// Whether a footnote label of this name is a reference. If it is defined, one more use of it is counted. The only
+/// error is `Fault::Memory`; then nothing has changed.
 pub fn use_footnote(
     footnotes: &mut FootnoteDefs,
     style: FootnoteStyle,

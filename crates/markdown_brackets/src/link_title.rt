@@ -76,8 +76,10 @@ fn scan_title_text<'t, I: ItemsAfter>(
     requires start { IsCharBoundary text.now start }
     requires ascii { closer < 128 }
     requires items { (n s : ℕ) → I.starts items.old n ≡ Some s → IsCharBoundary text.now s }
-    ensures value { IfOk result (ReadsTitle in_table (title_from (I.starts items.old) closer start false 0 (drop start text.now))) }
-    ensures borrowed { IfOk result (BorrowsTitle (title_from (I.starts items.old) closer start false 0 (drop start text.now))) }
+    ensures value { IfOk result (
+        ReadsTitle in_table (title_from (I.starts items.old) closer start false 0 (drop start text.now))) }
+    ensures borrowed { IfOk result (
+        BorrowsTitle (title_from (I.starts items.old) closer start false 0 (drop start text.now))) }
     ensures within { IfOk result (λ found. IfSome found (λ t. IsCharBoundary text.now t.0)) }
 {
     let bytes = text.as_bytes();

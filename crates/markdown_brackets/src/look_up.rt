@@ -55,7 +55,8 @@ fn defined_target<'a>(
     link_type: LinkType,
     id: CowStr<'a>,
 ) -> Result<Target<'a>, Fault>
-    ensures value { IfOk result (λ t. target_view t ≡ lookup.defined_target link_type (definition_view definition.now) (text_of id.entry)) }
+    ensures value { IfOk result (λ t.
+        target_view t ≡ lookup.defined_target link_type (definition_view definition.now) (text_of id.entry)) }
     ensures refused { IfErr result (λ fault. fault ≡ Fault.Memory) }
 {
     let copy = definition.try_clone(alloc)?;
@@ -98,7 +99,8 @@ fn ask<'a, F: BrokenLinkCallback<'a>>(
     id: CowStr<'a>,
 ) -> Result<Option<Target<'a>>, Fault>
     requires { IfSome callback.old F.can_ask }
-    ensures answered { IfOk result (λ target. IsAnswered F.answers (record { span = span; link_type = link_type; reference = text_of id.entry }) callback.old callback.new (option_map target_view target)) }
+    ensures answered { IfOk result (λ target.
+        IsAnswered F.answers (record { span = span; link_type = link_type; reference = text_of id.entry }) callback.old callback.new (option_map target_view target)) }
     ensures again { IfSome callback.new F.can_ask }
     ensures refused { IfErr result (λ fault. fault ≡ Fault.Memory) }
     ensures unchanged { OnErr result (callback.new ≡ callback.old) }
@@ -126,7 +128,8 @@ fn find_target<'a, F: BrokenLinkCallback<'a>>(
     label: CowStr<'a>,
 ) -> Result<Option<Target<'a>>, Fault>
     requires { IfSome callback.old F.can_ask }
-    ensures finds { IfOk result (λ target. FindsTarget F.answers definitions.now (record { span = span; link_type = link_type; reference = text_of label.entry }) callback.old callback.new (option_map target_view target)) }
+    ensures finds { IfOk result (λ target.
+        FindsTarget F.answers definitions.now (record { span = span; link_type = link_type; reference = text_of label.entry }) callback.old callback.new (option_map target_view target)) }
     ensures again { IfSome callback.new F.can_ask }
     ensures refused { IfErr result (λ fault. fault ≡ Fault.Memory) }
     ensures unchanged { OnErr result (callback.new ≡ callback.old) }
@@ -163,7 +166,8 @@ pub fn look_up_label<'a, F: BrokenLinkCallback<'a>>(
     label: CowStr<'a>,
 ) -> Result<Option<Target<'a>>, Fault>
     requires { IfSome callback.old F.can_ask }
-    ensures looks_up { IfOk result (λ target. LooksUp F.answers definitions.now (is_some callback.old) (record { span = span; link_type = link_type; reference = text_of label.entry }) limit.old limit.new callback.old callback.new (option_map target_view target)) }
+    ensures looks_up { IfOk result (λ target.
+        LooksUp F.answers definitions.now (is_some callback.old) (record { span = span; link_type = link_type; reference = text_of label.entry }) limit.old limit.new callback.old callback.new (option_map target_view target)) }
 
     ensures again { IfSome callback.new F.can_ask }
     ensures refused { IfErr result (λ fault. fault ≡ Fault.Memory) }

@@ -45,7 +45,8 @@ fn scan_name<'t, R: LineRule>(
     before: usize,
 ) -> Result<Option<FoundLabel<'t>>, AllocError>
     requires { before + length text.now < 2 ^ 64 }
-    ensures value { IfOk result (λ found. option_map label_view found ≡ def.label_past is_footnote before (link_label (R.skipped rule.now) in_table text.now)) }
+    ensures value { IfOk result (λ found.
+        option_map label_view found ≡ def.label_past is_footnote before (link_label (R.skipped rule.now) in_table text.now)) }
     ensures borrowed { IfOk result (λ found. IfSome found (BorrowsLabel before text.now)) }
     ensures kind { IfOk result (λ found. IfSome found (λ l. l.is_footnote ≡ is_footnote)) }
     ensures within { IfOk result (λ found. IfSome found (λ l. l.length ≤ before + length text.now)) }
@@ -68,7 +69,8 @@ fn scan_after_caret<'t, R: LineRule>(
     in_table: bool,
 ) -> Result<Option<FoundLabel<'t>>, AllocError>
     requires { 1 + length text.now < 2 ^ 64 }
-    ensures value { IfOk result (λ found. option_map label_view found ≡ def.label_past true 2 (def.label_after 94 (R.skipped rule.now) in_table text.now)) }
+    ensures value { IfOk result (λ found.
+        option_map label_view found ≡ def.label_past true 2 (def.label_after 94 (R.skipped rule.now) in_table text.now)) }
     ensures borrowed { IfOk result (λ found. IfSome found (BorrowsLabel 2 (drop 1 text.now))) }
     ensures kind { IfOk result (λ found. IfSome found (λ l. l.is_footnote ≡ true)) }
     ensures within { IfOk result (λ found. IfSome found (λ l. l.length ≤ 1 + length text.now)) }
@@ -88,7 +90,8 @@ fn scan_footnote_label<'t, R: LineRule>(
     in_table: bool,
 ) -> Result<Option<FoundLabel<'t>>, AllocError>
     requires { 1 + length text.now < 2 ^ 64 }
-    ensures value { IfOk result (λ found. option_map label_view found ≡ def.footnote_label style (R.skipped rule.now) in_table text.now) }
+    ensures value { IfOk result (λ found.
+        option_map label_view found ≡ def.footnote_label style (R.skipped rule.now) in_table text.now) }
     ensures borrowed { IfOk result (λ found. IfSome found (BorrowsLabel 2 (drop 1 text.now))) }
     ensures kind { IfOk result (λ found. IfSome found (λ l. l.is_footnote ≡ true)) }
     ensures within { IfOk result (λ found. IfSome found (λ l. l.length ≤ 1 + length text.now)) }
@@ -109,7 +112,8 @@ pub fn scan_label<'t, R: LineRule>(
     rule: &R,
     in_table: bool,
 ) -> Result<Option<FoundLabel<'t>>, AllocError>
-    ensures value { IfOk result (λ found. option_map label_view found ≡ def.label_at style (R.skipped rule.now) in_table text.now) }
+    ensures value { IfOk result (λ found.
+        option_map label_view found ≡ def.label_at style (R.skipped rule.now) in_table text.now) }
     ensures borrowed { IfOk result (λ found. IfSome found (BorrowsName text.now)) }
     ensures within { IfOk result (λ found. IfSome found (λ l. l.length ≤ length text.now)) }
 {
@@ -148,7 +152,8 @@ pub fn scan_own_label<'t, R: LineRule>(
     requires start { IsCharBoundary text.now start }
     requires end { IsCharBoundary text.now end }
     requires order { start ≤ end }
-    ensures value { IfOk result (λ found. option_map label_view found ≡ def.own_label style (R.skipped rule.now) in_table text.now start end) }
+    ensures value { IfOk result (λ found.
+        option_map label_view found ≡ def.own_label style (R.skipped rule.now) in_table text.now start end) }
     ensures borrowed { IfOk result (λ found. IfSome found (BorrowsName (slice_range text.now start end))) }
 {
     match scan_label(alloc, &text[start..end], style, rule, in_table)? {
@@ -223,7 +228,8 @@ pub fn scan_form<'t, R: LineRule>(
     after: Option<Item>,
 ) -> Result<Form<'t>, AllocError>
     requires at { IsCharBoundary text.now at }
-    ensures { IfOk result (λ form. form_view form ≡ def.form_at style (R.skipped rule.now) in_table text.now at next after) }
+    ensures { IfOk result (λ form.
+        form_view form ≡ def.form_at style (R.skipped rule.now) in_table text.now at next after) }
 {
     if is_empty_pair(at, next, after) {
         return Ok(Form::Collapsed);

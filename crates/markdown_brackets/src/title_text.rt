@@ -46,7 +46,8 @@ impl<'t> TitleText<'t> {
         requires order { self.old.from ≤ at }
         requires here { IsCharBoundary self.old.text.now at }
         requires there { IsCharBoundary self.old.text.now start }
-        ensures joined { IfOk result (λ _. string_bytes self.new.joined ≡ string_bytes self.old.joined ++ slice_range self.old.text.now self.old.from at ++ line_feed ∷ []) }
+        ensures joined { IfOk result (λ _.
+            string_bytes self.new.joined ≡ string_bytes self.old.joined ++ slice_range self.old.text.now self.old.from at ++ line_feed ∷ []) }
         ensures from { IfOk result (λ _. self.new.from ≡ start) }
         ensures is_joined { IfOk result (λ _. self.new.is_joined ≡ true) }
         ensures text { IfOk result (λ _. self.new.text.now ≡ self.old.text.now) }
@@ -68,7 +69,8 @@ impl<'t> TitleText<'t> {
         requires order { self.from ≤ at }
         requires here { IsCharBoundary self.text.now at }
         ensures text { IfOk result (λ made. text_of made ≡ unescaped in_table (so_far self.entry at)) }
-        ensures borrowed { IfOk result (λ made. self.entry.is_joined ≡ false → text_of made ≡ so_far self.entry at → IsBorrowed made) }
+        ensures borrowed { IfOk result (λ made.
+            self.entry.is_joined ≡ false → text_of made ≡ so_far self.entry at → IsBorrowed made) }
     {
         let last = &self.text[self.from..at];
         if !self.is_joined {
