@@ -14,6 +14,8 @@ mod block_rules;
 mod blocks;
 #[cfg(test)]
 mod bodies;
+#[cfg(test)]
+mod brackets;
 pub mod builders;
 #[cfg(test)]
 mod callbacks;
