@@ -1,7 +1,6 @@
 -- The lines of a text, and the runs of bytes at their ends.
-use Rattle.std.specs.Prelude.{◌≡◌, ℕ, suc, ◌+◌, ◌<◌, ◌≤◌, Bool, true, false, cond, not, ◌==◌, ◌||◌, List, Option, Some, None, length, slice_index, ◌⊎◌}
+use Rattle.std.specs.Prelude.{◌≡◌, ℕ, suc, ◌<◌, ◌≤◌, Bool, true, false, ◌==◌, ◌||◌, List, Option, Some, None, length, slice_index}
 use Rattle.std.specs.Str.{IsCharBoundary}
-use Rattle.markdown_plain.specs.declared.line.Line.{Line}
 
 -- a space or a tab
 abbrev pub is_space_or_tab : ℕ → Bool
@@ -33,27 +32,6 @@ pub record IsRunBefore (test : ℕ → Bool) (text : List ℕ) (from stop start 
   pub boundary : IsCharBoundary text start
   pub passes : AllPass test text start stop
   pub stops : (before : ℕ) → start ≡ suc before → from < start → test (slice_index text before) ≡ false
-
--- the length of the line ending at a place: a line feed, a carriage return with or without a line feed,
--- or nothing at the end of the text
-abbrev pub ending_length : List ℕ → ℕ → ℕ
-ending_length text at =
-    cond (slice_index text at == 10) 1 (cond (slice_index text at == 13) (cond (slice_index text (at + 1) == 10) 2 1) 0)
-
--- the line that goes on at `from`
-pub record IsLineFrom (text : List ℕ) (from : ℕ) (line : Line) : Type 0 where
-  pub low : from ≤ line.stop
-  pub content : AllPass (λ byte. not (is_line_ending byte)) text from line.stop
-  pub stop : IsCharBoundary text line.stop
-  pub ends : (line.stop ≡ length text) ⊎ (is_line_ending (slice_index text line.stop) ≡ true)
-  pub ending : line.next ≡ line.stop + ending_length text line.stop
-  pub next : IsCharBoundary text line.next
-
--- only spaces and tabs are left of the line that goes on at `from`
-pub record IsBlankLine (text : List ℕ) (from : ℕ) : Type 0 where
-  pub stop : ℕ
-  pub spaces : IsFirstOther is_space_or_tab text from stop
-  pub ends : (stop ≡ length text) ⊎ (is_line_ending (slice_index text stop) ≡ true)
 
 -- the first byte from `from` on that stands in no blank line, or nothing where all are blank
 abbrev pub IsNextContent : List ℕ → ℕ → Option ℕ → Type 0

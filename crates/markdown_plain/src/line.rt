@@ -1,11 +1,14 @@
 //! The lines of a text: where they end, and where their content begins and ends (CommonMark 2.1, 2.2).
-ghost use Rattle.std.specs.Prelude.{◌≡◌, ◌<◌, ◌≤◌, ◌+◌, ◌==◌, ◌↔◌, IsTrue, length};
+ghost use Rattle.std.specs.Prelude.{◌≡◌, ◌<◌, ◌≤◌, ◌==◌, length};
 ghost use Rattle.std.specs.Str.{IsCharBoundary};
-ghost use Rattle.markdown_plain.specs.Lines.{is_space_or_tab, is_blank, ending_length, IsFirstOther, IsRunBefore, IsLineFrom, IsBlankLine, IsNextContent};
+ghost use Rattle.markdown_plain.specs.Lines.{is_space_or_tab, is_blank, IsRunBefore, IsNextContent};
 
-/// A line: its content stops before `stop`, and its line ending stops before `next`.
-#[derive(Clone, Copy)]
+use markdown_scan::line_end::scan_line_ending;
+
+/// A line: it begins at `start`, its content stops before `stop`, and its line ending stops before `next`.
+#[derive(Clone, Copy, Drop)]
 pub struct Line {
+    pub start: usize,
     pub stop: usize,
     pub next: usize,
 }
@@ -24,58 +27,37 @@ fn is_blank(byte: u8) -> bool
     is_space_or_tab(byte) || byte == b'\n' || byte == b'\r'
 }
 
-/// How many bytes the line ending at `at` has, where there is one.
-fn ending_length(bytes: &[u8], at: usize) -> usize
-    requires { at < length bytes.now }
-    ensures value { result ≡ ending_length bytes.now at }
-    ensures within { at + result ≤ length bytes.now }
-{
-    if bytes[at] == b'\n' {
-        return 1;
-    }
-    if bytes[at] != b'\r' {
-        return 0;
-    }
-    if at + 1 < bytes.len() && bytes[at + 1] == b'\n' {
-        2
-    } else {
-        1
-    }
-}
-
-/// What is left of the line that goes on at `from`, up to its line ending or the end of the text.
-pub fn line_from(text: &str, from: usize) -> Line
-    requires { IsCharBoundary text.now from }
-    ensures { IsLineFrom text.now from result }
+/// The line that begins at `start`, up to its line ending or the end of the text.
+pub fn line_from(text: &str, start: usize) -> Line
+    ensures { start < length text.now → start < result.next }
 {
     let bytes = text.as_bytes();
-    for i in from..bytes.len() {
-        let ending = ending_length(bytes, i);
-        if ending > 0 {
+    for stop in start..bytes.len() {
+        if bytes[stop] == b'\n' || bytes[stop] == b'\r' {
             return Line {
-                stop: i,
-                next: i + ending,
+                start,
+                stop,
+                next: stop + ending_length(&bytes[stop..]),
             };
         }
     }
     Line {
+        start,
         stop: bytes.len(),
         next: bytes.len(),
     }
 }
 
-/// The first byte from `from` on that is no space and no tab, or the end of the text.
-pub fn content_start(text: &str, from: usize) -> usize
-    requires { IsCharBoundary text.now from }
-    ensures { IsFirstOther is_space_or_tab text.now from result }
+/// How many bytes of those from a line ending on are a part of it.
+fn ending_length(rest: &[u8]) -> usize
+    requires { 0 < length rest.now }
+    ensures some { 0 < result }
+    ensures within { result ≤ length rest.now }
 {
-    let bytes = text.as_bytes();
-    for i in from..bytes.len() {
-        if !is_space_or_tab(bytes[i]) {
-            return i;
-        }
+    match scan_line_ending(rest) {
+        Some(length) => length.max(1),
+        None => 1,
     }
-    bytes.len()
 }
 
 /// The first byte from `from` on that stands in no blank line, where there is one.
@@ -119,14 +101,4 @@ pub fn run_start(text: &str, from: usize, stop: usize, byte: u8) -> usize
         start -= 1;
     }
     start
-}
-
-/// Whether only spaces and tabs are left of the line that goes on at `from`.
-pub fn is_blank_line(text: &str, from: usize) -> bool
-    requires { IsCharBoundary text.now from }
-    ensures { IsTrue result ↔ IsBlankLine text.now from }
-{
-    let bytes = text.as_bytes();
-    let first = content_start(text, from);
-    first == bytes.len() || bytes[first] == b'\n' || bytes[first] == b'\r'
 }
