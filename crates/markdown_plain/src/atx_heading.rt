@@ -60,7 +60,11 @@ fn content_length(content: &[u8]) -> usize {
     let end = trimmed_length(content);
     let open = unclosed_length(&content[..end]);
     let before = trimmed_length(&content[..open]);
-    if before < open || open == 0 { before } else { end }
+    if before < open || open == 0 {
+        before
+    } else {
+        end
+    }
 }
 
 /// The ATX heading whose `#` stands at `at` in a line, of which the content stops before `stop`.

@@ -5,10 +5,10 @@ ghost use Rattle.markdown_base.specs.Coverage.{Covers};
 ghost use Rattle.markdown_base.specs.WellFormed.{IsWellFormed};
 
 use crate::atx_heading::atx_heading;
+use crate::bytes::{byte_at, bytes_of, content_start, is_white};
 use crate::containers::{Reached, reach};
 use crate::fence::opening_fence;
 use crate::html_kind::html_kind;
-use crate::bytes::{byte_at, bytes_of, content_start, is_white};
 use crate::line::{Line, line_from};
 use crate::list_marker::list_marker;
 use crate::pass::{LeafKind, Pass};
@@ -47,12 +47,15 @@ impl<'a> Pass<'a> {
         if reached.content >= line.stop {
             return self.read_blank(line, reached);
         }
-        self.read_rest(Rest {
-            line,
-            place: reached.place,
-            depth: reached.depth,
-            unbroken: 0,
-        }, reached.all)?;
+        self.read_rest(
+            Rest {
+                line,
+                place: reached.place,
+                depth: reached.depth,
+                unbroken: 0,
+            },
+            reached.all,
+        )?;
         self.placed = line.next;
         self.looseness.see_content();
         Ok(())

@@ -54,7 +54,11 @@ fn past_quote(text: &str, place: Place, stop: usize) -> Option<Place> {
 /// Behind so many columns of space, or the white space of a line that is blank from here on.
 fn past_indent(text: &str, place: Place, stop: usize, indent: usize, blank: bool) -> Option<Place> {
     let found = read_space(text, place, stop, indent);
-    if blank || found.columns == indent { Some(found.behind) } else { None }
+    if blank || found.columns == indent {
+        Some(found.behind)
+    } else {
+        None
+    }
 }
 
 /// Behind what a footnote definition takes of a line: in the style of GFM four columns, in the old style

@@ -1,7 +1,7 @@
 //! Link reference definitions (CommonMark 4.7), read from the lines of a paragraph.
 
-use crate::held_line::HeldLine;
 use crate::bytes::{byte_at, bytes_of, content_start, is_white, part_of};
+use crate::held_line::HeldLine;
 use markdown_base::cow_str::CowStr;
 use markdown_scan::destination::scan_link_destination;
 use markdown_scan::label::scan_link_label;
@@ -38,7 +38,10 @@ fn past_space(text: &str, lines: &[HeldLine], spot: Spot) -> Option<Spot> {
     let line = lines.get(spot.line)?;
     let at = content_start(text, spot.at, line.stop);
     if at < line.stop {
-        return Some(Spot { line: spot.line, at });
+        return Some(Spot {
+            line: spot.line,
+            at,
+        });
     }
     let next = spot.line.saturating_add(1);
     Some(Spot {
@@ -64,7 +67,11 @@ struct Label<'a> {
 
 /// Where a line's bytes begin behind the `[` of a label at `at`, which stands in the first line.
 fn part_start(number: usize, line: HeldLine, at: usize) -> usize {
-    if number == 0 { at.saturating_add(1) } else { line.start }
+    if number == 0 {
+        at.saturating_add(1)
+    } else {
+        line.start
+    }
 }
 
 /// Whether a bracket that is not escaped closes a label in a line.
@@ -257,15 +264,17 @@ fn tail_behind(text: &str, lines: &[HeldLine], behind: Spot) -> Option<Tail> {
 }
 
 /// The bytes of a title in the line with a number, of the lines from its first mark to its last.
-fn title_part<'a>(
-    text: &'a str,
-    number: usize,
-    line: HeldLine,
-    title: Spot,
-    end: Spot,
-) -> &'a str {
-    let from = if number == title.line { title.at.saturating_add(1) } else { line.start };
-    let to = if number == end.line { end.at.saturating_sub(1) } else { line.next };
+fn title_part<'a>(text: &'a str, number: usize, line: HeldLine, title: Spot, end: Spot) -> &'a str {
+    let from = if number == title.line {
+        title.at.saturating_add(1)
+    } else {
+        line.start
+    };
+    let to = if number == end.line {
+        end.at.saturating_sub(1)
+    } else {
+        line.next
+    };
     if number < title.line || number > end.line {
         ""
     } else {

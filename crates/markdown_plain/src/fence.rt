@@ -1,7 +1,7 @@
 //! Code fences (CommonMark 4.5).
 
-use crate::bytes::{bytes_of, is_white, run_length, white_length};
 use crate::atx_heading::trimmed_length;
+use crate::bytes::{bytes_of, is_white, run_length, white_length};
 
 /// An opening code fence: its character, its length, the columns before it.
 #[derive(Clone, Copy, Drop)]

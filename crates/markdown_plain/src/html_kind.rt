@@ -73,12 +73,68 @@ const VERBATIM: [&str; 4] = ["pre", "script", "style", "textarea"];
 
 /// The tags of blocks.
 const BLOCK_TAGS: [&str; 62] = [
-    "address", "article", "aside", "base", "basefont", "blockquote", "body", "caption", "center",
-    "col", "colgroup", "dd", "details", "dialog", "dir", "div", "dl", "dt", "fieldset",
-    "figcaption", "figure", "footer", "form", "frame", "frameset", "h1", "h2", "h3", "h4", "h5",
-    "h6", "head", "header", "hr", "html", "iframe", "legend", "li", "link", "main", "menu",
-    "menuitem", "nav", "noframes", "ol", "optgroup", "option", "p", "param", "search", "section",
-    "summary", "table", "tbody", "td", "tfoot", "th", "thead", "title", "tr", "track", "ul",
+    "address",
+    "article",
+    "aside",
+    "base",
+    "basefont",
+    "blockquote",
+    "body",
+    "caption",
+    "center",
+    "col",
+    "colgroup",
+    "dd",
+    "details",
+    "dialog",
+    "dir",
+    "div",
+    "dl",
+    "dt",
+    "fieldset",
+    "figcaption",
+    "figure",
+    "footer",
+    "form",
+    "frame",
+    "frameset",
+    "h1",
+    "h2",
+    "h3",
+    "h4",
+    "h5",
+    "h6",
+    "head",
+    "header",
+    "hr",
+    "html",
+    "iframe",
+    "legend",
+    "li",
+    "link",
+    "main",
+    "menu",
+    "menuitem",
+    "nav",
+    "noframes",
+    "ol",
+    "optgroup",
+    "option",
+    "p",
+    "param",
+    "search",
+    "section",
+    "summary",
+    "table",
+    "tbody",
+    "td",
+    "tfoot",
+    "th",
+    "thead",
+    "title",
+    "tr",
+    "track",
+    "ul",
 ];
 
 /// Whether a name is one of some, the case of letters aside.
@@ -132,7 +188,11 @@ fn named_kind(rest: &[u8]) -> Option<HtmlKind> {
     let name = tag_name(named);
     let behind = &named[name.len()..];
     if is_one_of(name, &VERBATIM) {
-        return if !closing && is_after_name(behind) { Some(HtmlKind::Verbatim) } else { None };
+        return if !closing && is_after_name(behind) {
+            Some(HtmlKind::Verbatim)
+        } else {
+            None
+        };
     }
     if is_one_of(name, &BLOCK_TAGS) && (is_after_name(behind) || behind.starts_with(b"/>")) {
         return Some(HtmlKind::BlockTag);
@@ -177,5 +237,9 @@ pub fn html_kind(
     if known.is_some() || in_paragraph {
         return Ok(known);
     }
-    if is_lone_tag(alloc, text, at, stop)? { Ok(Some(HtmlKind::LoneTag)) } else { Ok(None) }
+    if is_lone_tag(alloc, text, at, stop)? {
+        Ok(Some(HtmlKind::LoneTag))
+    } else {
+        Ok(None)
+    }
 }

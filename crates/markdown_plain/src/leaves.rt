@@ -9,7 +9,9 @@ use crate::html_kind::HtmlKind;
 use crate::line::Line;
 use crate::pass::{LeafKind, Pass};
 use crate::place::{Place, read_space};
-use crate::placing::{add_inline, add_items, add_owed, add_rule, close, open_block, open_code, step_to};
+use crate::placing::{
+    add_inline, add_items, add_owed, add_rule, close, open_block, open_code, step_to,
+};
 use markdown_base::item::ItemBody;
 use markdown_builder::builder::Builder;
 use markdown_scan::unescape::unescape;
@@ -111,12 +113,7 @@ impl<'a> Pass<'a> {
     }
 
     /// Opens an HTML block with a line that begins here.
-    pub fn open_html(
-        &mut self,
-        line: Line,
-        place: Place,
-        kind: HtmlKind,
-    ) -> Result<(), AllocError>
+    pub fn open_html(&mut self, line: Line, place: Place, kind: HtmlKind) -> Result<(), AllocError>
         ensures { IfOk result (λ _. self.new.builder.text ≡ self.old.builder.text) }
     {
         step_to(&mut self.builder, place.at);

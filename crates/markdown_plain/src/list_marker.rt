@@ -28,7 +28,9 @@ impl ListMarker {
 fn number_of(digits: &[u8]) -> u64 {
     let mut number: u64 = 0;
     for digit in digits {
-        number = number.saturating_mul(10).saturating_add(digit.saturating_sub(b'0') as u64);
+        number = number
+            .saturating_mul(10)
+            .saturating_add(digit.saturating_sub(b'0') as u64);
     }
     number
 }

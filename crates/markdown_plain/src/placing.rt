@@ -110,11 +110,7 @@ pub fn add_owed(builder: &mut Builder<'_>, owed: usize) -> Result<(), AllocError
 }
 
 /// Appends the inline items of a line's content up to a place.
-pub fn add_items(
-    builder: &mut Builder<'_>,
-    end: usize,
-    options: Options,
-) -> Result<(), AllocError>
+pub fn add_items(builder: &mut Builder<'_>, end: usize, options: Options) -> Result<(), AllocError>
     ensures { IfOk result (λ _. builder.new.text ≡ builder.old.text) }
 {
     if !builder.is_in_leaf() || !is_ahead(builder, end) {
