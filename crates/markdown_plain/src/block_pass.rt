@@ -4,21 +4,21 @@ ghost use Rattle.std.specs.Prelude.{◌≡◌, IfOk};
 ghost use Rattle.markdown_base.specs.Coverage.{Covers};
 ghost use Rattle.markdown_base.specs.WellFormed.{IsWellFormed};
 
-use crate::atx_heading::atx_heading;
-use crate::bytes::{byte_at, bytes_of, content_start, is_white};
 use crate::containers::{Reached, reach};
-use crate::fence::opening_fence;
-use crate::html_kind::html_kind;
-use crate::line::{Line, line_from};
-use crate::list_marker::list_marker;
 use crate::pass::{LeafKind, Pass};
-use crate::place::{Place, Space, read_space};
 use crate::placing::{close_all, step_to, step_to_end};
-use crate::thematic_break::{setext_underline, thematic_break};
 use markdown_base::block_parts::BlockParts;
 use markdown_base::item::Item;
 use markdown_base::options::Options;
 use markdown_base::tree::Tree;
+use markdown_lines::atx_heading::atx_heading;
+use markdown_lines::bytes::{byte_at, bytes_of, content_start, is_white};
+use markdown_lines::fence::opening_fence;
+use markdown_lines::html_kind::html_kind;
+use markdown_lines::line::{Line, line_from};
+use markdown_lines::list_marker::list_marker;
+use markdown_lines::place::{Place, Space, read_space};
+use markdown_lines::thematic_break::{setext_underline, thematic_break};
 use std::alloc::{AllocError, Global};
 
 /// What is left of a line.

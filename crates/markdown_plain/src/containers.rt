@@ -2,16 +2,16 @@
 //! they are opened.
 ghost use Rattle.std.specs.Prelude.{◌≡◌, ◌≤◌, IfOk};
 
-use crate::bytes::{byte_at, content_start, part_of};
-use crate::line::Line;
-use crate::list_marker::ListMarker;
 use crate::pass::{Pass, innermost};
-use crate::place::{Place, Space, read_space};
 use crate::placing::{open_block, open_note, step_to};
 use bitflags::Flags;
 use markdown_base::cow_str::CowStr;
 use markdown_base::item::ItemBody;
 use markdown_base::options::Options;
+use markdown_lines::bytes::{byte_at, content_start, part_of};
+use markdown_lines::line::Line;
+use markdown_lines::list_marker::ListMarker;
+use markdown_lines::place::{Place, Space, read_space};
 use markdown_scan::label::scan_link_label;
 use markdown_scan::line_rule::OneLine;
 use std::alloc::{AllocError, Global};

@@ -1,19 +1,19 @@
 //! Leaf blocks other than paragraphs (CommonMark 4.1 to 4.6): how they are opened, and how they go on.
 ghost use Rattle.std.specs.Prelude.{◌≡◌, IfOk};
 
-use crate::atx_heading::AtxHeading;
-use crate::bytes::{bytes_of, part_of};
-use crate::fence::{Fence, OpeningFence, is_closing_fence};
-use crate::held_line::HeldLine;
-use crate::html_kind::HtmlKind;
-use crate::line::Line;
 use crate::pass::{LeafKind, Pass};
-use crate::place::{Place, read_space};
 use crate::placing::{
     add_inline, add_items, add_owed, add_rule, close, open_block, open_code, step_to,
 };
 use markdown_base::item::ItemBody;
 use markdown_builder::builder::Builder;
+use markdown_lines::atx_heading::AtxHeading;
+use markdown_lines::bytes::{bytes_of, part_of};
+use markdown_lines::fence::{Fence, OpeningFence, is_closing_fence};
+use markdown_lines::held_line::HeldLine;
+use markdown_lines::html_kind::HtmlKind;
+use markdown_lines::line::Line;
+use markdown_lines::place::{Place, read_space};
 use markdown_scan::unescape::unescape;
 use std::alloc::AllocError;
 

@@ -1,18 +1,18 @@
 //! A paragraph: its lines, the breaks between them, and what else it may turn out to be (CommonMark 4.3, 4.7, 4.8).
 ghost use Rattle.std.specs.Prelude.{◌≡◌, IfOk};
 
-use crate::atx_heading::trimmed_length;
-use crate::bytes::{byte_at, bytes_of, content_start};
-use crate::definition::read_definition;
-use crate::held_line::HeldLine;
-use crate::line::Line;
-use crate::line_break::line_break;
 use crate::pass::Pass;
 use crate::placing::{add_definition, add_inline, add_items, close, open_block, step_to};
 use markdown_base::item::ItemBody;
 use markdown_base::options::Options;
 use markdown_base::tag::HeadingLevel;
 use markdown_builder::builder::Builder;
+use markdown_lines::atx_heading::trimmed_length;
+use markdown_lines::bytes::{byte_at, bytes_of, content_start};
+use markdown_lines::definition::read_definition;
+use markdown_lines::held_line::HeldLine;
+use markdown_lines::line::Line;
+use markdown_lines::line_break::line_break;
 use std::alloc::{AllocError, Global};
 
 /// Takes the definition that begins a paragraph's lines. Answers how many lines it takes: none where there is
@@ -63,7 +63,6 @@ fn take_definitions<'a>(
 }
 
 /// Appends a line after which the paragraph goes on, and the break behind it.
-#[tactic(auto, using(crate::proofs::LineBreakLemmas::break_fits))]
 fn add_broken_line(
     builder: &mut Builder<'_>,
     line: HeldLine,

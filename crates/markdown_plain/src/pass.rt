@@ -1,14 +1,14 @@
 //! The state of the block pass between two lines, and the closing of blocks.
 ghost use Rattle.std.specs.Prelude.{◌≡◌, IfOk};
 
-use crate::fence::Fence;
-use crate::held_line::HeldLine;
-use crate::html_kind::HtmlKind;
 use crate::looseness::Looseness;
 use crate::placing::{close, step_to};
 use markdown_base::item::ItemBody;
 use markdown_base::options::Options;
 use markdown_builder::builder::Builder;
+use markdown_lines::fence::Fence;
+use markdown_lines::held_line::HeldLine;
+use markdown_lines::html_kind::HtmlKind;
 use std::alloc::{AllocError, Global};
 
 /// How the code or HTML block that is open goes on.

@@ -4,13 +4,13 @@ ghost use Rattle.std.specs.Prelude.{◌≡◌, ◌≤◌, [], true, length, slic
 ghost use Rattle.std.specs.Str.{IsCharBoundary};
 ghost use Rattle.markdown_builder.specs.Bodies.{is_plain_block, is_settled};
 
-use crate::definition::Definition;
-use crate::line::next_content;
 use markdown_base::cow_str::CowStr;
 use markdown_base::item::ItemBody;
 use markdown_base::options::Options;
 use markdown_builder::builder::Builder;
 use markdown_items::items;
+use markdown_lines::definition::Definition;
+use markdown_lines::line::next_content;
 use std::alloc::AllocError;
 
 /// Whether a place lies ahead, between characters.

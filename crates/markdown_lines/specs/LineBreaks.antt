@@ -1,10 +1,8 @@
 -- What stands between two lines of a paragraph, by the bytes at the first one's end.
-use Rattle.std.specs.Prelude.{◌≡◌, ℕ, ◌-◌, ◌%◌, Bool, true, false, cond, ◌==◌, List, nat_lt, ◌≤◌}
-use Rattle.std.specs.Str.{IsCharBoundary}
+use Rattle.std.specs.Prelude.{◌≡◌, ℕ, ◌-◌, ◌%◌, Bool, true, false, cond, ◌==◌, List, nat_lt}
 use Rattle.markdown_base.specs.declared.item.ItemBody.TheVariants as body
-use Rattle.markdown_builder.specs.Bodies.{is_settled}
-use Rattle.markdown_plain.specs.declared.line_break.LineBreak.{LineBreak}
-use Rattle.markdown_plain.specs.Lines.{is_space_or_tab, IsRunBefore}
+use Rattle.markdown_lines.specs.declared.line_break.LineBreak.{LineBreak}
+use Rattle.markdown_lines.specs.Lines.{is_space_or_tab, IsRunBefore}
 
 -- The break by where the backslashes and the spaces before a line ending begin: a hard one from the last of
 -- an odd number of backslashes on, or from two or more spaces on, else a soft one. Before spaces the text
@@ -26,12 +24,3 @@ pub record IsLineBreak (text : List ℕ) (from stop : ℕ) (between : LineBreak)
   pub content : ℕ
   pub content_run : IsRunBefore is_space_or_tab text from spaces content
   pub value : between ≡ break_after stop backslashes spaces content
-
--- a break behind a line's text, at the end of the line's content
-pub record BreakFits (text : List ℕ) (from stop : ℕ) (between : LineBreak) : Type 0 where
-  pub low : from ≤ between.text_end
-  pub order : between.text_end ≤ between.start
-  pub high : between.start ≤ stop
-  pub text_end : IsCharBoundary text between.text_end
-  pub start : IsCharBoundary text between.start
-  pub body : is_settled between.body ≡ true

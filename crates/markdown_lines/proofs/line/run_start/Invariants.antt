@@ -2,8 +2,8 @@
 use Rattle.std.proofs.Common.{◌≤◌}
 use Rattle.std.specs.Prelude.{◌==◌}
 use Rattle.std.specs.Str.{IsCharBoundary}
-use Rattle.markdown_plain.specs.Lines.{AllPass}
-use Rattle.markdown_plain.proofs.line.run_start.Given as goal
+use Rattle.markdown_lines.specs.Lines.{AllPass}
+use Rattle.markdown_lines.proofs.line.run_start.Given as goal
 
 abbrev pub invariant-run : goal.invariant-run
 invariant-run l = record {

@@ -1,8 +1,8 @@
 -- One more blank byte is passed over.
 use Rattle.std.proofs.Common.{◌≡◌, true, get_or, sym, ◌∙◌}
-use Rattle.markdown_plain.specs.Lines.{is_blank}
-use Rattle.markdown_plain.proofs.LinesLemmas.{AllPass-more, past_ascii, blank_ascii}
-use Rattle.markdown_plain.proofs.line.next_content.Goals as goal
+use Rattle.markdown_lines.specs.Lines.{is_blank}
+use Rattle.markdown_lines.proofs.LinesLemmas.{AllPass-more, past_ascii, blank_ascii}
+use Rattle.markdown_lines.proofs.line.next_content.Goals as goal
 
 pub loop-i-preserved : goal.loop-i-preserved
 loop-i-preserved c =

@@ -1,7 +1,7 @@
 //! The lines of a text: where they end, and where their content begins and ends (CommonMark 2.1, 2.2).
 ghost use Rattle.std.specs.Prelude.{◌≡◌, ◌<◌, ◌≤◌, ◌==◌, length};
 ghost use Rattle.std.specs.Str.{IsCharBoundary};
-ghost use Rattle.markdown_plain.specs.Lines.{is_space_or_tab, is_blank, IsRunBefore, IsNextContent};
+ghost use Rattle.markdown_lines.specs.Lines.{is_space_or_tab, is_blank, IsRunBefore, IsNextContent};
 
 use markdown_scan::line_end::scan_line_ending;
 

@@ -1,6 +1,6 @@
 -- What is left is not longer.
 use Rattle.std.proofs.Common.{◌≤◌, length}
-use Rattle.markdown_plain.proofs.atx_heading.trimmed_length.Given as goal
+use Rattle.markdown_lines.proofs.atx_heading.trimmed_length.Given as goal
 
 abbrev pub invariant-trim : goal.invariant-trim
 invariant-trim l = length l.rest ≤ length l.content

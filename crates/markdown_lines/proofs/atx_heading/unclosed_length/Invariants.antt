@@ -1,6 +1,6 @@
 -- What is left is not longer.
 use Rattle.std.proofs.Common.{◌≤◌, length}
-use Rattle.markdown_plain.proofs.atx_heading.unclosed_length.Given as goal
+use Rattle.markdown_lines.proofs.atx_heading.unclosed_length.Given as goal
 
 abbrev pub invariant-run : goal.invariant-run
 invariant-run l = length l.rest ≤ length l.content

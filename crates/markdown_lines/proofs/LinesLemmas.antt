@@ -4,7 +4,7 @@ use Rattle.std.proofs.lemmas.Bool.{cases_eq}
 use Rattle.std.proofs.lemmas.Bool.Decides.{nat_tests}
 use Rattle.std.proofs.lemmas.Str.{IsCharBoundary-before_ascii, IsCharBoundary-after_ascii}
 use Rattle.std.specs.Str.{IsUtf8, IsCharBoundary}
-use Rattle.markdown_plain.specs.Lines.{is_space_or_tab, is_line_ending, is_blank, AllPass}
+use Rattle.markdown_lines.specs.Lines.{is_space_or_tab, is_line_ending, is_blank, AllPass}
 
 -- spaces, tabs and line endings are ASCII
 pub space_ascii : (byte : ℕ) → is_space_or_tab byte ≡ true → byte < 128

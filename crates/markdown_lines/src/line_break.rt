@@ -1,7 +1,8 @@
 //! What stands between two lines of a paragraph (CommonMark 6.7, 6.8).
-ghost use Rattle.std.specs.Prelude.{◌≤◌};
+ghost use Rattle.std.specs.Prelude.{◌≡◌, ◌≤◌, true};
 ghost use Rattle.std.specs.Str.{IsCharBoundary};
-ghost use Rattle.markdown_plain.specs.LineBreaks.{IsLineBreak};
+ghost use Rattle.markdown_builder.specs.Bodies.{is_settled};
+ghost use Rattle.markdown_lines.specs.LineBreaks.{IsLineBreak};
 
 use crate::line::{content_end, run_start};
 use markdown_base::item::ItemBody;
@@ -20,7 +21,8 @@ pub struct LineBreak {
 pub fn line_break(text: &str, from: usize, stop: usize) -> LineBreak
     requires ordered { from ≤ stop }
     requires boundary { IsCharBoundary text.now stop }
-    ensures { IsLineBreak text.now from stop result }
+    ensures value { IsLineBreak text.now from stop result }
+    ensures settled { is_settled result.body ≡ true }
 {
     let backslashes = run_start(text, from, stop, b'\\');
     if (stop - backslashes) % 2 == 1 {

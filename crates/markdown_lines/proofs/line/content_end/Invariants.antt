@@ -1,8 +1,8 @@
 -- What was passed over going back is spaces and tabs.
 use Rattle.std.proofs.Common.{◌≤◌}
 use Rattle.std.specs.Str.{IsCharBoundary}
-use Rattle.markdown_plain.specs.Lines.{is_space_or_tab, AllPass}
-use Rattle.markdown_plain.proofs.line.content_end.Given as goal
+use Rattle.markdown_lines.specs.Lines.{is_space_or_tab, AllPass}
+use Rattle.markdown_lines.proofs.line.content_end.Given as goal
 
 abbrev pub invariant-trim : goal.invariant-trim
 invariant-trim l = record {
