@@ -13,6 +13,8 @@ mod block_rules;
 #[cfg(test)]
 mod blocks;
 #[cfg(test)]
+mod blocks_of_text;
+#[cfg(test)]
 mod bodies;
 #[cfg(test)]
 mod brackets;
