@@ -23,6 +23,7 @@ pub mod builders;
 mod callbacks;
 #[cfg(test)]
 mod code;
+#[cfg(test)]
 mod line_items;
 #[cfg(test)]
 mod look_ups;
