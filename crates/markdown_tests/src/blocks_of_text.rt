@@ -122,10 +122,10 @@ fn html_blocks(rt: HostRuntime) -> Result<(), Fail> {
             ),
             (
                 "a\n<b>\n",
-                "0 Paragraph 0..6;1 T 0..1;1 SoftBreak 1..2;1 T 2..5;",
+                "0 Paragraph 0..6;1 T 0..1;1 SoftBreak 1..2;1 MaybeHtml 2..3;1 T 3..5;",
             ),
             ("<b>\n", "0 HtmlBlock 0..4;1 Html 0..4;"),
-            ("</pre>", "0 Paragraph 0..6;1 T 0..6;"),
+            ("</pre>", "0 Paragraph 0..6;1 MaybeHtml 0..1;1 T 1..6;"),
         ],
     )
 }
@@ -136,7 +136,10 @@ fn definitions(rt: HostRuntime) -> Result<(), Fail> {
         &rt,
         &[
             ("[test]:\\", "[test]: <\\> \"\" 0..8;"),
-            ("[a]:", "0 Paragraph 0..4;1 T 0..4;"),
+            (
+                "[a]:",
+                "0 Paragraph 0..4;1 MaybeLinkOpen 0..1;1 T 1..2;1 MaybeLinkClose(true) 2..3;1 T 3..4;",
+            ),
             (
                 "[foo]: /url 'a\nb\nc'\n",
                 "[foo]: </url> \"a\nb\nc\" 0..19;",
