@@ -1,2 +1,1 @@
-pub mod LinesLemmas
-pub mod LineBreakLemmas
+-- no lemmas of its own

@@ -1,3 +1,1 @@
--- the lines of a text
-pub mod Lines
-pub mod LineBreaks
+-- no definitions of its own

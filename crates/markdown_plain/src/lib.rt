@@ -1,9 +1,12 @@
-//! The block pass: from a text to the tree of its blocks, with open inline items. Paragraphs for now.
+//! The block pass: from a text to the tree of its blocks, with open inline items.
 #![tactic(auto)]
 
 mod block_pass;
-mod line;
-mod line_break;
+mod containers;
+mod leaves;
+mod looseness;
 mod paragraph;
+mod pass;
+mod placing;
 
 pub use block_pass::blocks;

@@ -1,74 +1,182 @@
-//! A paragraph: its lines, and the breaks between them (CommonMark 4.8).
-ghost use Rattle.std.specs.Prelude.{◌≡◌, ◌<◌, ◌≤◌, [], true, false, length, IfOk};
-ghost use Rattle.std.specs.Str.{IsCharBoundary};
+//! A paragraph: its lines, the breaks between them, and what else it may turn out to be (CommonMark 4.3, 4.7, 4.8).
+ghost use Rattle.std.specs.Prelude.{◌≡◌, IfOk};
 
-use crate::line::{content_end, content_start, is_blank_line, line_from};
-use crate::line_break::line_break;
+use crate::pass::Pass;
+use crate::placing::{add_definition, add_inline, add_items, close, open_block, step_to};
 use markdown_base::item::ItemBody;
 use markdown_base::options::Options;
+use markdown_base::tag::HeadingLevel;
 use markdown_builder::builder::Builder;
-use markdown_items::items;
-use std::alloc::AllocError;
+use markdown_lines::atx_heading::trimmed_length;
+use markdown_lines::bytes::{byte_at, bytes_of, content_start};
+use markdown_lines::definition::read_definition;
+use markdown_lines::held_line::HeldLine;
+use markdown_lines::line::Line;
+use markdown_lines::line_break::line_break;
+use std::alloc::{AllocError, Global};
 
-/// Whether a paragraph ends where its next line would begin: before a blank line, or at the end of the text.
-fn ends_paragraph(text: &str, next: usize) -> bool
-    requires { IsCharBoundary text.now next }
-{
-    next == text.as_bytes().len() || is_blank_line(text, next)
-}
-
-/// Appends the line that goes on here, with the break behind it if the paragraph goes on. Answers whether
-/// it does.
-#[tactic(auto, using(crate::proofs::LineBreakLemmas::break_fits, crate::proofs::LinesLemmas::line_goes_on))]
-fn add_line(builder: &mut Builder<'_>, options: Options) -> Result<bool, AllocError>
-    requires inside { builder.old.leaf ≡ true }
-    requires more { builder.old.at < length builder.old.text }
-    ensures stays { IfOk result (λ _. builder.new ≡ record builder.old { at = builder.new.at; run = builder.new.run }) }
-    ensures past { IfOk result (λ _. builder.old.at < builder.new.at) }
+/// Takes the definition that begins a paragraph's lines. Answers how many lines it takes: none where there is
+/// none.
+fn take_definition<'a>(
+    alloc: Global,
+    builder: &mut Builder<'a>,
+    lines: &[HeldLine],
+) -> Result<usize, AllocError>
+    ensures { IfOk result (λ _. builder.new.text ≡ builder.old.text) }
 {
     let text = builder.text();
-    let from = builder.at();
-    let line = line_from(text, from);
-    if ends_paragraph(text, line.next) {
-        items(builder, content_end(text, from, line.stop), options)?;
-        builder.skip(line.next);
-        return Ok(false);
+    let Some(first) = lines.first() else {
+        return Ok(0);
+    };
+    if byte_at(text, first.start) != Some(b'[') {
+        return Ok(0);
     }
-    let between = line_break(text, from, line.stop);
-    items(builder, between.text_end, options)?;
-    builder.skip(between.start);
-    builder.inline(between.body, line.next)?;
-    builder.skip(content_start(text, line.next));
-    Ok(true)
+    let Some(found) = read_definition(alloc, text, lines, first.start)? else {
+        return Ok(0);
+    };
+    let taken = found.lines;
+    step_to(builder, first.start);
+    add_definition(builder, found)?;
+    Ok(taken)
 }
 
-/// Appends the lines of the paragraph that is open.
-fn add_lines(builder: &mut Builder<'_>, options: Options) -> Result<(), AllocError>
-    requires { builder.old.leaf ≡ true }
-    ensures stays { IfOk result (λ _. builder.new ≡ record builder.old { at = builder.new.at; run = builder.new.run }) }
-    ensures past { IfOk result (λ _. builder.old.at < length builder.old.text → builder.old.at < builder.new.at) }
+/// Takes the definitions at the beginning of a paragraph's lines. Answers how many lines they take.
+fn take_definitions<'a>(
+    alloc: Global,
+    builder: &mut Builder<'a>,
+    lines: &[HeldLine],
+) -> Result<usize, AllocError>
+    ensures { IfOk result (λ _. builder.new.text ≡ builder.old.text) }
 {
-    let end = builder.text().as_bytes().len();
-    'lines: while builder.at() < end {
-        if !add_line(builder, options)? {
+    let mut taken = 0;
+    'definitions: for _ in 0..lines.len() {
+        if taken >= lines.len() {
             break;
+        }
+        let more = take_definition(alloc, builder, &lines[taken..])?;
+        if more == 0 {
+            break;
+        }
+        taken = more.saturating_add(taken);
+    }
+    Ok(taken)
+}
+
+/// Appends a line after which the paragraph goes on, and the break behind it.
+fn add_broken_line(
+    builder: &mut Builder<'_>,
+    line: HeldLine,
+    options: Options,
+) -> Result<(), AllocError>
+    ensures { IfOk result (λ _. builder.new.text ≡ builder.old.text) }
+{
+    let text = builder.text();
+    if line.stop < line.start || !text.is_char_boundary(line.stop) {
+        return Ok(());
+    }
+    let between = line_break(text, line.start, line.stop);
+    add_items(builder, between.text_end, options)?;
+    step_to(builder, between.start);
+    add_inline(builder, between.body, line.next)
+}
+
+/// Appends the last line.
+fn add_last_line(
+    builder: &mut Builder<'_>,
+    line: HeldLine,
+    options: Options,
+) -> Result<(), AllocError>
+    ensures { IfOk result (λ _. builder.new.text ≡ builder.old.text) }
+{
+    let content = bytes_of(builder.text(), line.start, line.stop);
+    let end = line.start.saturating_add(trimmed_length(content));
+    add_items(builder, end, options)?;
+    step_to(builder, line.next);
+    Ok(())
+}
+
+/// Appends the lines from a number on of the paragraph or heading that is open.
+fn add_lines(
+    builder: &mut Builder<'_>,
+    lines: &[HeldLine],
+    from: usize,
+    options: Options,
+) -> Result<(), AllocError>
+    ensures { IfOk result (λ _. builder.new.text ≡ builder.old.text) }
+{
+    'lines: for number in from..lines.len() {
+        let line = lines[number];
+        step_to(builder, line.start);
+        if number == lines.len() - 1 {
+            add_last_line(builder, line, options)?;
+        } else {
+            add_broken_line(builder, line, options)?;
         }
     }
     Ok(())
 }
 
-/// Appends the paragraph that begins here.
-pub fn add_paragraph(builder: &mut Builder<'_>, options: Options) -> Result<(), AllocError>
-    requires closed { builder.old.blocks ≡ [] }
-    requires outside { builder.old.leaf ≡ false }
-    requires more { builder.old.at < length builder.old.text }
-    ensures text { IfOk result (λ _. builder.new.text ≡ builder.old.text) }
-    ensures closed { IfOk result (λ _. builder.new.blocks ≡ []) }
-    ensures outside { IfOk result (λ _. builder.new.leaf ≡ false) }
-    ensures past { IfOk result (λ _. builder.old.at < builder.new.at) }
+/// Places lines from a number on as a paragraph, or as a heading that ends with the line of its underline.
+fn place_paragraph(
+    builder: &mut Builder<'_>,
+    lines: &[HeldLine],
+    from: usize,
+    heading: Option<(HeadingLevel, Line)>,
+    options: Options,
+) -> Result<(), AllocError>
+    ensures { IfOk result (λ _. builder.new.text ≡ builder.old.text) }
 {
-    builder.open(ItemBody::Paragraph)?;
-    add_lines(builder, options)?;
-    builder.close();
+    if let Some(first) = lines.get(from) {
+        step_to(builder, first.start);
+    }
+    match heading {
+        Some((level, underline)) => {
+            open_block(builder, ItemBody::Heading(level, None))?;
+            add_lines(builder, lines, from, options)?;
+            step_to(builder, underline.next);
+        }
+        None => {
+            open_block(builder, ItemBody::Paragraph)?;
+            add_lines(builder, lines, from, options)?;
+        }
+    }
+    close(builder);
     Ok(())
+}
+
+impl<'a> Pass<'a> {
+    /// Begins a paragraph with what is left of a line, where the blocks outside it are so many of those that
+    /// are open; or goes on with the one that is open.
+    pub fn add_text(&mut self, line: Line, at: usize, depth: usize) -> Result<(), AllocError>
+        ensures { IfOk result (λ _. self.new.builder.text ≡ self.old.builder.text) }
+    {
+        if !self.has_paragraph() {
+            self.make_room(depth)?;
+        }
+        let held = HeldLine {
+            start: content_start(self.builder.text(), at, line.stop),
+            stop: line.stop,
+            next: line.next,
+            owed: 0,
+        };
+        self.lines.push(held)?;
+        Ok(())
+    }
+
+    /// Ends the open paragraph, or makes it a heading that ends with the line of its underline. Answers
+    /// whether it had more than definitions.
+    pub fn end_paragraph(
+        &mut self,
+        heading: Option<(HeadingLevel, Line)>,
+    ) -> Result<bool, AllocError>
+        ensures { IfOk result (λ _. self.new.builder.text ≡ self.old.builder.text) }
+    {
+        let taken = take_definitions(self.alloc, &mut self.builder, &self.lines)?;
+        let left = taken < self.lines.len();
+        if left {
+            place_paragraph(&mut self.builder, &self.lines, taken, heading, self.options)?;
+        }
+        self.lines.clear();
+        Ok(left)
+    }
 }

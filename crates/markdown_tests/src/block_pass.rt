@@ -48,7 +48,7 @@ fn paragraphs(rt: HostRuntime) -> Result<(), Fail> {
         ("", ""),
         (" \t\r\n\n  \r \t", ""),
         ("hello world", "0 Paragraph 0..11;1 Text 0..11;"),
-        (" \t hello \t\n", "0 Paragraph 3..11;1 Text 3..8;"),
+        ("  hello \t\n", "0 Paragraph 2..10;1 Text 2..7;"),
         ("é\n", "0 Paragraph 0..3;1 Text 0..2;"),
         (
             "a\n  \t\nb",

@@ -13,10 +13,16 @@ mod block_rules;
 #[cfg(test)]
 mod blocks;
 #[cfg(test)]
+mod blocks_of_text;
+#[cfg(test)]
 mod bodies;
+#[cfg(test)]
+mod brackets;
 pub mod builders;
 #[cfg(test)]
 mod callbacks;
+#[cfg(test)]
+mod code;
 #[cfg(test)]
 mod line_items;
 #[cfg(test)]

@@ -1,0 +1,10 @@
+pub mod SeparatorLemmas
+pub mod TitleLemmas
+pub mod ReferenceLemmas
+pub mod LookupLemmas
+pub mod LookupLawsLemmas
+pub mod OpenerLemmas
+pub mod LeftListLemmas
+-- worked rows
+pub mod TailRows
+pub mod ReferenceRows

@@ -1,0 +1,154 @@
+-- A stack of openers as the list for which it stands.
+use Rattle.std.proofs.Common.{◌≡◌, ℕ, suc, zero, ◌+◌, ◌-◌, ◌<◌, ◌≤◌, Bool, true, false, ◌&&◌, List, [], ◌∷◌, ◌++◌, length, get_or, take, map, min, cond, nat_le, arith, refl, sym, ◌∙◌, ap, reverse, subst}
+use Rattle.std.proofs.lemmas.Bool.{leb-true}
+use Rattle.std.proofs.lemmas.Bool.Decides.{nat_tests}
+use Rattle.std.proofs.lemmas.List.{reverse-append, map-append, take_more}
+use Rattle.markdown_brackets.specs.Openers.{Waiting, live, disabled, before}
+use Rattle.markdown_brackets.specs.OpenerStack.{marked, waiting}
+use Rattle.markdown_brackets.specs.declared.openers.Opener.{Opener}
+
+-- reversed, one more stands in front
+pub reverse-snoc : {A : Type 0} (xs : List A) (x : A) → reverse (xs ++ x ∷ []) ≡ x ∷ reverse xs
+reverse-snoc xs x = reverse-append xs (x ∷ [])
+
+pub map-reverse : {A B : Type 0} (f : A → B) (xs : List A) → map f (reverse xs) ≡ reverse (map f xs)
+map-reverse f [] = refl
+map-reverse f (x ∷ xs) =
+    ap (map f) (reverse-append (x ∷ []) xs) ∙ map-append f (reverse xs) (x ∷ [])
+    ∙ ap (λ ys. ys ++ f x ∷ []) (map-reverse f xs) ∙ sym (reverse-append (f x ∷ []) (map f xs))
+
+-- one more, which is not disabled
+marked_live : (n : ℕ) (openers : List Opener) (o : Opener) → n ≤ length openers → marked n (openers ++ o ∷ []) ≡ marked n openers ++ live o ∷ []
+marked_live zero [] o h = refl
+marked_live (suc n) [] o h = absurd (omega arith)
+marked_live zero (x ∷ openers) o h = ap (λ ws. live x ∷ ws) (marked_live zero openers o (omega arith))
+marked_live (suc n) (x ∷ openers) o h = ap (λ ws. disabled (live x) ∷ ws) (marked_live n openers o (omega arith))
+
+pub waiting_live : (n : ℕ) (openers : List Opener) (o : Opener) → n ≤ length openers → waiting n (openers ++ o ∷ []) ≡ live o ∷ waiting n openers
+waiting_live n openers o h = ap reverse (marked_live n openers o h) ∙ reverse-snoc (marked n openers) (live o)
+
+-- one more, which is
+marked_disabled : (openers : List Opener) (o : Opener) → marked (suc (length openers)) (openers ++ o ∷ []) ≡ marked (length openers) openers ++ disabled (live o) ∷ []
+marked_disabled [] o = refl
+marked_disabled (x ∷ openers) o = ap (λ ws. disabled (live x) ∷ ws) (marked_disabled openers o)
+
+pub waiting_disabled : (openers : List Opener) (o : Opener) → waiting (suc (length openers)) (openers ++ o ∷ []) ≡ disabled (live o) ∷ waiting (length openers) openers
+waiting_disabled openers o = ap reverse (marked_disabled openers o) ∙ reverse-snoc (marked (length openers) openers) (disabled (live o))
+
+-- one more
+pub record Last (n : ℕ) (openers : List Opener) (o : Opener) : Type 0 where
+  pub last : Waiting
+  pub is_it : last.opener ≡ o
+  pub stands : waiting n (openers ++ o ∷ []) ≡ last ∷ waiting n openers
+
+record MarkedLast (n : ℕ) (openers : List Opener) (o : Opener) : Type 0 where
+  last : Waiting
+  is_it : last.opener ≡ o
+  stands : marked n (openers ++ o ∷ []) ≡ marked n openers ++ last ∷ []
+
+marked_last : (n : ℕ) (openers : List Opener) (o : Opener) → MarkedLast n openers o
+marked_last zero [] o = record { last = live o; is_it = refl; stands = refl }
+marked_last (suc n) [] o = record { last = disabled (live o); is_it = refl; stands = refl }
+marked_last zero (x ∷ openers) o =
+    let rest = marked_last zero openers o in
+    record { last = rest.last; is_it = rest.is_it; stands = ap (λ ws. live x ∷ ws) rest.stands }
+marked_last (suc n) (x ∷ openers) o =
+    let rest = marked_last n openers o in
+    record { last = rest.last; is_it = rest.is_it; stands = ap (λ ws. disabled (live x) ∷ ws) rest.stands }
+
+pub waiting_last : (n : ℕ) (openers : List Opener) (o : Opener) → Last n openers o
+waiting_last n openers o =
+    let m = marked_last n openers o in
+    record { last = m.last; is_it = m.is_it; stands = ap reverse m.stands ∙ reverse-snoc (marked n openers) m.last }
+
+-- to disable twice is to disable once
+disabled_twice : (o : Opener) → disabled (disabled (live o)) ≡ disabled (live o)
+disabled_twice o = ap (λ b. record { opener = o; is_live = b }) (twice o.is_image)
+  where
+    twice : (b : Bool) → (b && (b && true)) ≡ (b && true)
+    twice true = refl
+    twice false = refl
+
+marked_all : (n : ℕ) (openers : List Opener) → marked (length openers) openers ≡ map disabled (marked n openers)
+marked_all n [] = refl
+marked_all zero (x ∷ openers) = ap (λ ws. disabled (live x) ∷ ws) (marked_all zero openers)
+marked_all (suc n) (x ∷ openers) = ap (λ w. w ∷ marked (length openers) openers) (sym (disabled_twice x)) ∙ ap (λ ws. disabled (disabled (live x)) ∷ ws) (marked_all n openers)
+
+-- all are disabled
+pub waiting_all : (n : ℕ) (openers : List Opener) → waiting (length openers) openers ≡ map disabled (waiting n openers)
+waiting_all n openers = ap reverse (marked_all n openers) ∙ sym (map-reverse disabled (marked n openers))
+
+-- more than there are cannot be disabled
+marked_past : (n : ℕ) (openers : List Opener) → length openers ≤ n → marked n openers ≡ marked (length openers) openers
+marked_past n [] h = refl
+marked_past zero (x ∷ openers) h = absurd (omega arith)
+marked_past (suc n) (x ∷ openers) h = ap (λ ws. disabled (live x) ∷ ws) (marked_past n openers (omega arith))
+
+pub waiting_past : (n : ℕ) (openers : List Opener) → length openers ≤ n → waiting n openers ≡ waiting (length openers) openers
+waiting_past n openers h = ap reverse (marked_past n openers h)
+
+-- a nearest one whose number is this one or greater goes
+pub before_goes : (node n : ℕ) (openers : List Opener) (o : Opener) → nat_le node o.node ≡ true → before node (waiting n (openers ++ o ∷ [])) ≡ before node (waiting n openers)
+before_goes node n openers o e =
+    let l = waiting_last n openers o in
+    let test : nat_le node l.last.opener.node ≡ true = ap (λ p. nat_le node p.node) l.is_it ∙ e in
+    ap (before node) l.stands ∙ ap (λ b. cond b (before node (waiting n openers)) (l.last ∷ waiting n openers)) test
+
+-- one whose number is smaller stays
+pub before_stays : (node n : ℕ) (openers : List Opener) (o : Opener) → nat_le node o.node ≡ false → before node (waiting n (openers ++ o ∷ [])) ≡ waiting n (openers ++ o ∷ [])
+before_stays node n openers o e =
+    let l = waiting_last n openers o in
+    let test : nat_le node l.last.opener.node ≡ false = ap (λ p. nat_le node p.node) l.is_it ∙ e in
+    ap (before node) l.stands ∙ ap (λ b. cond b (before node (waiting n openers)) (l.last ∷ waiting n openers)) test ∙ sym l.stands
+
+and_true : (b : Bool) → (b && true) ≡ b
+and_true true = refl
+and_true false = refl
+
+-- the last one of all, where all are disabled
+pub waiting_image : (openers : List Opener) (o : Opener) → waiting (suc (length openers)) (openers ++ o ∷ []) ≡ record { opener = o; is_live = o.is_image } ∷ waiting (length openers) openers
+waiting_image openers o = waiting_disabled openers o ∙ ap (λ b. record { opener = o; is_live = b } ∷ waiting (length openers) openers) (and_true o.is_image)
+
+le_true : (a b : ℕ) → a ≤ b → nat_le a b ≡ true
+le_true a b h = grind (arith, nat_tests)
+
+lt_false : (a b : ℕ) → b < a → nat_le a b ≡ false
+lt_false a b h = grind (arith, nat_tests)
+
+-- of the first k + 1 openers the last goes
+pub last_goes : (node n k : ℕ) (openers : List Opener) (d : Opener) → k < length openers → node ≤ (get_or openers k d).node → before node (waiting n (take (k + 1) openers)) ≡ before node (waiting n (take k openers))
+last_goes node n k openers d h le = rw (take_more openers k d h) (before_goes node n (take k openers) (get_or openers k d) (le_true node (get_or openers k d).node le))
+
+-- or it stays, and all before it
+pub last_stays : (node n k : ℕ) (openers : List Opener) (d : Opener) → k < length openers → (get_or openers k d).node < node → before node (waiting n (take (k + 1) openers)) ≡ waiting n (take (k + 1) openers)
+last_stays node n k openers d h lt = rw (take_more openers k d h) (before_stays node n (take k openers) (get_or openers k d) (lt_false node (get_or openers k d).node lt))
+
+past_of : (a b : ℕ) → nat_le a b ≡ false → b ≤ a
+past_of a b e = grind (arith, nat_tests)
+
+-- no more are disabled than there are
+pub waiting_min : (n : ℕ) (openers : List Opener) → waiting n openers ≡ waiting (min n (length openers)) openers
+waiting_min n openers = cases (nat_le n (length openers)) refl
+  where
+    cases : (b : Bool) → nat_le n (length openers) ≡ b → waiting n openers ≡ waiting (min n (length openers)) openers
+    cases true e =
+        let le : n ≤ length openers = leb-true n (length openers) e in
+        let same : n ≡ min n (length openers) = omega arith in
+        ap (λ m. waiting m openers) same
+    cases false e =
+        let past = past_of n (length openers) e in
+        let same : length openers ≡ min n (length openers) = omega arith in
+        waiting_past n openers past ∙ ap (λ m. waiting m openers) same
+
+-- the last of so many goes, or stays
+pub nearest_goes : (node n left : ℕ) (openers : List Opener) (d : Opener) → 0 < left → left ≤ length openers → node ≤ (get_or openers (left - 1) d).node → before node (waiting n (take left openers)) ≡ before node (waiting n (take (left - 1) openers))
+nearest_goes node n left openers d some within le =
+    let P : ℕ → Type 0 = λ m. before node (waiting n (take m openers)) ≡ before node (waiting n (take (left - 1) openers)) in
+    let same : left - 1 + 1 ≡ left = omega arith in
+    subst P same (last_goes node n (left - 1) openers d (omega arith) le)
+
+pub nearest_stays : (node n left : ℕ) (openers : List Opener) (d : Opener) → 0 < left → left ≤ length openers → (get_or openers (left - 1) d).node < node → before node (waiting n (take left openers)) ≡ waiting n (take left openers)
+nearest_stays node n left openers d some within lt =
+    let P : ℕ → Type 0 = λ m. before node (waiting n (take m openers)) ≡ waiting n (take m openers) in
+    let same : left - 1 + 1 ≡ left = omega arith in
+    subst P same (last_stays node n (left - 1) openers d (omega arith) lt)

@@ -1,0 +1,48 @@
+-- The tail of an inline link (CommonMark 6.3): what stands after its `]`, `(destination "title")`. `skipped` says how
+-- many bytes of what follows a line ending are its line's prefix; `starts` gives, of a byte, the start of the first
+-- item after the `]` whose end is past it.
+use Rattle.std.specs.Prelude.{ℕ, ◌+◌, Bool, false, ◌==◌, List, [], Option, Some, None, if◌then◌else◌, drop, slice_index}
+use Rattle.markdown_scan.specs.Destination.{destination}
+use Rattle.markdown_brackets.specs.LinkTitle.{Title, title_at}
+use Rattle.markdown_brackets.specs.Separator.{separator}
+
+-- the byte after the `)`; the destination and the title as they are written; whether lines of the title were joined
+pub record LinkTail : Type 0 where
+  pub ends : ℕ
+  pub destination : List ℕ
+  pub title : List ℕ
+  pub is_joined : Bool
+
+-- no more than so many parentheses may be open in a destination where another one is opened
+abbrev pub max_nesting : ℕ
+max_nesting = 32
+
+-- the byte after the separator that stands at byte i
+abbrev pub past_separator : (List ℕ → Option ℕ) → List ℕ → ℕ → ℕ
+past_separator skipped text i = i + separator skipped (drop i text)
+
+-- a `)` at byte i closes it
+abbrev pub closed_at : List ℕ → ℕ → List ℕ → List ℕ → Bool → Option LinkTail
+closed_at text i written title is_joined =
+    if slice_index text i == 41
+    then Some (record { ends = i + 1; destination = written; title = title; is_joined = is_joined })
+    else None
+
+-- after the destination and the separator up to byte i, with the title that stands there, if any
+abbrev pub after_title : (List ℕ → Option ℕ) → List ℕ → ℕ → List ℕ → Option Title → Option LinkTail
+after_title skipped text i written None = closed_at text i written [] false
+after_title skipped text i written (Some t) = closed_at text (past_separator skipped text t.ends) written t.text t.is_joined
+
+-- after the destination that stands at byte i
+abbrev pub after_destination : (List ℕ → Option ℕ) → (ℕ → Option ℕ) → List ℕ → ℕ → Option (ℕ × List ℕ) → Option LinkTail
+after_destination skipped starts text i None = None
+after_destination skipped starts text i (Some d) =
+    let next = past_separator skipped text (i + d.0) in
+    after_title skipped text next d.1 (title_at starts text next)
+
+-- the tail that stands at a byte of the text
+abbrev pub link_tail : (List ℕ → Option ℕ) → (ℕ → Option ℕ) → List ℕ → ℕ → Option LinkTail
+link_tail skipped starts text at =
+    if slice_index text at == 40
+    then (let i = past_separator skipped text (at + 1) in after_destination skipped starts text i (destination max_nesting (drop i text)))
+    else None

@@ -1,0 +1,31 @@
+-- What contracts see of labels, and of the form of a reference.
+use Rattle.std.specs.Prelude.{◌≡◌, ℕ, ◌-◌, Bool, true, false, List, slice_range, take}
+use Rattle.markdown_base.specs.CowText.{text_of, IsBorrowed}
+use Rattle.markdown_brackets.specs.Reference as def
+use Rattle.markdown_brackets.specs.declared.reference.Form.{Form}
+use Rattle.markdown_brackets.specs.declared.reference.Form.TheVariants.{Reference, Collapsed, Shortcut}
+use Rattle.markdown_brackets.specs.declared.reference.FoundLabel.{FoundLabel}
+
+-- a label by the bytes of its text
+abbrev pub label_view : FoundLabel → def.FoundLabel
+label_view l = record { is_footnote = l.is_footnote; length = l.length; name = text_of l.name }
+
+-- its text is a slice of the source, where it is what stands in these bytes, which are those after the first `before`
+-- bytes of the label
+abbrev pub BorrowsLabel : ℕ → List ℕ → FoundLabel → Type 0
+BorrowsLabel before bytes l = text_of l.name ≡ take (l.length - before - 1) bytes → IsBorrowed l.name
+
+-- where the name of a label begins
+abbrev pub name_start : Bool → ℕ
+name_start true = 2
+name_start false = 1
+
+-- its text is a slice of the source, where it is what the label has between its brackets
+abbrev pub BorrowsName : List ℕ → FoundLabel → Type 0
+BorrowsName text l = text_of l.name ≡ slice_range text (name_start l.is_footnote) (l.length - 1) → IsBorrowed l.name
+
+-- a form by the bytes of its label
+abbrev pub form_view : Form → def.Form
+form_view (Reference label end) = def.reference (text_of label) end
+form_view Collapsed = def.collapsed
+form_view Shortcut = def.shortcut

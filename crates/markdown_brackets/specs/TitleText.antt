@@ -1,0 +1,7 @@
+-- The text of a title while it is read.
+use Rattle.std.specs.Prelude.{ℕ, List, ◌++◌, slice_range, string_bytes}
+use Rattle.markdown_brackets.specs.declared.title_text.TitleText.{TitleText}
+
+-- the text of a title up to a byte, as it is written
+abbrev pub so_far : TitleText → ℕ → List ℕ
+so_far t at = string_bytes t.joined ++ slice_range t.text.now t.from at

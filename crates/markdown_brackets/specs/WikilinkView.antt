@@ -1,0 +1,16 @@
+-- What contracts see of a wikilink's body.
+use Rattle.markdown_brackets.specs.Wikilink as body
+use Rattle.markdown_brackets.specs.Wikilink.{Shows, shows_name, shows_nothing, shows_from}
+use Rattle.markdown_brackets.specs.declared.wikilink.Shown.{Shown}
+use Rattle.markdown_brackets.specs.declared.wikilink.Shown.TheVariants.{Name, Nothing, From}
+use Rattle.markdown_brackets.specs.declared.wikilink.WikilinkBody.{WikilinkBody}
+
+-- what it shows
+abbrev pub shown_view : Shown → Shows
+shown_view Name = shows_name
+shown_view (Nothing at) = shows_nothing at
+shown_view (From at) = shows_from at
+
+-- its name by its bytes
+abbrev pub body_view : WikilinkBody → body.WikilinkBody
+body_view b = record { name = b.name.now; shows = shown_view b.shown }

@@ -1,0 +1,17 @@
+//! What a closing bracket finds, as far as it is no matter of the tree: the tail of an inline link, labels and the form
+//! of a reference, look-ups, footnotes, the body of a wikilink, and the openers that wait.
+#![tactic(auto)]
+
+mod byte_at;
+pub mod chain_openers;
+pub mod footnote;
+pub mod items_after;
+pub mod laws;
+pub mod link_tail;
+pub mod link_title;
+pub mod look_up;
+pub mod openers;
+pub mod reference;
+pub mod separator;
+mod title_text;
+pub mod wikilink;

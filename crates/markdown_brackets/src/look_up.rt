@@ -1,0 +1,184 @@
+//! Look-ups of link labels, and questions about those that are defined nowhere.
+ghost use Rattle.std.specs.Prelude.{◌≡◌, ◌-◌, IfErr, IfOk, IfSome, OnErr, is_some, unwrap_or, length, []};
+ghost use Rattle.std.specs.Option.{option_map};
+ghost use Rattle.markdown_base.specs.BlockParts.{definition_view};
+ghost use Rattle.markdown_base.specs.CowText.{text_of};
+ghost use Rattle.markdown_base.specs.declared.fault.Fault.{Fault};
+ghost use Rattle.markdown_spans.specs.Callback.{answer_of};
+ghost use Rattle.markdown_brackets.specs.Lookup as lookup;
+ghost use Rattle.markdown_brackets.specs.LookupView.{target_view, target_by, FindsTarget, IsAnswered, LooksUp};
+
+use markdown_base::block_parts::LinkDef;
+use markdown_base::cow_str::CowStr;
+use markdown_base::fault::Fault;
+use markdown_base::tag::LinkType;
+use markdown_spans::defs::{BrokenLink, BrokenLinkCallback, RefDefs};
+use std::alloc::Global;
+use std::ops::Range;
+
+/// Where a link leads.
+#[derive(Debug, Drop)]
+pub struct Target<'a> {
+    pub link_type: LinkType,
+    pub destination: CowStr<'a>,
+    /// Empty where there is none.
+    pub title: CowStr<'a>,
+    /// The link label.
+    pub id: CowStr<'a>,
+}
+
+// The type of a link whose label a callback knew.
+fn unknown(link_type: LinkType) -> LinkType
+    ensures { result ≡ lookup.unknown link_type }
+{
+    match link_type {
+        LinkType::Reference => LinkType::ReferenceUnknown,
+        LinkType::Collapsed => LinkType::CollapsedUnknown,
+        LinkType::Shortcut => LinkType::ShortcutUnknown,
+        other => other,
+    }
+}
+
+fn title_or_empty(title: Option<CowStr<'_>>) -> CowStr<'_>
+    ensures { text_of result ≡ unwrap_or (option_map text_of title.entry) [] }
+{
+    match title {
+        Some(title) => title,
+        None => CowStr::Borrowed(""),
+    }
+}
+
+// The link to a definition.
+fn defined_target<'a>(
+    alloc: Global,
+    definition: &LinkDef<'a>,
+    link_type: LinkType,
+    id: CowStr<'a>,
+) -> Result<Target<'a>, Fault>
+    ensures value { IfOk result (λ t.
+        target_view t ≡ lookup.defined_target link_type (definition_view definition.now) (text_of id.entry)) }
+    ensures refused { IfErr result (λ fault. fault ≡ Fault.Memory) }
+{
+    let copy = definition.try_clone(alloc)?;
+    Ok(Target {
+        link_type,
+        destination: copy.dest,
+        title: title_or_empty(copy.title),
+        id,
+    })
+}
+
+// The link that an answer gives.
+fn answered_target<'a>(
+    answer: Option<(CowStr<'a>, CowStr<'a>)>,
+    link_type: LinkType,
+    id: CowStr<'a>,
+) -> Option<Target<'a>>
+    ensures { (span : _) → option_map target_view result ≡ target_by (record { span = span; link_type = link_type; reference = text_of id.entry }) (answer_of answer.entry) }
+{
+    match answer {
+        Some((destination, title)) => Some(Target {
+            link_type: unknown(link_type),
+            destination,
+            title,
+            id,
+        }),
+        None => {
+            drop(id);
+            None
+        }
+    }
+}
+
+// What a callback, if there is one, answers about a label that is defined nowhere.
+fn ask<'a, F: BrokenLinkCallback<'a>>(
+    alloc: Global,
+    callback: &mut Option<F>,
+    span: Range<usize>,
+    link_type: LinkType,
+    id: CowStr<'a>,
+) -> Result<Option<Target<'a>>, Fault>
+    requires { IfSome callback.old F.can_ask }
+    ensures answered { IfOk result (λ target.
+        IsAnswered F.answers (record { span = span; link_type = link_type; reference = text_of id.entry }) callback.old callback.new (option_map target_view target)) }
+    ensures again { IfSome callback.new F.can_ask }
+    ensures refused { IfErr result (λ fault. fault ≡ Fault.Memory) }
+    ensures unchanged { OnErr result (callback.new ≡ callback.old) }
+{
+    let Some(callback) = callback else {
+        drop(id);
+        return Ok(None);
+    };
+    let reference = id.try_clone(alloc)?;
+    let answer = callback.handle_broken_link(BrokenLink {
+        span,
+        link_type,
+        reference,
+    });
+    Ok(answered_target(answer, link_type, id))
+}
+
+// What the label finds: its definition, or what is answered about it.
+fn find_target<'a, F: BrokenLinkCallback<'a>>(
+    alloc: Global,
+    definitions: &RefDefs<'a>,
+    callback: &mut Option<F>,
+    span: Range<usize>,
+    link_type: LinkType,
+    label: CowStr<'a>,
+) -> Result<Option<Target<'a>>, Fault>
+    requires { IfSome callback.old F.can_ask }
+    ensures finds { IfOk result (λ target.
+        FindsTarget F.answers definitions.now (record { span = span; link_type = link_type; reference = text_of label.entry }) callback.old callback.new (option_map target_view target)) }
+    ensures again { IfSome callback.new F.can_ask }
+    ensures refused { IfErr result (λ fault. fault ≡ Fault.Memory) }
+    ensures unchanged { OnErr result (callback.new ≡ callback.old) }
+{
+    match definitions.get(label.as_str())? {
+        Some(definition) => Ok(Some(defined_target(alloc, definition, link_type, label)?)),
+        None => ask(alloc, callback, span, link_type, label),
+    }
+}
+
+// What is left of the limit after a link, if there is one.
+fn limit_after(limit: usize, target: &Option<Target<'_>>) -> usize
+    ensures { result ≡ lookup.limit_after limit (option_map target_view target.now) }
+{
+    match target {
+        None => limit,
+        Some(target) => limit
+            .saturating_sub(target.destination.as_str().as_bytes().len())
+            .saturating_sub(target.title.as_str().as_bytes().len()),
+    }
+}
+
+/// The look-up of a link label, which stands over the bytes `span` in the form `link_type`. At a limit of 0 nothing is
+/// found, and nothing asked. Else the definition of equal case folding is found, or, where there is none and there is a
+/// callback, it is asked once. What is found takes the bytes of its destination and title off the limit, but not below
+/// 0. The only error is `Fault::Memory`; then nothing was asked, and the limit is as it was.
+pub fn look_up_label<'a, F: BrokenLinkCallback<'a>>(
+    alloc: Global,
+    definitions: &RefDefs<'a>,
+    callback: &mut Option<F>,
+    limit: &mut usize,
+    span: Range<usize>,
+    link_type: LinkType,
+    label: CowStr<'a>,
+) -> Result<Option<Target<'a>>, Fault>
+    requires { IfSome callback.old F.can_ask }
+    ensures looks_up { IfOk result (λ target.
+        LooksUp F.answers definitions.now (is_some callback.old) (record { span = span; link_type = link_type; reference = text_of label.entry }) limit.old limit.new callback.old callback.new (option_map target_view target)) }
+
+    ensures again { IfSome callback.new F.can_ask }
+    ensures refused { IfErr result (λ fault. fault ≡ Fault.Memory) }
+    ensures nothing_asked { OnErr result (callback.new ≡ callback.old) }
+    ensures nothing_taken { OnErr result (limit.new ≡ limit.old) }
+{
+    if *limit == 0 {
+        drop(label);
+        return Ok(None);
+    }
+    let target = find_target(alloc, definitions, callback, span, link_type, label)?;
+    *limit = limit_after(*limit, &target);
+    Ok(target)
+}

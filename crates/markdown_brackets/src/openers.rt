@@ -1,0 +1,115 @@
+//! The openers that wait for a `]`.
+ghost use Rattle.std.specs.Prelude.{◌≡◌, ◌≤◌, ℕ, length, take};
+ghost use Rattle.markdown_brackets.specs.Openers.{before};
+ghost use Rattle.markdown_brackets.specs.OpenerStack.{waiting};
+
+use markdown_base::fault::Fault;
+use std::alloc::Global;
+use std::marker::Model;
+
+/// An opener: the number of its node, and whether it is an image's.
+#[derive(Clone, Copy, Debug, PartialEq, Eq, Drop)]
+pub struct Opener {
+    pub node: usize,
+    pub is_image: bool,
+}
+
+/// Openers that wait, and which of them may still become links. Its memory is kept when it is emptied.
+#[derive(Drop)]
+pub struct OpenerStack {
+    /// In the order in which they were met.
+    openers: Vec<Opener>,
+    /// A `[` before this place may become no link any more: one number, so that no link has to go through the stack.
+    live_from: usize,
+}
+
+// How many openers stand before the nearest ones whose numbers are this one or greater.
+fn count_before(openers: &[Opener], node: usize) -> usize
+    ensures within { result ≤ length openers.now }
+    ensures value { (n : ℕ) → before node (waiting n openers.now) ≡ waiting n (take result openers.now) }
+{
+    let mut left = openers.len();
+    'openers: while left > 0 {
+        if openers[left - 1].node < node {
+            return left;
+        }
+        left -= 1;
+    }
+    0
+}
+
+impl Model for OpenerStack {
+    ghost use Rattle.std.specs.Prelude.{List, length, ◌≤◌};
+    ghost use Rattle.markdown_brackets.specs.Openers.{Waiting};
+    ghost use Rattle.markdown_brackets.specs.OpenerStack.{waiting};
+
+    ghost Value = { List Waiting };
+
+    ghost view = { λ s. waiting s.live_from s.openers.items };
+
+    ghost invariant = { λ s. s.live_from ≤ length s.openers.items };
+}
+
+impl OpenerStack {
+    ghost use Rattle.std.specs.Prelude.{◌≡◌, ◌∷◌, [], map, OnOk, OnErr, IfErr, MatchOption};
+    ghost use Rattle.markdown_base.specs.declared.fault.Fault.{Fault};
+    ghost use Rattle.markdown_brackets.specs.Openers.{live, disabled, before};
+
+    /// No openers.
+    pub fn new(alloc: Global) -> OpenerStack
+        ensures { result ≡ [] }
+    {
+        OpenerStack {
+            openers: Vec::new(alloc),
+            live_from: 0,
+        }
+    }
+
+    /// One more, the nearest. The only error is `Fault::Memory`; then nothing has changed.
+    pub fn push(&mut self, opener: Opener) -> Result<(), Fault>
+        ensures put { OnOk result (self.new ≡ live opener ∷ self.old) }
+        ensures refused { IfErr result (λ fault. fault ≡ Fault.Memory) }
+        ensures unchanged { OnErr result (self.new ≡ self.old) }
+    {
+        self.openers.push(opener)?;
+        Ok(())
+    }
+
+    /// Takes the nearest off, and tells whether it may still become a link.
+    pub fn take_nearest(&mut self) -> Option<(Opener, bool)>
+        ensures { MatchOption result ((self.old ≡ []) × (self.new ≡ []))
+            (λ taken. self.old ≡ record { opener = taken.0; is_live = taken.1 } ∷ self.new) }
+    {
+        let opener = self.openers.pop()?;
+        let left = self.openers.len();
+        if self.live_from <= left {
+            return Some((opener, true));
+        }
+        self.live_from = left;
+        Some((opener, opener.is_image))
+    }
+
+    /// Each `[` may become no link any more.
+    pub fn disable_brackets(&mut self)
+        ensures { self.new ≡ map disabled self.old }
+    {
+        self.live_from = self.openers.len();
+    }
+
+    /// Takes off the nearest ones, as far as their numbers are this one or greater.
+    pub fn drop_from(&mut self, node: usize)
+        ensures { self.new ≡ before node self.old }
+    {
+        let left = count_before(&self.openers, node);
+        self.openers.truncate(left);
+        self.live_from = self.live_from.min(left);
+    }
+
+    /// Takes all off.
+    pub fn clear(&mut self)
+        ensures { self.new ≡ [] }
+    {
+        self.openers.clear();
+        self.live_from = 0;
+    }
+}

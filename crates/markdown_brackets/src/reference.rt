@@ -1,0 +1,244 @@
+//! Labels, and the form of a reference (CommonMark 6.3).
+ghost use Rattle.std.specs.Prelude.{◌≡◌, ◌≤◌, ◌+◌, ◌<◌, ◌^◌, ◌&&◌, true, Some, IfOk, IfSome, drop, length, slice_range};
+ghost use Rattle.std.specs.Option.{option_map};
+ghost use Rattle.std.specs.Str.{IsCharBoundary};
+ghost use Rattle.markdown_scan.specs.Label.{link_label};
+ghost use Rattle.markdown_brackets.specs.Reference as def;
+ghost use Rattle.markdown_brackets.specs.ReferenceView.{label_view, form_view, BorrowsLabel, BorrowsName};
+
+use crate::byte_at::after_byte;
+use crate::footnote::FootnoteStyle;
+use markdown_base::cow_str::CowStr;
+use markdown_base::item::{Item, ItemBody};
+use markdown_scan::label::scan_link_label;
+use markdown_scan::line_rule::{LineRule, OneLine};
+use std::alloc::{AllocError, Global};
+
+/// A label that was read.
+#[derive(Debug, Drop)]
+pub struct FoundLabel<'t> {
+    /// It names a footnote.
+    pub is_footnote: bool,
+    /// Its bytes, from its `[` through its `]`.
+    pub length: usize,
+    pub name: CowStr<'t>,
+}
+
+/// How a reference is written.
+#[derive(Debug, Drop)]
+pub enum Form<'t> {
+    /// `[text][label]`, with the byte after it.
+    Reference { label: CowStr<'t>, end: usize },
+    /// `[label][]`
+    Collapsed,
+    /// `[label]`
+    Shortcut,
+}
+
+// The label of which the text begins after its first `before` bytes.
+fn scan_name<'t, R: LineRule>(
+    alloc: Global,
+    text: &'t str,
+    rule: &R,
+    in_table: bool,
+    is_footnote: bool,
+    before: usize,
+) -> Result<Option<FoundLabel<'t>>, AllocError>
+    requires { before + length text.now < 2 ^ 64 }
+    ensures value { IfOk result (λ found.
+        option_map label_view found ≡ def.label_past is_footnote before (link_label (R.skipped rule.now) in_table text.now)) }
+    ensures borrowed { IfOk result (λ found. IfSome found (BorrowsLabel before text.now)) }
+    ensures kind { IfOk result (λ found. IfSome found (λ l. l.is_footnote ≡ is_footnote)) }
+    ensures within { IfOk result (λ found. IfSome found (λ l. l.length ≤ before + length text.now)) }
+{
+    match scan_link_label(alloc, text, rule, in_table)? {
+        None => Ok(None),
+        Some((length, name)) => Ok(Some(FoundLabel {
+            is_footnote,
+            length: before + length,
+            name,
+        })),
+    }
+}
+
+// The label of a footnote, of which the text begins after its `[`, with lines by a rule.
+fn scan_after_caret<'t, R: LineRule>(
+    alloc: Global,
+    text: &'t str,
+    rule: &R,
+    in_table: bool,
+) -> Result<Option<FoundLabel<'t>>, AllocError>
+    requires { 1 + length text.now < 2 ^ 64 }
+    ensures value { IfOk result (λ found.
+        option_map label_view found ≡ def.label_past true 2 (def.label_after 94 (R.skipped rule.now) in_table text.now)) }
+    ensures borrowed { IfOk result (λ found. IfSome found (BorrowsLabel 2 (drop 1 text.now))) }
+    ensures kind { IfOk result (λ found. IfSome found (λ l. l.is_footnote ≡ true)) }
+    ensures within { IfOk result (λ found. IfSome found (λ l. l.length ≤ 1 + length text.now)) }
+{
+    match after_byte(text, b'^') {
+        Some(name) => scan_name(alloc, name, rule, in_table, true, 2),
+        None => Ok(None),
+    }
+}
+
+// The label of a footnote, of which the text begins after its `[`.
+fn scan_footnote_label<'t, R: LineRule>(
+    alloc: Global,
+    text: &'t str,
+    style: FootnoteStyle,
+    rule: &R,
+    in_table: bool,
+) -> Result<Option<FoundLabel<'t>>, AllocError>
+    requires { 1 + length text.now < 2 ^ 64 }
+    ensures value { IfOk result (λ found.
+        option_map label_view found ≡ def.footnote_label style (R.skipped rule.now) in_table text.now) }
+    ensures borrowed { IfOk result (λ found. IfSome found (BorrowsLabel 2 (drop 1 text.now))) }
+    ensures kind { IfOk result (λ found. IfSome found (λ l. l.is_footnote ≡ true)) }
+    ensures within { IfOk result (λ found. IfSome found (λ l. l.length ≤ 1 + length text.now)) }
+{
+    match style {
+        FootnoteStyle::Off => Ok(None),
+        FootnoteStyle::Gfm => scan_after_caret(alloc, text, &OneLine, in_table),
+        FootnoteStyle::Old => scan_after_caret(alloc, text, rule, in_table),
+    }
+}
+
+/// The label that the text begins with, from its `[` on: a footnote label `[^name]` by the style, or else a link label.
+/// As GitHub writes footnotes, their labels stand on one line.
+pub fn scan_label<'t, R: LineRule>(
+    alloc: Global,
+    text: &'t str,
+    style: FootnoteStyle,
+    rule: &R,
+    in_table: bool,
+) -> Result<Option<FoundLabel<'t>>, AllocError>
+    ensures value { IfOk result (λ found.
+        option_map label_view found ≡ def.label_at style (R.skipped rule.now) in_table text.now) }
+    ensures borrowed { IfOk result (λ found. IfSome found (BorrowsName text.now)) }
+    ensures within { IfOk result (λ found. IfSome found (λ l. l.length ≤ length text.now)) }
+{
+    let Some(rest) = after_byte(text, b'[') else {
+        return Ok(None);
+    };
+    match scan_footnote_label(alloc, rest, style, rule, in_table)? {
+        Some(label) => Ok(Some(label)),
+        None => scan_name(alloc, rest, rule, in_table, false, 1),
+    }
+}
+
+// A label of exactly so many bytes.
+fn of_length(label: FoundLabel<'_>, length: usize) -> Option<FoundLabel<'_>>
+    ensures value { option_map label_view result ≡ def.of_length length (Some (label_view label.entry)) }
+    ensures same { IfSome result (λ l. l ≡ label.entry) }
+{
+    if label.length == length {
+        return Some(label);
+    }
+    drop(label);
+    None
+}
+
+/// The bytes from an opener's `[` up to the byte after its `]` as a label of their own; None where they are not exactly
+/// one label.
+pub fn scan_own_label<'t, R: LineRule>(
+    alloc: Global,
+    text: &'t str,
+    start: usize,
+    end: usize,
+    style: FootnoteStyle,
+    rule: &R,
+    in_table: bool,
+) -> Result<Option<FoundLabel<'t>>, AllocError>
+    requires start { IsCharBoundary text.now start }
+    requires end { IsCharBoundary text.now end }
+    requires order { start ≤ end }
+    ensures value { IfOk result (λ found.
+        option_map label_view found ≡ def.own_label style (R.skipped rule.now) in_table text.now start end) }
+    ensures borrowed { IfOk result (λ found. IfSome found (BorrowsName (slice_range text.now start end))) }
+{
+    match scan_label(alloc, &text[start..end], style, rule, in_table)? {
+        None => Ok(None),
+        Some(label) => Ok(of_length(label, end - start)),
+    }
+}
+
+fn is_opener(body: ItemBody) -> bool
+    ensures { result ≡ def.is_opener body }
+{
+    matches!(body, ItemBody::MaybeLinkOpen)
+}
+
+fn is_closer(body: ItemBody) -> bool
+    ensures { result ≡ def.is_closer body }
+{
+    matches!(body, ItemBody::MaybeLinkClose(_))
+}
+
+// A `[` stands there, and a `]` after it.
+fn is_empty_pair(at: usize, next: Option<Item>, after: Option<Item>) -> bool
+    requires { at + 1 < 2 ^ 64 }
+    ensures { result ≡ (def.stands_at at def.is_opener next && def.stands_at (at + 1) def.is_closer after) }
+{
+    match (next, after) {
+        (Some(first), Some(second)) => {
+            first.start == at
+                && is_opener(first.body)
+                && second.start == at + 1
+                && is_closer(second.body)
+        }
+        _ => false,
+    }
+}
+
+fn starts_at(at: usize, next: Option<Item>) -> bool
+    ensures { result ≡ def.stands_at at (λ b. true) next }
+{
+    match next {
+        Some(item) => item.start == at,
+        None => false,
+    }
+}
+
+// The form by this label: a footnote label counts as none.
+fn form_of(at: usize, label: FoundLabel<'_>) -> Form<'_>
+    requires { at + label.length < 2 ^ 64 }
+    ensures { form_view result ≡ def.form_by_label at (Some (label_view label.entry)) }
+{
+    if label.is_footnote {
+        drop(label);
+        return Form::Shortcut;
+    }
+    Form::Reference {
+        end: at + label.length,
+        label: label.name,
+    }
+}
+
+/// The form of a reference, of a `]` that ends before the byte `at` of the text, by the two items after it: Collapsed
+/// where these are a `[` and a `]` that stand there, Reference where a link label stands there and an item starts with
+/// it, else Shortcut.
+pub fn scan_form<'t, R: LineRule>(
+    alloc: Global,
+    text: &'t str,
+    at: usize,
+    style: FootnoteStyle,
+    rule: &R,
+    in_table: bool,
+    next: Option<Item>,
+    after: Option<Item>,
+) -> Result<Form<'t>, AllocError>
+    requires at { IsCharBoundary text.now at }
+    ensures { IfOk result (λ form.
+        form_view form ≡ def.form_at style (R.skipped rule.now) in_table text.now at next after) }
+{
+    if is_empty_pair(at, next, after) {
+        return Ok(Form::Collapsed);
+    }
+    if !starts_at(at, next) {
+        return Ok(Form::Shortcut);
+    }
+    match scan_label(alloc, &text[at..], style, rule, in_table)? {
+        None => Ok(Form::Shortcut),
+        Some(label) => Ok(form_of(at, label)),
+    }
+}

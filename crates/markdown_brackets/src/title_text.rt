@@ -1,0 +1,84 @@
+//! The text of a title while it is read: a slice of the source as long as no line of it is joined to the next.
+ghost use Rattle.std.specs.Prelude.{◌≡◌, [], false, string_bytes};
+ghost use Rattle.std.specs.Str.{IsCharBoundary};
+
+use markdown_base::cow_str::CowStr;
+use markdown_scan::unescape::unescape;
+use std::alloc::{AllocError, Global};
+
+/// The text of a title as it is written, so far: lines that were joined, and what stands from a byte of the text on.
+#[derive(Drop)]
+pub(crate) struct TitleText<'t> {
+    text: &'t str,
+    joined: String,
+    from: usize,
+    is_joined: bool,
+    ghost plain: { is_joined ≡ false → string_bytes joined ≡ [] },
+    ghost boundary: { IsCharBoundary text.now from },
+}
+
+impl<'t> TitleText<'t> {
+    ghost use Rattle.std.specs.Prelude.{◌≡◌, ◌≤◌, [], ◌∷◌, ◌++◌, IfOk, false, true, slice_range, string_bytes};
+    ghost use Rattle.std.specs.Str.{IsCharBoundary};
+    ghost use Rattle.markdown_base.specs.CowText.{text_of, IsBorrowed};
+    ghost use Rattle.markdown_scan.specs.LineEnd.{line_feed};
+    ghost use Rattle.markdown_scan.specs.Unescape.{unescaped};
+    ghost use Rattle.markdown_brackets.specs.TitleText.{so_far};
+
+    /// Nothing yet, from this byte on.
+    pub(crate) fn new(alloc: Global, text: &'t str, from: usize) -> TitleText<'t>
+        requires { IsCharBoundary text.now from }
+        ensures text { result.text.now ≡ text.now }
+        ensures from { result.from ≡ from }
+        ensures nothing { string_bytes result.joined ≡ [] }
+        ensures plain { result.is_joined ≡ false }
+    {
+        TitleText {
+            text,
+            joined: String::new(alloc),
+            from,
+            is_joined: false,
+        }
+    }
+
+    /// The line ends at the byte `at`, and the next one starts at the byte `start`.
+    pub(crate) fn join_line(&mut self, at: usize, start: usize) -> Result<(), AllocError>
+        requires order { self.old.from ≤ at }
+        requires here { IsCharBoundary self.old.text.now at }
+        requires there { IsCharBoundary self.old.text.now start }
+        ensures joined { IfOk result (λ _.
+            string_bytes self.new.joined ≡ string_bytes self.old.joined ++ slice_range self.old.text.now self.old.from at ++ line_feed ∷ []) }
+        ensures from { IfOk result (λ _. self.new.from ≡ start) }
+        ensures is_joined { IfOk result (λ _. self.new.is_joined ≡ true) }
+        ensures text { IfOk result (λ _. self.new.text.now ≡ self.old.text.now) }
+    {
+        self.is_joined = true;
+        self.joined.push_str(&self.text[self.from..at])?;
+        self.joined.push('\n')?;
+        self.from = start;
+        Ok(())
+    }
+
+    /// The text up to the byte `at`, with its escapes and entities replaced.
+    pub(crate) fn finish(
+        self,
+        alloc: Global,
+        at: usize,
+        in_table: bool,
+    ) -> Result<CowStr<'t>, AllocError>
+        requires order { self.from ≤ at }
+        requires here { IsCharBoundary self.text.now at }
+        ensures text { IfOk result (λ made. text_of made ≡ unescaped in_table (so_far self.entry at)) }
+        ensures borrowed { IfOk result (λ made.
+            self.entry.is_joined ≡ false → text_of made ≡ so_far self.entry at → IsBorrowed made) }
+    {
+        let last = &self.text[self.from..at];
+        if !self.is_joined {
+            return unescape(alloc, last, in_table);
+        }
+        let mut joined = self.joined;
+        joined.push_str(last)?;
+        let made = unescape(alloc, joined.as_str(), in_table)?;
+        made.into_static(alloc)
+    }
+}

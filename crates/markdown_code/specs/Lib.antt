@@ -1,0 +1,20 @@
+-- the rules of a chain that ask nobody
+pub mod ContainerPrefix
+pub mod CodeText
+pub mod AfterLess
+pub mod Closers
+-- of the representation
+pub mod BlocksAbove
+pub mod ChainInArena
+pub mod CodeSearch
+pub mod PrefixView
+pub mod MarkupView
+-- the words of the lower crates that the clauses here are written in
+pub use Rattle.markdown_base.specs.Arena
+pub use Rattle.markdown_base.specs.BlockTree
+pub use Rattle.markdown_base.specs.CowText
+pub use Rattle.markdown_scan.specs.Autolink
+pub use Rattle.markdown_scan.specs.LineEnd
+pub use Rattle.markdown_scan.specs.LineStart
+pub use Rattle.markdown_raw_html.specs.RawHtml
+pub use Rattle.markdown_raw_html.specs.TagSource

@@ -1,0 +1,3 @@
+-- the lines of a text
+pub mod Lines
+pub mod LineBreaks

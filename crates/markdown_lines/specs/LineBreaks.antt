@@ -1,0 +1,26 @@
+-- What stands between two lines of a paragraph, by the bytes at the first one's end.
+use Rattle.std.specs.Prelude.{◌≡◌, ℕ, ◌-◌, ◌%◌, Bool, true, false, cond, ◌==◌, List, nat_lt}
+use Rattle.markdown_base.specs.declared.item.ItemBody.TheVariants as body
+use Rattle.markdown_lines.specs.declared.line_break.LineBreak.{LineBreak}
+use Rattle.markdown_lines.specs.Lines.{is_space_or_tab, IsRunBefore}
+
+-- The break by where the backslashes and the spaces before a line ending begin: a hard one from the last of
+-- an odd number of backslashes on, or from two or more spaces on, else a soft one. Before spaces the text
+-- ends at `content`.
+abbrev pub break_after : ℕ → ℕ → ℕ → ℕ → LineBreak
+break_after stop backslashes spaces content =
+    cond ((stop - backslashes) % 2 == 1)
+    (record { text_end = stop - 1; start = stop - 1; body = body.HardBreak true })
+    (cond (nat_lt (stop - spaces) 2)
+    (record { text_end = content; start = stop; body = body.SoftBreak })
+    (record { text_end = content; start = spaces; body = body.HardBreak false }))
+
+-- the break after a line whose content stands from `from` up to `stop`
+pub record IsLineBreak (text : List ℕ) (from stop : ℕ) (between : LineBreak) : Type 0 where
+  pub backslashes : ℕ
+  pub backslash_run : IsRunBefore (λ byte. byte == 92) text from stop backslashes
+  pub spaces : ℕ
+  pub space_run : IsRunBefore (λ byte. byte == 32) text from stop spaces
+  pub content : ℕ
+  pub content_run : IsRunBefore is_space_or_tab text from spaces content
+  pub value : between ≡ break_after stop backslashes spaces content

@@ -1,0 +1,88 @@
+//! ATX headings (CommonMark 4.2).
+ghost use Rattle.std.specs.Prelude.{◌≤◌, length};
+
+use crate::bytes::{bytes_of, run_length, white_length};
+use crate::line::is_space_or_tab;
+use markdown_base::tag::HeadingLevel;
+
+/// An ATX heading: its level, and the bytes from `from` up to `to` that are its content.
+#[derive(Clone, Copy, Drop)]
+pub struct AtxHeading {
+    pub level: HeadingLevel,
+    pub from: usize,
+    pub to: usize,
+}
+
+/// The level of as many `#`.
+fn heading_level(count: usize) -> Option<HeadingLevel> {
+    match count {
+        1 => Some(HeadingLevel::H1),
+        2 => Some(HeadingLevel::H2),
+        3 => Some(HeadingLevel::H3),
+        4 => Some(HeadingLevel::H4),
+        5 => Some(HeadingLevel::H5),
+        6 => Some(HeadingLevel::H6),
+        _ => None,
+    }
+}
+
+/// How many bytes stand before the white space at the end of some.
+pub fn trimmed_length(content: &[u8]) -> usize
+    ensures { result ≤ length content.now }
+{
+    let mut rest = content;
+    'trim: while let Some((last, before)) = rest.split_last() {
+        if !is_space_or_tab(*last) {
+            break;
+        }
+        rest = before;
+    }
+    rest.len()
+}
+
+/// How many bytes stand before the run of `#` at the end of some.
+fn unclosed_length(content: &[u8]) -> usize
+    ensures { result ≤ length content.now }
+{
+    let mut rest = content;
+    'run: while let Some((last, before)) = rest.split_last() {
+        if *last != b'#' {
+            break;
+        }
+        rest = before;
+    }
+    rest.len()
+}
+
+/// How many bytes of a heading's content stand before the white space at its end, and before a closing sequence
+/// of `#` behind white space or nothing.
+fn content_length(content: &[u8]) -> usize {
+    let end = trimmed_length(content);
+    let open = unclosed_length(&content[..end]);
+    let before = trimmed_length(&content[..open]);
+    if before < open || open == 0 {
+        before
+    } else {
+        end
+    }
+}
+
+/// The ATX heading whose `#` stands at `at` in a line, of which the content stops before `stop`.
+pub fn atx_heading(text: &str, at: usize, stop: usize) -> Option<AtxHeading> {
+    let line = bytes_of(text, at, stop);
+    let count = run_length(line, b'#');
+    let level = heading_level(count)?;
+    let rest = &line[count..];
+    if let Some(next) = rest.first()
+        && !is_space_or_tab(*next)
+    {
+        return None;
+    }
+    let white = white_length(rest);
+    let from = at.saturating_add(count).saturating_add(white);
+    Some(AtxHeading {
+        level,
+        from,
+        to: from.saturating_add(content_length(&rest[white..])),
+    })
+}

@@ -1,0 +1,15 @@
+//! What stands in a line: where it ends, its columns, and which block its content begins; and what a paragraph's lines
+//! hold, link reference definitions and breaks. Block passes stand on it.
+#![tactic(auto)]
+
+pub mod atx_heading;
+pub mod bytes;
+pub mod definition;
+pub mod fence;
+pub mod held_line;
+pub mod html_kind;
+pub mod line;
+pub mod line_break;
+pub mod list_marker;
+pub mod place;
+pub mod thematic_break;

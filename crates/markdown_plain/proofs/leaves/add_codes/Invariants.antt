@@ -1,0 +1,6 @@
+-- The text stays.
+use Rattle.std.proofs.Common.{◌≡◌}
+use Rattle.markdown_plain.proofs.leaves.add_codes.Given as goal
+
+abbrev pub invariant-lines : goal.invariant-lines
+invariant-lines l = l.builder.text ≡ l.fn.builder.text

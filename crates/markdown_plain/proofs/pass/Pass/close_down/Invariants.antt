@@ -1,0 +1,6 @@
+-- The text stays.
+use Rattle.std.proofs.Common.{◌≡◌}
+use Rattle.markdown_plain.proofs.pass.Pass.close_down.Given as goal
+
+abbrev pub invariant-blocks-2 : goal.invariant-blocks-2
+invariant-blocks-2 l = l.self.builder.text ≡ l.fn.self.builder.text

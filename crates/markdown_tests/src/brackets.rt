@@ -1,0 +1,307 @@
+//! What a closing bracket finds: tails of inline links, labels and forms of references, look-ups with their questions,
+//! footnotes, wikilinks, and the openers that wait.
+ghost use Rattle.std.specs.Prelude.{◌≡◌, ◌+◌, ◌%◌, IfSome};
+
+use crate::builders::{item, no_parts, text};
+use markdown_base::block_parts::LinkDef;
+use markdown_base::cow_str::CowStr;
+use markdown_base::fault::Fault;
+use markdown_base::item::{Item, ItemBody};
+use markdown_base::tag::LinkType;
+use markdown_brackets::chain_openers::ChainOpeners;
+use markdown_brackets::footnote::{FootnoteStyle, use_footnote};
+use markdown_brackets::items_after::NoItems;
+use markdown_brackets::link_tail::scan_link_tail;
+use markdown_brackets::look_up::look_up_label;
+use markdown_brackets::openers::Opener;
+use markdown_brackets::reference::{Form, scan_form};
+use markdown_brackets::wikilink::{Shown, scan_wikilink_body};
+use markdown_scan::line_rule::NoPrefix;
+use markdown_spans::defs::{Allocations, BrokenLinkCallback, Closure, DefaultBrokenLinkCallback};
+use std::alloc::{AllocError, Global};
+use std::test::Fail;
+
+/// Whether the text is a tail with this destination and title, each a slice of it where `are_slices` says so.
+fn is_tail(
+    alloc: Global,
+    text: &str,
+    in_table: bool,
+    destination: &str,
+    title: &str,
+    are_slices: bool,
+) -> Result<bool, AllocError> {
+    if !text.is_char_boundary(0) {
+        return Ok(false);
+    }
+    match scan_link_tail(alloc, text, 0, in_table, &NoPrefix, &mut NoItems)? {
+        None => Ok(false),
+        Some(tail) => {
+            let slices = matches!(&tail.destination, CowStr::Borrowed(_))
+                && matches!(&tail.title, CowStr::Borrowed(_));
+            Ok(
+                tail.end == text.len()
+                    && tail.destination.as_str() == destination
+                    && tail.title.as_str() == title
+                    && slices == are_slices,
+            )
+        }
+    }
+}
+
+#[test]
+fn tails_of_links(rt: HostRuntime) -> Result<(), Fail> {
+    let rows = [
+        ("(c)", false, "c", "", true),
+        ("()", false, "", "", true),
+        ("(c \"t\")", false, "c", "t", true),
+        ("(<c d>'t' )", false, "c d", "t", true),
+        ("(\tc\n(t))", false, "c", "t", true),
+        // entities and escapes are replaced
+        ("(c&amp;d '\\'')", false, "c&d", "'", false),
+        ("(c '&#65;')", false, "c", "A", false),
+        ("(c '\\a')", false, "c", "\\a", true),
+        // in a table two backslashes and a pipe are a pipe, and reading goes on after it
+        ("(c 'a\\\\|*')", true, "c", "a|*", false),
+        ("(c 'a\\\\|*')", false, "c", "a\\|*", false),
+        // a line ending stays where no item follows
+        ("(c 'a\r\nb')", false, "c", "a\r\nb", true),
+    ];
+    for (text, in_table, destination, title, are_slices) in rows {
+        let is_so = is_tail(rt.alloc(), text, in_table, destination, title, are_slices)?;
+        assert!(rt; is_so, "{text}");
+    }
+    Ok(())
+}
+
+/// Whether no tail of a link is read.
+fn is_no_tail(alloc: Global, text: &str) -> Result<bool, AllocError> {
+    if !text.is_char_boundary(0) {
+        return Ok(false);
+    }
+    Ok(scan_link_tail(alloc, text, 0, false, &NoPrefix, &mut NoItems)?.is_none())
+}
+
+#[test]
+fn no_tails_of_links(rt: HostRuntime) -> Result<(), Fail> {
+    for text in [
+        "",
+        "c",
+        "(c",
+        "(c d)",
+        "(c 't)",
+        "(c (t(u)))",
+        "(c\n\n't')",
+        "(<c)",
+        "(c 't' x)",
+    ] {
+        assert!(rt; is_no_tail(rt.alloc(), text)?, "{text}");
+    }
+    Ok(())
+}
+
+/// How the reference at the byte `at` is written: its label, and the byte after it.
+fn label_of(
+    alloc: Global,
+    source: &str,
+    at: usize,
+    next: Option<Item>,
+    after: Option<Item>,
+) -> Result<Option<(usize, bool)>, AllocError> {
+    if !source.is_char_boundary(at) {
+        return Ok(None);
+    }
+    let form = scan_form(
+        alloc,
+        source,
+        at,
+        FootnoteStyle::Gfm,
+        &NoPrefix,
+        false,
+        next,
+        after,
+    )?;
+    match form {
+        Form::Reference { label, end } => Ok(Some((end, label.as_str() == "Some reference"))),
+        Form::Collapsed => Ok(Some((0, true))),
+        Form::Shortcut => Ok(None),
+    }
+}
+
+#[test]
+fn forms_of_references(rt: HostRuntime) -> Result<(), Fail> {
+    let open = |at: usize| Some(item(at, at + 1, ItemBody::MaybeLinkOpen));
+    let close = Some(item(6, 7, ItemBody::MaybeLinkClose(true)));
+    let alloc = rt.alloc();
+    assert_eq!(rt;
+        label_of(alloc, "[foo][]", 5, open(5), close)?,
+        Some((0, true))
+    );
+    let source = "[testing][Some reference]";
+    assert_eq!(rt;
+        label_of(alloc, source, 9, open(9), Some(text(10, 24)))?,
+        Some((25, true))
+    );
+    // an escaped bracket begins no label, and a footnote label is none
+    assert_eq!(rt;
+        label_of(alloc, "[a]\\[b]", 3, Some(text(4, 5)), Some(text(5, 6)))?,
+        None
+    );
+    assert_eq!(rt;
+        label_of(alloc, "[a][^b]", 3, open(3), Some(text(4, 6)))?,
+        None
+    );
+    assert_eq!(rt; label_of(alloc, "[a]", 3, None, None)?, None);
+    Ok(())
+}
+
+/// What a label finds: the type of the link, where it leads and what is left of the limit.
+fn look_up<'a, F: BrokenLinkCallback<'a>>(
+    alloc: Global,
+    held: &Allocations<'a>,
+    callback: &mut Option<F>,
+    limit: &mut usize,
+    label: &'a str,
+) -> Result<Option<(LinkType, CowStr<'a>)>, Fault>
+    requires { IfSome callback.old F.can_ask }
+    ensures { IfSome callback.new F.can_ask }
+{
+    let found = look_up_label(
+        alloc,
+        &held.refdefs,
+        callback,
+        limit,
+        0..3,
+        LinkType::Shortcut,
+        CowStr::Borrowed(label),
+    )?;
+    match found {
+        None => Ok(None),
+        Some(target) => Ok(Some((target.link_type, target.destination))),
+    }
+}
+
+#[test]
+fn look_ups_ask_while_the_limit_lasts(rt: HostRuntime) -> Result<(), Fail> {
+    let mut parts = no_parts(rt.alloc());
+    let definition = LinkDef {
+        dest: CowStr::Borrowed("/u"),
+        title: None,
+        span: 0..0,
+    };
+    parts.definitions.push((CowStr::Borrowed("A"), definition))?;
+    let held = Allocations::new(rt.alloc(), parts)?;
+    let mut asked = 0u8;
+    let mut callback = Some(Closure::new(
+        |link| -> Option<(CowStr, CowStr)>
+            ensures { asked.exit ≡ (asked.entry + 1) % 256 }
+        {
+            asked = asked.wrapping_add(1);
+            drop(link);
+            Some((CowStr::Borrowed("YOLO"), CowStr::Borrowed("SWAG")))
+        },
+    ));
+    let mut limit = 5;
+    let alloc = rt.alloc();
+    let defined = look_up(alloc, &held, &mut callback, &mut limit, "a")?;
+    assert_eq!(rt; defined, Some((LinkType::Shortcut, CowStr::Borrowed("/u"))));
+    assert_eq!(rt; limit, 3);
+    // an answer that is longer than what is left is taken, and the next label is not asked about
+    let answered = look_up(alloc, &held, &mut callback, &mut limit, "b")?;
+    assert_eq!(rt;
+        answered,
+        Some((LinkType::ShortcutUnknown, CowStr::Borrowed("YOLO")))
+    );
+    assert_eq!(rt; limit, 0);
+    assert_eq!(rt;
+        look_up(alloc, &held, &mut callback, &mut limit, "b")?,
+        None
+    );
+    assert_eq!(rt;
+        look_up(alloc, &held, &mut callback, &mut limit, "a")?,
+        None
+    );
+    drop(callback);
+    assert_eq!(rt; asked, 1);
+    Ok(())
+}
+
+#[test]
+fn look_ups_with_nobody_to_ask(rt: HostRuntime) -> Result<(), Fail> {
+    let held = Allocations::new(rt.alloc(), no_parts(rt.alloc()))?;
+    let mut nobody: Option<DefaultBrokenLinkCallback> = None;
+    let mut limit = 9;
+    assert_eq!(rt;
+        look_up(rt.alloc(), &held, &mut nobody, &mut limit, "a")?,
+        None
+    );
+    assert_eq!(rt; limit, 9);
+    Ok(())
+}
+
+#[test]
+fn footnotes_are_references_by_their_style(rt: HostRuntime) -> Result<(), Fail> {
+    let mut parts = no_parts(rt.alloc());
+    parts.footnotes.push(CowStr::Borrowed("A"))?;
+    let mut held = Allocations::new(rt.alloc(), parts)?;
+    assert!(rt; use_footnote(&mut held.footdefs, FootnoteStyle::Gfm, "a")?);
+    assert!(rt; !use_footnote(&mut held.footdefs, FootnoteStyle::Gfm, "b")?);
+    assert!(rt; use_footnote(&mut held.footdefs, FootnoteStyle::Old, "b")?);
+    assert!(rt; use_footnote(&mut held.footdefs, FootnoteStyle::Old, "A")?);
+    let used = held.footdefs.get_mut(CowStr::Borrowed("a"))?;
+    assert_eq!(rt; used.map(|footnote| footnote.use_count), Some(2));
+    Ok(())
+}
+
+/// What a wikilink with this body shows, and whether its name is this one.
+fn shown_by(source: &str, end: usize, name: &str) -> Option<(Shown, bool)> {
+    if !source.is_char_boundary(2) || !source.is_char_boundary(end) {
+        return None;
+    }
+    let body = scan_wikilink_body(source, 2, end)?;
+    Some((body.shown, body.name == name))
+}
+
+#[test]
+fn bodies_of_wikilinks(rt: HostRuntime) -> Result<(), Fail> {
+    let rows = [
+        ("[[foo]]", 5, "foo", Some(Shown::Name)),
+        ("[[bar|baz]]", 9, "bar", Some(Shown::From(6))),
+        ("[[a|\\*b]]", 7, "a", Some(Shown::From(4))),
+        ("[[a|]]", 4, "a", Some(Shown::Nothing(4))),
+        ("[[|b]]", 4, "", None),
+        ("[[]]", 2, "", None),
+    ];
+    for (source, end, name, shown) in rows {
+        let found = shown_by(source, end, name);
+        assert_eq!(rt; found, shown.map(|kind| (kind, true)), "{source}");
+    }
+    Ok(())
+}
+
+/// What is left to take after a link from the second opener, the first being a bracket's or an image's.
+#[test]
+fn links_disable_earlier_brackets_and_images_do_not(rt: HostRuntime) -> Result<(), Fail> {
+    let mut openers = ChainOpeners::new(rt.alloc());
+    for (outer, inner, live) in [
+        (false, false, false),
+        (true, false, true),
+        (false, true, true),
+    ] {
+        let first = Opener {
+            node: 1,
+            is_image: outer,
+        };
+        let second = Opener {
+            node: 3,
+            is_image: inner,
+        };
+        openers.brackets.push(first)?;
+        openers.brackets.push(second)?;
+        assert_eq!(rt; openers.brackets.take_nearest(), Some((second, true)));
+        openers.finish_link(second);
+        assert_eq!(rt; openers.brackets.take_nearest(), Some((first, live)));
+        assert_eq!(rt; openers.brackets.take_nearest(), None);
+        openers.clear();
+    }
+    Ok(())
+}
