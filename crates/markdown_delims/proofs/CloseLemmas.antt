@@ -136,26 +136,26 @@ pub open_of-rest_left : (n : ℕ) (t : Taken) → n < t.opener.count → open_of
 open_of-rest_left n t h = rw (lt-ltb n t.opener.count h) refl
 
 -- the cut goes to the right over characters
-read_over : (k : View) (first : Option ℕ) (number start j n : ℕ) (before : Forest Numbered) (l : Option ℕ) (after : Forest Numbered) (hi : ℕ)
-    → Cut k first (characters_after number start j before) l (characters (number + j) (start + j) n after) hi
-    → (m : Option ℕ) × Cut k first (characters_after number start (j + n) before) m after hi
-read_over k first number start j zero before l after hi c =
-    (l, subst (λ i. Cut k first (characters_after number start i before) l after hi) (let e : j ≡ j + zero = omega arith in e) c)
-read_over k first number start j (suc n) before l after hi c =
-    let s = step_right k first (characters_after number start j before) l (character (number + j) (start + j)) nil (characters (suc (number + j)) (suc (start + j)) n after) hi c in
-    let s1 = subst (λ i. Cut k first (characters_after number start (suc j) before) (k.next (number + j)) (characters i (suc (start + j)) n after) hi) (let e : suc (number + j) ≡ number + suc j = omega arith in e) s in
-    let s2 = subst (λ i. Cut k first (characters_after number start (suc j) before) (k.next (number + j)) (characters (number + suc j) i n after) hi) (let e : suc (start + j) ≡ start + suc j = omega arith in e) s1 in
-    let r = read_over k first number start (suc j) n before (k.next (number + j)) after hi s2 in
-    (r.0, subst (λ i. Cut k first (characters_after number start i before) r.0 after hi) (let e : suc j + n ≡ j + suc n = omega arith in e) r.1)
+read_over : (own : ℕ → Bool) (k : View) (first : Option ℕ) (number start j n : ℕ) (before : Forest Numbered) (l : Option ℕ) (after : Forest Numbered) (hi : ℕ)
+    → Cut own k first (characters_after number start j before) l (characters (number + j) (start + j) n after) hi
+    → (m : Option ℕ) × Cut own k first (characters_after number start (j + n) before) m after hi
+read_over own k first number start j zero before l after hi c =
+    (l, subst (λ i. Cut own k first (characters_after number start i before) l after hi) (let e : j ≡ j + zero = omega arith in e) c)
+read_over own k first number start j (suc n) before l after hi c =
+    let s = step_right own k first (characters_after number start j before) l (character (number + j) (start + j)) nil (characters (suc (number + j)) (suc (start + j)) n after) hi c in
+    let s1 = subst (λ i. Cut own k first (characters_after number start (suc j) before) (k.next (number + j)) (characters i (suc (start + j)) n after) hi) (let e : suc (number + j) ≡ number + suc j = omega arith in e) s in
+    let s2 = subst (λ i. Cut own k first (characters_after number start (suc j) before) (k.next (number + j)) (characters (number + suc j) i n after) hi) (let e : suc (start + j) ≡ start + suc j = omega arith in e) s1 in
+    let r = read_over own k first number start (suc j) n before (k.next (number + j)) after hi s2 in
+    (r.0, subst (λ i. Cut own k first (characters_after number start i before) r.0 after hi) (let e : suc j + n ≡ j + suc n = omega arith in e) r.1)
 
 touched_read : (touched : ℕ → Bool) (number start j n : ℕ) (before after : Forest Numbered) → AllTouched touched (characters_after number start j before) → AllTouched touched (characters (number + j) (start + j) n after)
     → AllTouched touched (characters_after number start (j + n) before)
 touched_read touched number start j zero before after h a = subst (λ i. AllTouched touched (characters_after number start i before)) (let e : j ≡ j + zero = omega arith in e) h
 touched_read touched number start j (suc n) before after h a =
-    let a1 = subst (λ i. AllTouched touched (characters i (suc (start + j)) n after)) (let e : suc (number + j) ≡ number + suc j = omega arith in e) a.2 in
+    let a1 = subst (λ i. AllTouched touched (characters i (suc (start + j)) n after)) (let e : suc (number + j) ≡ number + suc j = omega arith in e) a.1 in
     let a2 = subst (λ i. AllTouched touched (characters (number + suc j) i n after)) (let e : suc (start + j) ≡ start + suc j = omega arith in e) a1 in
     subst (λ i. AllTouched touched (characters_after number start i before)) (let e : suc j + n ≡ j + suc n = omega arith in e)
-    (touched_read touched number start (suc j) n before after (a.0, tt, h) a2)
+    (touched_read touched number start (suc j) n before after (a.0, h) a2)
 
 top_of_characters : (number start n : ℕ) (before : Forest Numbered) → 0 < n → Some (number + (n - 1)) ≡ top (characters_after number start n before)
 top_of_characters number start zero before h = absurd (omega arith)
@@ -169,13 +169,13 @@ module _ (h : Chain) (s : Arena Item) (es : List Entry) (last : Option ℕ) (sta
   pub read_characters : (es' : List Entry) → flat es' ≡ characters_after c.number start c.count (flat es)
       → Stands h s es' (Some (c.number + (c.count - 1))) (sibling_of s.nodes (c.number + (c.count - 1))) after
   read_characters es' e =
-      let c1 = subst (λ i. Cut (view_of s.nodes) h.first (flat es) (Some c.number) (characters i start c.count after) h.bound) (let e : c.number ≡ c.number + 0 = omega arith in e) st.cut in
-      let c2 = subst (λ i. Cut (view_of s.nodes) h.first (flat es) (Some c.number) (characters (c.number + 0) i c.count after) h.bound) (let e : start ≡ start + 0 = omega arith in e) c1 in
+      let c1 = subst (λ i. Cut h.touched (view_of s.nodes) h.first (flat es) (Some c.number) (characters i start c.count after) h.bound) (let e : c.number ≡ c.number + 0 = omega arith in e) st.cut in
+      let c2 = subst (λ i. Cut h.touched (view_of s.nodes) h.first (flat es) (Some c.number) (characters (c.number + 0) i c.count after) h.bound) (let e : start ≡ start + 0 = omega arith in e) c1 in
       let a1 = subst (λ i. AllTouched h.touched (characters i start c.count after)) (let e : c.number ≡ c.number + 0 = omega arith in e) st.rest_touched in
       let a2 = subst (λ i. AllTouched h.touched (characters (c.number + 0) i c.count after)) (let e : start ≡ start + 0 = omega arith in e) a1 in
       let all : 0 + c.count ≡ c.count = omega arith in
-      let r = read_over (view_of s.nodes) h.first c.number start 0 c.count (flat es) (Some c.number) after h.bound c2 in
-      let cut = subst (λ i. Cut (view_of s.nodes) h.first (characters_after c.number start i (flat es)) r.0 after h.bound) all r.1 in
+      let r = read_over h.touched (view_of s.nodes) h.first c.number start 0 c.count (flat es) (Some c.number) after h.bound c2 in
+      let cut = subst (λ i. Cut h.touched (view_of s.nodes) h.first (characters_after c.number start i (flat es)) r.0 after h.bound) all r.1 in
       let link = behind_link (view_of s.nodes) h.first c.number start c.count (flat es) r.0 some cut.left in
       let touched = subst (λ i. AllTouched h.touched (characters_after c.number start i (flat es))) all (touched_read h.touched c.number start 0 c.count (flat es) after st.left_touched a2) in
       record {

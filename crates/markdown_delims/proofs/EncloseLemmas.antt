@@ -12,24 +12,24 @@ use Rattle.markdown_delims.specs.Marks.{layer_of_one, layer_of_two}
 use Rattle.markdown_delims.specs.Entries.{Entry, settled, labelled, character, characters_after, flat, enclosed}
 use Rattle.markdown_delims.specs.Views.{View, view_of, Writes, Wrote, Holds, LeftHolds, next_number, Rises, LeftRises, Cut, Kept}
 use Rattle.markdown_delims.specs.Enclosing.{Around, AllTouched, Encloses, IsEnclosed}
-use Rattle.markdown_delims.proofs.CutLemmas.{Rises-le, Rises-raise, Rises-further, Holds-write_before, step_left, enclosing}
+use Rattle.markdown_delims.proofs.CutLemmas.{Rises-le, Rises-raise, Inside-of, Inside-further, Holds-write_before, step_left, enclosing}
 
 -- a chain's first number is not below where it begins
-pub next_number-from : (lo : ℕ) (f : Forest Numbered) (hi : ℕ) → Rises lo f hi → lo ≤ next_number f hi
-next_number-from lo nil hi r = r
-next_number-from lo (node a below after) hi r = r.0
+pub next_number-from : (own : ℕ → Bool) (lo : ℕ) (f : Forest Numbered) (hi : ℕ) → Rises own lo f hi → lo ≤ next_number f hi
+next_number-from own lo nil hi r = r
+next_number-from own lo (node a below after) hi r = r.0
 
 -- the character after the first t of some, what stands before it and what stands behind all
-pub record Peeled (k : View) (first : Option ℕ) (number start t : ℕ) (before : Forest Numbered) (l : Option ℕ) (chain : Forest Numbered) (hi : ℕ) : Type 0 where
+pub record Peeled (own : ℕ → Bool) (k : View) (first : Option ℕ) (number start t : ℕ) (before : Forest Numbered) (l : Option ℕ) (chain : Forest Numbered) (hi : ℕ) : Type 0 where
   pub within : number + t < k.size
   pub item : k.item (number + t) ≡ (character (number + t) (start + t)).item
   pub left : LeftHolds k first (characters_after number start t before) (Some (number + t))
-  pub rises_left : LeftRises (characters_after number start t before) (number + t)
+  pub rises_left : LeftRises own (characters_after number start t before) (number + t)
   pub right : Holds k l chain
-  pub rises : Rises (suc (number + t)) chain hi
+  pub rises : Rises own (suc (number + t)) chain hi
 
-module _ (k : View) (first : Option ℕ) (number start : ℕ) (before : Forest Numbered) (l : Option ℕ) (chain : Forest Numbered) (hi : ℕ) where
-  peel_one_suc : (t : ℕ) → Cut k first (characters_after number start (suc t) before) l chain hi → Peeled k first number start t before l chain hi
+module _ (own : ℕ → Bool) (k : View) (first : Option ℕ) (number start : ℕ) (before : Forest Numbered) (l : Option ℕ) (chain : Forest Numbered) (hi : ℕ) where
+  peel_one_suc : (t : ℕ) → Cut own k first (characters_after number start (suc t) before) l chain hi → Peeled own k first number start t before l chain hi
   peel_one_suc t c =
       record {
         within = c.left.0;
@@ -37,49 +37,51 @@ module _ (k : View) (first : Option ℕ) (number start : ℕ) (before : Forest N
         left = c.left.4;
         rises_left = c.rises_left.1;
         right = c.right;
-        rises = Rises-raise 0 (suc (number + t)) chain hi c.rises_left.0 c.rises_right;
+        rises = Rises-raise own 0 (suc (number + t)) chain hi c.rises_left.0.0 c.rises_right;
       }
 
-  peel_two_suc : (t : ℕ) → Cut k first (characters_after number start (suc (suc t)) before) l chain hi → Peeled k first number start t before l chain hi
+  peel_two_suc : (t : ℕ) → Cut own k first (characters_after number start (suc (suc t)) before) l chain hi → Peeled own k first number start t before l chain hi
   peel_two_suc t c =
-      let last : suc (number + suc t) ≤ next_number chain hi = c.rises_left.0 in
+      let last : suc (number + suc t) ≤ next_number chain hi = c.rises_left.0.0 in
       record {
         within = c.left.4.0;
         item = c.left.4.1;
         left = c.left.4.4;
         rises_left = c.rises_left.1.1;
         right = c.right;
-        rises = Rises-raise 0 (suc (number + t)) chain hi (omega arith) c.rises_right;
+        rises = Rises-raise own 0 (suc (number + t)) chain hi (omega arith) c.rises_right;
       }
 
-  pub peel_one : (n : ℕ) → 1 ≤ n → Cut k first (characters_after number start n before) l chain hi → Peeled k first number start (n - 1) before l chain hi
-  peel_one n h c = peel_one_suc (n - 1) (subst (λ m. Cut k first (characters_after number start m before) l chain hi) (let e : n ≡ suc (n - 1) = omega arith in e) c)
+  pub peel_one : (n : ℕ) → 1 ≤ n → Cut own k first (characters_after number start n before) l chain hi → Peeled own k first number start (n - 1) before l chain hi
+  peel_one n h c = peel_one_suc (n - 1) (subst (λ m. Cut own k first (characters_after number start m before) l chain hi) (let e : n ≡ suc (n - 1) = omega arith in e) c)
 
-  pub peel_two : (n : ℕ) → 2 ≤ n → Cut k first (characters_after number start n before) l chain hi → Peeled k first number start (n - 2) before l chain hi
-  peel_two n h c = peel_two_suc (n - 2) (subst (λ m. Cut k first (characters_after number start m before) l chain hi) (let e : n ≡ suc (suc (n - 2)) = omega arith in e) c)
+  pub peel_two : (n : ℕ) → 2 ≤ n → Cut own k first (characters_after number start n before) l chain hi → Peeled own k first number start (n - 2) before l chain hi
+  peel_two n h c = peel_two_suc (n - 2) (subst (λ m. Cut own k first (characters_after number start m before) l chain hi) (let e : n ≡ suc (suc (n - 2)) = omega arith in e) c)
 
 -- an inner layer
-pub layer_inside : (k k' : View) (first : Option ℕ) (number start t : ℕ) (before : Forest Numbered) (l : Option ℕ) (chain : Forest Numbered) (hi : ℕ) (i : Item)
-    → Peeled k first number start t before l chain hi → Writes k k' (number + t) i l None
-    → Cut k' first (characters_after number start t before) (Some (number + t)) (node (record { number = number + t; item = i }) chain nil) hi
-layer_inside k k' first number start t before l chain hi i p w =
-    let held = enclosing k k' first (characters_after number start t before) (record { number = number + t; item = i }) l None chain hi p.within p.left p.rises_left p.right p.rises w in
-    step_left k' first (record { number = number + t; item = i }) chain (characters_after number start t before) None nil hi
-    (record { left = held; right = refl; rises_left = (p.rises, p.rises_left); rises_right = omega arith })
+pub layer_inside : (own : ℕ → Bool) (k k' : View) (first : Option ℕ) (number start t : ℕ) (before : Forest Numbered) (l : Option ℕ) (chain : Forest Numbered) (hi : ℕ) (i : Item)
+    → Peeled own k first number start t before l chain hi → own (number + t) ≡ true → Writes k k' (number + t) i l None
+    → Cut own k' first (characters_after number start t before) (Some (number + t)) (node (record { number = number + t; item = i }) chain nil) hi
+layer_inside own k k' first number start t before l chain hi i p o w =
+    let inner = Inside-of own (suc (number + t)) chain hi p.rises in
+    let held = enclosing own k k' first (characters_after number start t before) (record { number = number + t; item = i }) l None chain hi o p.within p.left p.rises_left p.right inner w in
+    step_left own k' first (record { number = number + t; item = i }) chain (characters_after number start t before) None nil hi
+    (record { left = held; right = refl; rises_left = (inner, p.rises_left); rises_right = omega arith })
 
 -- the outermost one
-pub layer_last : (k k' : View) (first : Option ℕ) (number start t : ℕ) (before : Forest Numbered) (l m : Option ℕ) (chain after : Forest Numbered) (hi bound : ℕ) (i : Item)
-    → Peeled k first number start t before l chain hi → Holds k m after → Rises hi after bound → Writes k k' (number + t) i l m
-    → Cut k' first (node (record { number = number + t; item = i }) chain (characters_after number start t before)) m after bound
-layer_last k k' first number start t before l m chain after hi bound i p h r w =
-    let held = enclosing k k' first (characters_after number start t before) (record { number = number + t; item = i }) l m chain hi p.within p.left p.rises_left p.right p.rises w in
-    let low : suc (number + t) ≤ hi = Rises-le (suc (number + t)) chain hi p.rises in
-    let from : hi ≤ next_number after bound = next_number-from hi after bound r in
+pub layer_last : (own : ℕ → Bool) (k k' : View) (first : Option ℕ) (number start t : ℕ) (before : Forest Numbered) (l m : Option ℕ) (chain after : Forest Numbered) (hi bound : ℕ) (i : Item)
+    → Peeled own k first number start t before l chain hi → Holds k m after → Rises own hi after bound → own (number + t) ≡ true → Writes k k' (number + t) i l m
+    → Cut own k' first (node (record { number = number + t; item = i }) chain (characters_after number start t before)) m after bound
+layer_last own k k' first number start t before l m chain after hi bound i p h r o w =
+    let inner = Inside-of own (suc (number + t)) chain hi p.rises in
+    let held = enclosing own k k' first (characters_after number start t before) (record { number = number + t; item = i }) l m chain hi o p.within p.left p.rises_left p.right inner w in
+    let low : suc (number + t) ≤ hi = Rises-le own (suc (number + t)) chain hi p.rises in
+    let from : hi ≤ next_number after bound = next_number-from own hi after bound r in
     record {
       left = held;
-      right = Holds-write_before k k' (number + t) i l m w m hi after bound (omega arith) r h;
-      rises_left = (Rises-further (suc (number + t)) chain hi (next_number after bound) from p.rises, p.rises_left);
-      rises_right = Rises-raise hi 0 after bound (omega arith) r;
+      right = Holds-write_before own k k' (number + t) i l m w o m hi after bound (omega arith) r h;
+      rises_left = (Inside-further own (suc (number + t)) chain hi (next_number after bound) from inner, p.rises_left);
+      rises_right = Rises-raise own hi 0 after bound (omega arith) r;
     }
 
 -- writes of nodes that may be written, one after another
@@ -111,7 +113,7 @@ kept_both touched s t u k m =
 touched_suc : (touched : ℕ → Bool) (number start t d : ℕ) (before : Forest Numbered) → AllTouched touched (characters_after number start (t + d) before) → AllTouched touched (characters_after number start t before)
 touched_suc touched number start t zero before h = subst (λ m. AllTouched touched (characters_after number start m before)) (let e : t + zero ≡ t = omega arith in e) h
 touched_suc touched number start t (suc d) before h =
-    touched_suc touched number start t d before (subst (λ m. AllTouched touched (characters_after number start m before)) (let e : t + suc d ≡ suc (t + d) = omega arith in e) h).2
+    touched_suc touched number start t d before (subst (λ m. AllTouched touched (characters_after number start m before)) (let e : t + suc d ≡ suc (t + d) = omega arith in e) h).1
 
 pub touched_first : (touched : ℕ → Bool) (number start t n : ℕ) (before : Forest Numbered) → t ≤ n → AllTouched touched (characters_after number start n before) → AllTouched touched (characters_after number start t before)
 touched_first touched number start t n before l h =
@@ -158,18 +160,18 @@ module _ (m : Marks) (opener : Characters) (count end : ℕ) (outer : Option ℕ
       → LayersAt m opener count end outer g s u (n - 2) (left - 2) (reached + 2) (Some (opener.number + (n - 2)))
   layers_more t u n left reached inner h l a w =
       let c = a.stands.cut in
-      let p = peel_two (view_of t.nodes) g.first opener.number g.start g.before inner a.chain g.hi n (omega arith) c in
+      let p = peel_two g.touched (view_of t.nodes) g.first opener.number g.start g.before inner a.chain g.hi n (omega arith) c in
       let x = wrote_layer t u n (n - 2) (reached + 2) (layer_of_two m opener.run.delimiter) inner None p.item w in
-      let low : suc (opener.number + (n - 2)) ≤ g.hi = Rises-le (suc (opener.number + (n - 2))) a.chain g.hi p.rises in
+      let low : suc (opener.number + (n - 2)) ≤ g.hi = Rises-le g.touched (suc (opener.number + (n - 2))) a.chain g.hi p.rises in
       let root : g.touched (opener.number + (n - 2)) ≡ true = touched_at g.touched opener.number g.start (n - 2) n g.before (omega arith) a.stands.left_touched in
       record {
         chain = node (labelled (opener.number + (n - 2)) (g.start + (n - 2)) (reached + 2) (layer_of_two m opener.run.delimiter)) a.chain nil;
         stands = record {
-          cut = layer_inside (view_of t.nodes) (view_of u.nodes) g.first opener.number g.start (n - 2) g.before inner a.chain g.hi _ p x.nodes;
-          after = Holds-write_before (view_of t.nodes) (view_of u.nodes) (opener.number + (n - 2)) _ inner None x.nodes outer g.hi g.after g.bound (omega arith) a.stands.rises a.stands.after;
+          cut = layer_inside g.touched (view_of t.nodes) (view_of u.nodes) g.first opener.number g.start (n - 2) g.before inner a.chain g.hi _ p root x.nodes;
+          after = Holds-write_before g.touched (view_of t.nodes) (view_of u.nodes) (opener.number + (n - 2)) _ inner None x.nodes root outer g.hi g.after g.bound (omega arith) a.stands.rises a.stands.after;
           rises = a.stands.rises;
           left_touched = touched_first g.touched opener.number g.start (n - 2) n g.before (omega arith) a.stands.left_touched;
-          inside_touched = (root, a.stands.inside_touched, tt);
+          inside_touched = (root, tt);
         };
         same = sym (enclosed_more n reached left a.chain h) ∙ a.same;
         kept = kept_more g.touched s t u (opener.number + (n - 2)) _ inner None a.kept root x;
@@ -181,16 +183,16 @@ module _ (m : Marks) (opener : Characters) (count end : ℕ) (outer : Option ℕ
       → Wrote t u (opener.number + (n - 2)) (record { start = (item_at t.nodes (opener.number + (n - 2))).start; end = reached + 2; body = layer_of_two m opener.run.delimiter }) inner outer
       → IsEnclosed g s u (enclosed m opener.run.delimiter opener.number g.start opener.count end count g.inside) es (opener.number + (n - 2)) outer
   layers_two t u n reached inner es h o a w =
-      let p = peel_two (view_of t.nodes) g.first opener.number g.start g.before inner a.chain g.hi n h a.stands.cut in
+      let p = peel_two g.touched (view_of t.nodes) g.first opener.number g.start g.before inner a.chain g.hi n h a.stands.cut in
       let x = wrote_layer t u n (n - 2) (reached + 2) (layer_of_two m opener.run.delimiter) inner outer p.item w in
       let root : g.touched (opener.number + (n - 2)) ≡ true = touched_at g.touched opener.number g.start (n - 2) n g.before (omega arith) a.stands.left_touched in
       rw (← a.same)
       (let r : IsEnclosed g s u (settled (labelled (opener.number + (n - 2)) (g.start + (n - 2)) (reached + 2) (layer_of_two m opener.run.delimiter)) a.chain) es (opener.number + (n - 2)) outer =
       record {
-        cut = subst (λ (f : Forest Numbered). Cut (view_of u.nodes) g.first (node (labelled (opener.number + (n - 2)) (g.start + (n - 2)) (reached + 2) (layer_of_two m opener.run.delimiter)) a.chain f) outer g.after g.bound) (sym o)
-            (layer_last (view_of t.nodes) (view_of u.nodes) g.first opener.number g.start (n - 2) g.before inner outer a.chain g.after g.hi g.bound _ p a.stands.after a.stands.rises x.nodes);
+        cut = subst (λ (f : Forest Numbered). Cut g.touched (view_of u.nodes) g.first (node (labelled (opener.number + (n - 2)) (g.start + (n - 2)) (reached + 2) (layer_of_two m opener.run.delimiter)) a.chain f) outer g.after g.bound) (sym o)
+            (layer_last g.touched (view_of t.nodes) (view_of u.nodes) g.first opener.number g.start (n - 2) g.before inner outer a.chain g.after g.hi g.bound _ p a.stands.after a.stands.rises root x.nodes);
         last = refl;
-        left_touched = (root, a.stands.inside_touched, rw o (touched_first g.touched opener.number g.start (n - 2) n g.before (omega arith) a.stands.left_touched));
+        left_touched = (root, rw o (touched_first g.touched opener.number g.start (n - 2) n g.before (omega arith) a.stands.left_touched));
         kept = kept_more g.touched s t u (opener.number + (n - 2)) _ inner outer a.kept root x;
       } in r)
 
@@ -199,16 +201,16 @@ module _ (m : Marks) (opener : Characters) (count end : ℕ) (outer : Option ℕ
       → Wrote t u (opener.number + (n - 1)) (record { start = (item_at t.nodes (opener.number + (n - 1))).start; end = reached + 1; body = layer_of_one m opener.run.delimiter }) inner outer
       → IsEnclosed g s u (enclosed m opener.run.delimiter opener.number g.start opener.count end count g.inside) es (opener.number + (n - 1)) outer
   layers_one t u n reached inner es h o a w =
-      let p = peel_one (view_of t.nodes) g.first opener.number g.start g.before inner a.chain g.hi n h a.stands.cut in
+      let p = peel_one g.touched (view_of t.nodes) g.first opener.number g.start g.before inner a.chain g.hi n h a.stands.cut in
       let x = wrote_layer t u n (n - 1) (reached + 1) (layer_of_one m opener.run.delimiter) inner outer p.item w in
       let root : g.touched (opener.number + (n - 1)) ≡ true = touched_at g.touched opener.number g.start (n - 1) n g.before (omega arith) a.stands.left_touched in
       rw (← a.same)
       (let r : IsEnclosed g s u (settled (labelled (opener.number + (n - 1)) (g.start + (n - 1)) (reached + 1) (layer_of_one m opener.run.delimiter)) a.chain) es (opener.number + (n - 1)) outer =
       record {
-        cut = subst (λ (f : Forest Numbered). Cut (view_of u.nodes) g.first (node (labelled (opener.number + (n - 1)) (g.start + (n - 1)) (reached + 1) (layer_of_one m opener.run.delimiter)) a.chain f) outer g.after g.bound) (sym o)
-            (layer_last (view_of t.nodes) (view_of u.nodes) g.first opener.number g.start (n - 1) g.before inner outer a.chain g.after g.hi g.bound _ p a.stands.after a.stands.rises x.nodes);
+        cut = subst (λ (f : Forest Numbered). Cut g.touched (view_of u.nodes) g.first (node (labelled (opener.number + (n - 1)) (g.start + (n - 1)) (reached + 1) (layer_of_one m opener.run.delimiter)) a.chain f) outer g.after g.bound) (sym o)
+            (layer_last g.touched (view_of t.nodes) (view_of u.nodes) g.first opener.number g.start (n - 1) g.before inner outer a.chain g.after g.hi g.bound _ p a.stands.after a.stands.rises root x.nodes);
         last = refl;
-        left_touched = (root, a.stands.inside_touched, rw o (touched_first g.touched opener.number g.start (n - 1) n g.before (omega arith) a.stands.left_touched));
+        left_touched = (root, rw o (touched_first g.touched opener.number g.start (n - 1) n g.before (omega arith) a.stands.left_touched));
         kept = kept_more g.touched s t u (opener.number + (n - 1)) _ inner outer a.kept root x;
       } in r)
 
@@ -220,10 +222,10 @@ link_within k (Some ix) (node a below after) h = let e : ix ≡ a.number = cc in
 
 module _ (m : Marks) (opener : Characters) (count end : ℕ) (outer : Option ℕ) (g : Around) (s t : Arena Item) (n left reached : ℕ) (inner : Option ℕ) (a : LayersAt m opener count end outer g s t n left reached inner) where
   pub root_of_two : 2 ≤ n → opener.number + (n - 2) < length t.nodes
-  root_of_two h = (peel_two (view_of t.nodes) g.first opener.number g.start g.before inner a.chain g.hi n h a.stands.cut).within
+  root_of_two h = (peel_two g.touched (view_of t.nodes) g.first opener.number g.start g.before inner a.chain g.hi n h a.stands.cut).within
 
   pub root_of_one : 1 ≤ n → opener.number + (n - 1) < length t.nodes
-  root_of_one h = (peel_one (view_of t.nodes) g.first opener.number g.start g.before inner a.chain g.hi n h a.stands.cut).within
+  root_of_one h = (peel_one g.touched (view_of t.nodes) g.first opener.number g.start g.before inner a.chain g.hi n h a.stands.cut).within
 
   pub inner_within : IfSome inner (λ ix. ix < length t.nodes)
   inner_within = link_within (view_of t.nodes) inner a.chain a.stands.cut.right

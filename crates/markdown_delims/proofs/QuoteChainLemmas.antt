@@ -1,5 +1,5 @@
 -- The quotes of a whole chain.
-use Rattle.std.proofs.Common.{◌≡◌, ℕ, zero, suc, ◌+◌, ◌-◌, ◌<◌, Bool, true, false, List, Option, Some, None, length, refl, ap, sym, ◌∙◌, subst}
+use Rattle.std.proofs.Common.{◌≡◌, ℕ, zero, suc, ◌+◌, ◌-◌, ◌<◌, Bool, true, false, List, Option, Some, None, length, refl, ap, sym, ◌∙◌, subst, arith}
 use Rattle.std.specs.Prelude.{◌==◌, ◌&&◌, ◌||◌, if◌then◌else◌, IfSome, is_none}
 use Rattle.markdown_base.specs.declared.item.Item.{Item}
 use Rattle.markdown_base.specs.declared.item.ItemBody.{ItemBody}
@@ -8,7 +8,7 @@ use Rattle.markdown_base.specs.declared.node.Node.{Node}
 use Rattle.markdown_base.specs.Arena.{Arena, sibling_of}
 use Rattle.markdown_base.specs.ArenaForest.{links_of, Spells}
 use Rattle.markdown_base.specs.BlockTree.{Numbered, item_at}
-use Rattle.markdown_base.specs.Forest.{Forest, nil, node, preorder, first_root}
+use Rattle.markdown_base.specs.Forest.{Forest, nil, node, roots, first_root}
 use Rattle.markdown_base.specs.WellFormed.{RunCharacter, run_character, RunGoesOn, EndsRun, GoesOn, byte_of}
 use Rattle.markdown_delims.specs.declared.marks.Marks.{Marks}
 use Rattle.markdown_delims.specs.declared.quotes.Kind.{Kind}
@@ -46,7 +46,7 @@ none_at_end k (Some x) (node a below after) h = refl
 
 module _ (s : Arena Item) (first : ℕ) (f : Forest ℕ) (c : IsSpelled s.nodes first f) where
   pub quote_whole : Chain
-  quote_whole = record { touched = among (preorder f); first = Some first; bound = length s.nodes }
+  quote_whole = record { touched = among (roots f); first = Some first; bound = length s.nodes }
 
   pub quotes_begin : QuotesSoFar quote_whole s s (chain_of s.nodes f) None false (Some first)
   unfolding quote_whole
@@ -56,12 +56,12 @@ module _ (s : Arena Item) (first : ℕ) (f : Forest ℕ) (c : IsSpelled s.nodes 
         on = record {
           read = nil;
           stands = record {
-            cut = record { left = refl; right = holds_spelled s.nodes (Some first) f c.spelled; rises_left = tt; rises_right = rises_chain s.nodes (Some first) f c.spelled c.rising };
+            cut = record { left = refl; right = holds_spelled s.nodes (Some first) f c.spelled; rises_left = tt; rises_right = rises_chain (among (roots f)) s.nodes (Some first) f 0 (omega arith) c.spelled c.rising c.apart };
             remembered = tt;
             left_touched = tt;
-            rest_touched = touched_from_list (among (preorder f)) s.nodes f (among_all (preorder f));
+            rest_touched = touched_from_list (among (roots f)) s.nodes f (among_all (roots f));
           };
-          kept = kept_none (among (preorder f)) s;
+          kept = kept_none (among (roots f)) s;
           same = refl;
         };
       }
@@ -95,7 +95,7 @@ module _ (s : Arena Item) (first : ℕ) (f : Forest ℕ) (c : IsSpelled s.nodes 
   down_if t single double ix (node b below after) a =
       let here : Some ix ≡ Some b.number = a.stands.cut.right.0 in
       let is : ix ≡ b.number = cc in
-      rw is (fewer_left (view_of t.nodes) (sibling_of t.nodes b.number) after b.number quote_whole.bound a.stands.cut.right.1 a.stands.cut.right.4 a.stands.cut.rises_right.2)
+      rw is (fewer_left quote_whole.touched (view_of t.nodes) (sibling_of t.nodes b.number) after b.number quote_whole.bound a.stands.cut.right.1 a.stands.cut.right.4 a.stands.cut.rises_right.2)
 
   pub quotes_down : (t : Arena Item) (single : Option ℕ) (double : Bool) (ix : ℕ) → QuotesSoFar quote_whole s t (chain_of s.nodes f) single double (Some ix) → numbers_left (length t.nodes) (sibling_of t.nodes ix) < length t.nodes - ix
   quotes_down t single double ix a = down_if t single double ix a.rest a.on
@@ -115,8 +115,8 @@ module _ (s : Arena Item) (first : ℕ) (f : Forest ℕ) (c : IsSpelled s.nodes 
   unfolding quote_whole
   quotes_done t single double a =
       let none = nothing_left t a.rest a.on.stands.cut.right in
-      let cut = subst (λ r. Cut (view_of t.nodes) (Some first) a.on.read None r (length s.nodes)) none a.on.stands.cut in
-      let r = over_all (view_of t.nodes) (Some first) a.on.read None nil (length s.nodes) cut in
+      let cut = subst (λ r. Cut (among (roots f)) (view_of t.nodes) (Some first) a.on.read None r (length s.nodes)) none a.on.stands.cut in
+      let r = over_all (among (roots f)) (view_of t.nodes) (Some first) a.on.read None nil (length s.nodes) cut in
       let holds = subst (λ l. Holds (view_of t.nodes) l (read_back a.on.read nil)) r.cut.left r.cut.right in
       let is : read_back a.on.read nil ≡ quoted (chain_of s.nodes f) =
       ap (λ g. read_back g nil) (sym (never_closed single a.on.read)) ∙ sym (ap (quoted_from single double a.on.read) none) ∙ a.on.same in
@@ -207,13 +207,14 @@ delimiters_quoted (node a below after) single double =
 -- a chain with its quotes is a chain
 module _ (text : List ℕ) (s t : Arena Item) (first : ℕ) (f : Forest ℕ) (c : IsChain text s.nodes first f) where
   pub spelled_chain : IsSpelled s.nodes first f
-  spelled_chain = record { spelled = c.spelled; rising = c.rising }
+  spelled_chain = record { spelled = c.spelled; rising = c.rising; apart = c.apart }
 
   pub quoted_chain : IsQuoted s t first f → IsChain text t.nodes first f
   quoted_chain q =
       record {
         spelled = q.spelled;
         rising = c.rising;
+        apart = c.apart;
         whole = subst (λ g. IsWhole text g) (sym q.quotes) (whole_quoted text (chain_of s.nodes f) false false c.whole);
       }
 
@@ -227,6 +228,5 @@ module _ (text : List ℕ) (s t : Arena Item) (first : ℕ) (f : Forest ℕ) (c 
         spelled = p.spelled;
         resolves = p.pairs ∙ ap (paired m text) q.quotes;
         rising = p.rising;
-        some = p.some;
-        kept = kept_both (among (preorder f)) s t u q.kept p.kept;
+        kept = kept_both (among (roots f)) s t u q.kept p.kept;
       }

@@ -15,15 +15,15 @@ use Rattle.markdown_delims.specs.Quotes.{left_single, right_single, left_double,
 use Rattle.markdown_delims.specs.Quoting.{IsRoot, left_quoted, remembered_as, quoted_from, QuotesStand, QuotesOn, WroteBody}
 use Rattle.markdown_delims.specs.Standing.{Chain}
 use Rattle.markdown_delims.specs.Views.{View, view_of, Writes, Wrote, Holds, LeftHolds, next_number, LeftRises, Kept}
-use Rattle.markdown_delims.proofs.CutLemmas.{Rises-le, Rises-raise, Holds-write_before, LeftHolds-write_behind, step_right}
+use Rattle.markdown_delims.proofs.CutLemmas.{Rises-raise, Holds-inside_before, Holds-write_before, LeftHolds-write_behind, step_right}
 use Rattle.markdown_delims.proofs.EncloseLemmas.{kept_none, kept_more}
 use Rattle.markdown_delims.proofs.SettleLemmas.{written_over}
 
 -- a tree of a left list has a number below what follows
-pub root_below : (ix : ℕ) (f : Forest Numbered) (hi : ℕ) → LeftRises f hi → IsRoot ix f → ix < hi
-root_below ix nil hi r i = absurd i
-root_below ix (node a below before) hi r (inl e) = omega (arith, e, Rises-le (suc a.number) below hi r.0)
-root_below ix (node a below before) hi r (inr i) = omega (arith, root_below ix before a.number r.1 i, Rises-le (suc a.number) below hi r.0)
+pub root_below : (own : ℕ → Bool) (ix : ℕ) (f : Forest Numbered) (hi : ℕ) → LeftRises own f hi → IsRoot ix f → ix < hi
+root_below own ix nil hi r i = absurd i
+root_below own ix (node a below before) hi r (inl e) = omega (arith, e, r.0.0)
+root_below own ix (node a below before) hi r (inr i) = omega (arith, root_below own ix before a.number r.1 i, r.0.0)
 
 pub root_within : (k : View) (first : Option ℕ) (ix : ℕ) (f : Forest Numbered) (l : Option ℕ) → LeftHolds k first f l → IsRoot ix f → ix < k.size
 root_within k first ix nil l h i = absurd i
@@ -33,54 +33,54 @@ root_within k first ix (node a below before) l h (inr i) = root_within k first i
 pub root_touched : (touched : ℕ → Bool) (ix : ℕ) (f : Forest Numbered) → AllTouched touched f → IsRoot ix f → touched ix ≡ true
 root_touched touched ix nil h i = absurd i
 root_touched touched ix (node a below before) h (inl e) = subst (λ x. touched x ≡ true) e h.0
-root_touched touched ix (node a below before) h (inr i) = root_touched touched ix before h.2 i
+root_touched touched ix (node a below before) h (inr i) = root_touched touched ix before h.1 i
 
 other_root : (ix : ℕ) (a : Numbered) (before : Forest Numbered) → (a.number ≡ ix → ⊥) → (a.number ≡ ix) ⊎ IsRoot ix before → IsRoot ix before
 other_root ix a before d (inl e) = absurd (d e)
 other_root ix a before d (inr i) = i
 
 -- a write of the body of one of them
-module _ (k k' : View) (first : Option ℕ) (ix : ℕ) (w : Writes k k' ix (record { start = (k.item ix).start; end = (k.item ix).end; body = left_single }) (k.child ix) (k.next ix)) where
+module _ (own : ℕ → Bool) (k k' : View) (first : Option ℕ) (ix : ℕ) (o : own ix ≡ true) (w : Writes k k' ix (record { start = (k.item ix).start; end = (k.item ix).end; body = left_single }) (k.child ix) (k.next ix)) where
   left_written_if : (b : Bool) (a : Numbered) (below before : Forest Numbered) (l : Option ℕ) (hi : ℕ) → (a.number == ix) ≡ b
-      → (IsRoot ix before → LeftRises before a.number → LeftHolds k first before (Some a.number) → LeftHolds k' first (left_quoted ix before) (Some a.number))
-      → IsRoot ix (node a below before) → LeftRises (node a below before) hi → LeftHolds k first (node a below before) l
+      → (IsRoot ix before → LeftRises own before a.number → LeftHolds k first before (Some a.number) → LeftHolds k' first (left_quoted ix before) (Some a.number))
+      → IsRoot ix (node a below before) → LeftRises own (node a below before) hi → LeftHolds k first (node a below before) l
       → LeftHolds k' first (if b then node (with_body left_single a) below before else node a below (left_quoted ix before)) l
   left_written_if true a below before l hi e rest i r h =
       let same : a.number ≡ ix = eqb-true a.number ix e in
-      let inside : Holds k' (k.child a.number) below = Holds-write_before k k' ix _ (k.child ix) (k.next ix) w (k.child a.number) (suc a.number) below hi (omega arith) r.0 h.2 in (
+      let inside : Holds k' (k.child a.number) below = Holds-inside_before own k k' ix _ (k.child ix) (k.next ix) w o (k.child a.number) (suc a.number) below hi (omega arith) r.0 h.2 in (
         rw w.size h.0,
         ap k'.item same ∙ w.item ∙ ap (λ (j : Item). record { start = j.start; end = j.end; body = left_single }) (ap k.item (sym same) ∙ h.1),
         subst (λ m. Holds k' m below) (sym (ap k'.child same ∙ w.child ∙ ap k.child (sym same))) inside,
         ap k'.next same ∙ w.next ∙ ap k.next (sym same) ∙ h.3,
-        LeftHolds-write_behind k k' ix _ (k.child ix) (k.next ix) w first before (Some a.number) a.number (omega arith) r.1 h.4,
+        LeftHolds-write_behind own k k' ix _ (k.child ix) (k.next ix) w o first before (Some a.number) a.number (omega arith) r.1 h.4,
       )
   left_written_if false a below before l hi e rest i r h =
       let differ : a.number ≡ ix → ⊥ = eqb-false a.number ix e in
       let j : IsRoot ix before = other_root ix a before differ i in
-      let low : ix < a.number = root_below ix before a.number r.1 j in
+      let low : ix < a.number = root_below own ix before a.number r.1 j in
       let same = w.others a.number differ in
-      let inside : Holds k' (k.child a.number) below = Holds-write_before k k' ix _ (k.child ix) (k.next ix) w (k.child a.number) (suc a.number) below hi (omega arith) r.0 h.2 in
+      let inside : Holds k' (k.child a.number) below = Holds-inside_before own k k' ix _ (k.child ix) (k.next ix) w o (k.child a.number) (suc a.number) below hi (omega arith) r.0 h.2 in
       (rw w.size h.0, same.item ∙ h.1, rw same.child inside, same.next ∙ h.3, rest j r.1 h.4)
 
-  pub left_written : (f : Forest Numbered) (l : Option ℕ) (hi : ℕ) → IsRoot ix f → LeftRises f hi → LeftHolds k first f l → LeftHolds k' first (left_quoted ix f) l
+  pub left_written : (f : Forest Numbered) (l : Option ℕ) (hi : ℕ) → IsRoot ix f → LeftRises own f hi → LeftHolds k first f l → LeftHolds k' first (left_quoted ix f) l
   left_written nil l hi i r h = absurd i
   left_written (node a below before) l hi i r h =
       left_written_if (a.number == ix) a below before l hi refl (λ j q g. left_written before (Some a.number) a.number j q g) i r h
 
 -- the numbers stay
-left_rises_if : (b : Bool) (ix : ℕ) (a : Numbered) (below before : Forest Numbered) (hi : ℕ) → (LeftRises before a.number → LeftRises (left_quoted ix before) a.number) → LeftRises (node a below before) hi
-    → LeftRises (if b then node (with_body left_single a) below before else node a below (left_quoted ix before)) hi
-left_rises_if true ix a below before hi rest r = r
-left_rises_if false ix a below before hi rest r = (r.0, rest r.1)
+left_rises_if : (own : ℕ → Bool) (b : Bool) (ix : ℕ) (a : Numbered) (below before : Forest Numbered) (hi : ℕ) → (LeftRises own before a.number → LeftRises own (left_quoted ix before) a.number) → LeftRises own (node a below before) hi
+    → LeftRises own (if b then node (with_body left_single a) below before else node a below (left_quoted ix before)) hi
+left_rises_if own true ix a below before hi rest r = r
+left_rises_if own false ix a below before hi rest r = (r.0, rest r.1)
 
-left_rises : (ix : ℕ) (f : Forest Numbered) (hi : ℕ) → LeftRises f hi → LeftRises (left_quoted ix f) hi
-left_rises ix nil hi r = r
-left_rises ix (node a below before) hi r = left_rises_if (a.number == ix) ix a below before hi (left_rises ix before a.number) r
+left_rises : (own : ℕ → Bool) (ix : ℕ) (f : Forest Numbered) (hi : ℕ) → LeftRises own f hi → LeftRises own (left_quoted ix f) hi
+left_rises own ix nil hi r = r
+left_rises own ix (node a below before) hi r = left_rises_if own (a.number == ix) ix a below before hi (left_rises own ix before a.number) r
 
 left_touched_if : (b : Bool) (touched : ℕ → Bool) (ix : ℕ) (a : Numbered) (below before : Forest Numbered) → (AllTouched touched before → AllTouched touched (left_quoted ix before)) → AllTouched touched (node a below before)
     → AllTouched touched (if b then node (with_body left_single a) below before else node a below (left_quoted ix before))
 left_touched_if true touched ix a below before rest h = h
-left_touched_if false touched ix a below before rest h = (h.0, h.1, rest h.2)
+left_touched_if false touched ix a below before rest h = (h.0, rest h.1)
 
 left_all_touched : (touched : ℕ → Bool) (ix : ℕ) (f : Forest Numbered) → AllTouched touched f → AllTouched touched (left_quoted ix f)
 left_all_touched touched ix nil h = h
@@ -166,9 +166,9 @@ module _ (begun : Forest Numbered) (a : Numbered) (below after : Forest Numbered
   pub turn_some_stays : (x : ℕ) (double : Bool) → x < a.number → quoted_from (Some x) double (node (with_body right_single a) below begun) after ≡ turned (Some x) double (kind.Single false false)
   turn_some_stays x double low = stays (Some x) double right_single low
 
-low_if : (single : Option ℕ) (f : Forest Numbered) (hi : ℕ) → LeftRises f hi → IfSome single (λ x. IsRoot x f) → IfSome single (λ x. x < hi)
-low_if None f hi r i = tt
-low_if (Some x) f hi r i = root_below x f hi r i
+low_if : (own : ℕ → Bool) (single : Option ℕ) (f : Forest Numbered) (hi : ℕ) → LeftRises own f hi → IfSome single (λ x. IsRoot x f) → IfSome single (λ x. x < hi)
+low_if own None f hi r i = tt
+low_if own (Some x) f hi r i = root_below own x f hi r i
 
 -- a tree at the link to the rest
 module _ (h : Chain) (s : Arena Item) (begun : Forest Numbered) (single : Option ℕ) (ix : ℕ) (a : Numbered) (below after : Forest Numbered) (st : QuotesStand h s begun single (Some ix) (node a below after)) where
@@ -176,7 +176,7 @@ module _ (h : Chain) (s : Arena Item) (begun : Forest Numbered) (single : Option
   number_is = let here : Some ix ≡ Some a.number = st.cut.right.0 in cc
 
   pub remembered_low : IfSome single (λ x. x < a.number)
-  remembered_low = low_if single begun a.number st.cut.rises_left st.remembered
+  remembered_low = low_if h.touched single begun a.number st.cut.rises_left st.remembered
 
   -- it gets another body
   pub put_here : (t : Arena Item) (b : ItemBody) → WroteBody s t ix b → QuotesStand h t (node (with_body b a) below begun) single (sibling_of s.nodes ix) after
@@ -185,10 +185,10 @@ module _ (h : Chain) (s : Arena Item) (begun : Forest Numbered) (single : Option
       let w2 : Wrote s t a.number (with_body b a).item (child_of s.nodes a.number) (sibling_of s.nodes a.number) =
       subst (λ (i : Item). Wrote s t a.number (record { start = i.start; end = i.end; body = b }) (child_of s.nodes a.number) (sibling_of s.nodes a.number)) st.cut.right.2 w1 in
       record {
-        cut = rw number_is (written_over (view_of s.nodes) (view_of t.nodes) h.first begun (Some ix) a below after h.bound (with_body b a).item st.cut w2.nodes);
+        cut = rw number_is (written_over h.touched (view_of s.nodes) (view_of t.nodes) h.first begun (Some ix) a below after h.bound (with_body b a).item st.cut st.rest_touched.0 w2.nodes);
         remembered = still_root single (with_body b a) below begun st.remembered;
-        left_touched = (st.rest_touched.0, st.rest_touched.1, st.left_touched);
-        rest_touched = st.rest_touched.2;
+        left_touched = (st.rest_touched.0, st.left_touched);
+        rest_touched = st.rest_touched.1;
       }
 
   put_kept : (t : Arena Item) (b : ItemBody) → WroteBody s t ix b → Kept h.touched s t
@@ -214,10 +214,10 @@ module _ (h : Chain) (s : Arena Item) (begun : Forest Numbered) (single : Option
       record {
         read = node a below begun;
         stands = record {
-          cut = rw number_is (step_right (view_of s.nodes) h.first begun (Some ix) a below after h.bound st.cut);
+          cut = rw number_is (step_right h.touched (view_of s.nodes) h.first begun (Some ix) a below after h.bound st.cut);
           remembered = still_root single a below begun st.remembered;
-          left_touched = (st.rest_touched.0, st.rest_touched.1, st.left_touched);
-          rest_touched = st.rest_touched.2;
+          left_touched = (st.rest_touched.0, st.left_touched);
+          rest_touched = st.rest_touched.1;
         };
         kept = kept_none h.touched s;
         same = q ∙ turned_whole begun a below after single double k e;
@@ -230,12 +230,12 @@ module _ (h : Chain) (s : Arena Item) (begun : Forest Numbered) (single : Option
 pub put_left : (h : Chain) (s t : Arena Item) (read : Forest Numbered) (left : ℕ) (l : Option ℕ) (rest : Forest Numbered) → QuotesStand h s read (Some left) l rest → WroteBody s t left left_single
     → QuotesStand h t (left_quoted left read) None l rest
 put_left h s t read left l rest st w =
-    let low = root_below left read (next_number rest h.bound) st.cut.rises_left st.remembered in
+    let low = root_below h.touched left read (next_number rest h.bound) st.cut.rises_left st.remembered in
     record {
       cut = record {
-        left = left_written (view_of s.nodes) (view_of t.nodes) h.first left w.nodes read l (next_number rest h.bound) st.remembered st.cut.rises_left st.cut.left;
-        right = Holds-write_before (view_of s.nodes) (view_of t.nodes) left _ _ _ w.nodes l (suc left) rest h.bound (omega arith) (Rises-raise 0 (suc left) rest h.bound low st.cut.rises_right) st.cut.right;
-        rises_left = left_rises left read (next_number rest h.bound) st.cut.rises_left;
+        left = left_written h.touched (view_of s.nodes) (view_of t.nodes) h.first left (root_touched h.touched left read st.left_touched st.remembered) w.nodes read l (next_number rest h.bound) st.remembered st.cut.rises_left st.cut.left;
+        right = Holds-write_before h.touched (view_of s.nodes) (view_of t.nodes) left _ _ _ w.nodes (root_touched h.touched left read st.left_touched st.remembered) l (suc left) rest h.bound (omega arith) (Rises-raise h.touched 0 (suc left) rest h.bound low st.cut.rises_right) st.cut.right;
+        rises_left = left_rises h.touched left read (next_number rest h.bound) st.cut.rises_left;
         rises_right = st.cut.rises_right;
       };
       remembered = tt;
@@ -254,7 +254,7 @@ close_on h s t u begun left ix a below after double opens st e v w =
     let p = put_left h s t begun left (Some ix) (node a below after) st v in
     let q = put_here h t (left_quoted left begun) None ix a below after p u right_single w in
     let is = number_is h s begun (Some left) ix a below after st in
-    let low : left < a.number = root_below left begun a.number st.cut.rises_left st.remembered in
+    let low : left < a.number = root_below h.touched left begun a.number st.cut.rises_left st.remembered in
     let on : sibling_of t.nodes ix ≡ sibling_of s.nodes ix = (v.nodes.others ix (λ x. omega (arith, is, x))).next in
     record {
       read = node (with_body right_single a) below (left_quoted left begun);

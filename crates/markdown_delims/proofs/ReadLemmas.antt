@@ -105,12 +105,12 @@ begins_after number zero a below after rest some b = absurd (omega arith)
 begins_after number (suc n) a below after rest some b = subst (λ i. BeginsRun (suc number) i after rest) (let e : n ≡ suc n - 1 = omega arith in e) b.2
 
 -- numbers rise behind a run
-rises_behind : (number n lo : ℕ) (chain rest : Forest Numbered) (hi : ℕ) → 0 < n → BeginsRun number n chain rest → Rises lo chain hi → Rises (suc number) rest hi
-rises_behind number zero lo chain rest hi some b r = absurd (omega arith)
-rises_behind number (suc n) lo nil rest hi some b r = absurd b
-rises_behind number (suc zero) lo (node a below after) rest hi some b r = subst (λ f. Rises (suc number) f hi) b.2 (subst (λ i. Rises (suc i) after hi) b.0 r.2)
-rises_behind number (suc (suc n)) lo (node a below after) rest hi some b r =
-    Rises-lower (suc (suc number)) (suc number) rest hi (omega arith) (rises_behind (suc number) (suc n) (suc a.number) after rest hi (omega arith) b.2 r.2)
+rises_behind : (own : ℕ → Bool) (number n lo : ℕ) (chain rest : Forest Numbered) (hi : ℕ) → 0 < n → BeginsRun number n chain rest → Rises own lo chain hi → Rises own (suc number) rest hi
+rises_behind own number zero lo chain rest hi some b r = absurd (omega arith)
+rises_behind own number (suc n) lo nil rest hi some b r = absurd b
+rises_behind own number (suc zero) lo (node a below after) rest hi some b r = subst (λ f. Rises own (suc number) f hi) b.2 (subst (λ i. Rises own (suc i) after hi) b.0 r.2)
+rises_behind own number (suc (suc n)) lo (node a below after) rest hi some b r =
+    Rises-lower own (suc (suc number)) (suc number) rest hi (omega arith) (rises_behind own (suc number) (suc n) (suc a.number) after rest hi (omega arith) b.2 r.2)
 
 -- the first tree of the rest, at the link to it
 module _ (m : Marks) (text : List ℕ) (h : Chain) (s : Arena Item) (es : List Entry) (last : Option ℕ) (ix : ℕ) where
@@ -132,10 +132,10 @@ module _ (m : Marks) (text : List ℕ) (h : Chain) (s : Arena Item) (es : List E
         is_read = record {
           reads = record {
             stands = record {
-              cut = rw same (step_right (view_of s.nodes) h.first (flat es) (Some ix) a below after h.bound st.cut);
+              cut = rw same (step_right h.touched (view_of s.nodes) h.first (flat es) (Some ix) a below after h.bound st.cut);
               last_is = ap Some same;
-              left_touched = (st.rest_touched.0, st.rest_touched.1, st.left_touched);
-              rest_touched = st.rest_touched.2;
+              left_touched = (st.rest_touched.0, st.left_touched);
+              rest_touched = st.rest_touched.1;
             };
             kept = kept_none h.touched s;
           };
@@ -151,7 +151,7 @@ module _ (m : Marks) (text : List ℕ) (h : Chain) (s : Arena Item) (es : List E
   pub record RunHere (run : Run) (chain : Forest Numbered) : Type 0 where
     pub begins : RunBegins text ix (item_at s.nodes ix).start run.length chain
     pub same : (fs : List Entry) (goes_on : List Entry) → with_run m (item_at s.nodes ix).start (all_of_run run ix) fs ≡ goes_on → paired_from m text 0 begins.rest goes_on ≡ paired_from m text 0 chain fs
-    pub rises : Rises (suc ix) begins.rest h.bound
+    pub rises : Rises h.touched (suc ix) begins.rest h.bound
 
   pub run_here : (run : Run) (chain : Forest Numbered) → Stands h s es last (Some ix) chain → IsWhole text chain → run_of text (item_at s.nodes ix) ≡ Some run → RunHere run chain
   run_here run nil st w e = let no : Some ix ≡ None = st.cut.right in cc
@@ -171,7 +171,7 @@ module _ (m : Marks) (text : List ℕ) (h : Chain) (s : Arena Item) (es : List E
             ∙ ap (λ i. paired_from m text (run.length - 1) after (with_run m (item_at s.nodes ix).start (all_of_run run i) fs)) (sym same)
             ∙ ap (λ (i : Item). paired_from m text (run.length - 1) after (with_run m i.start (all_of_run run a.number) fs)) (sym item)
             ∙ sym (paired_some m text a below after fs run is);
-        rises = rises_behind ix run.length 0 (node a below after) b.rest h.bound b.some b.begins st.cut.rises_right;
+        rises = rises_behind h.touched ix run.length 0 (node a below after) b.rest h.bound b.some b.begins st.cut.rises_right;
       }
 
   pub can_settle : (run : Run) (chain : Forest Numbered) → Stands h s es last (Some ix) chain → RunHere run chain → CanSettle ix run.length s

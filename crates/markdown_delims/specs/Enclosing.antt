@@ -3,7 +3,7 @@ use Rattle.std.specs.Prelude.{◌≡◌, ℕ, ◌-◌, Bool, true, List, ◌∷�
 use Rattle.markdown_base.specs.declared.item.Item.{Item}
 use Rattle.markdown_base.specs.Arena.{Arena}
 use Rattle.markdown_base.specs.BlockTree.{Numbered}
-use Rattle.markdown_base.specs.Forest.{Forest, Each}
+use Rattle.markdown_base.specs.Forest.{Forest, nil, node}
 use Rattle.markdown_delims.specs.declared.marks.Marks.{Marks}
 use Rattle.markdown_delims.specs.declared.run.Characters.{Characters}
 use Rattle.markdown_delims.specs.Entries.{Entry, characters_after, flat, enclosed}
@@ -22,20 +22,22 @@ pub record Around : Type 0 where
   pub after : Forest Numbered
   pub bound : ℕ
 
+-- each tree of a chain may be written
 abbrev pub AllTouched : (ℕ → Bool) → Forest Numbered → Type 0
-AllTouched touched f = Each (λ a. touched a.number ≡ true) f
+AllTouched touched nil = Unit {0}
+AllTouched touched (node a below after) = (touched a.number ≡ true) × AllTouched touched after
 
 -- the first n characters from a number on stand before the link of the inner chain; the outer chain stands apart
 pub record Encloses (g : Around) (s : Arena Item) (number n : ℕ) (inner outer : Option ℕ) : Type 0 where
-  pub cut : Cut (view_of s.nodes) g.first (characters_after number g.start n g.before) inner g.inside g.hi
+  pub cut : Cut g.touched (view_of s.nodes) g.first (characters_after number g.start n g.before) inner g.inside g.hi
   pub after : Holds (view_of s.nodes) outer g.after
-  pub rises : Rises g.hi g.after g.bound
+  pub rises : Rises g.touched g.hi g.after g.bound
   pub left_touched : AllTouched g.touched (characters_after number g.start n g.before)
   pub inside_touched : AllTouched g.touched g.inside
 
 -- the chain, cut after the nodes that the characters became
 pub record IsEnclosed (g : Around) (s t : Arena Item) (entry : Entry) (es : List Entry) (root : ℕ) (outer : Option ℕ) : Type 0 where
-  pub cut : Cut (view_of t.nodes) g.first (flat (entry ∷ es)) outer g.after g.bound
+  pub cut : Cut g.touched (view_of t.nodes) g.first (flat (entry ∷ es)) outer g.after g.bound
   pub last : Some root ≡ top (flat (entry ∷ es))
   pub left_touched : AllTouched g.touched (flat (entry ∷ es))
   pub kept : Kept g.touched s t

@@ -1,14 +1,14 @@
 -- How far the quotes of a chain have been read, in an arena.
-use Rattle.std.specs.Prelude.{◌≡◌, ℕ, ◌⊎◌, Bool, true, ◌==◌, List, if◌then◌else◌, Option, Some, None, IfSome, is_some}
+use Rattle.std.specs.Prelude.{◌≡◌, ℕ, ◌⊎◌, Bool, ◌==◌, List, if◌then◌else◌, Option, Some, None, IfSome, is_some}
 use Rattle.markdown_base.specs.declared.item.Item.{Item}
 use Rattle.markdown_base.specs.declared.item.ItemBody.{ItemBody}
 use Rattle.markdown_base.specs.declared.node.Node.{Node}
 use Rattle.markdown_base.specs.Arena.{Arena, child_of, sibling_of}
 use Rattle.markdown_base.specs.ArenaForest.{links_of, Spells}
 use Rattle.markdown_base.specs.BlockTree.{Numbered, item_at}
-use Rattle.markdown_base.specs.Forest.{Forest, nil, node, Each, preorder}
+use Rattle.markdown_base.specs.Forest.{Forest, nil, node, roots}
 use Rattle.markdown_delims.specs.declared.quotes.Kind.{Kind}
-use Rattle.markdown_delims.specs.ChainForest.{RisesFrom, among, chain_of}
+use Rattle.markdown_delims.specs.ChainForest.{RisesFrom, among, NoneBelow, chain_of}
 use Rattle.markdown_delims.specs.declared.marks.Marks.{Marks}
 use Rattle.markdown_delims.specs.Entries.{read_back, paired}
 use Rattle.markdown_delims.specs.Enclosing.{AllTouched}
@@ -37,7 +37,7 @@ quoted_from single double read rest = read_back (remembered_as single (is_closed
 
 -- the chain is read so far as a left list, in which the remembered `'` stands
 pub record QuotesStand (h : Chain) (s : Arena Item) (read : Forest Numbered) (single l : Option ℕ) (rest : Forest Numbered) : Type 0 where
-  pub cut : Cut (view_of s.nodes) h.first read l rest h.bound
+  pub cut : Cut h.touched (view_of s.nodes) h.first read l rest h.bound
   pub remembered : IfSome single (λ ix. IsRoot ix read)
   pub left_touched : AllTouched h.touched read
   pub rest_touched : AllTouched h.touched rest
@@ -69,13 +69,14 @@ pub record CanQuote (ix : ℕ) (s : Arena Item) (single : Option ℕ) : Type 0 w
 -- from `first` on stands a chain of these nodes, whose numbers rise
 pub record IsSpelled (nodes : List (Node Item)) (first : ℕ) (f : Forest ℕ) : Type 0 where
   pub spelled : Spells (links_of nodes) (Some first) f
-  pub rising : RisesFrom 0 (preorder f)
+  pub rising : RisesFrom 0 (roots f)
+  pub apart : NoneBelow (among (roots f)) f
 
 -- the same nodes stand there, with their quotes, and no other node has changed
 pub record IsQuoted (s t : Arena Item) (first : ℕ) (f : Forest ℕ) : Type 0 where
   pub spelled : Spells (links_of t.nodes) (Some first) f
   pub quotes : chain_of t.nodes f ≡ quoted (chain_of s.nodes f)
-  pub kept : Kept (among (preorder f)) s t
+  pub kept : Kept (among (roots f)) s t
 
 -- from `first` on stands now the chain with its quotes, its last break and its runs paired: some of its nodes, in
 -- their order, and no other node has changed
@@ -83,6 +84,5 @@ pub record IsResolved (m : Marks) (text : List ℕ) (s t : Arena Item) (first : 
   pub forest : Forest ℕ
   pub spelled : Spells (links_of t.nodes) (Some first) forest
   pub resolves : chain_of t.nodes forest ≡ paired m text (quoted (chain_of s.nodes f))
-  pub rising : RisesFrom 0 (preorder forest)
-  pub some : Each (λ ix. among (preorder f) ix ≡ true) forest
-  pub kept : Kept (among (preorder f)) s t
+  pub rising : RisesFrom 0 (roots forest)
+  pub kept : Kept (among (roots f)) s t

@@ -65,7 +65,7 @@ pub record ReadFurther (m : Marks) (text : List ℕ) (h : Chain) (s t : Arena It
   pub whole : IsWhole text rest
   pub same : paired_from m text 0 rest es ≡ paired_from m text 0 chain begun
   pub paid : cost' + 10 * delimiters_of rest ≤ cost + 10 * delimiters_of chain
-  pub further : Rises from rest h.bound
+  pub further : Rises h.touched from rest h.bound
 
 -- a tree is read: the first of the rest, or all characters of a run
 abbrev pub ReadsTree : Marks → List ℕ → ℕ → Option ℕ → Arena Item → Arena Item → List OpenRun → List OpenRun → ℕ → ℕ → Option ℕ → Option ℕ → Type 0

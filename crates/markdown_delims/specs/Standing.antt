@@ -19,7 +19,7 @@ pub record Chain : Type 0 where
 
 -- the chain so far is these entries, and `last` is its last node; from the link l on stands the rest
 pub record Stands (h : Chain) (s : Arena Item) (es : List Entry) (last l : Option ℕ) (rest : Forest Numbered) : Type 0 where
-  pub cut : Cut (view_of s.nodes) h.first (flat es) l rest h.bound
+  pub cut : Cut h.touched (view_of s.nodes) h.first (flat es) l rest h.bound
   pub last_is : last ≡ top (flat es)
   pub left_touched : AllTouched h.touched (flat es)
   pub rest_touched : AllTouched h.touched rest
