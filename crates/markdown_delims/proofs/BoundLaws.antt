@@ -10,7 +10,7 @@ use Rattle.markdown_delims.specs.declared.run.Run.{Run}
 use Rattle.markdown_delims.specs.declared.run.Characters.{Characters}
 use Rattle.markdown_delims.specs.declared.bounds.CharacterBounds.{CharacterBounds}
 use Rattle.markdown_delims.specs.declared.bounds.LowerBounds.{LowerBounds}
-use Rattle.markdown_delims.specs.Pairing.{both, may_pair, needs_equal_length, is_tilde_or_caret}
+use Rattle.markdown_delims.specs.MayPair.{both, may_pair, needs_equal_length, is_tilde_or_caret}
 use Rattle.markdown_delims.specs.Bounds.{IsOutOfStep, IsOfBoth, BoundCharacter, BoundStack, remainder_bound, character_bound_for, bound_at, bound_for, character_raised_for, raised_at, raised_for, character_lowered, lowered, no_bounds, zero_bounds, drop_bound}
 use Rattle.markdown_delims.proofs.PairTests.{IsOutOfStep-failed, IsOfBoth-failed, may_pair-fails}
 

@@ -10,12 +10,12 @@ use Rattle.markdown_base.specs.ArenaForest.{links_of, Spells}
 use Rattle.markdown_base.specs.BlockTree.{Numbered}
 use Rattle.markdown_base.specs.Forest.{Forest, nil, node, Each, roots, relabelled}
 use Rattle.markdown_delims.specs.declared.marks.Marks.{Marks}
-use Rattle.markdown_delims.specs.Pairing.{OpenRun}
+use Rattle.markdown_delims.specs.MayPair.{OpenRun}
 use Rattle.markdown_delims.specs.Entries.{Entry, flat, read_back, paired_from}
 use Rattle.markdown_delims.specs.Enclosing.{AllTouched}
 use Rattle.markdown_delims.specs.Views.{View, view_of, Holds, Between, Rises, Cut, next_number}
-use Rattle.markdown_delims.specs.Standing.{Chain, Stands}
-use Rattle.markdown_delims.specs.Reading.{delimiters_of, ReadFurther, ReadsTree, CanReadTree}
+use Rattle.markdown_delims.specs.ChainStanding.{Chain, Stands}
+use Rattle.markdown_delims.specs.RunReading.{delimiters_of, ReadFurther, ReadsTree, CanReadTree}
 use Rattle.markdown_delims.specs.ChainForest.{RisesFrom, among, NoneBelow, chain_of, IsChain, IsPaired}
 use Rattle.markdown_delims.proofs.CutLemmas.{Rises-lower, step_left}
 use Rattle.markdown_delims.proofs.EncloseLemmas.{next_number-from, kept_none, kept_both}

@@ -10,11 +10,11 @@ use Rattle.markdown_delims.specs.declared.marks.Marks.{Marks}
 use Rattle.markdown_delims.specs.declared.run.Characters.{Characters}
 use Rattle.markdown_delims.specs.declared.run.Delimiter.{Delimiter}
 use Rattle.markdown_delims.specs.declared.run.Run.{Run}
-use Rattle.markdown_delims.specs.Pairing.{OpenRun, Found, may_take, nearest, drop_run, dropped_by, is_tilde_or_caret}
+use Rattle.markdown_delims.specs.MayPair.{OpenRun, Found, may_take, nearest, drop_run, dropped_by, is_tilde_or_caret}
 use Rattle.markdown_delims.specs.Entries.{Entry, settled, lone, waiting, character, characters, characters_after, flat, open_of, Taken, search, enclosed, rest_open, without_last, drop_entry, entries_dropped, kept}
 use Rattle.markdown_delims.specs.Views.{View, view_of, Cut, top}
 use Rattle.markdown_delims.specs.Enclosing.{AllTouched}
-use Rattle.markdown_delims.specs.Standing.{Chain, Stands, StandsAt}
+use Rattle.markdown_delims.specs.ChainStanding.{Chain, Stands, StandsAt}
 use Rattle.markdown_delims.proofs.CutLemmas.{step_right}
 use Rattle.markdown_delims.proofs.PairLemmas.{behind, behind_link}
 

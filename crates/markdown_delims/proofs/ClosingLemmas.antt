@@ -7,10 +7,10 @@ use Rattle.markdown_base.specs.BlockTree.{Numbered}
 use Rattle.markdown_base.specs.Forest.{Forest, nil}
 use Rattle.markdown_delims.specs.declared.marks.Marks.{Marks}
 use Rattle.markdown_delims.specs.declared.run.Characters.{Characters}
-use Rattle.markdown_delims.specs.Pairing.{OpenRun, nearest, dropped_by}
+use Rattle.markdown_delims.specs.MayPair.{OpenRun, nearest, dropped_by}
 use Rattle.markdown_delims.specs.Entries.{Entry, characters, open_of, Taken, search, rest_open, with_pair, without_last, without_first, entries_dropped, kept, after_search, closed_in}
 use Rattle.markdown_delims.specs.Views.{View, view_of, Holds, Kept}
-use Rattle.markdown_delims.specs.Standing.{Chain, Stands, Reads, StandsAt, count_of, Pairs, CanPair, IsRead, ReadsOn, CanRead}
+use Rattle.markdown_delims.specs.ChainStanding.{Chain, Stands, Reads, StandsAt, count_of, Pairs, CanPair, IsRead, ReadsOn, CanRead}
 use Rattle.markdown_delims.proofs.EncloseLemmas.{kept_none, kept_both}
 use Rattle.markdown_delims.proofs.CloseLemmas.{TakenAs, taken_as, taken_none, opener_stands, flat-entries_dropped, open_of-entries_dropped, open_of-enclosed, open_of-rest_used, open_of-rest_left, stands_as}
 

@@ -8,7 +8,7 @@ use Rattle.markdown_base.specs.BlockTree.{Numbered, item_at}
 use Rattle.markdown_base.specs.Forest.{Forest, nil, node}
 use Rattle.markdown_delims.specs.declared.marks.Marks.{Marks}
 use Rattle.markdown_delims.specs.declared.run.Characters.{Characters}
-use Rattle.markdown_delims.specs.Marks.{layer_of_one, layer_of_two}
+use Rattle.markdown_delims.specs.MarkBodies.{layer_of_one, layer_of_two}
 use Rattle.markdown_delims.specs.Entries.{Entry, settled, labelled, character, characters_after, flat, enclosed}
 use Rattle.markdown_delims.specs.Views.{View, view_of, Writes, Wrote, Holds, LeftHolds, next_number, Rises, LeftRises, Cut, Kept}
 use Rattle.markdown_delims.specs.Enclosing.{Around, AllTouched, Encloses, IsEnclosed}

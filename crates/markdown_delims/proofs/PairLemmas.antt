@@ -9,11 +9,11 @@ use Rattle.markdown_base.specs.Forest.{Forest, nil, node}
 use Rattle.markdown_delims.specs.declared.marks.Marks.{Marks}
 use Rattle.markdown_delims.specs.declared.run.Characters.{Characters}
 use Rattle.markdown_delims.specs.declared.run.Run.{Run}
-use Rattle.markdown_delims.specs.Pairing.{OpenRun, may_take}
+use Rattle.markdown_delims.specs.MayPair.{OpenRun, may_take}
 use Rattle.markdown_delims.specs.Entries.{Entry, settled, lone, waiting, character, characters, characters_after, flat, Taken, search, enclosed, rest_open, with_pair}
 use Rattle.markdown_delims.specs.Views.{View, view_of, Writes, Wrote, Holds, LeftHolds, next_number, Rises, LeftRises, Cut, top}
 use Rattle.markdown_delims.specs.Enclosing.{Around, AllTouched, Encloses, LeavesOpen, EnclosesAll}
-use Rattle.markdown_delims.specs.Standing.{Chain, Reads, StandsAt, count_of}
+use Rattle.markdown_delims.specs.ChainStanding.{Chain, Reads, StandsAt, count_of}
 use Rattle.markdown_delims.proofs.CutLemmas.{Rises-lower, Holds-write_before, step_left, Parted, parted}
 use Rattle.markdown_delims.proofs.EncloseLemmas.{kept_none, kept_more, kept_both}
 

@@ -4,7 +4,7 @@ use Rattle.std.specs.Prelude.{not, ◌&&◌, ◌||◌, ◌==◌}
 use Rattle.std.proofs.Math.Nat.{add-mod-mod, mod-mod}
 use Rattle.markdown_delims.specs.declared.run.Run.{Run}
 use Rattle.markdown_delims.specs.declared.run.Characters.{Characters}
-use Rattle.markdown_delims.specs.Pairing.{both, lengths_agree, may_pair, needs_equal_length}
+use Rattle.markdown_delims.specs.MayPair.{both, lengths_agree, may_pair, needs_equal_length}
 use Rattle.markdown_delims.specs.Bounds.{IsOutOfStep, IsOfBoth}
 
 -- only the remainder of the closer's length counts

@@ -8,7 +8,7 @@ use Rattle.markdown_delims.specs.declared.run.Run.{Run}
 use Rattle.markdown_delims.specs.declared.run.Characters.{Characters}
 use Rattle.markdown_delims.specs.declared.bounds.CharacterBounds.{CharacterBounds}
 use Rattle.markdown_delims.specs.declared.bounds.LowerBounds.{LowerBounds}
-use Rattle.markdown_delims.specs.Pairing.{both}
+use Rattle.markdown_delims.specs.MayPair.{both}
 use Rattle.markdown_delims.specs.Bounds.{BoundCharacter, BoundStack, character_bound_for, bound_at, bound_for, character_raised_for, raised_at, raised_for, character_lowered, lowered, character_above, above_bounds}
 
 -- a push stands above each bound of a character

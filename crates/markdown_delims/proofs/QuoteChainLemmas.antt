@@ -15,10 +15,10 @@ use Rattle.markdown_delims.specs.declared.quotes.Kind.{Kind}
 use Rattle.markdown_delims.specs.declared.quotes.Kind.TheVariants as kind
 use Rattle.markdown_delims.specs.ChainForest.{among, chain_of, IsChain, IsPaired}
 use Rattle.markdown_delims.specs.Entries.{read_back, paired}
-use Rattle.markdown_delims.specs.Quotes.{left_single, right_single, left_double, right_double, Turn, kind_of, is_closed_later, is_nil, with_body, turn_of, turn_at, quoted_after, quoted}
+use Rattle.markdown_delims.specs.QuoteBodies.{left_single, right_single, left_double, right_double, Turn, kind_of, is_closed_later, is_nil, with_body, turn_of, turn_at, quoted_after, quoted}
 use Rattle.markdown_delims.specs.Quoting.{remembered_as, quoted_from, QuotesOn, QuotesTree, CanQuote, IsSpelled, IsQuoted, IsResolved}
-use Rattle.markdown_delims.specs.Reading.{StandsWhole, IsWhole, counts_one, delimiters_of}
-use Rattle.markdown_delims.specs.Standing.{Chain}
+use Rattle.markdown_delims.specs.RunReading.{StandsWhole, IsWhole, counts_one, delimiters_of}
+use Rattle.markdown_delims.specs.ChainStanding.{Chain}
 use Rattle.markdown_delims.specs.Views.{View, view_of, Holds, Cut}
 use Rattle.markdown_delims.proofs.EncloseLemmas.{kept_none, kept_both}
 use Rattle.markdown_delims.proofs.ChainLemmas.{numbers_of, numbers_left, holds_spelled, spelled_holds, labels_hold, rises_chain, among_all, touched_from_list, over_all, fewer_left}

@@ -11,9 +11,10 @@ use Rattle.markdown_delims.specs.declared.quotes.Kind.{Kind}
 use Rattle.markdown_delims.specs.declared.quotes.Kind.TheVariants as kind
 use Rattle.markdown_delims.specs.Entries.{read_back}
 use Rattle.markdown_delims.specs.Enclosing.{AllTouched}
-use Rattle.markdown_delims.specs.Quotes.{left_single, right_single, left_double, right_double, backslash, kind_of, closes_later, is_closed_later, turn_of, is_nil, with_body, quoted_after}
+use Rattle.markdown_delims.specs.QuoteBodies.{left_single, right_single, left_double, right_double, backslash, kind_of, is_closed_later, turn_of, is_nil, with_body, quoted_after}
+use Rattle.markdown_delims.specs.Quotes.{closes_later}
 use Rattle.markdown_delims.specs.Quoting.{IsRoot, left_quoted, remembered_as, quoted_from, QuotesStand, QuotesOn, WroteBody}
-use Rattle.markdown_delims.specs.Standing.{Chain}
+use Rattle.markdown_delims.specs.ChainStanding.{Chain}
 use Rattle.markdown_delims.specs.Views.{View, view_of, Writes, Wrote, Holds, LeftHolds, next_number, LeftRises, Kept}
 use Rattle.markdown_delims.proofs.CutLemmas.{Rises-raise, Holds-inside_before, Holds-write_before, LeftHolds-write_behind, step_right}
 use Rattle.markdown_delims.proofs.EncloseLemmas.{kept_none, kept_more}

@@ -11,12 +11,12 @@ use Rattle.markdown_base.specs.WellFormed.{RunCharacter, run_character, is_delim
 use Rattle.markdown_delims.specs.declared.marks.Marks.{Marks}
 use Rattle.markdown_delims.specs.declared.run.Delimiter.{Delimiter}
 use Rattle.markdown_delims.specs.declared.run.Run.{Run}
-use Rattle.markdown_delims.specs.Pairing.{OpenRun}
-use Rattle.markdown_delims.specs.Marks.{run_if, run_of}
+use Rattle.markdown_delims.specs.MayPair.{OpenRun}
+use Rattle.markdown_delims.specs.MarkBodies.{run_if, run_of}
 use Rattle.markdown_delims.specs.Entries.{Entry, settled, flat, open_of, with_run, all_of_run, after_tree, paired_from}
 use Rattle.markdown_delims.specs.Views.{view_of, Rises}
-use Rattle.markdown_delims.specs.Standing.{Chain, Stands, ReadsOn, CanRead}
-use Rattle.markdown_delims.specs.Reading.{StandsWhole, IsWhole, BeginsRun, counts_one, delimiters_of, Settles, CanSettle, ReadFurther}
+use Rattle.markdown_delims.specs.ChainStanding.{Chain, Stands, ReadsOn, CanRead}
+use Rattle.markdown_delims.specs.RunReading.{StandsWhole, IsWhole, BeginsRun, counts_one, delimiters_of, Settles, CanSettle, ReadFurther}
 use Rattle.markdown_delims.proofs.CutLemmas.{Rises-lower, step_right}
 use Rattle.markdown_delims.proofs.EncloseLemmas.{kept_none, kept_both}
 

@@ -7,8 +7,8 @@ use Rattle.markdown_base.specs.Forest.{Forest, nil, node}
 use Rattle.markdown_delims.specs.Entries.{Entry, character, characters, characters_after, flat}
 use Rattle.markdown_delims.specs.Enclosing.{AllTouched}
 use Rattle.markdown_delims.specs.Views.{View, view_of, Writes, Wrote, Holds, LeftHolds, next_number, Cut, Kept}
-use Rattle.markdown_delims.specs.Standing.{Chain, Stands}
-use Rattle.markdown_delims.specs.Reading.{BeginsRun, IsSettled}
+use Rattle.markdown_delims.specs.ChainStanding.{Chain, Stands}
+use Rattle.markdown_delims.specs.RunReading.{BeginsRun, IsSettled}
 use Rattle.markdown_delims.proofs.CutLemmas.{Rises-lower, Holds-write_before, enclosing}
 use Rattle.markdown_delims.proofs.EncloseLemmas.{kept_none, kept_more}
 use Rattle.markdown_delims.proofs.PairLemmas.{characters-last, over_characters}

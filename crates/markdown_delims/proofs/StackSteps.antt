@@ -5,7 +5,7 @@ use Rattle.std.proofs.lemmas.List.Elements.{All-take, All-push}
 use Rattle.markdown_delims.specs.declared.run.Run.{Run}
 use Rattle.markdown_delims.specs.declared.run.Characters.{Characters}
 use Rattle.markdown_delims.specs.declared.bounds.LowerBounds.{LowerBounds}
-use Rattle.markdown_delims.specs.Pairing.{may_pair, nearest}
+use Rattle.markdown_delims.specs.MayPair.{may_pair, nearest}
 use Rattle.markdown_delims.specs.Bounds.{bound_for, raised_for, lowered, above_bounds}
 use Rattle.markdown_delims.specs.OpenRuns.{open_runs, openers_of, potential_of, IsSound}
 use Rattle.markdown_delims.proofs.BoundLaws.{BoundStack-push, BoundStack-cut, BoundStack-raised, bound_at-within, drop_bound-within}

@@ -6,7 +6,7 @@ use Rattle.markdown_delims.specs.declared.run.Run.{Run}
 use Rattle.markdown_delims.specs.declared.run.Characters.{Characters}
 use Rattle.markdown_delims.specs.declared.bounds.CharacterBounds.{CharacterBounds}
 use Rattle.markdown_delims.specs.declared.bounds.LowerBounds.{LowerBounds}
-use Rattle.markdown_delims.specs.Pairing.{same_delimiter, both, lengths_agree}
+use Rattle.markdown_delims.specs.MayPair.{same_delimiter, both, lengths_agree}
 
 abbrev pub no_bounds : CharacterBounds
 no_bounds = record { cannot_open = 0; remainder_zero = 0; remainder_one = 0; remainder_two = 0 }

@@ -9,7 +9,7 @@ use Rattle.markdown_base.specs.Forest.{Forest, nil, node, Each, roots, relabelle
 use Rattle.markdown_delims.specs.declared.marks.Marks.{Marks}
 use Rattle.markdown_delims.specs.OpenRuns.{Openers}
 use Rattle.markdown_delims.specs.Entries.{paired}
-use Rattle.markdown_delims.specs.Reading.{IsWhole, delimiters_of}
+use Rattle.markdown_delims.specs.RunReading.{IsWhole, delimiters_of}
 use Rattle.markdown_delims.specs.Views.{Kept}
 
 -- each number is above the one before it, and the first not below lo

@@ -8,8 +8,8 @@ use Rattle.markdown_delims.specs.declared.marks.Marks.{Marks}
 use Rattle.markdown_delims.specs.declared.run.Delimiter.{Delimiter}
 use Rattle.markdown_delims.specs.declared.run.Run.{Run}
 use Rattle.markdown_delims.specs.declared.run.Characters.{Characters}
-use Rattle.markdown_delims.specs.Marks.{whole_text, layer_of_one, layer_of_two, run_of}
-use Rattle.markdown_delims.specs.Pairing.{OpenRun, is_tilde_or_caret, drop_run, may_take}
+use Rattle.markdown_delims.specs.MarkBodies.{whole_text, layer_of_one, layer_of_two, run_of}
+use Rattle.markdown_delims.specs.MayPair.{OpenRun, is_tilde_or_caret, drop_run, may_take}
 
 -- what was read of a chain: a tree; characters that stay text; a run that is still open, dropped or not.
 -- Characters stand from a byte on, and are named by the number of their first node.

@@ -2,7 +2,7 @@
 use Rattle.std.specs.Prelude.{ℕ, suc, ◌+◌, ◌^◌, ◌<◌, List, [], ◌∷◌, length, nat_lt, All}
 use Rattle.markdown_delims.specs.declared.run.Characters.{Characters}
 use Rattle.markdown_delims.specs.declared.bounds.LowerBounds.{LowerBounds}
-use Rattle.markdown_delims.specs.Pairing.{OpenRun}
+use Rattle.markdown_delims.specs.MayPair.{OpenRun}
 use Rattle.markdown_delims.specs.Bounds.{BoundStack, above_bounds, drop_bound}
 
 -- the open runs, the nearest first; how often one was compared with a closer; and that number with what may still be compared

@@ -1,33 +1,45 @@
--- Quotes of a chain, and a hard break by a backslash at its end.
-use Rattle.std.specs.Prelude.{Bool, true, false, ◌&&◌, ◌||◌, ◌==◌, if◌then◌else◌}
+-- Quotes of a chain under smart punctuation, and a hard break by a backslash at its end.
+use Rattle.std.specs.Prelude.{Bool, true, false, ◌&&◌, ◌||◌, ◌==◌, if◌then◌else◌, [], ◌∷◌}
+use Rattle.markdown_base.specs.Event.{text}
+use Rattle.markdown_base.specs.Forest.{Forest, nil, node}
 use Rattle.markdown_base.specs.declared.item.ItemBody.{ItemBody}
 use Rattle.markdown_base.specs.declared.item.ItemBody.TheVariants as body
-use Rattle.markdown_base.specs.BlockTree.{Numbered}
-use Rattle.markdown_base.specs.Forest.{Forest, nil, node}
+use Rattle.markdown_chains.specs.Document.{Shape, leaf, enclosed, plain, backslash_break, unresolved, Label, shaped, made}
 use Rattle.markdown_delims.specs.declared.quotes.Kind.{Kind}
 use Rattle.markdown_delims.specs.declared.quotes.Kind.TheVariants as kind
 
--- the characters that quotes become: U+2018, U+2019, U+201C, U+201D; and the backslash
-abbrev pub left_single : ItemBody
-left_single = body.SynthesizeChar 8216
+-- a Text of the UTF-8 bytes of U+2018, U+2019, U+201C, U+201D, and of the backslash
+abbrev pub left_single : Shape
+left_single = leaf (text (226 ∷ 128 ∷ 152 ∷ [])) (made ∷ [])
 
-abbrev pub right_single : ItemBody
-right_single = body.SynthesizeChar 8217
+abbrev pub right_single : Shape
+right_single = leaf (text (226 ∷ 128 ∷ 153 ∷ [])) (made ∷ [])
 
-abbrev pub left_double : ItemBody
-left_double = body.SynthesizeChar 8220
+abbrev pub left_double : Shape
+left_double = leaf (text (226 ∷ 128 ∷ 156 ∷ [])) (made ∷ [])
 
-abbrev pub right_double : ItemBody
-right_double = body.SynthesizeChar 8221
+abbrev pub right_double : Shape
+right_double = leaf (text (226 ∷ 128 ∷ 157 ∷ [])) (made ∷ [])
 
-abbrev pub backslash : ItemBody
-backslash = body.SynthesizeChar 92
+abbrev pub backslash : Shape
+backslash = leaf (text (92 ∷ [])) (made ∷ [])
 
--- what a body is to the reading of quotes
-abbrev pub kind_of : ItemBody → Kind
-kind_of (body.MaybeSmartQuote quote opens closes) = if quote == 39 then kind.Single opens closes else kind.Double opens closes
-kind_of (body.HardBreak by_backslash) = if by_backslash then kind.Break else kind.Other
-kind_of other = kind.Other
+-- what a shape is to the reading of quotes: a `'` or a `"` with whether it can open and can close, a hard break by a
+-- backslash, or another
+abbrev pub kind_by : (is_single opens closes : Bool) → Kind
+kind_by true opens closes = kind.Single opens closes
+kind_by false opens closes = kind.Double opens closes
+
+abbrev pub kind_of_open : ItemBody → Kind
+kind_of_open (body.MaybeSmartQuote quote opens closes) = kind_by (quote == 39) opens closes
+kind_of_open other = kind.Other
+
+abbrev pub kind_of_shape : Shape → Kind
+kind_of_shape (leaf e origins) = kind.Other
+kind_of_shape (enclosed tag) = kind.Other
+kind_of_shape plain = kind.Other
+kind_of_shape backslash_break = kind.Break
+kind_of_shape (unresolved b) = kind_of_open b
 
 -- whether the `'` remembered here is closed later: the next one that can close or open decides
 abbrev pub closes_later : Kind → Bool → Bool
@@ -36,44 +48,48 @@ closes_later (kind.Double opens closes) later = later
 closes_later kind.Break later = later
 closes_later kind.Other later = later
 
-abbrev pub is_closed_later : Forest Numbered → Bool
+abbrev pub is_closed_later : {A : Type 0} → Forest (Label A) → Bool
 is_closed_later nil = false
-is_closed_later (node a below after) = closes_later (kind_of a.item.body) (is_closed_later after)
+is_closed_later (node a below after) = closes_later (kind_of_shape a.part.shape) (is_closed_later after)
+
+abbrev pub is_end : {A : Type 0} → Forest A → Bool
+is_end nil = true
+is_end (node a below after) = false
 
 -- what a tree becomes, and whether a `'` is remembered and a `"` is open after it
-pub record Turn : Type 0 where
-  pub made : ItemBody
+pub record QuoteTurn : Type 0 where
+  pub made : Shape
   pub single : Bool
   pub double : Bool
 
-abbrev pub turn_of : Kind → ItemBody → Bool → Bool → Bool → Bool → Turn
-turn_of (kind.Single opens closes) b single double later last =
-    if single && closes then record { made = right_single; single = false; double = double }
-    else record { made = if opens && later then left_single else right_single; single = opens || single; double = double }
-turn_of (kind.Double opens closes) b single double later last =
-    if double && closes then record { made = right_double; single = single; double = false }
-    else record { made = left_double; single = single; double = opens || double }
-turn_of kind.Break b single double later last = record { made = if last then backslash else b; single = single; double = double }
-turn_of kind.Other b single double later last = record { made = b; single = single; double = double }
+-- a `'` that closes a remembered one, and one that does not: it is a left quote where it is closed itself
+abbrev pub single_turn : (is_closing opens single double later : Bool) → QuoteTurn
+single_turn true opens single double later = record { made = right_single; single = false; double = double }
+single_turn false opens single double later =
+    record { made = if opens && later then left_single else right_single; single = opens || single; double = double }
 
-abbrev pub is_nil : Forest Numbered → Bool
-is_nil nil = true
-is_nil (node a below after) = false
+-- a `"` that closes an open one, and one that does not
+abbrev pub double_turn : (is_closing opens single double : Bool) → QuoteTurn
+double_turn true opens single double = record { made = right_double; single = single; double = false }
+double_turn false opens single double = record { made = left_double; single = single; double = opens || double }
 
--- a label with another body
-abbrev pub with_body : ItemBody → Numbered → Numbered
-with_body b a = record { number = a.number; item = record { start = a.item.start; end = a.item.end; body = b } }
+abbrev pub turn_by : Kind → Shape → (single double later last : Bool) → QuoteTurn
+turn_by (kind.Single opens closes) shape single double later last = single_turn (single && closes) opens single double later
+turn_by (kind.Double opens closes) shape single double later last = double_turn (double && closes) opens single double
+turn_by kind.Break shape single double later last = record { made = if last then backslash else shape; single = single; double = double }
+turn_by kind.Other shape single double later last = record { made = shape; single = single; double = double }
 
 -- the turn of a chain's first tree
-abbrev pub turn_at : Numbered → Forest Numbered → Bool → Bool → Turn
-turn_at a after single double = turn_of (kind_of a.item.body) a.item.body single double (is_closed_later after) (is_nil after)
+abbrev pub first_turn : {A : Type 0} → Label A → Forest (Label A) → (single double : Bool) → QuoteTurn
+first_turn a after single double = turn_by (kind_of_shape a.part.shape) a.part.shape single double (is_closed_later after) (is_end after)
 
 -- a chain with its quotes, where a `'` may be remembered and a `"` open
-abbrev pub quoted_after : Bool → Bool → Forest Numbered → Forest Numbered
-quoted_after single double nil = nil
-quoted_after single double (node a below after) =
-    node (with_body (turn_at a after single double).made a) below (quoted_after (turn_at a after single double).single (turn_at a after single double).double after)
+abbrev pub quotes_after : {A : Type 0} → (single double : Bool) → Forest (Label A) → Forest (Label A)
+quotes_after single double nil = nil
+quotes_after single double (node a below after) =
+    node (shaped (first_turn a after single double).made a) below
+    (quotes_after (first_turn a after single double).single (first_turn a after single double).double after)
 
 -- a chain with its quotes and its last break
-abbrev pub quoted : Forest Numbered → Forest Numbered
-quoted chain = quoted_after false false chain
+unfoldable pub with_quotes : {A : Type 0} → Forest (Label A) → Forest (Label A)
+with_quotes chain = quotes_after false false chain

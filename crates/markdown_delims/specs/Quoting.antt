@@ -12,8 +12,8 @@ use Rattle.markdown_delims.specs.ChainForest.{RisesFrom, among, NoneBelow, chain
 use Rattle.markdown_delims.specs.declared.marks.Marks.{Marks}
 use Rattle.markdown_delims.specs.Entries.{read_back, paired}
 use Rattle.markdown_delims.specs.Enclosing.{AllTouched}
-use Rattle.markdown_delims.specs.Quotes.{kind_of, is_closed_later, is_nil, with_body, left_single, quoted_after, quoted}
-use Rattle.markdown_delims.specs.Standing.{Chain}
+use Rattle.markdown_delims.specs.QuoteBodies.{kind_of, is_closed_later, is_nil, with_body, left_single, quoted_after, quoted}
+use Rattle.markdown_delims.specs.ChainStanding.{Chain}
 use Rattle.markdown_delims.specs.Views.{view_of, Wrote, Cut, Kept}
 
 -- a number is that of a tree of a left list

@@ -1,7 +1,7 @@
 //! The delimiter runs of a chain pair in place.
 ghost use Rattle.std.specs.Prelude.{◌≡◌, ℕ, ◌+◌, ◌*◌, ◌≤◌, OnOk};
 ghost use Rattle.markdown_base.specs.Forest.{Forest};
-ghost use Rattle.markdown_delims.specs.Reading.{delimiters_of};
+ghost use Rattle.markdown_delims.specs.RunReading.{delimiters_of};
 ghost use Rattle.markdown_delims.specs.Quoting.{IsResolved};
 ghost use Rattle.markdown_delims.specs.ChainForest.{IsChain, IsPaired, IsEmptied, CanPairAll, chain_of};
 

@@ -1,7 +1,7 @@
 //! A closer pairs for as long as it has characters and finds an opener.
 ghost use Rattle.std.specs.Prelude.{◌≡◌, ◌+◌, ◌^◌, ◌<◌, ◌≤◌, List, IfOk};
 ghost use Rattle.markdown_delims.specs.Entries.{Entry, kept, closed_in, with_run};
-ghost use Rattle.markdown_delims.specs.Standing.{CanRead, ReadsOn};
+ghost use Rattle.markdown_delims.specs.ChainStanding.{CanRead, ReadsOn};
 
 use crate::marks::Marks;
 use crate::open_runs::OpenRuns;

@@ -1,6 +1,7 @@
 //! What paired characters become, by the marks that are on.
 ghost use Rattle.std.specs.Prelude.{◌≡◌};
-ghost use Rattle.markdown_delims.specs.Marks.{delimiter_of, layer_of_one, layer_of_two, run_of};
+ghost use Rattle.markdown_delims.specs.MarkBodies.{layer_of_one, layer_of_two, run_of};
+ghost use Rattle.markdown_delims.specs.MayPair.{delimiter_of};
 
 use crate::run::{Delimiter, Run};
 use markdown_base::item::{Item, ItemBody};

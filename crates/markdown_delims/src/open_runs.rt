@@ -1,5 +1,5 @@
 ghost use Rattle.std.specs.Prelude.{false, ◌≡◌, ℕ, ◌+◌, ◌^◌, ◌<◌, ◌≤◌, [], ◌∷◌, IfSome, IfNone, OnOk, OnErr, slice_index_or, vec_len};
-ghost use Rattle.markdown_delims.specs.Pairing.{may_pair, nearest, dropped_by};
+ghost use Rattle.markdown_delims.specs.MayPair.{may_pair, nearest, dropped_by};
 ghost use Rattle.markdown_delims.specs.declared.run.Characters.{Characters as CharactersValue};
 
 use crate::bounds::LowerBounds;

@@ -1,6 +1,6 @@
 //! A closer pairs with the opener that it found.
 ghost use Rattle.std.specs.Prelude.{◌≡◌, ◌+◌, ◌^◌, ◌<◌};
-ghost use Rattle.markdown_delims.specs.Standing.{CanPair, Pairs};
+ghost use Rattle.markdown_delims.specs.ChainStanding.{CanPair, Pairs};
 
 use crate::layers::enclose;
 use crate::marks::Marks;

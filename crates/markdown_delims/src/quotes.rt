@@ -1,7 +1,7 @@
 //! Quotes of a chain, and a hard break by a backslash at its end.
 ghost use Rattle.std.specs.Prelude.{◌≡◌, ℕ, ◌<◌, Bool, Option, length};
 ghost use Rattle.markdown_base.specs.Forest.{Forest};
-ghost use Rattle.markdown_delims.specs.Quotes.{kind_of};
+ghost use Rattle.markdown_delims.specs.QuoteBodies.{kind_of};
 ghost use Rattle.markdown_delims.specs.Quoting.{WroteBody, QuotesTree, CanQuote, IsSpelled, IsQuoted};
 
 use markdown_base::item::{Item, ItemBody};

@@ -1,6 +1,6 @@
 //! A chain is read tree by tree.
 ghost use Rattle.std.specs.Prelude.{◌≡◌, ◌+◌, ◌*◌, ◌^◌, ◌<◌, ◌≤◌, List, IfOk};
-ghost use Rattle.markdown_delims.specs.Reading.{CanSettle, Settles, CanReadTree, ReadsTree};
+ghost use Rattle.markdown_delims.specs.RunReading.{CanSettle, Settles, CanReadTree, ReadsTree};
 
 use crate::close::read_run;
 use crate::marks::{Marks, run_of};

@@ -1,5 +1,5 @@
 ghost use Rattle.std.specs.Prelude.{◌≡◌};
-ghost use Rattle.markdown_delims.specs.Pairing.{may_pair, both, same_delimiter};
+ghost use Rattle.markdown_delims.specs.MayPair.{may_pair, both, same_delimiter};
 
 #[derive(Clone, Copy)]
 pub enum Delimiter {

@@ -1,6 +1,6 @@
 -- Tree by tree.
 use Rattle.std.proofs.Common.{◌≡◌, ◌<◌, ◌+◌, ◌*◌, ◌^◌, [], arith, subst, ap}
-use Rattle.markdown_delims.specs.Reading.{delimiters_of, ReadFurther}
+use Rattle.markdown_delims.specs.RunReading.{delimiters_of, ReadFurther}
 use Rattle.markdown_delims.specs.ChainForest.{chain_of}
 use Rattle.markdown_delims.proofs.ChainLemmas.{whole_chain, starts_reading, reads_more, can_go_on, all_read, goes_down}
 use Rattle.markdown_delims.proofs.ReadLemmas.{head_within}

@@ -2,7 +2,7 @@
 use Rattle.std.proofs.Common.{[], ℕ, length}
 use Rattle.markdown_base.specs.Forest.{Forest}
 use Rattle.markdown_delims.specs.ChainForest.{IsChain, chain_of}
-use Rattle.markdown_delims.specs.Reading.{ReadFurther}
+use Rattle.markdown_delims.specs.RunReading.{ReadFurther}
 use Rattle.markdown_delims.proofs.ChainLemmas.{whole_chain, numbers_left}
 use Rattle.markdown_delims.proofs.chain.pair_chain.Given as goal
 

@@ -3,7 +3,7 @@ use Rattle.std.proofs.Common.{◌≡◌, ◌+◌, ◌<◌, ◌≤◌, List}
 use Rattle.markdown_base.specs.BlockTree.{Numbered}
 use Rattle.markdown_base.specs.Forest.{Forest}
 use Rattle.markdown_delims.specs.Entries.{Entry, open_of}
-use Rattle.markdown_delims.specs.Standing.{Chain, StandsAt}
+use Rattle.markdown_delims.specs.ChainStanding.{Chain, StandsAt}
 use Rattle.markdown_delims.proofs.ClosingLemmas.{ClosingAt}
 use Rattle.markdown_delims.proofs.close.close.Given as goal
 

@@ -2,7 +2,7 @@
 use Rattle.std.proofs.Common.{◌+◌, ◌-◌, ◌∷◌, Some, false, arith, ap, refl, ◌∙◌}
 use Rattle.markdown_base.specs.Arena.{sibling_of}
 use Rattle.markdown_delims.specs.Entries.{waiting, lone}
-use Rattle.markdown_delims.specs.Standing.{IsRead}
+use Rattle.markdown_delims.specs.ChainStanding.{IsRead}
 use Rattle.markdown_delims.proofs.EncloseLemmas.{kept_none}
 use Rattle.markdown_delims.proofs.CloseLemmas.{last_within, read_characters, kept_open, kept_lone}
 use Rattle.markdown_delims.proofs.close.keep.Goals as goal

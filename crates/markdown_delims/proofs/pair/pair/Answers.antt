@@ -5,7 +5,7 @@ use Rattle.markdown_base.specs.declared.item.Item.{Item}
 use Rattle.markdown_delims.specs.declared.marks.Marks.{Marks}
 use Rattle.markdown_delims.specs.declared.run.Characters.{Characters}
 use Rattle.markdown_delims.specs.Enclosing.{EnclosesAll}
-use Rattle.markdown_delims.specs.Standing.{count_of}
+use Rattle.markdown_delims.specs.ChainStanding.{count_of}
 use Rattle.markdown_delims.specs.Entries.{flat}
 use Rattle.markdown_delims.specs.Views.{view_of}
 use Rattle.markdown_delims.proofs.PairLemmas.{rest_behind, found_link, top_within, around, encloses, pair_done}

@@ -4,7 +4,7 @@ use Rattle.std.specs.Prelude.{is_some, is_none, not}
 use Rattle.markdown_base.specs.declared.item.Item.{Item}
 use Rattle.markdown_base.specs.BlockTree.{no_item, item_at}
 use Rattle.markdown_delims.specs.ChainForest.{chain_of}
-use Rattle.markdown_delims.specs.Quotes.{kind_of}
+use Rattle.markdown_delims.specs.QuoteBodies.{kind_of}
 use Rattle.markdown_delims.proofs.QuoteLemmas.{can_here}
 use Rattle.markdown_delims.proofs.QuoteChainLemmas.{QuotesSoFar, quote_whole, quotes_begin, quote_within, quotes_step, quotes_down, quotes_size, quotes_done}
 use Rattle.markdown_delims.proofs.quotes.quote_chain.Goals as goal

@@ -3,7 +3,7 @@ use Rattle.std.proofs.Common.{◌≡◌, Bool, true, false, ap, sym, ◌∙◌, 
 use Rattle.std.specs.Prelude.{◌⊎◌, ◌&&◌, ◌||◌}
 use Rattle.markdown_base.specs.Forest.{node}
 use Rattle.markdown_delims.specs.declared.quotes.Kind.TheVariants as kind
-use Rattle.markdown_delims.specs.Quotes.{left_double, right_double, with_body}
+use Rattle.markdown_delims.specs.QuoteBodies.{left_double, right_double, with_body}
 use Rattle.markdown_delims.specs.Quoting.{quoted_from}
 use Rattle.markdown_delims.proofs.QuoteLemmas.{turned, turn_double_closes, turn_double_opens, remembered_low, put_here, put_on, can_here}
 use Rattle.markdown_delims.proofs.quotes.quote_double.Goals as goal

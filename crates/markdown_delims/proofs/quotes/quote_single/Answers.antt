@@ -4,7 +4,7 @@ use Rattle.std.specs.Prelude.{IfSome}
 use Rattle.markdown_base.specs.Arena.{sibling_of}
 use Rattle.markdown_base.specs.Forest.{node}
 use Rattle.markdown_delims.specs.declared.quotes.Kind.TheVariants as kind
-use Rattle.markdown_delims.specs.Quotes.{right_single, with_body}
+use Rattle.markdown_delims.specs.QuoteBodies.{right_single, with_body}
 use Rattle.markdown_delims.specs.Quoting.{IsRoot, QuotesStand, QuotesOn, quoted_from}
 use Rattle.markdown_delims.proofs.QuoteLemmas.{turned, turn_none_opens, turn_none_stays, turn_some_opens, turn_some_stays, number_is, remembered_low, put_here, put_on, here_root, close_on, can_here, can_left}
 use Rattle.markdown_delims.proofs.quotes.quote_single.Goals as goal

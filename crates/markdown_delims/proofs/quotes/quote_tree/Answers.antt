@@ -1,7 +1,7 @@
 -- Each kind of tree.
 use Rattle.std.proofs.Common.{sym, ◌∙◌}
 use Rattle.markdown_delims.specs.declared.quotes.Kind.TheVariants as kind
-use Rattle.markdown_delims.specs.Quotes.{backslash}
+use Rattle.markdown_delims.specs.QuoteBodies.{backslash}
 use Rattle.markdown_delims.proofs.QuoteLemmas.{turn_break, turn_no_break, turn_other, remembered_low, put_here, put_on, stay_on}
 use Rattle.markdown_delims.proofs.quotes.quote_tree.Goals as goal
 

@@ -3,10 +3,10 @@ use Rattle.std.proofs.Common.{◌≡◌, ◌<◌, ◌+◌, ◌*◌, ◌^◌, ℕ
 use Rattle.std.specs.Prelude.{IfOk, Result}
 use Rattle.markdown_base.specs.declared.item.Item.{Item}
 use Rattle.markdown_base.specs.BlockTree.{no_item, item_at}
-use Rattle.markdown_delims.specs.Marks.{run_of}
+use Rattle.markdown_delims.specs.MarkBodies.{run_of}
 use Rattle.markdown_delims.specs.Entries.{all_of_run, with_run}
-use Rattle.markdown_delims.specs.Standing.{CanRead, ReadsOn}
-use Rattle.markdown_delims.specs.Reading.{Settles, delimiters_of}
+use Rattle.markdown_delims.specs.ChainStanding.{CanRead, ReadsOn}
+use Rattle.markdown_delims.specs.RunReading.{Settles, delimiters_of}
 use Rattle.markdown_delims.proofs.ReadLemmas.{head_within, read_none, run_here, can_settle, can_read, read_some}
 use Rattle.markdown_delims.proofs.read.read_tree.Goals as goal
 

@@ -3,8 +3,8 @@ use Rattle.std.proofs.Common.{List, Option, Some, ℕ}
 use Rattle.markdown_base.specs.BlockTree.{Numbered}
 use Rattle.markdown_base.specs.Forest.{Forest}
 use Rattle.markdown_delims.specs.Entries.{Entry}
-use Rattle.markdown_delims.specs.Standing.{Chain, Stands}
-use Rattle.markdown_delims.specs.Reading.{BeginsRun}
+use Rattle.markdown_delims.specs.ChainStanding.{Chain, Stands}
+use Rattle.markdown_delims.specs.RunReading.{BeginsRun}
 use Rattle.markdown_delims.proofs.SettleLemmas.{SettlingAt}
 use Rattle.markdown_delims.proofs.read.settle_run.Given as goal
 

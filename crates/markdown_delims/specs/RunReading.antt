@@ -6,9 +6,9 @@ use Rattle.markdown_base.specs.BlockTree.{Numbered}
 use Rattle.markdown_base.specs.Forest.{Forest, nil, node, first_root}
 use Rattle.markdown_base.specs.WellFormed.{RunCharacter, StandsInRun, run_character}
 use Rattle.markdown_delims.specs.declared.marks.Marks.{Marks}
-use Rattle.markdown_delims.specs.Pairing.{OpenRun}
+use Rattle.markdown_delims.specs.MayPair.{OpenRun}
 use Rattle.markdown_delims.specs.Entries.{Entry, open_of, characters, paired_from}
-use Rattle.markdown_delims.specs.Standing.{Chain, Stands, IsRead}
+use Rattle.markdown_delims.specs.ChainStanding.{Chain, Stands, IsRead}
 use Rattle.markdown_delims.specs.Views.{Rises, Kept}
 
 -- a character of a run: it stands there with all that the run goes on with, and has no children

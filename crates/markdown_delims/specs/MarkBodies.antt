@@ -8,6 +8,7 @@ use Rattle.markdown_delims.specs.declared.marks.Marks.{Marks}
 use Rattle.markdown_delims.specs.declared.run.Delimiter.{Delimiter}
 use Rattle.markdown_delims.specs.declared.run.Delimiter.TheVariants.{Star, Underscore, Tilde, Caret}
 use Rattle.markdown_delims.specs.declared.run.Run.{Run}
+use Rattle.markdown_delims.specs.MayPair.{delimiter_of}
 
 -- a Text over its whole range, whose children are not read
 abbrev pub whole_text : ItemBody
@@ -24,10 +25,6 @@ layer_of_one m Star = body.Emphasis
 layer_of_one m Underscore = body.Emphasis
 layer_of_one m Tilde = if m.subscript then body.Subscript else if m.strikethrough then body.Strikethrough else whole_text
 layer_of_one m Caret = if m.superscript then body.Superscript else whole_text
-
-abbrev pub delimiter_of : ℕ → Option Delimiter
-delimiter_of byte =
-    if byte == 42 then Some Star else if byte == 95 then Some Underscore else if byte == 126 then Some Tilde else if byte == 94 then Some Caret else None
 
 abbrev pub run_by : RunCharacter → Option Delimiter → Option Run
 run_by c None = None
