@@ -1,81 +1,51 @@
 -- A chain that is resolved in place: what a walk that stands before it has left.
-use Rattle.std.proofs.Common.{◌≡◌, ℕ, zero, suc, ◌<◌, ◌≤◌, Bool, true, false, List, [], ◌∷◌, ◌++◌, map, length, Option, Some, None, refl, ap, sym, ◌∙◌, ⊎_elim, arith, append_assoc}
-use Rattle.std.specs.Prelude.{IfSome, slice_range}
+use Rattle.std.proofs.Common.{◌≡◌, ℕ, ◌<◌, ◌≤◌, Bool, true, false, List, [], ◌∷◌, ◌++◌, map, length, Option, Some, refl, ap, sym, ◌∙◌, ⊎_elim, arith, append_assoc}
+use Rattle.std.specs.Prelude.{slice_range}
 use Rattle.std.proofs.lemmas.Bool.{cases_lt}
 use Rattle.std.proofs.lemmas.List.{length-append, map-append}
 use Rattle.std.specs.declared.ops.Range.{Range}
 use Rattle.markdown_base.specs.Arena.{child_of, sibling_of}
-use Rattle.markdown_base.specs.ArenaForest.{Links, links_of, Spells, forest_at}
+use Rattle.markdown_base.specs.ArenaForest.{Links, links_of, forest_at}
 use Rattle.markdown_base.specs.ArenaWalk.{AllReach}
 use Rattle.markdown_base.specs.BlockTree.{item_at}
 use Rattle.markdown_base.specs.Questions.{Question, Answer, Answers}
-use Rattle.markdown_inline.specs.Setting.{Known, Setting}
+use Rattle.markdown_chains.specs.Setting.{Known, Setting}
 use Rattle.markdown_inline.specs.Elements.{Element, question, Reading, nothing, then_reads}
 use Rattle.markdown_base.specs.Event.{start, end, end_of}
-use Rattle.markdown_base.specs.Forest.{Forest, nil, node, Each}
-use Rattle.markdown_base.specs.Item.{is_open, text_named}
+use Rattle.markdown_base.specs.Forest.{Forest, nil, node}
+use Rattle.markdown_base.specs.Item.{is_open}
 use Rattle.markdown_base.specs.declared.cow_str.CowStr.{CowStr}
 use Rattle.markdown_base.specs.declared.item.Item.{Item}
 use Rattle.markdown_base.specs.declared.item.ItemBody.{ItemBody}
 use Rattle.markdown_base.specs.declared.node.Node.{Node}
 use Rattle.markdown_base.proofs.ArenaForestLemmas.{opens}
-use Rattle.markdown_inline.specs.Chains.{Stage, known_at, chain_at, ResolvesFrom, CanResolve, StopsIn}
+use Rattle.markdown_chains.specs.Stages.{Stage, known_at, chain_at}
+use Rattle.markdown_resolver.specs.Chains.{ResolvesFrom, CanResolve, StopsIn}
 use Rattle.markdown_inline.specs.Moves.{BeginsWithEvent}
 use Rattle.markdown_inline.specs.Reading.{opened, settled_reading, then_resolved, chain_reading, reading}
-use Rattle.markdown_inline.specs.Walk.{around, left_of, label_at, trees_from}
-use Rattle.markdown_inline.specs.Resolved.{Resolved, resolved, all_paired}
-use Rattle.markdown_inline.specs.Document.{Plain, Shape, leaf, enclosed, plain, unresolved, is_unresolved, text_at, shape_of}
-use Rattle.markdown_inline.specs.Kept.{IsSettled, GivesFirst, Begins}
-use Rattle.markdown_inline.specs.Totals.{total, same, same_as, naming, climbed, left_total, steps_of}
-use Rattle.markdown_inline.specs.Standing.{IsPlaced, Stands}
-use Rattle.markdown_inline.proofs.FrameLemmas.{AboveFramed, above_framed}
+use Rattle.markdown_inline.specs.Walk.{around, left_of}
+use Rattle.markdown_chains.specs.Places.{label_at, trees_from, IsPlaced}
+use Rattle.markdown_resolver.specs.Resolved.{Resolved, resolved, all_paired}
+use Rattle.markdown_chains.specs.Document.{Plain, Shape, leaf, enclosed, plain, unresolved, is_unresolved, shape_of}
+use Rattle.markdown_resolver.specs.Kept.{IsSettled, GivesFirst, Begins}
+use Rattle.markdown_chains.specs.Totals.{same, naming}
+use Rattle.markdown_inline.specs.WalkTotals.{climbed, left_total, steps_of}
+use Rattle.markdown_inline.specs.Standing.{Stands}
+use Rattle.markdown_inline.proofs.LeftFrameLemmas.{AboveFramed, above_framed}
 use Rattle.markdown_inline.proofs.ReadingLemmas.{reading-settled, opened-open}
-use Rattle.markdown_inline.proofs.ResolvingLemmas.{resolved-settled, resolved-begins, IsKept-from_IsSettled}
-use Rattle.markdown_base.specs.declared.item.ItemBody.TheVariants as body
-
--- numbers that no node has stand nowhere
-pub same-apart : (n m : ℕ) → m < n → same n m ≡ 0
-same-apart zero m l = absurd (omega (arith, l))
-same-apart (suc n) zero l = refl
-same-apart (suc n) (suc m) l = same-apart n m (omega (arith, l))
-
-pub times-past : (k : Links) (l : Option ℕ) (f : Forest ℕ) (n : ℕ) → Spells k l f → k.size ≤ n → total (same n) f ≡ 0
-times-past k l nil n s z = refl
-times-past k l (node ix below after) n s z =
-    omega (arith, same-apart n ix (omega (arith, s.1, z)), times-past k (k.child ix) below n s.2 z, times-past k (k.next ix) after n s.3 z)
+use Rattle.markdown_resolver.proofs.ResolvingLemmas.{resolved-settled, resolved-begins, IsKept-from_IsSettled}
+use Rattle.markdown_chains.proofs.PlaceLemmas.{named-past, same-apart, shape-open, text_at-append, times-past}
 
 pub times_above-past : (k : Links) (p : ℕ → Type 0) (spine : List ℕ) (n : ℕ) → AllReach k p spine → k.size ≤ n → climbed (same n) (same n) k spine ≡ 0
 times_above-past k p [] n r z = refl
 times_above-past k p (ix ∷ deeper) n r z =
     omega (arith, same-apart n ix (omega (arith, r.0, z)), times-past k (k.next ix) (forest_at k (k.next ix)) n r.1.spelled z, times_above-past k p deeper n r.2 z)
 
--- texts that are in no table are named nowhere
-pub named-apart : (n size : ℕ) (o : Option ℕ) → IfSome o (λ m. m < size) → size ≤ n → same_as n o ≡ 0
-named-apart n size None h z = refl
-named-apart n size (Some m) h z = same-apart n m (omega (arith, h, z))
-
-pub named-past : (source : List ℕ) (cows : List CowStr) (nodes : List (Node Item)) (f : Forest ℕ) (n : ℕ) → Each (IsPlaced source cows nodes) f → length cows ≤ n → total (naming nodes n) f ≡ 0
-named-past source cows nodes nil n h z = refl
-named-past source cows nodes (node ix below after) n h z =
-    omega (arith, named-apart n (length cows) (text_named (item_at nodes ix).body) h.0.named z, named-past source cows nodes below n h.1 z, named-past source cows nodes after n h.2 z)
-
 pub named_above-past : (source : List ℕ) (cows : List CowStr) (nodes : List (Node Item)) (spine : List ℕ) (n : ℕ) → AllReach (links_of nodes) (IsPlaced source cows nodes) spine → length cows ≤ n
     → climbed (λ ix. 0) (naming nodes n) (links_of nodes) spine ≡ 0
 named_above-past source cows nodes [] n r z = refl
 named_above-past source cows nodes (ix ∷ deeper) n r z =
     omega (arith, named-past source cows nodes (forest_at (links_of nodes) (sibling_of nodes ix)) n r.1.each z, named_above-past source cows nodes deeper n r.2 z)
-
--- a table that grows at its end
-pub text_at-append : (cows more : List CowStr) (n : ℕ) → n < length cows → text_at (cows ++ more) n ≡ text_at cows n
-text_at-append [] more n l = absurd (omega (arith, l))
-text_at-append (c ∷ cows) more zero l = refl
-text_at-append (c ∷ cows) more (suc n) l = text_at-append cows more n (omega (arith, l))
-
--- an open item is not read before its chain is resolved
-pub shape-open : (cows : List CowStr) (source : List ℕ) (b : ItemBody) → is_open b ≡ true → shape_of cows source b ≡ unresolved b
-shape-open cows source body.Paragraph h = cc h
-shape-open cows source body.TightParagraph h = cc h
-shape-open cows source other h = cc h
 
 -- one that gives an event at once is not open
 gives-closed : (cows : List CowStr) (source : List ℕ) (b : ItemBody) (is : Bool) → is_open b ≡ is → GivesFirst (shape_of cows source b) → is ≡ false

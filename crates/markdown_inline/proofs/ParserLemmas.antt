@@ -10,16 +10,17 @@ use Rattle.markdown_base.specs.declared.fault.Fault.{Fault}
 use Rattle.markdown_base.specs.declared.fault.Fault.TheVariants.{Memory}
 use Rattle.markdown_base.specs.declared.item.Item.{Item}
 use Rattle.markdown_spans.specs.Allocations.{Allocated}
-use Rattle.markdown_inline.specs.Chains.{stage, ResolvesChain, CanResolve, StopsIn}
+use Rattle.markdown_chains.specs.Stages.{stage}
+use Rattle.markdown_resolver.specs.Chains.{ResolvesChain, CanResolve, StopsIn}
 use Rattle.markdown_inline.specs.Elements.{Placed, Element}
 use Rattle.markdown_inline.specs.Moves.{Leads, Keeps, Gave, GaveEvent, WentOn, Ended, Failed, BeginsWithEvent}
 use Rattle.markdown_inline.specs.NextGives.{NextGives, IsEventOf, IsPlacedOf, GivesItem}
 use Rattle.markdown_inline.specs.ParserLeft.{parser_callback, parser_steps, parser_setting, elements, IsOver}
-use Rattle.markdown_inline.specs.Setting.{Setting, rules_from}
+use Rattle.markdown_chains.specs.Setting.{Setting, rules_from}
 use Rattle.markdown_inline.specs.Walk.{left_of}
 use Rattle.markdown_inline.specs.WalkSteps.{HasEnded, TreeStands, Went, Gives, IsRefused, IsBefore, tree_left}
 use Rattle.markdown_inline.specs.declared.walk.Parser.{Parser}
-use Rattle.markdown_inline.proofs.CallbackLemmas.{Asks-append, Asks-some}
+use Rattle.markdown_chains.proofs.CallbackLemmas.{Asks-append, Asks-some}
 use Rattle.markdown_inline.proofs.ChainLemmas.{ChainMoves, moves_chain, can_resolve, stops_chain}
 use Rattle.markdown_inline.proofs.WalkStepsLemmas.{left_of_ended, steps_ended, steps_at_cursor}
 

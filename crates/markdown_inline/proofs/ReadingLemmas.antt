@@ -7,13 +7,12 @@ use Rattle.markdown_inline.specs.Elements.{Reading, then_reads}
 use Rattle.markdown_base.specs.Event.{start, end, end_of}
 use Rattle.markdown_base.specs.Forest.{Forest, nil, node}
 use Rattle.markdown_inline.specs.Reading.{opened, settled_reading, chain_reading, reading}
-use Rattle.markdown_inline.specs.Setting.{Setting}
-use Rattle.markdown_inline.specs.Pairing.{paired}
-use Rattle.markdown_inline.specs.Resolved.{paired_from, paired_if_open, all_paired}
-use Rattle.markdown_inline.specs.Document.{is_unresolved, Shape, leaf, enclosed, plain, unresolved}
-use Rattle.markdown_inline.specs.Document.{Plain}
-use Rattle.markdown_inline.specs.Kept.{IsQuiet, IsSettled}
-use Rattle.markdown_inline.proofs.ResolvingLemmas.{resolved-quiet, all_paired-paired}
+use Rattle.markdown_chains.specs.Setting.{Setting}
+use Rattle.markdown_resolver.specs.Pairing.{paired}
+use Rattle.markdown_resolver.specs.Resolved.{paired_from, paired_if_open, all_paired}
+use Rattle.markdown_chains.specs.Document.{is_unresolved, Shape, leaf, enclosed, plain, unresolved, Plain}
+use Rattle.markdown_resolver.specs.Kept.{IsQuiet, IsSettled}
+use Rattle.markdown_resolver.proofs.ResolvingLemmas.{resolved-quiet, all_paired-paired}
 
 -- a quiet chain that begins with an open item reads as its pairing
 chain-quiet : (s : Setting) (chain : Forest Plain) (after : Reading) → IsQuiet chain → chain_reading s chain after ≡ settled_reading (paired s (all_paired s chain)) after

@@ -1,6 +1,5 @@
 -- Calls of `next`, one after another up to None, and what was left before them.
-use Rattle.std.proofs.Common.{◌≡◌, ℕ, List, [], ◌∷◌, ◌++◌, map, Option, Some, None, Result, Ok, Err, inl, inr, ⊎_elim, refl, sym, ap, ◌∙◌, append_assoc, append-nil}
-use Rattle.std.proofs.Common.{Vec}
+use Rattle.std.proofs.Common.{◌≡◌, ℕ, List, [], ◌∷◌, ◌++◌, map, Option, Some, None, Result, Ok, Err, inl, inr, ⊎_elim, refl, sym, ap, ◌∙◌, append_assoc, append-nil, Vec}
 use Rattle.std.specs.Iterator.{Drains}
 use Rattle.std.specs.Prelude.{IfOk}
 use Rattle.std.proofs.lemmas.Iterator.{IsCollectResult}
@@ -14,7 +13,7 @@ use Rattle.markdown_inline.specs.NextGives.{NextGives, GivesItem, IsEventOf}
 use Rattle.markdown_inline.specs.ParserLeft.{elements, parser_text, parser_callback}
 use Rattle.markdown_inline.specs.Runs.{AreOf, GaveAll, GaveRest, WasRefused, IsRun}
 use Rattle.markdown_inline.specs.declared.walk.Parser.{Parser}
-use Rattle.markdown_inline.proofs.CallbackLemmas.{Asks-append}
+use Rattle.markdown_chains.proofs.CallbackLemmas.{Asks-append}
 
 -- questions are no events
 pub events_of-questions : (questions : List Question) (es : List Element) → events_of (map question questions ++ es) ≡ events_of es

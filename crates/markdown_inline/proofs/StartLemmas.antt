@@ -9,7 +9,7 @@ use Rattle.markdown_spans.specs.Allocations.{Allocated, HoldsParts}
 use Rattle.markdown_spans.specs.Definitions.{firsts}
 use Rattle.markdown_spans.specs.Folding.{is_match}
 use Rattle.markdown_spans.specs.Footnotes.{footnote_at, unused}
-use Rattle.markdown_inline.proofs.FoundLemmas.{listed, listed-append, total-preorder, listed_once}
+use Rattle.markdown_chains.proofs.FoundLemmas.{listed, listed-append, total-preorder, listed_once}
 use Rattle.std.specs.List.{list_any, cons_option, filter_map}
 use Rattle.std.proofs.lemmas.List.Elements.{filter_map-append}
 use Rattle.std.proofs.lemmas.Map.Keys.{IsDistinct-tail}
@@ -17,7 +17,7 @@ use Rattle.markdown_base.specs.Arena.{Arena, child_of}
 use Rattle.markdown_base.specs.ArenaForest.{numbers_below}
 use Rattle.markdown_base.specs.BlockTree.{Numbered, numbered, item_at, tree_of}
 use Rattle.markdown_base.specs.Forest.{Forest, nil, node, Each, Throughout, preorder, first_root, relabelled}
-use Rattle.markdown_base.specs.Item.{LiesIn, is_open, is_inline, is_childless, is_resolved, text_named}
+use Rattle.markdown_base.specs.Item.{LiesIn, is_open, is_inline, is_childless, text_named}
 use Rattle.markdown_base.specs.WellFormed.{KeepsRules, IsWellFormed, counts_of, all_named, has_open, all_inline}
 use Rattle.markdown_base.specs.declared.block_parts.BlockParts.{BlockParts}
 use Rattle.markdown_base.specs.declared.cow_str.CowStr.{CowStr}
@@ -29,15 +29,18 @@ use Rattle.markdown_base.specs.Questions.{Answers}
 use Rattle.markdown_spans.specs.Blocks.{block_text, block_options, block_tree, block_parts, IsOfText}
 use Rattle.markdown_spans.specs.declared.blocks.Blocks.{Blocks}
 use Rattle.markdown_inline.specs.ParserLeft.{elements, rules_of, reading_of, expansion_limit, ReadsBlocks, ReadsText}
-use Rattle.markdown_inline.specs.Walk.{left_of, label_at, trees_from}
-use Rattle.markdown_inline.specs.Document.{is_unresolved, uncarried, shape_of, label_of, document}
-use Rattle.markdown_inline.specs.Setting.{Rules, rules_from}
-use Rattle.markdown_inline.specs.Kept.{IsQuiet, IsQuietBelow, IsKept}
-use Rattle.markdown_inline.specs.Totals.{total, same, same_as, naming, left_total}
-use Rattle.markdown_inline.specs.Standing.{IsPlaced, Stands}
+use Rattle.markdown_inline.specs.Walk.{left_of}
+use Rattle.markdown_chains.specs.Places.{label_at, trees_from, IsPlaced}
+use Rattle.markdown_chains.specs.Document.{label_of, document}
+use Rattle.markdown_chains.specs.Setting.{Rules, rules_from}
+use Rattle.markdown_resolver.specs.Kept.{IsQuiet, IsQuietBelow, IsKept}
+use Rattle.markdown_chains.specs.Totals.{total, same, same_as, naming}
+use Rattle.markdown_inline.specs.WalkTotals.{left_total}
+use Rattle.markdown_inline.specs.Standing.{Stands}
 use Rattle.markdown_inline.specs.declared.walk.Parser.{Parser}
 use Rattle.markdown_inline.proofs.ParserLemmas.{elements-parts}
 use Rattle.markdown_base.specs.declared.item.ItemBody.TheVariants as body
+use Rattle.markdown_chains.proofs.PlaceLemmas.{open-unresolved}
 
 -- the texts that are named
 listed-cons : (n : ℕ) (o : Option ℕ) (xs : List ℕ) → listed (same n) (cons_option o xs) ≡ same_as n o + listed (same n) xs
@@ -92,18 +95,6 @@ quiet_inline source cows nodes (node ix below after) c h =
       nothing_below source cows nodes below (c.0 (childless-inline (item_at nodes ix).body here)),
       quiet_inline source cows nodes after c.2 (and_right (is_inline (item_at nodes ix).body) (all_inline (relabelled (numbered nodes) after)) h),
     )
-
-open_uncarried : (source : List ℕ) (b : ItemBody) (is inline : Bool) → is_open b ≡ is → is_unresolved (uncarried is inline source b) ≡ true → is ≡ true
-open_uncarried source b true inline e h = refl
-open_uncarried source b false true e h = cc h
-open_uncarried source b false false e h = cc h
-
--- what is not read before its chain is resolved is open
-pub open-unresolved : (cows : List CowStr) (source : List ℕ) (b : ItemBody) → is_unresolved (shape_of cows source b) ≡ true → is_open b ≡ true
-open-unresolved cows source body.Paragraph h = cc h
-open-unresolved cows source body.TightParagraph h = cc h
-open-unresolved cows source (body.SynthesizeText ix) h = cc h
-open-unresolved cows source other h = open_uncarried source other (is_open other) (is_inline other || is_resolved other) refl h
 
 or_more : (a b : Bool) → b ≡ true → (a || b) ≡ true
 or_more true b h = refl

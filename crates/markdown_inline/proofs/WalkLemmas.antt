@@ -6,7 +6,7 @@ use Rattle.markdown_base.specs.ArenaForest.{Links, links_of, forest_at}
 use Rattle.markdown_base.specs.ArenaWalk.{Reaches, AllReach}
 use Rattle.markdown_base.specs.BlockTree.{item_at}
 use Rattle.markdown_inline.specs.Elements.{Placed, Reading, event, nothing}
-use Rattle.markdown_inline.specs.Setting.{Known, Setting}
+use Rattle.markdown_chains.specs.Setting.{Known, Setting}
 use Rattle.markdown_base.specs.Event.{EventView, TagView, start, end_of}
 use Rattle.markdown_base.specs.Item.{range_of, is_open}
 use Rattle.markdown_base.specs.declared.cow_str.CowStr.{CowStr}
@@ -15,22 +15,20 @@ use Rattle.markdown_base.specs.declared.item.ItemBody.{ItemBody}
 use Rattle.markdown_base.specs.declared.node.Node.{Node}
 use Rattle.markdown_base.proofs.ArenaForestLemmas.{opens, forest_at-none}
 use Rattle.markdown_inline.specs.Reading.{reading}
-use Rattle.markdown_inline.specs.Walk.{ended, around, left_of, label_at, trees_from, closing}
-use Rattle.markdown_inline.specs.Totals.{total, same, naming, weight_if, weight_at, climbed, left_total, named_left, one_if, waits_at, steps_of}
-use Rattle.markdown_inline.specs.Standing.{IsPlaced, AboveKept, Stands}
-use Rattle.markdown_inline.specs.Document.{Origin, leaf, enclosed, plain, shape_of}
+use Rattle.markdown_inline.specs.Walk.{ended, around, left_of, closing}
+use Rattle.markdown_chains.specs.Places.{label_at, trees_from, IsPlaced}
+use Rattle.markdown_chains.specs.Totals.{total, same, naming, weight_at}
+use Rattle.markdown_inline.specs.WalkTotals.{climbed, left_total, named_left, one_if, waits_at, steps_of}
+use Rattle.markdown_inline.specs.Standing.{AboveKept, Stands}
+use Rattle.markdown_chains.specs.Document.{Origin, leaf, enclosed, plain, shape_of}
 use Rattle.markdown_base.specs.declared.item.ItemBody.TheVariants as body
+use Rattle.markdown_chains.proofs.PlaceLemmas.{some_weight}
 
 -- a walk went from l below spine to m below deeper, and gave these events
 pub record Moves (s : Setting) (cows : List CowStr) (nodes : List (Node Item)) (l : Option ℕ) (spine : List ℕ) (m : Option ℕ) (deeper : List ℕ) (given : List Placed) : Type 0 where
   pub stands : Stands s.text cows nodes m deeper
   pub left : (known : Known) → left_of s cows nodes l spine known ≡ map event given ++ left_of s cows nodes m deeper known
   pub falls : steps_of nodes m deeper < steps_of nodes l spine
-
--- a node weighs two at least
-pub some_weight : (is_open : Bool) → 2 ≤ weight_if is_open
-some_weight true = omega arith
-some_weight false = omega arith
 
 one_once : (waits : Bool) → one_if waits ≤ 1
 one_once true = omega arith

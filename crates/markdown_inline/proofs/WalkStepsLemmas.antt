@@ -7,7 +7,7 @@ use Rattle.markdown_base.specs.ArenaForest.{links_of}
 use Rattle.markdown_base.specs.BlockTree.{item_at}
 use Rattle.markdown_base.specs.CowText.{text_of}
 use Rattle.markdown_inline.specs.Elements.{Placed, Reading, event}
-use Rattle.markdown_inline.specs.Setting.{Rules, Setting, Known, setting_of}
+use Rattle.markdown_chains.specs.Setting.{Rules, Setting, Known, setting_of}
 use Rattle.markdown_base.specs.Event.{EventView, TagView, start, end}
 use Rattle.markdown_base.specs.Item.{range_of, text_named}
 use Rattle.markdown_base.specs.declared.cow_str.CowStr.{CowStr}
@@ -24,11 +24,13 @@ use Rattle.markdown_base.specs.declared.event.Event.TheVariants as step
 use Rattle.markdown_base.specs.declared.cow_str.CowStr.TheVariants.{Borrowed}
 use Rattle.std.specs.Borrow.{Bor}
 use Rattle.std.specs.declared.ops.Range.{Range}
-use Rattle.markdown_inline.specs.Totals.{same, naming, named_left}
-use Rattle.markdown_inline.specs.Standing.{IsPlaced, Stands}
-use Rattle.markdown_inline.specs.Document.{Origin, sliced, text_over, leaf, enclosed, plain, text_at, shape_of}
+use Rattle.markdown_chains.specs.Totals.{same, naming}
+use Rattle.markdown_inline.specs.WalkTotals.{named_left}
+use Rattle.markdown_chains.specs.Places.{IsPlaced}
+use Rattle.markdown_inline.specs.Standing.{Stands}
+use Rattle.markdown_chains.specs.Document.{Origin, sliced, text_over, leaf, enclosed, plain, text_at, shape_of}
 use Rattle.markdown_inline.specs.WalkSteps.{OpensWith, TreeStands, HasEnded, Went, IsRefused, TakesOnly, tree_left, tree_steps}
-use Rattle.markdown_inline.proofs.FrameLemmas.{left_framed}
+use Rattle.markdown_inline.proofs.LeftFrameLemmas.{left_framed}
 use Rattle.markdown_inline.proofs.WalkLemmas.{Moves, moves_on, moves_past, moves_in, moves_past_in, moves_in_plain, moves_out, left_of-end, steps-some, steps-end, stands-end, AllReach-last}
 
 -- the bytes that an item stands over

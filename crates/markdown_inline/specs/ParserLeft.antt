@@ -9,14 +9,14 @@ use Rattle.markdown_spans.specs.Blocks.{block_text, block_options, block_tree, b
 use Rattle.markdown_spans.specs.Definitions.{Labelled, firsts}
 use Rattle.markdown_spans.specs.Folding.{is_match}
 use Rattle.markdown_spans.specs.declared.blocks.Blocks.{Blocks}
-use Rattle.markdown_inline.specs.Document.{document}
+use Rattle.markdown_chains.specs.Document.{document}
 use Rattle.markdown_inline.specs.Elements.{Element, nothing}
 use Rattle.markdown_inline.specs.Reading.{reading}
-use Rattle.markdown_inline.specs.Setting.{Rules, Setting, Known, rules_from, setting_of}
+use Rattle.markdown_chains.specs.Setting.{Rules, Setting, Known, rules_from, setting_of}
 use Rattle.markdown_inline.specs.WalkSteps.{tree_left, tree_steps}
 use Rattle.markdown_inline.specs.declared.walk.Parser.{Parser}
 use Rattle.markdown_inline.specs.declared.walk.OffsetIter.{OffsetIter}
-use Rattle.markdown_inline.specs.declared.work.Work.{Work}
+use Rattle.markdown_chains.specs.declared.work.Work.{Work}
 
 -- no extension is on
 abbrev pub no_options : Options

@@ -4,10 +4,10 @@ use Rattle.std.specs.Prelude.{ℕ, List, [], ◌++◌, map}
 use Rattle.std.specs.declared.ops.Range.{Range}
 use Rattle.markdown_base.specs.Event.{start, end, end_of}
 use Rattle.markdown_base.specs.Forest.{Forest, nil, node}
-use Rattle.markdown_inline.specs.Document.{Shape, leaf, enclosed, plain, unresolved, Label}
+use Rattle.markdown_chains.specs.Document.{Shape, leaf, enclosed, plain, unresolved, Label}
 use Rattle.markdown_inline.specs.Elements.{Element, question, Reading, then_reads}
-use Rattle.markdown_inline.specs.Resolved.{Resolved, resolved, all_paired}
-use Rattle.markdown_inline.specs.Setting.{Setting}
+use Rattle.markdown_resolver.specs.Resolved.{Resolved, resolved, all_paired}
+use Rattle.markdown_chains.specs.Setting.{Setting}
 
 -- the reading of a tree over a range, where `inside` reads what is below it before what follows, `after`
 -- follows, and `whole` is the reading of the chain from this tree on, where it is open

@@ -5,7 +5,7 @@ use Rattle.markdown_base.specs.declared.cow_str.CowStr.{CowStr}
 use Rattle.markdown_base.specs.declared.cow_str.CowStr.TheVariants.{Borrowed}
 use Rattle.markdown_base.specs.declared.event.Event.{Event}
 use Rattle.markdown_base.specs.declared.event.Event.TheVariants as step
-use Rattle.markdown_inline.specs.Document.{Origin, sliced, made}
+use Rattle.markdown_chains.specs.Document.{Origin, sliced, made}
 
 -- a text is borrowed, and is the source's bytes over some range
 abbrev pub IsSliceOf : List ℕ → CowStr → Type 0

@@ -1,25 +1,18 @@
 -- Where a walk stands in an arena, with the texts that its items name: what it keeps from step to step.
-use Rattle.std.specs.Prelude.{ℕ, ◌<◌, ◌≤◌, List, [], ◌∷◌, Option, IfSome, ⊤, length}
+use Rattle.std.specs.Prelude.{ℕ, ◌≤◌, List, [], ◌∷◌, Option, ⊤}
 use Rattle.std.specs.Coded.{Unit-prop}
 use Rattle.std.proofs.Props.{props}
 use Rattle.markdown_base.specs.Arena.{sibling_of}
 use Rattle.markdown_base.specs.ArenaForest.{links_of}
 use Rattle.markdown_base.specs.ArenaWalk.{IsWalk, IsWalk-prop}
-use Rattle.markdown_base.specs.BlockTree.{item_at}
 use Rattle.markdown_base.specs.Forest.{Forest, nil, node}
-use Rattle.markdown_base.specs.Item.{LiesIn, LiesIn-prop, text_named}
 use Rattle.markdown_base.specs.declared.cow_str.CowStr.{CowStr}
 use Rattle.markdown_base.specs.declared.item.Item.{Item}
 use Rattle.markdown_base.specs.declared.node.Node.{Node}
-use Rattle.markdown_inline.specs.Document.{Label}
-use Rattle.markdown_inline.specs.Kept.{IsQuiet, IsQuietBelow, IsKept}
-use Rattle.markdown_inline.specs.Totals.{times_left, named_left}
-use Rattle.markdown_inline.specs.Walk.{trees_from}
-
--- the item of a number lies in the text, and names a text of the table, if any
-pub record IsPlaced (source : List ℕ) (cows : List CowStr) (nodes : List (Node Item)) (ix : ℕ) : Type 0 where
-  pub lies : LiesIn source (item_at nodes ix)
-  pub named : IfSome (text_named (item_at nodes ix).body) (λ n. n < length cows)
+use Rattle.markdown_chains.specs.Document.{Label}
+use Rattle.markdown_resolver.specs.Kept.{IsQuiet, IsQuietBelow, IsKept}
+use Rattle.markdown_inline.specs.WalkTotals.{times_left, named_left}
+use Rattle.markdown_chains.specs.Places.{trees_from, IsPlaced, IsPlaced-prop}
 
 -- the chains that follow the nodes of a spine are kept
 abbrev pub AboveKept : List ℕ → List CowStr → List (Node Item) → List ℕ → Type 0
@@ -34,9 +27,6 @@ pub record Stands (source : List ℕ) (cows : List CowStr) (nodes : List (Node I
   pub named_once : (n : ℕ) → named_left nodes l spine n ≤ 1
   pub here_kept : IsKept (trees_from source cows nodes l)
   pub above_kept : AboveKept source cows nodes spine
-
-pub IsPlaced-prop : (source : List ℕ) (cows : List CowStr) (nodes : List (Node Item)) (ix : ℕ) → IsProp (IsPlaced source cows nodes ix)
-IsPlaced-prop source cows nodes ix = let lies = LiesIn-prop source (item_at nodes ix) in hlevel props
 
 IsQuiet-prop : {A : Type 0} (f : Forest (Label A)) → IsProp (IsQuiet f)
 IsQuiet-prop nil = Unit-prop

@@ -2,28 +2,19 @@
 use Rattle.std.specs.Prelude.{ℕ, List, [], ◌∷◌, Option, Some, None}
 use Rattle.std.specs.declared.ops.Range.{Range}
 use Rattle.markdown_base.specs.Arena.{sibling_of}
-use Rattle.markdown_base.specs.ArenaForest.{links_of, forest_at}
 use Rattle.markdown_base.specs.BlockTree.{item_at}
 use Rattle.markdown_base.specs.Event.{end, end_of}
-use Rattle.markdown_base.specs.Forest.{Forest, relabelled}
 use Rattle.markdown_base.specs.Item.{range_of}
 use Rattle.markdown_base.specs.declared.cow_str.CowStr.{CowStr}
 use Rattle.markdown_base.specs.declared.item.Item.{Item}
 use Rattle.markdown_base.specs.declared.item.ItemBody.{ItemBody}
 use Rattle.markdown_base.specs.declared.node.Node.{Node}
 use Rattle.markdown_base.specs.declared.tag.TagEnd.{TagEnd}
-use Rattle.markdown_inline.specs.Document.{Shape, leaf, enclosed, plain, unresolved, Plain, shape_of, label_of}
+use Rattle.markdown_chains.specs.Document.{Shape, leaf, enclosed, plain, unresolved, shape_of}
 use Rattle.markdown_inline.specs.Elements.{Reading, nothing, then_reads}
 use Rattle.markdown_inline.specs.Reading.{reading}
-use Rattle.markdown_inline.specs.Setting.{Setting}
-
--- the node of a number, as it reads
-abbrev pub label_at : List ℕ → List CowStr → List (Node Item) → ℕ → Plain
-label_at source cows nodes ix = label_of source cows (item_at nodes ix)
-
--- the trees from a link on
-abbrev pub trees_from : List ℕ → List CowStr → List (Node Item) → Option ℕ → Forest Plain
-trees_from source cows nodes link = relabelled (label_at source cows nodes) (forest_at (links_of nodes) link)
+use Rattle.markdown_chains.specs.Setting.{Setting}
+use Rattle.markdown_chains.specs.Places.{trees_from}
 
 -- the End of a tree that was begun
 abbrev pub end_of_shape : Shape → Option TagEnd

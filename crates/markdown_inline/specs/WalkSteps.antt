@@ -11,12 +11,13 @@ use Rattle.markdown_base.specs.declared.item.Item.{Item}
 use Rattle.markdown_base.specs.declared.item.ItemBody.{ItemBody}
 use Rattle.markdown_base.specs.declared.tag.TagEnd.{TagEnd}
 use Rattle.markdown_spans.specs.Allocations.{Allocated}
-use Rattle.markdown_inline.specs.Document.{Origin, Shape, leaf, enclosed, plain, text_at}
+use Rattle.markdown_chains.specs.Document.{Origin, Shape, leaf, enclosed, plain, text_at}
 use Rattle.markdown_inline.specs.Elements.{Placed, Reading, event}
-use Rattle.markdown_inline.specs.Setting.{Rules, Setting, Known, setting_of}
+use Rattle.markdown_chains.specs.Setting.{Rules, Setting, Known, setting_of}
 use Rattle.markdown_inline.specs.Slices.{texts_of, AreFrom}
 use Rattle.markdown_inline.specs.Standing.{Stands}
-use Rattle.markdown_inline.specs.Totals.{same_as, steps_of}
+use Rattle.markdown_chains.specs.Totals.{same_as}
+use Rattle.markdown_inline.specs.WalkTotals.{steps_of}
 use Rattle.markdown_inline.specs.Walk.{left_of, closing}
 use Rattle.markdown_inline.specs.declared.step.Opening.{Opening}
 use Rattle.markdown_inline.specs.declared.step.Opening.TheVariants as opening

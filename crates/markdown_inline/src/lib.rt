@@ -2,8 +2,6 @@
 //! is resolved when the walk reaches it.
 #![tactic(auto)]
 
-mod resolver;
 pub mod runs;
 mod step;
 pub mod walk;
-pub mod work;

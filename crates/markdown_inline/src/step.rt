@@ -1,7 +1,7 @@
 //! One step of a walk over a tree of items, with what they name.
 ghost use Rattle.std.specs.Prelude.{◌≡◌, ◌<◌, None, Some, false, MatchResult, IfSome, length, slice_range};
 ghost use Rattle.markdown_base.specs.Item.{LiesIn, is_open, text_named};
-ghost use Rattle.markdown_inline.specs.Document.{shape_of};
+ghost use Rattle.markdown_chains.specs.Document.{shape_of};
 ghost use Rattle.markdown_inline.specs.WalkSteps.{StepGives, TreeStands, IsRefused, OpensTo, ClosesTo, TakesOnly};
 
 use markdown_base::cow_str::CowStr;

@@ -2,14 +2,14 @@
 ghost use Rattle.std.specs.Prelude.{◌≡◌, ◌<◌, ◌++◌, ◌∷◌, [], IfOk, IfErr, IfSome, IsTrue, None};
 ghost use Rattle.markdown_inline.specs.Standing.{Stands, Stands-prop};
 
-use crate::resolver::Resolver;
 use crate::step::{Step, take_step};
-use crate::work::Work;
 use bitflags::Flags;
 use markdown_base::event::Event;
 use markdown_base::item::Item;
 use markdown_base::options::Options;
 use markdown_base::tree::Tree;
+use markdown_chains::work::Work;
+use markdown_resolver::resolver::Resolver;
 use markdown_spans::blocks::{Blocks, Fault};
 use markdown_spans::defs::{Allocations, BrokenLinkCallback, DefaultBrokenLinkCallback, RefDefs};
 use std::alloc::Global;

@@ -2,7 +2,7 @@
 use Rattle.std.proofs.Common.{◌≡◌, [], ◌∷◌, refl, rules}
 use Rattle.std.specs.Prelude.{slice_range}
 use Rattle.markdown_base.specs.Item.{range_of}
-use Rattle.markdown_inline.specs.Document.{made, text_over, shape_of}
+use Rattle.markdown_chains.specs.Document.{made, text_over, shape_of}
 use Rattle.markdown_inline.proofs.WalkStepsLemmas.{text_at-read, takes_nothing, takes_named, opens_slice}
 use Rattle.markdown_inline.proofs.step.open_item.Goals as goal
 

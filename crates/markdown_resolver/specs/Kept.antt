@@ -1,8 +1,8 @@
 -- What resolving a chain keeps, and what it leaves.
 use Rattle.std.specs.Prelude.{◌≡◌, ⊤, true, false}
 use Rattle.markdown_base.specs.Forest.{Forest, nil, node}
-use Rattle.markdown_inline.specs.Document.{Shape, leaf, enclosed, plain, unresolved, Label, is_unresolved}
-use Rattle.markdown_inline.specs.PassOne.{is_quiet}
+use Rattle.markdown_chains.specs.Document.{Shape, leaf, enclosed, plain, unresolved, Label, is_unresolved}
+use Rattle.markdown_resolver.specs.PassOne.{is_quiet}
 
 -- nothing but what waits for pairing is open in it, at every depth
 abbrev pub IsQuiet : {A : Type 0} → Forest (Label A) → Type 0

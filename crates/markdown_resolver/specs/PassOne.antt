@@ -5,8 +5,8 @@ use Rattle.markdown_base.specs.Forest.{Forest, nil, node}
 use Rattle.markdown_base.specs.Questions.{Question}
 use Rattle.markdown_base.specs.declared.item.ItemBody.{ItemBody}
 use Rattle.markdown_base.specs.declared.item.ItemBody.TheVariants as body
-use Rattle.markdown_inline.specs.Document.{Shape, leaf, enclosed, plain, unresolved, Label, as_text}
-use Rattle.markdown_inline.specs.Setting.{Setting, Known}
+use Rattle.markdown_chains.specs.Document.{Shape, leaf, enclosed, plain, unresolved, Label, as_text}
+use Rattle.markdown_chains.specs.Setting.{Setting, Known}
 
 -- what was read: a tree that is done
 pub data Entry (A : Type 0) : Type 0 where

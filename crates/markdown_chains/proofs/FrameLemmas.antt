@@ -1,11 +1,10 @@
--- What a walk has left where nodes and texts that it does not lead to were changed: the same.
-use Rattle.std.proofs.Common.{◌≡◌, ℕ, zero, suc, ◌<◌, ◌≤◌, List, [], ◌∷◌, Option, Some, None, length, refl, ap, arith}
+-- What an arena says from a link on, where the nodes and the texts that it leads to stay: the same.
+use Rattle.std.proofs.Common.{◌≡◌, ℕ, zero, suc, ◌<◌, ◌≤◌, List, Option, Some, None, length, refl, ap, arith}
 use Rattle.std.specs.Prelude.{IfSome, slice_range}
 use Rattle.markdown_base.specs.Arena.{child_of, sibling_of}
 use Rattle.markdown_base.specs.ArenaForest.{Links, links_of, Spells, forest_at}
-use Rattle.markdown_base.specs.ArenaWalk.{Reaches, AllReach}
+use Rattle.markdown_base.specs.ArenaWalk.{Reaches}
 use Rattle.markdown_base.specs.BlockTree.{item_at}
-use Rattle.markdown_inline.specs.Elements.{Reading, nothing}
 use Rattle.markdown_base.specs.Forest.{Forest, nil, node, Each, relabelled}
 use Rattle.markdown_base.specs.Item.{text_named, range_of}
 use Rattle.markdown_base.specs.declared.cow_str.CowStr.{CowStr}
@@ -13,12 +12,9 @@ use Rattle.markdown_base.specs.declared.item.Item.{Item}
 use Rattle.markdown_base.specs.declared.item.ItemBody.{ItemBody}
 use Rattle.markdown_base.specs.declared.node.Node.{Node}
 use Rattle.markdown_base.proofs.ArenaForestLemmas.{height, height-followed, forest_at-fits}
-use Rattle.markdown_inline.specs.Chains.{IsSameAt}
-use Rattle.markdown_inline.specs.Walk.{around, left_of, label_at, trees_from}
-use Rattle.markdown_inline.specs.Setting.{Setting}
-use Rattle.markdown_inline.specs.Totals.{total, same, naming, weight_at, climbed, left_total, times_left, named_left}
-use Rattle.markdown_inline.specs.Standing.{IsPlaced, AboveKept, Stands}
-use Rattle.markdown_inline.specs.Document.{Plain, text_at, shape_of}
+use Rattle.markdown_chains.specs.Places.{IsSameAt, label_at, trees_from, IsPlaced}
+use Rattle.markdown_chains.specs.Totals.{total, same, naming, weight_at}
+use Rattle.markdown_chains.specs.Document.{Plain, text_at, shape_of}
 use Rattle.markdown_base.specs.declared.item.ItemBody.TheVariants as body
 
 pub same-refl : (n : ℕ) → same n n ≡ 1
@@ -119,56 +115,4 @@ framed source cows cows' nodes nodes' l z y r h =
       trees = rw e (relabelled_same source cows cows' nodes nodes' f h);
       naming = λ n. rw e (naming_same cows cows' nodes nodes' n f h);
       weight = rw e (weight_same cows cows' nodes nodes' f h);
-    }
-
--- the same of what is above the chain at hand
-pub record AboveFramed (s : Setting) (cows cows' : List CowStr) (nodes nodes' : List (Node Item)) (spine : List ℕ) : Type 0 where
-  pub reach : AllReach (links_of nodes') (IsPlaced s.text cows' nodes') spine
-  pub kept : AboveKept s.text cows' nodes' spine
-  pub times : (n : ℕ) → climbed (same n) (same n) (links_of nodes') spine ≡ climbed (same n) (same n) (links_of nodes) spine
-  pub naming : (n : ℕ) → climbed (λ ix. 0) (naming nodes' n) (links_of nodes') spine ≡ climbed (λ ix. 0) (naming nodes n) (links_of nodes) spine
-  pub steps : climbed (λ ix. 1) (weight_at nodes') (links_of nodes') spine ≡ climbed (λ ix. 1) (weight_at nodes) (links_of nodes) spine
-  pub around : (after : Reading) → around s cows' nodes' spine after ≡ around s cows nodes spine after
-
-pub above_framed : (s : Setting) (cows cows' : List CowStr) (nodes nodes' : List (Node Item)) (spine : List ℕ) → length nodes ≤ length nodes' → length cows ≤ length cows'
-    → AllReach (links_of nodes) (IsPlaced s.text cows nodes) spine → AboveKept s.text cows nodes spine
-    → ((n : ℕ) → 0 < climbed (same n) (same n) (links_of nodes) spine → IsSameAt nodes nodes' n)
-    → ((n : ℕ) → 0 < climbed (λ ix. 0) (naming nodes n) (links_of nodes) spine → text_at cows' n ≡ text_at cows n) → AboveFramed s cows cows' nodes nodes' spine
-above_framed s cows cows' nodes nodes' [] z y r k h t = record { reach = tt; kept = tt; times = λ n. refl; naming = λ n. refl; steps = refl; around = λ after. refl }
-above_framed s cows cows' nodes nodes' (ix ∷ deeper) z y r k h t =
-    let at : IsSameAt nodes nodes' ix = h ix (omega (arith, same-refl ix)) in
-    let stay = stay_throughout cows cows' nodes nodes' (forest_at (links_of nodes) (sibling_of nodes ix)) (λ n l. h n (omega (arith, l))) (λ n l. t n (omega (arith, l))) in
-    let here = framed s.text cows cows' nodes nodes' (sibling_of nodes ix) z y r.1 stay in
-    let others = above_framed s cows cows' nodes nodes' deeper z y r.2 k.1 (λ n l. h n (omega (arith, l))) (λ n l. t n (omega (arith, l))) in
-    record {
-      reach = (omega (arith, r.0, z), rw at.next here.reaches, others.reach);
-      kept = (rw (at.next, here.trees) k.0, others.kept);
-      times = λ n. rw (at.next, here.forest, others.times n) refl;
-      naming = λ n. rw (at.next, here.naming n, others.naming n) refl;
-      steps = rw (at.next, here.weight, others.steps) refl;
-      around = λ after. rw (at.next, at.item, here.trees) (others.around _);
-    }
-
--- what is left of a walk, where all that it leads to stays
-pub record LeftFramed (s : Setting) (cows cows' : List CowStr) (nodes nodes' : List (Node Item)) (l : Option ℕ) (spine : List ℕ) : Type 0 where
-  pub stands : Stands s.text cows' nodes' l spine
-  pub left : left_of s cows' nodes' l spine ≡ left_of s cows nodes l spine
-
-pub left_framed : (s : Setting) (cows cows' : List CowStr) (nodes nodes' : List (Node Item)) (l : Option ℕ) (spine : List ℕ) → length nodes ≤ length nodes' → length cows ≤ length cows'
-    → Stands s.text cows nodes l spine → ((n : ℕ) → 0 < times_left (links_of nodes) l spine n → IsSameAt nodes nodes' n)
-    → ((n : ℕ) → 0 < named_left nodes l spine n → text_at cows' n ≡ text_at cows n) → LeftFramed s cows cows' nodes nodes' l spine
-unfolding left_total left_of
-left_framed s cows cows' nodes nodes' l spine z y w h t =
-    let stay = stay_throughout cows cows' nodes nodes' (forest_at (links_of nodes) l) (λ n x. h n (omega (arith, x))) (λ n x. t n (omega (arith, x))) in
-    let here = framed s.text cows cows' nodes nodes' l z y w.walk.here stay in
-    let above = above_framed s cows cows' nodes nodes' spine z y w.walk.above w.above_kept (λ n x. h n (omega (arith, x))) (λ n x. t n (omega (arith, x))) in
-    record {
-      stands = record {
-        walk = record { here = here.reaches; above = above.reach };
-        once = λ n. rw (here.forest, above.times n) (w.once n);
-        named_once = λ n. rw (here.naming n, above.naming n) (w.named_once n);
-        here_kept = rw here.trees w.here_kept;
-        above_kept = above.kept;
-      };
-      left = rw (here.trees, above.around nothing) refl;
     }

@@ -2,8 +2,8 @@
 -- runs of a chain have their place here.
 use Rattle.std.specs.Prelude.{ℕ, Bool, true, false, List}
 use Rattle.markdown_base.specs.Forest.{Forest, nil, node}
-use Rattle.markdown_inline.specs.Document.{Label, is_unresolved, as_text}
-use Rattle.markdown_inline.specs.Setting.{Setting}
+use Rattle.markdown_chains.specs.Document.{Label, is_unresolved, as_text}
+use Rattle.markdown_chains.specs.Setting.{Setting}
 
 abbrev pub text_if : {A : Type 0} → Bool → List ℕ → Label A → Label A
 text_if true source a = as_text source a

@@ -1,10 +1,11 @@
 -- Where the rest of the chain is resolved, the whole is, and its items are counted so far.
 use Rattle.std.proofs.Common.{◌≡◌, Some}
 use Rattle.std.specs.Prelude.{is_some}
-use Rattle.markdown_inline.specs.Chains.{stage, CanResolve, items_from, weight_in}
-use Rattle.markdown_inline.specs.Setting.{rules_from, setting_of}
-use Rattle.markdown_inline.proofs.SettlingLemmas.{Counted, Whole}
-use Rattle.markdown_inline.proofs.resolver.Resolver.resolve_chain.Given as goal
+use Rattle.markdown_chains.specs.Stages.{stage, items_from, weight_in}
+use Rattle.markdown_resolver.specs.Chains.{CanResolve}
+use Rattle.markdown_chains.specs.Setting.{rules_from, setting_of}
+use Rattle.markdown_resolver.proofs.SettlingLemmas.{Counted, Whole}
+use Rattle.markdown_resolver.proofs.resolver.Resolver.resolve_chain.Given as goal
 
 abbrev pub invariant-chain : goal.invariant-chain
 invariant-chain g l = record {

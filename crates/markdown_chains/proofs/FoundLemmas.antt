@@ -9,8 +9,8 @@ use Rattle.std.proofs.lemmas.Map.Steps.{length-le_from_distinct_below}
 use Rattle.markdown_base.specs.ArenaForest.{Links, Spells, forest_at}
 use Rattle.markdown_base.specs.Forest.{Forest, nil, node, preorder}
 use Rattle.markdown_base.proofs.ArenaForestLemmas.{height, forest_at-fits}
-use Rattle.markdown_inline.specs.Totals.{total, same}
-use Rattle.markdown_inline.proofs.FrameLemmas.{same-refl}
+use Rattle.markdown_chains.specs.Totals.{total, same}
+use Rattle.markdown_chains.proofs.FrameLemmas.{same-refl}
 
 -- the sum over a list
 abbrev pub listed : (ℕ → ℕ) → List ℕ → ℕ

@@ -2,10 +2,10 @@
 use Rattle.std.specs.Prelude.{Bool, true, false, List}
 use Rattle.markdown_base.specs.Forest.{Forest, nil, node}
 use Rattle.markdown_base.specs.Questions.{Question}
-use Rattle.markdown_inline.specs.Document.{Label, is_unresolved}
-use Rattle.markdown_inline.specs.Pairing.{paired}
-use Rattle.markdown_inline.specs.PassOne.{Progress, begun, read_all, trees_onto}
-use Rattle.markdown_inline.specs.Setting.{Setting, Known}
+use Rattle.markdown_chains.specs.Document.{Label, is_unresolved}
+use Rattle.markdown_resolver.specs.Pairing.{paired}
+use Rattle.markdown_resolver.specs.PassOne.{Progress, begun, read_all, trees_onto}
+use Rattle.markdown_chains.specs.Setting.{Setting, Known}
 
 -- the questions on the way, the forest, and what is known after it
 pub record Resolved (A : Type 0) : Type 0 where

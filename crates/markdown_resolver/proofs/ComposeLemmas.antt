@@ -1,5 +1,5 @@
 -- A chain is resolved when its first item is settled and then the rest of it.
-use Rattle.std.proofs.Common.{◌≡◌, ℕ, zero, suc, ◌+◌, ◌<◌, ◌≤◌, List, ◌++◌, length, Option, Some, None, ⊎_elim, refl, sym, ap, ◌∙◌, subst, arith, append_assoc}
+use Rattle.std.proofs.Common.{◌≡◌, ℕ, zero, suc, ◌<◌, ◌≤◌, List, ◌++◌, length, Option, Some, None, ⊎_elim, refl, sym, ap, ◌∙◌, subst, arith, append_assoc}
 use Rattle.std.specs.Prelude.{IfSome}
 use Rattle.std.proofs.lemmas.Bool.{cases_lt}
 use Rattle.std.proofs.lemmas.List.{length-append}
@@ -8,7 +8,7 @@ use Rattle.markdown_base.specs.ArenaForest.{links_of, Spells, forest_at}
 use Rattle.markdown_base.specs.ArenaWalk.{Reaches}
 use Rattle.markdown_base.specs.BlockTree.{item_at}
 use Rattle.markdown_base.specs.Questions.{Question, Answer, Answers}
-use Rattle.markdown_inline.specs.Setting.{Known}
+use Rattle.markdown_chains.specs.Setting.{Known}
 use Rattle.markdown_base.specs.Forest.{Forest, node, Each}
 use Rattle.markdown_base.specs.Item.{text_named}
 use Rattle.markdown_base.specs.declared.cow_str.CowStr.{CowStr}
@@ -16,16 +16,16 @@ use Rattle.markdown_base.specs.declared.item.Item.{Item}
 use Rattle.markdown_base.specs.declared.node.Node.{Node}
 use Rattle.markdown_base.proofs.ArenaForestLemmas.{opens}
 use Rattle.markdown_spans.specs.Callback.{Asks}
-use Rattle.markdown_inline.specs.Chains.{IsSameAt, Stage, times_in, named_in, weight_in, ResolvesFrom, CanResolve}
-use Rattle.markdown_inline.specs.Resolved.{Resolved}
-use Rattle.markdown_inline.specs.Totals.{total, same, same_as, naming, weight_at}
-use Rattle.markdown_inline.specs.Standing.{IsPlaced}
-use Rattle.markdown_inline.specs.Document.{Plain, text_at}
-use Rattle.markdown_inline.specs.Walk.{label_at, trees_from}
-use Rattle.markdown_inline.proofs.ChainLemmas.{times-past, named-past, same-apart, named-apart, text_at-append}
-use Rattle.markdown_inline.proofs.FoundLemmas.{found}
-use Rattle.markdown_inline.proofs.FrameLemmas.{same-refl, Stays, label-same, stay_throughout, Framed, framed}
-use Rattle.markdown_inline.proofs.CallbackLemmas.{Asks-append}
+use Rattle.markdown_chains.specs.Places.{IsSameAt, IsPlaced, label_at, trees_from}
+use Rattle.markdown_chains.specs.Stages.{Stage, times_in, named_in, weight_in}
+use Rattle.markdown_resolver.specs.Chains.{ResolvesFrom, CanResolve}
+use Rattle.markdown_resolver.specs.Resolved.{Resolved}
+use Rattle.markdown_chains.specs.Totals.{total, same, same_as, naming, weight_at}
+use Rattle.markdown_chains.specs.Document.{Plain, text_at}
+use Rattle.markdown_chains.proofs.PlaceLemmas.{times-past, named-past, same-apart, named-apart, text_at-append}
+use Rattle.markdown_chains.proofs.FoundLemmas.{found}
+use Rattle.markdown_chains.proofs.FrameLemmas.{same-refl, Stays, label-same, stay_throughout, Framed, framed}
+use Rattle.markdown_chains.proofs.CallbackLemmas.{Asks-append}
 
 same_trans : (a b c : List (Node Item)) (n : ℕ) → IsSameAt a b n → IsSameAt b c n → IsSameAt a c n
 same_trans a b c n p q = record { child = q.child ∙ p.child; next = q.next ∙ p.next; item = q.item ∙ p.item }

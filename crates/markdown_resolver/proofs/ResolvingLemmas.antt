@@ -2,12 +2,12 @@
 use Rattle.std.proofs.Common.{◌≡◌, ℕ, Bool, true, false, List, [], ◌∷◌, refl, ap, ◌∙◌}
 use Rattle.markdown_base.specs.Forest.{Forest, nil, node}
 use Rattle.markdown_base.specs.declared.item.ItemBody.{ItemBody}
-use Rattle.markdown_inline.specs.Document.{Shape, leaf, enclosed, plain, unresolved, Label, is_unresolved}
-use Rattle.markdown_inline.specs.Kept.{IsQuiet, IsQuietBelow, IsKept, IsSettled, Begins}
-use Rattle.markdown_inline.specs.Pairing.{paired, as_closed, text_if}
-use Rattle.markdown_inline.specs.PassOne.{Entry, done, Progress, begun, is_quiet, text_unless, waits_for_pairing, read, read_all, trees_onto}
-use Rattle.markdown_inline.specs.Resolved.{resolved, paired_if_open, all_paired}
-use Rattle.markdown_inline.specs.Setting.{Setting, Known}
+use Rattle.markdown_chains.specs.Document.{Shape, leaf, enclosed, plain, unresolved, Label, is_unresolved}
+use Rattle.markdown_resolver.specs.Kept.{IsQuiet, IsQuietBelow, IsKept, IsSettled, Begins}
+use Rattle.markdown_resolver.specs.Pairing.{paired, as_closed, text_if}
+use Rattle.markdown_resolver.specs.PassOne.{Entry, done, Progress, begun, is_quiet, text_unless, waits_for_pairing, read, read_all, trees_onto}
+use Rattle.markdown_resolver.specs.Resolved.{resolved, paired_if_open, all_paired}
+use Rattle.markdown_chains.specs.Setting.{Setting, Known}
 
 module _ {A : Type 0} where
   -- what pass one makes of a label is the same to pairing

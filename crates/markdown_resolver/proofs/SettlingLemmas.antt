@@ -13,20 +13,19 @@ use Rattle.markdown_base.specs.declared.item.ItemBody.TheVariants as body
 use Rattle.markdown_base.specs.declared.node.Node.{Node}
 use Rattle.markdown_base.proofs.ArenaForestLemmas.{opens, forest_at-none}
 use Rattle.markdown_base.proofs.ArenaLemmas.{length-changed_at}
-use Rattle.markdown_inline.specs.Chains.{IsSameAt, Stage, ResolvesFrom, CanResolve, weight_in, items_from}
-use Rattle.markdown_inline.specs.Document.{Plain, is_unresolved, shape_of, label_of}
-use Rattle.markdown_inline.specs.Pairing.{paired, as_closed}
-use Rattle.markdown_inline.specs.Resolved.{Resolved, resolved}
-use Rattle.markdown_inline.specs.Setting.{Setting, Known}
-use Rattle.markdown_inline.specs.Settling.{settled_if, settled_item, settled_at}
-use Rattle.markdown_inline.specs.Standing.{IsPlaced}
-use Rattle.markdown_inline.specs.Totals.{same_as, weight_if}
+use Rattle.markdown_chains.specs.Places.{IsSameAt, IsPlaced}
+use Rattle.markdown_chains.specs.Stages.{Stage, weight_in, items_from}
+use Rattle.markdown_resolver.specs.Chains.{ResolvesFrom, CanResolve}
+use Rattle.markdown_chains.specs.Document.{Plain, is_unresolved, shape_of, label_of}
+use Rattle.markdown_resolver.specs.Pairing.{paired, as_closed}
+use Rattle.markdown_resolver.specs.Resolved.{Resolved, resolved}
+use Rattle.markdown_chains.specs.Setting.{Setting, Known}
+use Rattle.markdown_resolver.specs.Settling.{settled_if, settled_item, settled_at}
+use Rattle.markdown_chains.specs.Totals.{same_as, weight_if}
 use Rattle.markdown_base.specs.Forest.{Forest}
-use Rattle.markdown_inline.proofs.ChainLemmas.{shape-open}
-use Rattle.markdown_inline.proofs.ComposeLemmas.{HeadChanged, after_head, ready_after, lighter_after, keeps_head}
-use Rattle.markdown_inline.proofs.ResolvingLemmas.{resolved-texts}
-use Rattle.markdown_inline.proofs.StartLemmas.{open-unresolved}
-use Rattle.markdown_inline.proofs.WalkLemmas.{some_weight}
+use Rattle.markdown_chains.proofs.PlaceLemmas.{shape-open, open-unresolved, some_weight}
+use Rattle.markdown_resolver.proofs.ComposeLemmas.{HeadChanged, after_head, ready_after, lighter_after, keeps_head}
+use Rattle.markdown_resolver.proofs.ResolvingLemmas.{resolved-texts}
 
 -- a node that was changed, and the others
 changed_other : (nodes : List (Node Item)) (ix : ℕ) (change : Node Item → Node Item) (n : ℕ) → (n ≡ ix → ⊥) → IsSameAt nodes (changed_at ix change nodes) n

@@ -1,13 +1,13 @@
 //! Resolving of chains: a chain of inline items is resolved where it stands in the arena, from its first open item
 //! on.
 ghost use Rattle.std.specs.Prelude.{◌≡◌, ◌<◌, true, length};
-ghost use Rattle.markdown_inline.specs.Settling.{settled_at};
+ghost use Rattle.markdown_resolver.specs.Settling.{settled_at};
 
-use crate::work::Work;
 use markdown_base::fault::Fault;
 use markdown_base::item::{Item, ItemBody};
 use markdown_base::options::Options;
 use markdown_base::tree::Tree;
+use markdown_chains::work::Work;
 use markdown_spans::defs::{Allocations, BrokenLinkCallback};
 
 /// What resolving a chain goes by, and what passes from one chain to the next.
@@ -48,8 +48,9 @@ impl<'a, F: BrokenLinkCallback<'a>> Resolver<'a, F> {
     ghost use Rattle.std.specs.Prelude.{◌≡◌, ◌+◌, ◌-◌, ◌^◌, min, true, Some, IfOk, IfErr, IfSome, is_some};
     ghost use Rattle.markdown_base.specs.BlockTree.{item_at};
     ghost use Rattle.markdown_base.specs.Item.{is_open};
-    ghost use Rattle.markdown_inline.specs.Chains.{CanResolve, ResolvesChain, StopsIn, items_from, stage};
-    ghost use Rattle.markdown_inline.specs.Setting.{rules_from, setting_of};
+    ghost use Rattle.markdown_resolver.specs.Chains.{CanResolve, ResolvesChain, StopsIn};
+    ghost use Rattle.markdown_chains.specs.Stages.{items_from, stage};
+    ghost use Rattle.markdown_chains.specs.Setting.{rules_from, setting_of};
 
     /// Resolves the chain from the node `first` on, which is open, where it stands. After a refusal the tree
     /// and the tables may be in any state.

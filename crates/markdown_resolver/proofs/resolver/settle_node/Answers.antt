@@ -1,8 +1,8 @@
 -- An open item is written as a Text; another is what it was.
 use Rattle.std.proofs.Common.{◌∙◌, sym}
 use Rattle.markdown_base.specs.BlockTree.{no_item}
-use Rattle.markdown_inline.proofs.SettlingLemmas.{settled_open, settled_closed}
-use Rattle.markdown_inline.proofs.resolver.settle_node.Goals as goal
+use Rattle.markdown_resolver.proofs.SettlingLemmas.{settled_open, settled_closed}
+use Rattle.markdown_resolver.proofs.resolver.settle_node.Goals as goal
 
 pub returns-then-is_open : goal.returns-then-is_open
 returns-then-is_open c =

@@ -1,12 +1,12 @@
 -- One node of the chain after another.
 use Rattle.std.proofs.Common.{ℕ, refl, ap, ◌∙◌}
 use Rattle.std.specs.Prelude.{is_some}
-use Rattle.markdown_inline.specs.Chains.{stage, items_from}
-use Rattle.markdown_inline.specs.Setting.{rules_from, setting_of}
-use Rattle.markdown_inline.specs.declared.resolver.Resolver.{Resolver}
-use Rattle.markdown_inline.specs.declared.work.Work.{Work}
-use Rattle.markdown_inline.proofs.SettlingLemmas.{node_within, within_settled, ready_next, next_settled, lighter_next, items_next, items_some, items_none, counted_none, counted_more, counted_all, whole_none, whole_more, whole_all}
-use Rattle.markdown_inline.proofs.resolver.Resolver.resolve_chain.Goals as goal
+use Rattle.markdown_chains.specs.Stages.{stage, items_from}
+use Rattle.markdown_chains.specs.Setting.{rules_from, setting_of}
+use Rattle.markdown_resolver.specs.declared.resolver.Resolver.{Resolver}
+use Rattle.markdown_chains.specs.declared.work.Work.{Work}
+use Rattle.markdown_resolver.proofs.SettlingLemmas.{node_within, within_settled, ready_next, next_settled, lighter_next, items_next, items_some, items_none, counted_none, counted_more, counted_all, whole_none, whole_more, whole_all}
+use Rattle.markdown_resolver.proofs.resolver.Resolver.resolve_chain.Goals as goal
 
 pub chain-init : goal.chain-init
 chain-init g c =

@@ -1,0 +1,5 @@
+-- Lemmas on the items of an arena, and on calls of a callback.
+pub mod CallbackLemmas
+pub mod PlaceLemmas
+pub mod FrameLemmas
+pub mod FoundLemmas

@@ -1,0 +1,47 @@
+-- What resolving a chain reads and changes, and the chain from a link on.
+use Rattle.std.specs.Prelude.{ℕ, List, Option, length}
+use Rattle.markdown_base.specs.Arena.{Arena}
+use Rattle.markdown_base.specs.ArenaForest.{links_of, forest_at}
+use Rattle.markdown_base.specs.Forest.{Forest, roots}
+use Rattle.markdown_base.specs.Questions.{Answers}
+use Rattle.markdown_base.specs.declared.cow_str.CowStr.{CowStr}
+use Rattle.markdown_base.specs.declared.item.Item.{Item}
+use Rattle.markdown_base.specs.declared.node.Node.{Node}
+use Rattle.markdown_spans.specs.Allocations.{Allocated}
+use Rattle.markdown_chains.specs.Setting.{Known}
+use Rattle.markdown_chains.specs.Places.{trees_from}
+use Rattle.markdown_chains.specs.Totals.{total, same, naming, weight_at}
+use Rattle.markdown_chains.specs.Document.{Plain}
+
+-- what resolving a chain reads and changes
+pub record Stage (C : Type 0) : Type 0 where
+  pub nodes : List (Node Item)
+  pub cows : List CowStr
+  pub limit : ℕ
+  pub callback : Option C
+
+-- what is known at a stage, where these answers are to come
+abbrev pub known_at : {C : Type 0} → Stage C → Answers → Known
+known_at stage answers = record { limit = stage.limit; answers = answers }
+
+-- the chain from a link on, at a stage
+abbrev pub chain_at : {C : Type 0} → List ℕ → Stage C → Option ℕ → Forest Plain
+chain_at source stage l = trees_from source stage.cows stage.nodes l
+
+-- how often a number stands in the chain from a link on; how often a text is named there; what it weighs
+abbrev pub times_in : List (Node Item) → Option ℕ → ℕ → ℕ
+times_in nodes l n = total (same n) (forest_at (links_of nodes) l)
+
+abbrev pub named_in : List (Node Item) → Option ℕ → ℕ → ℕ
+named_in nodes l n = total (naming nodes n) (forest_at (links_of nodes) l)
+
+abbrev pub weight_in : List (Node Item) → Option ℕ → ℕ
+weight_in nodes l = total (weight_at nodes) (forest_at (links_of nodes) l)
+
+-- a tree with what its items name, where a chain is resolved
+abbrev pub stage : {C : Type 0} → Arena Item → Allocated → ℕ → Option C → Stage C
+stage tree held limit callback = record { nodes = tree.nodes; cows = held.cows; limit = limit; callback = callback }
+
+-- how many items a chain has from a link on
+abbrev pub items_from : List (Node Item) → Option ℕ → ℕ
+items_from nodes l = length (roots (forest_at (links_of nodes) l))
