@@ -1,12 +1,11 @@
 -- What the search of a closer and its layers are among labels, where a chain stands with the numbers of its nodes.
-use Rattle.std.proofs.Common.{◌≡◌, ℕ, zero, suc, ◌+◌, ◌-◌, ◌<◌, ◌≤◌, min, Bool, true, false, List, [], ◌∷◌, length, Option, Some, None, refl, ap, sym, ◌∙◌, subst, arith, inl, inr, map}
+use Rattle.std.proofs.Common.{◌≡◌, ℕ, zero, suc, ◌+◌, ◌-◌, ◌<◌, min, Bool, true, false, List, [], ◌∷◌, Option, Some, None, refl, ap, sym, ◌∙◌, subst, arith, inl, inr, map}
 use Rattle.std.specs.Prelude.{if◌then◌else◌, ◌||◌, slice_range}
 use Rattle.std.proofs.lemmas.Bool.{lt-ltb, le-ltb, cases_lt}
 use Rattle.markdown_base.specs.BlockTree.{Numbered}
 use Rattle.markdown_base.specs.Event.{strikethrough}
 use Rattle.markdown_base.specs.Forest.{Forest, nil, node, relabelled}
 use Rattle.markdown_base.specs.declared.cow_str.CowStr.{CowStr}
-use Rattle.markdown_base.specs.declared.item.Item.{Item}
 use Rattle.markdown_base.specs.declared.item.ItemBody.{ItemBody}
 use Rattle.markdown_base.specs.declared.item.ItemBody.TheVariants as body
 use Rattle.markdown_chains.specs.Document.{Shape, Label, shape_of, part_of, text_over}
@@ -53,6 +52,24 @@ one_shape cows source m Star = refl
 one_shape cows source m Underscore = refl
 one_shape cows source m Tilde = sub_shape cows source m.subscript m.strikethrough
 one_shape cows source m Caret = super_shape cows source m.superscript m refl
+
+-- the tree that an entry is
+abbrev pub tree_of_entry : Entry → Forest Numbered
+tree_of_entry (settled a below) = node a below nil
+tree_of_entry (lone number start n) = nil
+tree_of_entry (open_entry start r) = nil
+
+-- an entry that pairs made is a tree
+abbrev pub IsTree : Entry → Type 0
+IsTree (settled a below) = Unit {0}
+IsTree (lone number start n) = ⊥
+IsTree (open_entry start r) = ⊥
+
+pub enclosed_tree : (m : Marks) (d : Delimiter) (number start top end k : ℕ) (inside : Forest Numbered) → IsTree (enclosed m d number start top end k inside)
+enclosed_tree m d number start top end zero inside = tt
+enclosed_tree m d number start top end (suc zero) inside = tt
+enclosed_tree m d number start top end (suc (suc zero)) inside = tt
+enclosed_tree m d number start top end (suc (suc (suc k))) inside = enclosed_tree m d number start (top - 2) (end + 2) (suc k) _
 
 module _ {A : Type 0} (tag : ℕ → A) (cows : List CowStr) (s : Setting) where
   -- the label of a node, and the trees of nodes
@@ -183,12 +200,6 @@ module _ {A : Type 0} (tag : ℕ → A) (cows : List CowStr) (s : Setting) where
   look_at : (n n' i i' e e' : ℕ) (b : ItemBody) → n ≡ n' → i ≡ i' → e ≡ e' → look (labelled n i e b) ≡ look (labelled n' i' e' b)
   look_at n n' i i' e e' b p q r = ap (λ x. look (labelled x i e b)) p ∙ ap (λ x. look (labelled n' x e b)) q ∙ ap (λ x. look (labelled n' i' x b)) r
 
-  -- the tree that an entry is
-  abbrev pub tree_of_entry : Entry → Forest Numbered
-  tree_of_entry (settled a below) = node a below nil
-  tree_of_entry (lone number start n) = nil
-  tree_of_entry (open_entry start r) = nil
-
   layers_at : (w w' : Forest (Label A)) (o o' c c' : List (Label A)) → w ≡ w' → o ≡ o' → c ≡ c'
       → (let l : Layers A = record { whole = w; opening = o; closing = c } in l) ≡ record { whole = w'; opening = o'; closing = c' }
   layers_at w w' o o' c c' e f g =
@@ -251,18 +262,6 @@ module _ {A : Type 0} (tag : ℕ → A) (cows : List CowStr) (s : Setting) where
           (ap (λ i. trees (tree_of_entry (enclosed (marks_of s.rules.options) d number start i (suc (suc end)) (suc j) (node (labelled (number + (suc (suc p) - 2)) (start + (suc (suc p) - 2)) (end + 2) (body_of_two (marks_of s.rules.options) d)) inside nil)))) (let r : p ≡ suc (suc p) - 2 = omega arith in r)
           ∙ ap (λ i. trees (tree_of_entry (enclosed (marks_of s.rules.options) d number start (suc (suc p) - 2) i (suc j) (node (labelled (number + (suc (suc p) - 2)) (start + (suc (suc p) - 2)) (end + 2) (body_of_two (marks_of s.rules.options) d)) inside nil)))) (let r : suc (suc end) ≡ end + 2 = omega arith in r))
           (ap (lasts number start) (let r : p - suc j ≡ suc (suc p) - suc (suc (suc j)) = omega arith in r)) (firsts_at _ _ _ _ _ _ (omega arith) (omega arith) (omega arith)))
-
-  -- an entry that pairs made is a tree
-  abbrev pub IsTree : Entry → Type 0
-  IsTree (settled a below) = Unit {0}
-  IsTree (lone number start n) = ⊥
-  IsTree (open_entry start r) = ⊥
-
-  pub enclosed_tree : (m : Marks) (d : Delimiter) (number start top end k : ℕ) (inside : Forest Numbered) → IsTree (enclosed m d number start top end k inside)
-  enclosed_tree m d number start top end zero inside = tt
-  enclosed_tree m d number start top end (suc zero) inside = tt
-  enclosed_tree m d number start top end (suc (suc zero)) inside = tt
-  enclosed_tree m d number start top end (suc (suc (suc k))) inside = enclosed_tree m d number start (top - 2) (end + 2) (suc k) _
 
   pub entry_seen : (e : Entry) (es : List Entry) → IsTree e → trees_done (trees (tree_of_entry e)) (seen es) ≡ seen (e ∷ es)
   entry_seen (settled a below) es h = refl

@@ -1,5 +1,5 @@
 -- What paired characters become, by the marks that are on.
-use Rattle.std.specs.Prelude.{ℕ, false, ◌==◌, List, Option, Some, None, if◌then◌else◌}
+use Rattle.std.specs.Prelude.{ℕ, false, List, Option, Some, None, if◌then◌else◌}
 use Rattle.markdown_base.specs.declared.item.Item.{Item}
 use Rattle.markdown_base.specs.declared.item.ItemBody.{ItemBody}
 use Rattle.markdown_base.specs.declared.item.ItemBody.TheVariants as body

@@ -1,5 +1,5 @@
 -- Quotes of a chain under smart punctuation, and a hard break by a backslash at its end.
-use Rattle.std.specs.Prelude.{Bool, true, false, ◌&&◌, ◌||◌, ◌==◌, if◌then◌else◌, [], ◌∷◌}
+use Rattle.std.specs.Prelude.{ℕ, encode_utf8, Bool, true, false, ◌&&◌, ◌||◌, ◌==◌, if◌then◌else◌, [], ◌∷◌}
 use Rattle.markdown_base.specs.Event.{text}
 use Rattle.markdown_base.specs.Forest.{Forest, nil, node}
 use Rattle.markdown_base.specs.declared.item.ItemBody.{ItemBody}
@@ -8,21 +8,25 @@ use Rattle.markdown_chains.specs.Document.{Shape, leaf, enclosed, plain, backsla
 use Rattle.markdown_delims.specs.declared.quotes.Kind.{Kind}
 use Rattle.markdown_delims.specs.declared.quotes.Kind.TheVariants as kind
 
--- a Text of the UTF-8 bytes of U+2018, U+2019, U+201C, U+201D, and of the backslash
+-- a Text of one character
+abbrev pub synthesized : ℕ → Shape
+synthesized c = leaf (text (encode_utf8 c)) (made ∷ [])
+
+-- U+2018, U+2019, U+201C, U+201D, and the backslash
 abbrev pub left_single : Shape
-left_single = leaf (text (226 ∷ 128 ∷ 152 ∷ [])) (made ∷ [])
+left_single = synthesized 8216
 
 abbrev pub right_single : Shape
-right_single = leaf (text (226 ∷ 128 ∷ 153 ∷ [])) (made ∷ [])
+right_single = synthesized 8217
 
 abbrev pub left_double : Shape
-left_double = leaf (text (226 ∷ 128 ∷ 156 ∷ [])) (made ∷ [])
+left_double = synthesized 8220
 
 abbrev pub right_double : Shape
-right_double = leaf (text (226 ∷ 128 ∷ 157 ∷ [])) (made ∷ [])
+right_double = synthesized 8221
 
 abbrev pub backslash : Shape
-backslash = leaf (text (92 ∷ [])) (made ∷ [])
+backslash = synthesized 92
 
 -- what a shape is to the reading of quotes: a `'` or a `"` with whether it can open and can close, a hard break by a
 -- backslash, or another
