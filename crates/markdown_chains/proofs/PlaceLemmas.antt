@@ -57,6 +57,8 @@ pub open-unresolved : (cows : List CowStr) (source : List â„•) (b : ItemBody) â†
 open-unresolved cows source body.Paragraph h = cc h
 open-unresolved cows source body.TightParagraph h = cc h
 open-unresolved cows source (body.SynthesizeText ix) h = cc h
+open-unresolved cows source (body.HardBreak true) h = cc h
+open-unresolved cows source (body.HardBreak false) h = cc h
 open-unresolved cows source other h = open_uncarried source other (is_open other) (is_inline other || is_resolved other) refl h
 
 -- a node weighs two at least

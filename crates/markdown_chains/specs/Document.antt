@@ -1,9 +1,9 @@
 -- The tree of a document, as its items read. Chains of inline items in it may be open.
-use Rattle.std.specs.Prelude.{ℕ, zero, suc, Bool, true, false, ◌||◌, List, [], ◌∷◌, slice_range}
+use Rattle.std.specs.Prelude.{ℕ, zero, suc, Bool, true, false, ◌||◌, List, [], ◌∷◌, slice_range, encode_utf8}
 use Rattle.std.specs.declared.ops.Range.{Range}
 use Rattle.markdown_base.specs.BlockTree.{tree_of}
 use Rattle.markdown_base.specs.CowText.{text_of}
-use Rattle.markdown_base.specs.Event.{TagView, EventView, text, soft_break, hard_break, paragraph}
+use Rattle.markdown_base.specs.Event.{TagView, EventView, text, soft_break, hard_break, paragraph, emphasis, strong, strikethrough, superscript, subscript}
 use Rattle.markdown_base.specs.Forest.{Forest, relabelled}
 use Rattle.markdown_base.specs.Item.{is_open, is_inline, is_resolved, range_of}
 use Rattle.markdown_base.specs.declared.cow_str.CowStr.{CowStr}
@@ -18,12 +18,13 @@ pub data Origin : Type 0 where
   made : Origin
 
 -- how a tree reads: as one event, with the origins of its texts, what is below it not being read; as a Start,
--- what is below it and the End that belongs to the Start; as what is below it alone; not before its chain is
--- resolved
+-- what is below it and the End that belongs to the Start; as what is below it alone; as a hard break that a backslash
+-- makes, which is a Text where it ends a chain that is resolved; not before its chain is resolved
 pub data Shape : Type 0 where
   leaf : EventView → List Origin → Shape
   enclosed : TagView → Shape
   plain : Shape
+  backslash_break : Shape
   unresolved : ItemBody → Shape
 
 -- it is open
@@ -31,6 +32,7 @@ abbrev pub is_unresolved : Shape → Bool
 is_unresolved (leaf e origins) = false
 is_unresolved (enclosed tag) = false
 is_unresolved plain = false
+is_unresolved backslash_break = false
 is_unresolved (unresolved b) = true
 
 -- a shape over a range of bytes
@@ -74,7 +76,14 @@ shape_of cows source body.Paragraph = enclosed paragraph
 shape_of cows source body.TightParagraph = plain
 shape_of cows source (body.Text escaped) = text_over source
 shape_of cows source body.SoftBreak = leaf soft_break []
-shape_of cows source (body.HardBreak backslash) = leaf hard_break []
+shape_of cows source (body.HardBreak true) = backslash_break
+shape_of cows source (body.HardBreak false) = leaf hard_break []
+shape_of cows source (body.SynthesizeChar c) = leaf (text (encode_utf8 c)) (made ∷ [])
+shape_of cows source body.Emphasis = enclosed emphasis
+shape_of cows source body.Strong = enclosed strong
+shape_of cows source body.Strikethrough = enclosed strikethrough
+shape_of cows source body.Superscript = enclosed superscript
+shape_of cows source body.Subscript = enclosed subscript
 shape_of cows source (body.SynthesizeText ix) = leaf (text (text_at cows ix.0)) (made ∷ [])
 shape_of cows source other = uncarried (is_open other) (is_inline other || is_resolved other) source other
 
