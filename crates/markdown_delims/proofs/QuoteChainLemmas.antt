@@ -152,7 +152,7 @@ run_made_if : (b : ItemBody) (single double later last : Bool) (o : Option RunCh
 run_made_if b single double later last None e = none_made (kind_of b) b single double later last e ∙ sym e
 run_made_if b single double later last (Some x) e = ap run_character (run_kept b x single double later last e)
 
-run_made : (b : ItemBody) (single double later last : Bool) → run_character (turn_of (kind_of b) b single double later last).made ≡ run_character b
+pub run_made : (b : ItemBody) (single double later last : Bool) → run_character (turn_of (kind_of b) b single double later last).made ≡ run_character b
 run_made b single double later last = run_made_if b single double later last (run_character b) refl
 
 -- the label of a run's character stays
@@ -193,7 +193,7 @@ whole_if text a below after single double (Some x) e h =
     subst (λ b. IfSome (run_character b.item.body) (StandsWhole text b below (quoted_after (turn_at a after single double).single (turn_at a after single double).double after))) (sym (same_label a after single double x e))
     (subst (λ o. IfSome o (StandsWhole text a below (quoted_after (turn_at a after single double).single (turn_at a after single double).double after))) (sym e) here)
 
-whole_quoted : (text : List ℕ) (f : Forest Numbered) (single double : Bool) → IsWhole text f → IsWhole text (quoted_after single double f)
+pub whole_quoted : (text : List ℕ) (f : Forest Numbered) (single double : Bool) → IsWhole text f → IsWhole text (quoted_after single double f)
 whole_quoted text nil single double w = w
 whole_quoted text (node a below after) single double w =
     (whole_if text a below after single double (run_character a.item.body) refl w.0, whole_quoted text after (turn_at a after single double).single (turn_at a after single double).double w.1)

@@ -2,6 +2,8 @@
 -- (CommonMark 6.2, and the appendix's "process emphasis").
 use Rattle.std.specs.Prelude.{ℕ, zero, suc, ◌-◌, Bool, true, false, not, ◌&&◌, ◌||◌, List, [], ◌∷◌, map, length, Option, Some, None}
 use Rattle.markdown_base.specs.Forest.{Forest, nil, node}
+use Rattle.markdown_base.specs.declared.item.ItemBody.{ItemBody}
+use Rattle.markdown_base.specs.declared.item.ItemBody.TheVariants as body
 use Rattle.markdown_chains.specs.Document.{Label, is_unresolved, as_text}
 use Rattle.markdown_chains.specs.Setting.{Setting}
 use Rattle.markdown_delims.specs.declared.run.Delimiter.{Delimiter}
@@ -9,6 +11,12 @@ use Rattle.markdown_delims.specs.declared.run.Run.{Run}
 use Rattle.markdown_delims.specs.Layers.{marks_of, layer_of_one, layer_of_two, spanned, run_of}
 use Rattle.markdown_delims.specs.MayPair.{is_tilde_or_caret, may_pair}
 use Rattle.markdown_delims.specs.Quotes.{with_quotes}
+
+-- pairing decides on it: a run's character, or a quote
+abbrev pub waits_for_pairing : ItemBody → Bool
+waits_for_pairing (body.MaybeEmphasis count opens closes) = true
+waits_for_pairing (body.MaybeSmartQuote quote opens closes) = true
+waits_for_pairing other = false
 
 -- what was read of a chain: a tree; or a run that is still open, dropped or not, by its characters that are not
 -- paired, the last one first

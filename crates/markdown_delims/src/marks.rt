@@ -4,7 +4,9 @@ ghost use Rattle.markdown_delims.specs.MarkBodies.{layer_of_one, layer_of_two, r
 ghost use Rattle.markdown_delims.specs.MayPair.{delimiter_of};
 
 use crate::run::{Delimiter, Run};
+use bitflags::Flags;
 use markdown_base::item::{Item, ItemBody};
+use markdown_base::options::Options;
 
 /// Which marks are on.
 #[derive(Clone, Copy)]
@@ -15,6 +17,19 @@ pub struct Marks {
 }
 
 impl Marks {
+    ghost use Rattle.markdown_delims.specs.Layers.{marks_of};
+
+    /// The marks that are on in a set of options.
+    pub fn of_options(options: Options) -> Marks
+        ensures { result ≡ marks_of options }
+    {
+        Marks {
+            strikethrough: Flags::contains(&options, Options::ENABLE_STRIKETHROUGH),
+            superscript: Flags::contains(&options, Options::ENABLE_SUPERSCRIPT),
+            subscript: Flags::contains(&options, Options::ENABLE_SUBSCRIPT),
+        }
+    }
+
     /// What a layer of two characters becomes.
     pub fn layer_of_two(self, delimiter: Delimiter) -> ItemBody
         ensures { result ≡ layer_of_two self delimiter }

@@ -65,12 +65,13 @@ impl OpenRuns {
         self.stack.examined
     }
 
-    /// Closes all runs.
+    /// Closes all runs, and counts from nothing. The memory is kept.
     #[tactic(auto, unfolding(crate::specs::OpenRuns::open_runs))]
     pub fn clear(&mut self)
-        ensures { self.new ≡ record { runs = []; examined = self.old.examined; potential = self.old.examined } }
+        ensures { self.new ≡ record { runs = []; examined = 0; potential = 0 } }
     {
         self.stack.items.clear();
+        self.stack.examined = 0;
         self.bounds = LowerBounds::zero();
     }
 

@@ -2,10 +2,10 @@
 use Rattle.std.proofs.Common.{Ok, Err, arith}
 use Rattle.std.specs.Prelude.{OnOk, Result}
 use Rattle.markdown_delims.proofs.QuoteChainLemmas.{spelled_chain, quoted_chain, quoted_delimiters, resolved}
-use Rattle.markdown_delims.proofs.chain.resolve_marks.Goals as goal
+use Rattle.markdown_delims.proofs.chain.pair_nodes.Goals as goal
 
-pub pair_chain-requires-clause-chain : goal.pair_chain-requires-clause-chain
-pair_chain-requires-clause-chain c =
+pub pair_runs-requires-clause-chain : goal.pair_runs-requires-clause-chain
+pair_runs-requires-clause-chain c =
     let p = c.requires.chain in
     let q = c.quote_chain.ensures.quotes p.forest (spelled_chain c.args.text.now c.args.tree.now c.quote_chain.new.tree c.args.first p.forest p.chain) in
     let n = quoted_delimiters c.args.text.now c.args.tree.now c.quote_chain.new.tree c.args.first p.forest p.chain q in
@@ -21,18 +21,18 @@ on_ok (Err e) f h = h
 
 pub returns-clause-resolves : goal.returns-clause-resolves
 returns-clause-resolves c =
-    on_ok c.pair_chain.result
+    on_ok c.pair_runs.result
     (λ pairs f chain.
     let q = c.quote_chain.ensures.quotes f (spelled_chain c.args.text.now c.args.tree.now c.quote_chain.new.tree c.args.first f chain) in
-    resolved c.args.text.now c.args.tree.now c.quote_chain.new.tree c.args.first f chain c.args.marks c.pair_chain.new.tree q
+    resolved c.args.text.now c.args.tree.now c.quote_chain.new.tree c.args.first f chain c.args.marks c.pair_runs.new.tree q
     (pairs f (quoted_chain c.args.text.now c.args.tree.now c.quote_chain.new.tree c.args.first f chain q)))
-    c.pair_chain.ensures.pairs
+    c.pair_runs.ensures.pairs
 
 pub returns-clause-examined : goal.returns-clause-examined
 returns-clause-examined c =
-    on_ok c.pair_chain.result
+    on_ok c.pair_runs.result
     (λ bound f chain.
     let q = c.quote_chain.ensures.quotes f (spelled_chain c.args.text.now c.args.tree.now c.quote_chain.new.tree c.args.first f chain) in
     let n = quoted_delimiters c.args.text.now c.args.tree.now c.quote_chain.new.tree c.args.first f chain q in
     omega (arith, bound f (quoted_chain c.args.text.now c.args.tree.now c.quote_chain.new.tree c.args.first f chain q)))
-    c.pair_chain.ensures.examined
+    c.pair_runs.ensures.examined

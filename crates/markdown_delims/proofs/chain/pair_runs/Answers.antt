@@ -1,10 +1,10 @@
 -- Tree by tree.
-use Rattle.std.proofs.Common.{◌≡◌, ◌<◌, ◌+◌, ◌*◌, ◌^◌, [], arith, subst, ap}
+use Rattle.std.proofs.Common.{◌<◌, ◌+◌, ◌*◌, ◌^◌, [], arith, subst}
 use Rattle.markdown_delims.specs.RunReading.{delimiters_of, ReadFurther}
 use Rattle.markdown_delims.specs.ChainForest.{chain_of}
 use Rattle.markdown_delims.proofs.ChainLemmas.{whole_chain, starts_reading, reads_more, can_go_on, all_read, goes_down}
 use Rattle.markdown_delims.proofs.ReadLemmas.{head_within}
-use Rattle.markdown_delims.proofs.chain.pair_chain.Goals as goal
+use Rattle.markdown_delims.proofs.chain.pair_runs.Goals as goal
 
 pub trees-init : goal.trees-init
 trees-init c f ch = starts_reading c.args.marks c.args.text.now c.args.tree.now c.args.first f ch c.args.openers.now.potential c.args.openers.now.runs c.requires.emptied.runs
@@ -49,5 +49,4 @@ returns-clause-pairs c f ch =
 pub returns-clause-examined : goal.returns-clause-examined
 returns-clause-examined c f ch =
     let a = c.trees.invariant f ch in
-    let same : c.clear.new.self.examined ≡ c.trees.openers.examined = ap (λ o. o.examined) c.clear.ensures in
     omega (arith, a.paid, c.requires.emptied.potential, c.examined-examined.ensures.within)

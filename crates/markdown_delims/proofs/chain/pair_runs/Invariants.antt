@@ -4,7 +4,7 @@ use Rattle.markdown_base.specs.Forest.{Forest}
 use Rattle.markdown_delims.specs.ChainForest.{IsChain, chain_of}
 use Rattle.markdown_delims.specs.RunReading.{ReadFurther}
 use Rattle.markdown_delims.proofs.ChainLemmas.{whole_chain, numbers_left}
-use Rattle.markdown_delims.proofs.chain.pair_chain.Given as goal
+use Rattle.markdown_delims.proofs.chain.pair_runs.Given as goal
 
 abbrev pub invariant-trees : goal.invariant-trees
 invariant-trees l =
