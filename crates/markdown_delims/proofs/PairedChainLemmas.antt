@@ -252,8 +252,13 @@ pairs_chain s old new first c p =
     let f : Forest ℕ = forest_at (links_of old.nodes) (Some first) in
     let made : numbers s new.nodes p.forest ≡ paired s (numbers s old.nodes f) = paired_labels (λ x. x) [] s old new first f c.whole c.waits p in
     let fewer : (n : ℕ) → total (same n) p.forest ≤ total (same n) f =
-    λ n. omega (arith, tag_sum (same n) s new.nodes p.forest, tag_sum (same n) s old.nodes f, ap (sum_of (λ (a : Label ℕ). same n a.tag)) made,
-      sum-paired s (λ (a : Label ℕ). same n a.tag) (tags_count (same n) s) (numbers s old.nodes f)) in
+    λ n. omega (
+      arith,
+      tag_sum (same n) s new.nodes p.forest,
+      tag_sum (same n) s old.nodes f,
+      ap (sum_of (λ (a : Label ℕ). same n a.tag)) made,
+      sum-paired s (λ (a : Label ℕ). same n a.tag) (tags_count (same n) s) (numbers s old.nodes f),
+    ) in
     let is : forest_at (links_of new.nodes) (Some first) ≡ p.forest = found (links_of new.nodes) (Some first) p.forest p.spelled (λ n. omega (arith, fewer n, c.once n)) in
     record {
       pairs = λ cows.

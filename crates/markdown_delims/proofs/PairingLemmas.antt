@@ -152,9 +152,11 @@ module _ {A : Type 0} (tag : ℕ → A) (cows : List CowStr) (s : Setting) where
             (ap (λ j. closed_by s turns closer.run (firsts tag cows s (closer.number + j) (start + j) (closer.count - j)) (seen tag cows s (with_pair m start closer t))) (sym k) ∙ r.0, r.1)
         | inr all ↦
             let none : closer.count - min t.opener.count closer.count ≡ 0 = omega arith in
-            rw (le-ltb t.opener.count closer.count all)
-            (ap (λ j. closed_by s turns closer.run (firsts tag cows s (closer.number + min t.opener.count closer.count) (start + min t.opener.count closer.count) j) (seen tag cows s (with_pair m start closer t))) none
-            ∙ closed_empty s turns closer.run (seen tag cows s (with_pair m start closer t)), pair_counted m start closer t g)
+            rw (le-ltb t.opener.count closer.count all) (
+              ap (λ j. closed_by s turns closer.run (firsts tag cows s (closer.number + min t.opener.count closer.count) (start + min t.opener.count closer.count) j) (seen tag cows s (with_pair m start closer t))) none
+                  ∙ closed_empty s turns closer.run (seen tag cows s (with_pair m start closer t)),
+              pair_counted m start closer t g,
+            )
       ]
 
   searched_seen : (turns start : ℕ) (closer : Characters) (es : List Entry) (again : ℕ → Characters → List Entry → List Entry) (o : Option Taken) → 0 < closer.count → AllCounted es → IfSome o GoodTaken → GoesOn turns closer.run again
@@ -167,9 +169,9 @@ module _ {A : Type 0} (tag : ℕ → A) (cows : List CowStr) (s : Setting) where
   searched_seen turns start closer es again (Some t) some h g next =
       let r = again_seen turns start closer t again some g next in (
         ap (λ (rs : List (Read A)). closed_by s turns closer.run
-        (layers s t.opener.run.delimiter (lasts tag cows s t.opener.number t.start t.opener.count) (firsts tag cows s closer.number start closer.count) (trees tag cows s t.inside)).closing rs) (found_seen start closer t some g)
-        ∙ ap (λ (vs : List (Label A)). closed_by s turns closer.run vs (seen tag cows s (with_pair m start closer t))) (left_after start closer t some g)
-        ∙ r.0,
+            (layers s t.opener.run.delimiter (lasts tag cows s t.opener.number t.start t.opener.count) (firsts tag cows s closer.number start closer.count) (trees tag cows s t.inside)).closing rs) (found_seen start closer t some g)
+            ∙ ap (λ (vs : List (Label A)). closed_by s turns closer.run vs (seen tag cows s (with_pair m start closer t))) (left_after start closer t some g)
+            ∙ r.0,
         r.1,
       )
 
@@ -179,9 +181,9 @@ module _ {A : Type 0} (tag : ℕ → A) (cows : List CowStr) (s : Setting) where
   closed_seen (suc turns) run start c es e some h =
       let r = searched_seen turns start c es (λ i x fs. closed_in m turns i x fs) (search c.run es nil) some h (search_good c.run es nil h) (subst (λ x. GoesOn turns x (λ i y fs. closed_in m turns i y fs)) (sym e) (closed_seen turns run)) in (
         ap (λ x. closed_by s (suc turns) x (firsts tag cows s c.number start c.count) (seen tag cows s es)) (sym e)
-        ∙ some_firsts turns c.run c.number start c.count (seen tag cows s es) some
-        ∙ ap (after_search s (λ left others. closed_by s turns c.run left others) c.run (firsts tag cows s c.number start c.count) (seen tag cows s es)) (search_seen tag cows s c.run es nil)
-        ∙ r.0,
+            ∙ some_firsts turns c.run c.number start c.count (seen tag cows s es) some
+            ∙ ap (after_search s (λ left others. closed_by s turns c.run left others) c.run (firsts tag cows s c.number start c.count) (seen tag cows s es)) (search_seen tag cows s c.run es nil)
+            ∙ r.0,
         r.1,
       )
 

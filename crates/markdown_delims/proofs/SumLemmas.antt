@@ -110,8 +110,14 @@ module _ {A : Type 0} (s : Setting) (g : Label A → ℕ) (no_more : CountsNoMor
       omega (arith, sum_left closer vs (dropped_if (is_tilde_or_caret closer.delimiter) rs), sum_drop_if (is_tilde_or_caret closer.delimiter) rs)
   sum_searched again closer vs rs (Some f) h k =
       let l : Layers A = layers s f.run.delimiter f.characters vs f.inside in
-      omega (arith, h l.closing (after_layers f l), sum_trees_done l.whole (still_waiting f.run l.opening f.before), sum_still f.run l.opening f.before,
-        sum_layers f.run.delimiter f.characters vs f.inside (sum_of g f.inside + (sum_all g f.characters + sum_all g vs)) (omega arith), k)
+      omega (
+        arith,
+        h l.closing (after_layers f l),
+        sum_trees_done l.whole (still_waiting f.run l.opening f.before),
+        sum_still f.run l.opening f.before,
+        sum_layers f.run.delimiter f.characters vs f.inside (sum_of g f.inside + (sum_all g f.characters + sum_all g vs)) (omega arith),
+        k,
+      )
 
   sum_closed : (turns : ℕ) (closer : Run) (vs : List (Label A)) (rs : List (Read A)) → sum_read (closed_by s turns closer vs rs) ≤ sum_all g vs + sum_read rs
   unfolding closed_by

@@ -114,7 +114,9 @@ pub fn pair_chain(
 
     // whatever comes
     ensures counted { work.new ≡ record work.old {
-        delimiters = min (work.old.delimiters + delimiters_of (trees_at tree.old.nodes (Some first))) (2 ^ 128 - 1); examined = work.new.examined } }
+      delimiters = min (work.old.delimiters + delimiters_of (trees_at tree.old.nodes (Some first))) (2 ^ 128 - 1);
+      examined = work.new.examined;
+    } }
     ensures none_open { open_runs.new ≡ no_runs }
 {
     let delimiters = count_delimiters(tree, first);
