@@ -10,6 +10,7 @@ use Rattle.markdown_delims.specs.declared.run.Run.{Run}
 use Rattle.markdown_delims.specs.Layers.{marks_of, layer_of_one, layer_of_two, spanned, run_of}
 use Rattle.markdown_delims.specs.MayPair.{is_tilde_or_caret, may_pair}
 use Rattle.markdown_delims.specs.Pairing.{Read, done, waiting, texts_before, all_done, read_trees, FoundOpener, found_if, nearest_opener, drop_read, dropped_if, Layers, layers, trees_done, still_waiting, last_first, opened_if, left_over, after_layers, after_search, closed_by, run_read, first_texts, as_closed, after_tree, reads_from, runs_paired, paired}
+use Rattle.markdown_delims.specs.PairingLaws.{below_trees}
 use Rattle.markdown_delims.specs.Quotes.{kind_of_shape, closes_later, is_closed_later, is_end, QuoteTurn, turn_by, first_turn, quotes_after, with_quotes}
 use Rattle.markdown_delims.proofs.KeepLemmas.{ClosedOver, AllClosed, ReadOver, FoundOver, nearest_over, layers_over, after_layers_over, run_over, firsts_closed, as_closed-closed}
 use Rattle.markdown_delims.proofs.PairedChainLemmas.{two_closed}
@@ -17,8 +18,7 @@ use Rattle.markdown_delims.proofs.PairedChainLemmas.{two_closed}
 module _ {A : Type 0} (s : Setting) (within : Forest (Label A) → Forest (Label A)) where
   -- it is done below each tree
   abbrev pub deep : Forest (Label A) → Forest (Label A)
-  deep nil = nil
-  deep (node a below after) = node a (within below) (deep after)
+  deep f = below_trees within f
 
   abbrev Nothing : Forest (Label A) → Type 0
   Nothing f = ⊤

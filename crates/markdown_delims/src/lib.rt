@@ -1,14 +1,17 @@
-//! Delimiter runs pair in place: the characters of an opener become nodes around what stands between.
+//! Delimiter runs, quotes and the last hard break of a chain of inline items, paired in place: the characters of an
+//! opener become nodes around what stands between them.
 #![tactic(auto)]
 
-pub mod bounds;
 pub mod chain;
-pub mod close;
-pub mod layers;
+pub mod laws;
 pub mod marks;
-pub mod nodes;
 pub mod open_runs;
-pub mod pair;
-pub mod quotes;
-pub mod read;
 pub mod run;
+
+mod bounds;
+mod close;
+mod layers;
+mod nodes;
+mod pair;
+mod quotes;
+mod read;
