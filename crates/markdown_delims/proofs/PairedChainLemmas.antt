@@ -7,7 +7,7 @@ use Rattle.markdown_base.specs.ArenaForest.{links_of, forest_at}
 use Rattle.markdown_base.specs.BlockTree.{Numbered, numbered, item_at}
 use Rattle.markdown_base.specs.Event.{TagView}
 use Rattle.markdown_base.specs.Forest.{Forest, nil, node, Each, roots, relabelled}
-use Rattle.markdown_base.specs.Item.{is_open}
+use Rattle.markdown_base.specs.Item.{is_open, text_named}
 use Rattle.markdown_base.specs.WellFormed.{RunCharacter, run_character}
 use Rattle.markdown_base.specs.declared.cow_str.CowStr.{CowStr}
 use Rattle.markdown_base.specs.declared.item.Item.{Item}
@@ -17,7 +17,7 @@ use Rattle.markdown_base.specs.declared.node.Node.{Node}
 use Rattle.markdown_base.proofs.ForestLemmas.{relabelled-relabelled}
 use Rattle.markdown_chains.specs.Document.{Shape, Label, is_unresolved, shape_of, text_over}
 use Rattle.markdown_chains.specs.Setting.{Setting}
-use Rattle.markdown_chains.specs.Totals.{total, same, weight_if, weight_at}
+use Rattle.markdown_chains.specs.Totals.{total, same, same_as, naming, weight_if, weight_at}
 use Rattle.markdown_chains.proofs.FoundLemmas.{found}
 use Rattle.markdown_chains.proofs.FrameLemmas.{same-refl}
 use Rattle.markdown_chains.proofs.PlaceLemmas.{shape-open, some_weight}
@@ -37,6 +37,7 @@ use Rattle.markdown_delims.specs.RunReading.{IsWhole, counts_one, delimiters_of}
 use Rattle.markdown_delims.specs.Views.{Rises}
 use Rattle.markdown_delims.proofs.ChainLemmas.{rises_chain}
 use Rattle.markdown_delims.proofs.LabelLemmas.{look, trees}
+use Rattle.markdown_delims.proofs.NodeLemmas.{each-paired}
 use Rattle.markdown_delims.proofs.PairingLemmas.{HasRunsOnly, closed_shape, runs_seen}
 use Rattle.markdown_delims.proofs.QuoteChainLemmas.{run_made, whole_quoted}
 use Rattle.markdown_delims.proofs.QuoteShapeLemmas.{with_quotes_seen}
@@ -245,6 +246,24 @@ outside_if : (n : ℕ) (f : Forest ℕ) (b : Bool) → among (roots f) n ≡ b �
 outside_if n f false e none = e
 outside_if n f true e none = absurd (omega (arith, root_some n f e, times_parted n f, none))
 
+-- what a node names stood at its number before
+each_self : (nodes : List (Node Item)) (n : ℕ) (f : Forest ℕ) → Each (λ a. same_as n (text_named a.item.body) ≤ naming nodes n a.number) (chain_of nodes f)
+each_self nodes n nil = tt
+each_self nodes n (node ix below after) = (omega arith, each_self nodes n below, each_self nodes n after)
+
+names_less : (old new : List (Node Item)) (n : ℕ) (f : Forest ℕ) → Each (λ a. same_as n (text_named a.item.body) ≤ naming old n a.number) (chain_of new f) → total (naming new n) f ≤ total (naming old n) f
+names_less old new n nil h = omega arith
+names_less old new n (node ix below after) h = omega (arith, h.0, names_less old new n below h.1, names_less old new n after h.2)
+
+none_named : (n i : ℕ) (o : Option ℕ) → o ≡ None → same_as n o ≤ i
+none_named n i o e = subst (λ x. same_as n x ≤ i) (sym e) (omega arith)
+
+names_no_more : (m : Marks) (text : List ℕ) (old new : Arena Item) (first : ℕ) (f : Forest ℕ) (p : IsResolved m text old new first f) (n : ℕ) → total (naming new.nodes n) p.forest ≤ total (naming old.nodes n) p.forest
+names_no_more m text old new first f p n =
+    names_less old.nodes new.nodes n p.forest
+    (subst (λ g. Each (λ a. same_as n (text_named a.item.body) ≤ naming old.nodes n a.number) g) (sym p.resolves)
+    (each-paired (λ a. same_as n (text_named a.item.body) ≤ naming old.nodes n a.number) (λ number start end b e. none_named n (naming old.nodes n number) (text_named b) e) m text (chain_of old.nodes f) (each_self old.nodes n f)))
+
 -- all that is said of the chain
 pub pairs_chain : (s : Setting) (old new : Arena Item) (first : ℕ) → CanPair s.text old.nodes first → IsResolved (marks_of s.rules.options) s.text old new first (forest_at (links_of old.nodes) (Some first))
     → PairsChain s first old.nodes new.nodes
@@ -271,6 +290,9 @@ pairs_chain s old new first c p =
       outside = λ n none.
           let same_at = p.kept.others n (outside_if n f (among (roots f) n) refl none) in
           record { child = same_at.child; next = same_at.next; item = same_at.item };
+      named = λ n. rw is
+          (omega (arith, names_no_more (marks_of s.rules.options) s.text old new first f p n, tag_sum (naming old.nodes n) s old.nodes f, tag_sum (naming old.nodes n) s new.nodes p.forest,
+            ap (sum_of (λ (a : Label ℕ). naming old.nodes n a.tag)) made, sum-paired s (λ (a : Label ℕ). naming old.nodes n a.tag) (tags_count (naming old.nodes n) s) (numbers s old.nodes f)));
       no_heavier = rw is
           (omega (arith, weight_sum s new.nodes p.forest, weight_sum s old.nodes f, ap (sum_of weighs) made, sum-paired s weighs (weights_count s) (numbers s old.nodes f)));
     }

@@ -9,7 +9,7 @@ use Rattle.markdown_base.specs.declared.item.Item.{Item}
 use Rattle.markdown_base.specs.declared.node.Node.{Node}
 use Rattle.markdown_chains.specs.Places.{IsSameAt, trees_from}
 use Rattle.markdown_chains.specs.Setting.{Setting}
-use Rattle.markdown_chains.specs.Stages.{times_in, weight_in}
+use Rattle.markdown_chains.specs.Stages.{times_in, named_in, weight_in}
 use Rattle.markdown_delims.specs.ChainForest.{RisesFrom}
 use Rattle.markdown_delims.specs.OpenRuns.{Openers}
 use Rattle.markdown_delims.specs.Pairing.{waits_for_pairing, paired}
@@ -40,7 +40,8 @@ pub record PairsChain (s : Setting) (first : ℕ) (old new : List (Node Item)) :
   -- other nodes are as they were
   pub same_size : length new ≡ length old
   pub outside : (n : ℕ) → times_in old (Some first) n ≡ 0 → IsSameAt old new n
-  -- it is no heavier
+  -- no text is named more often, and it is no heavier
+  pub named : (n : ℕ) → named_in new (Some first) n ≤ named_in old (Some first) n
   pub no_heavier : weight_in new (Some first) ≤ weight_in old (Some first)
 
 -- no run is open, and nothing was examined yet
