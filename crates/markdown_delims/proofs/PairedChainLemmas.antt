@@ -291,8 +291,14 @@ pairs_chain s old new first c p =
           let same_at = p.kept.others n (outside_if n f (among (roots f) n) refl none) in
           record { child = same_at.child; next = same_at.next; item = same_at.item };
       named = λ n. rw is
-          (omega (arith, names_no_more (marks_of s.rules.options) s.text old new first f p n, tag_sum (naming old.nodes n) s old.nodes f, tag_sum (naming old.nodes n) s new.nodes p.forest,
-            ap (sum_of (λ (a : Label ℕ). naming old.nodes n a.tag)) made, sum-paired s (λ (a : Label ℕ). naming old.nodes n a.tag) (tags_count (naming old.nodes n) s) (numbers s old.nodes f)));
+          (omega (
+            arith,
+            names_no_more (marks_of s.rules.options) s.text old new first f p n,
+            tag_sum (naming old.nodes n) s old.nodes f,
+            tag_sum (naming old.nodes n) s new.nodes p.forest,
+            ap (sum_of (λ (a : Label ℕ). naming old.nodes n a.tag)) made,
+            sum-paired s (λ (a : Label ℕ). naming old.nodes n a.tag) (tags_count (naming old.nodes n) s) (numbers s old.nodes f),
+          ));
       no_heavier = rw is
           (omega (arith, weight_sum s new.nodes p.forest, weight_sum s old.nodes f, ap (sum_of weighs) made, sum-paired s weighs (weights_count s) (numbers s old.nodes f)));
     }

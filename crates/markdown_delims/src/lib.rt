@@ -2,16 +2,15 @@
 //! opener become nodes around what stands between them.
 #![tactic(auto)]
 
-pub mod chain;
-pub mod laws;
-pub mod marks;
-pub mod open_runs;
-pub mod run;
-
 mod bounds;
+pub mod chain;
 mod close;
+pub mod laws;
 mod layers;
+pub mod marks;
 mod nodes;
+pub mod open_runs;
 mod pair;
 mod quotes;
 mod read;
+pub mod run;
