@@ -1,4 +1,5 @@
--- The nine lower bounds of a stack of open runs, and what they say of it.
+-- The lower bounds of a stack of open runs, and what they say of it. Those of `~` and `^` are raised together, and
+-- so are counted once.
 use Rattle.std.specs.Prelude.{◌≡◌, ℕ, ◌+◌, ◌-◌, ◌%◌, ◌≤◌, min, List, length, take, true, false, ◌==◌, if◌then◌else◌, All}
 use Rattle.markdown_delims.specs.declared.run.Delimiter.{Delimiter}
 use Rattle.markdown_delims.specs.declared.run.Delimiter.TheVariants.{Star, Underscore, Tilde, Caret}
@@ -103,7 +104,8 @@ pub record BoundCharacter (d : Delimiter) (stack : List Characters) (b : Charact
   pub remainder_one : All (IsOutOfStep d 1) (take b.remainder_one stack)
   pub remainder_two : All (IsOutOfStep d 2) (take b.remainder_two stack)
 
--- what the ten bounds say of the stack; below the last two each run of the character is dropped, so they say nothing of pairing
+-- what the bounds say of the stack; below the last two each run of the character is dropped, so they say nothing of
+-- pairing
 pub record BoundStack (stack : List Characters) (b : LowerBounds) : Type 0 where
   pub star : BoundCharacter Star stack b.star
   pub underscore : BoundCharacter Underscore stack b.underscore

@@ -39,7 +39,8 @@ layer_of_two m Caret source = enclosed_if m.superscript superscript (text_over s
 abbrev pub layer_of_one : Marks → Delimiter → List ℕ → Shape
 layer_of_one m Star source = enclosed emphasis
 layer_of_one m Underscore source = enclosed emphasis
-layer_of_one m Tilde source = enclosed_if m.subscript subscript (enclosed_if m.strikethrough strikethrough (text_over source))
+layer_of_one m Tilde source =
+    enclosed_if m.subscript subscript (enclosed_if m.strikethrough strikethrough (text_over source))
 layer_of_one m Caret source = enclosed_if m.superscript superscript (text_over source)
 
 -- the label of an opener's character with another shape, up to the end of a closer's character
@@ -56,7 +57,8 @@ spanned source shape opener closer = record {
 abbrev pub run_by : ℕ → Bool → Bool → Option Delimiter → Option Run
 run_by count opens closes None = None
 run_by zero opens closes (Some d) = None
-run_by (suc n) opens closes (Some d) = Some (record { delimiter = d; length = suc n; can_open = opens; can_close = closes })
+run_by (suc n) opens closes (Some d) =
+    Some (record { delimiter = d; length = suc n; can_open = opens; can_close = closes })
 
 abbrev pub run_of_body : ItemBody → Option Delimiter → Option Run
 run_of_body (body.MaybeEmphasis count opens closes) d = run_by count opens closes d

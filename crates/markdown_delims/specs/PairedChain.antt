@@ -18,10 +18,11 @@ use Rattle.markdown_delims.specs.RunReading.{IsWhole}
 -- what is open in a chain waits for pairing
 abbrev pub WaitsForPairing : Forest Numbered → Type 0
 WaitsForPairing nil = Unit {0}
-WaitsForPairing (node a below after) = (is_open a.item.body ≡ true → waits_for_pairing a.item.body ≡ true) × WaitsForPairing after
+WaitsForPairing (node a below after) =
+    (is_open a.item.body ≡ true → waits_for_pairing a.item.body ≡ true) × WaitsForPairing after
 
--- from `first` on stands a chain: no node stands twice in it, the numbers of its own nodes rise, its runs are whole, and
--- nothing of it is open but runs and quotes
+-- from `first` on stands a chain: no node stands twice in it, the numbers of its own nodes rise, its runs are whole,
+-- and nothing of it is open but runs and quotes
 pub record CanPair (text : List ℕ) (nodes : List (Node Item)) (first : ℕ) : Type 0 where
   pub spelled : Spells (links_of nodes) (Some first) (forest_at (links_of nodes) (Some first))
   pub once : (n : ℕ) → times_in nodes (Some first) n ≤ 1
@@ -32,7 +33,8 @@ pub record CanPair (text : List ℕ) (nodes : List (Node Item)) (first : ℕ) : 
 -- the chain from `first` on was paired where it stood
 pub record PairsChain (s : Setting) (first : ℕ) (old new : List (Node Item)) : Type 0 where
   -- it is the chain that the rules make of it, whatever texts its items name
-  pub pairs : (cows : List CowStr) → trees_from s.text cows new (Some first) ≡ paired s (trees_from s.text cows old (Some first))
+  pub pairs : (cows : List CowStr)
+      → trees_from s.text cows new (Some first) ≡ paired s (trees_from s.text cows old (Some first))
   -- its links spell a chain, in which no node stands that did not stand there before, and none twice; its numbers rise
   pub spelled : Spells (links_of new) (Some first) (forest_at (links_of new) (Some first))
   pub times : (n : ℕ) → times_in new (Some first) n ≤ times_in old (Some first) n

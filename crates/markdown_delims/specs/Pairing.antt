@@ -78,10 +78,16 @@ pub record Layers (A : Type 0) : Type 0 where
 abbrev pub layers : {A : Type 0} → Setting → Delimiter → (opener closer : List (Label A)) → Forest (Label A) → Layers A
 layers s d [] vs inside = record { whole = inside; opening = []; closing = vs }
 layers s d (x ∷ xs) [] inside = record { whole = inside; opening = x ∷ xs; closing = [] }
-layers s d (x ∷ []) (v ∷ vs) inside =
-    record { whole = node (spanned s.text (layer_of_one (marks_of s.rules.options) d) x v) inside nil; opening = []; closing = vs }
-layers s d (x ∷ y ∷ xs) (v ∷ []) inside =
-    record { whole = node (spanned s.text (layer_of_one (marks_of s.rules.options) d) x v) inside nil; opening = y ∷ xs; closing = [] }
+layers s d (x ∷ []) (v ∷ vs) inside = record {
+  whole = node (spanned s.text (layer_of_one (marks_of s.rules.options) d) x v) inside nil;
+  opening = [];
+  closing = vs;
+}
+layers s d (x ∷ y ∷ xs) (v ∷ []) inside = record {
+  whole = node (spanned s.text (layer_of_one (marks_of s.rules.options) d) x v) inside nil;
+  opening = y ∷ xs;
+  closing = [];
+}
 layers s d (x ∷ y ∷ xs) (v ∷ w ∷ vs) inside =
     layers s d xs vs (node (spanned s.text (layer_of_two (marks_of s.rules.options) d) y w) inside nil)
 
@@ -112,17 +118,20 @@ abbrev pub after_layers : {A : Type 0} → FoundOpener A → Layers A → List (
 after_layers f made = trees_done made.whole (still_waiting f.run made.opening f.before)
 
 -- after a search: a closer with characters left searches again
-abbrev pub after_search : {A : Type 0} → Setting → (again : List (Label A) → List (Read A) → List (Read A)) → Run → List (Label A) → List (Read A) → Option (FoundOpener A) → List (Read A)
+abbrev pub after_search : {A : Type 0} → Setting → (again : List (Label A) → List (Read A) → List (Read A)) → Run
+    → List (Label A) → List (Read A) → Option (FoundOpener A) → List (Read A)
 after_search s again closer vs rs None = left_over closer vs (dropped_if (is_tilde_or_caret closer.delimiter) rs)
 after_search s again closer vs rs (Some f) =
-    again (layers s f.run.delimiter f.characters vs f.inside).closing (after_layers f (layers s f.run.delimiter f.characters vs f.inside))
+    again (layers s f.run.delimiter f.characters vs f.inside).closing
+    (after_layers f (layers s f.run.delimiter f.characters vs f.inside))
 
 -- the characters of a closer search, while there are some; each find uses one at least
 unfoldable pub closed_by : {A : Type 0} → Setting → ℕ → Run → List (Label A) → List (Read A) → List (Read A)
 closed_by s turns closer [] rs = rs
 closed_by s zero closer (v ∷ vs) rs = rs
 closed_by s (suc turns) closer (v ∷ vs) rs =
-    after_search s (λ left others. closed_by s turns closer left others) closer (v ∷ vs) rs (nearest_opener closer rs nil)
+    after_search s (λ left others. closed_by s turns closer left others) closer (v ∷ vs) rs
+    (nearest_opener closer rs nil)
 
 abbrev pub run_read : {A : Type 0} → Setting → (closes : Bool) → Run → List (Label A) → List (Read A) → List (Read A)
 run_read s true run vs rs = closed_by s (length vs) run vs rs
@@ -143,7 +152,8 @@ abbrev pub as_closed : {A : Type 0} → List ℕ → Label A → Label A
 as_closed source a = text_if (is_unresolved a.part.shape) source a
 
 -- a tree is read, and with the first character of a run all of the run
-abbrev pub after_tree : {A : Type 0} → Setting → (go_on : ℕ → List (Read A) → List (Read A)) → Label A → (below after : Forest (Label A)) → List (Read A) → Option Run → List (Read A)
+abbrev pub after_tree : {A : Type 0} → Setting → (go_on : ℕ → List (Read A) → List (Read A)) → Label A
+    → (below after : Forest (Label A)) → List (Read A) → Option Run → List (Read A)
 after_tree s go_on a below after rs None = go_on 0 (done (as_closed s.text a) below ∷ rs)
 after_tree s go_on a below after rs (Some run) =
     go_on (run.length - 1) (run_read s run.can_close run (first_texts s.text run.length (node a below after)) rs)

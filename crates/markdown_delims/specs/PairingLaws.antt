@@ -24,12 +24,16 @@ ClosedLaw A = (s : Setting) (chain : Forest (Label A)) → NothingOpen (paired s
 -- a chain and the chains below it may be settled in either order: where a change of a chain in which nothing is open
 -- changes what is below its trees alone
 abbrev pub OrderLaw : Type 0 → Type 0
-OrderLaw A = (s : Setting) (change : Forest (Label A) → Forest (Label A)) → change nil ≡ nil → ((f : Forest (Label A)) → NothingOpen f → change f ≡ below_trees change f)
+OrderLaw A =
+    (s : Setting) (change : Forest (Label A) → Forest (Label A)) → change nil ≡ nil
+    → ((f : Forest (Label A)) → NothingOpen f → change f ≡ below_trees change f)
     → (chain : Forest (Label A)) → paired s (below_trees change chain) ≡ below_trees change (paired s chain)
 
 -- a closer pairs with a run with which it may
 abbrev pub JoinsLaw : Type 0 → Type 0
-JoinsLaw A = (closer : Run) (rs : List (Read A)) (inside : Forest (Label A)) → IfSome (nearest_opener closer rs inside) (λ f. may_pair f.run closer ≡ true)
+JoinsLaw A =
+    (closer : Run) (rs : List (Read A)) (inside : Forest (Label A))
+    → IfSome (nearest_opener closer rs inside) (λ f. may_pair f.run closer ≡ true)
 
 -- each open run that is not dropped may not pair with a closer
 abbrev pub NonePairs : {A : Type 0} → Run → List (Read A) → Type 0
@@ -39,4 +43,6 @@ NonePairs closer (waiting dropped run xs ∷ rs) = (dropped ≡ false → may_pa
 
 -- so it is where a closer finds none
 abbrev pub MissesNoneLaw : Type 0 → Type 0
-MissesNoneLaw A = (closer : Run) (rs : List (Read A)) (inside : Forest (Label A)) → IfNone (nearest_opener closer rs inside) (NonePairs closer rs)
+MissesNoneLaw A =
+    (closer : Run) (rs : List (Read A)) (inside : Forest (Label A))
+    → IfNone (nearest_opener closer rs inside) (NonePairs closer rs)

@@ -78,14 +78,17 @@ double_turn true opens single double = record { made = right_double; single = si
 double_turn false opens single double = record { made = left_double; single = single; double = opens || double }
 
 abbrev pub turn_by : Kind → Shape → (single double later last : Bool) → QuoteTurn
-turn_by (kind.Single opens closes) shape single double later last = single_turn (single && closes) opens single double later
+turn_by (kind.Single opens closes) shape single double later last =
+    single_turn (single && closes) opens single double later
 turn_by (kind.Double opens closes) shape single double later last = double_turn (double && closes) opens single double
-turn_by kind.Break shape single double later last = record { made = if last then backslash else shape; single = single; double = double }
+turn_by kind.Break shape single double later last =
+    record { made = if last then backslash else shape; single = single; double = double }
 turn_by kind.Other shape single double later last = record { made = shape; single = single; double = double }
 
 -- the turn of a chain's first tree
 abbrev pub first_turn : {A : Type 0} → Label A → Forest (Label A) → (single double : Bool) → QuoteTurn
-first_turn a after single double = turn_by (kind_of_shape a.part.shape) a.part.shape single double (is_closed_later after) (is_end after)
+first_turn a after single double =
+    turn_by (kind_of_shape a.part.shape) a.part.shape single double (is_closed_later after) (is_end after)
 
 -- a chain with its quotes, where a `'` may be remembered and a `"` open
 abbrev pub quotes_after : {A : Type 0} → (single double : Bool) → Forest (Label A) → Forest (Label A)

@@ -12,7 +12,7 @@ pub struct CharacterBounds {
     pub remainder_two: usize,
 }
 
-/// The ten lower bounds of a stack.
+/// The lower bounds of a stack. Those of `~` and `^` are raised together.
 #[derive(Clone, Copy)]
 pub struct LowerBounds {
     pub star: CharacterBounds,

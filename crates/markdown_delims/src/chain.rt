@@ -108,9 +108,11 @@ pub fn pair_chain(
 ) -> Result<(), AllocError>
     requires none_open { open_runs.old ≡ no_runs }
     requires chain { CanPair text.now tree.old.nodes first }
-    ensures pairs { OnOk result ((rules : Rules) → rules.options ≡ options → PairsChain (setting_of text.now rules) first tree.old.nodes tree.new.nodes) }
+    ensures pairs { OnOk result ((rules : Rules) → rules.options ≡ options
+        → PairsChain (setting_of text.now rules) first tree.old.nodes tree.new.nodes) }
     ensures place { OnOk result (tree.new ≡ record tree.old { nodes = tree.new.nodes }) }
-    ensures examined { OnOk result (ExaminesAtMost (10 * delimiters_of (trees_at tree.old.nodes (Some first))) work.old.examined work.new.examined) }
+    ensures examined { OnOk result (
+        ExaminesAtMost (10 * delimiters_of (trees_at tree.old.nodes (Some first))) work.old.examined work.new.examined) }
 
     // whatever comes
     ensures counted { work.new ≡ record work.old {

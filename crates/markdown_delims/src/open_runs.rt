@@ -27,7 +27,7 @@ impl Stack {
     }
 }
 
-/// The open runs of a chain, with the ten lower bounds of a search.
+/// The open runs of a chain, with the lower bounds of a search.
 #[derive(Drop)]
 pub struct OpenRuns {
     stack: Stack,
