@@ -8,7 +8,7 @@ use Rattle.markdown_base.specs.Forest.{Forest, nil, node, relabelled}
 use Rattle.markdown_chains.specs.Tables.{Tables}
 use Rattle.markdown_base.specs.declared.item.ItemBody.{ItemBody}
 use Rattle.markdown_base.specs.declared.item.ItemBody.TheVariants as body
-use Rattle.markdown_chains.specs.Document.{Shape, Label, shape_of, part_of, text_over}
+use Rattle.markdown_chains.specs.Document.{Shape, Label, shape_of, part_of, block_of, text_over}
 use Rattle.markdown_chains.specs.Setting.{Setting}
 use Rattle.markdown_delims.specs.declared.marks.Marks.{Marks}
 use Rattle.markdown_delims.specs.declared.run.Delimiter.{Delimiter}
@@ -188,14 +188,33 @@ module _ {A : Type 0} (tag : ℕ → A) (tables : Tables) (s : Setting) where
   left_seen start c es =
       ap (λ (xs : List (Label A)). opened_if c.run.can_open c.run xs (seen es)) (turned c.number start c.count) ∙ opened_seen c.run.can_open start c es
 
+  -- what is made is no block
+  mark_block : (x : Bool) (b c : ItemBody) → block_of b ≡ None → block_of c ≡ None → block_of (if x then b else c) ≡ None
+  mark_block true b c e f = e
+  mark_block false b c e f = f
+
+  two_block : (m : Marks) (d : Delimiter) → block_of (body_of_two m d) ≡ None
+  two_block m Star = refl
+  two_block m Underscore = refl
+  two_block m Tilde = mark_block m.strikethrough body.Strikethrough whole_text refl refl
+  two_block m Caret = mark_block m.superscript body.Superscript whole_text refl refl
+
+  one_block : (m : Marks) (d : Delimiter) → block_of (body_of_one m d) ≡ None
+  one_block m Star = refl
+  one_block m Underscore = refl
+  one_block m Tilde = mark_block m.subscript body.Subscript _ refl (mark_block m.strikethrough body.Strikethrough whole_text refl refl)
+  one_block m Caret = mark_block m.superscript body.Superscript whole_text refl refl
+
   -- a layer
   two_label : (d : Delimiter) (n i c e : ℕ) → spanned s.text (layer_of_two (marks_of s.rules.options) d) (look (character n i)) (look (character c e)) ≡ look (labelled n i (e + 1) (body_of_two (marks_of s.rules.options) d))
   two_label d n i c e =
       ap (λ (x : Shape). let l : Label A = record { tag = tag n; part = record { shape = x; range = record { start = i; end = e + 1 }; block = None } } in l) (sym (two_shape tables (slice_range s.text i (e + 1)) (marks_of s.rules.options) d))
+      ∙ ap (λ (o : Option ItemBody). let l : Label A = record { tag = tag n; part = record { shape = shape_of tables (slice_range s.text i (e + 1)) (body_of_two (marks_of s.rules.options) d); range = record { start = i; end = e + 1 }; block = o } } in l) (sym (two_block (marks_of s.rules.options) d))
 
   one_label : (d : Delimiter) (n i c e : ℕ) → spanned s.text (layer_of_one (marks_of s.rules.options) d) (look (character n i)) (look (character c e)) ≡ look (labelled n i (e + 1) (body_of_one (marks_of s.rules.options) d))
   one_label d n i c e =
       ap (λ (x : Shape). let l : Label A = record { tag = tag n; part = record { shape = x; range = record { start = i; end = e + 1 }; block = None } } in l) (sym (one_shape tables (slice_range s.text i (e + 1)) (marks_of s.rules.options) d))
+      ∙ ap (λ (o : Option ItemBody). let l : Label A = record { tag = tag n; part = record { shape = shape_of tables (slice_range s.text i (e + 1)) (body_of_one (marks_of s.rules.options) d); range = record { start = i; end = e + 1 }; block = o } } in l) (sym (one_block (marks_of s.rules.options) d))
 
   look_at : (n n' i i' e e' : ℕ) (b : ItemBody) → n ≡ n' → i ≡ i' → e ≡ e' → look (labelled n i e b) ≡ look (labelled n' i' e' b)
   look_at n n' i i' e e' b p q r = ap (λ x. look (labelled x i e b)) p ∙ ap (λ x. look (labelled n' x e b)) q ∙ ap (λ x. look (labelled n' i' x b)) r

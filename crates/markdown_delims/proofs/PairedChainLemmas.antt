@@ -9,7 +9,7 @@ use Rattle.markdown_base.specs.Event.{TagView}
 use Rattle.markdown_base.specs.Forest.{Forest, nil, node, Each, roots, relabelled}
 use Rattle.markdown_base.specs.Item.{is_open}
 use Rattle.markdown_base.specs.WellFormed.{RunCharacter, run_character}
-use Rattle.markdown_chains.specs.Tables.{Tables, Named, some_text, some_link, some_alignments}
+use Rattle.markdown_chains.specs.Tables.{Tables, no_tables, Named, some_text, some_link, some_alignments}
 use Rattle.markdown_base.specs.declared.item.Item.{Item}
 use Rattle.markdown_base.specs.declared.item.ItemBody.{ItemBody}
 use Rattle.markdown_base.specs.declared.item.ItemBody.TheVariants as body
@@ -19,7 +19,7 @@ use Rattle.markdown_chains.specs.Document.{Shape, Label, is_unresolved, shape_of
 use Rattle.markdown_chains.specs.Setting.{Setting}
 use Rattle.markdown_chains.specs.Totals.{total, same, same_as, naming, times_named, weight_if, weight_at}
 use Rattle.markdown_chains.proofs.FoundLemmas.{found}
-use Rattle.markdown_chains.proofs.FrameLemmas.{same-refl}
+use Rattle.markdown_chains.proofs.TablesLemmas.{same-refl}
 use Rattle.markdown_chains.proofs.PlaceLemmas.{shape-open, some_weight}
 use Rattle.markdown_delims.specs.declared.marks.Marks.{Marks}
 use Rattle.markdown_delims.specs.declared.quotes.Kind.{Kind}
@@ -170,7 +170,7 @@ paired_labels tag tables s old new first f whole waits p =
 
 -- sums over numbers are sums over tags
 abbrev numbers : Setting → List (Node Item) → Forest ℕ → Forest (Label ℕ)
-numbers s nodes f = trees (λ n. n) [] s (chain_of nodes f)
+numbers s nodes f = trees (λ n. n) no_tables s (chain_of nodes f)
 
 tag_sum : (count : ℕ → ℕ) (s : Setting) (nodes : List (Node Item)) (f : Forest ℕ) → sum_of (λ a. count a.tag) (numbers s nodes f) ≡ total count f
 tag_sum count s nodes nil = refl
@@ -193,8 +193,8 @@ weighs a = weight_if (is_unresolved a.part.shape)
 weight_sum : (s : Setting) (nodes : List (Node Item)) (f : Forest ℕ) → sum_of weighs (numbers s nodes f) ≡ total (weight_at nodes) f
 weight_sum s nodes nil = refl
 weight_sum s nodes (node ix below after) =
-    let here : weight_if (is_unresolved (shape_of [] (slice_range s.text (item_at nodes ix).start (item_at nodes ix).end) (item_at nodes ix).body)) ≡ weight_at nodes ix =
-    ap weight_if (open_agrees [] (slice_range s.text (item_at nodes ix).start (item_at nodes ix).end) (item_at nodes ix).body) in
+    let here : weight_if (is_unresolved (shape_of no_tables (slice_range s.text (item_at nodes ix).start (item_at nodes ix).end) (item_at nodes ix).body)) ≡ weight_at nodes ix =
+    ap weight_if (open_agrees no_tables (slice_range s.text (item_at nodes ix).start (item_at nodes ix).end) (item_at nodes ix).body) in
     omega (arith, here, weight_sum s nodes below, weight_sum s nodes after)
 
 enclosed_closed : (b : Bool) (t : TagView) (other : Shape) → is_unresolved other ≡ false → is_unresolved (enclosed_if b t other) ≡ false
@@ -271,7 +271,7 @@ pub pairs_chain : (s : Setting) (old new : Arena Item) (first : ℕ) → CanPair
     → PairsChain s first old.nodes new.nodes
 pairs_chain s old new first c p =
     let f : Forest ℕ = forest_at (links_of old.nodes) (Some first) in
-    let made : numbers s new.nodes p.forest ≡ paired s (numbers s old.nodes f) = paired_labels (λ x. x) [] s old new first f c.whole c.waits p in
+    let made : numbers s new.nodes p.forest ≡ paired s (numbers s old.nodes f) = paired_labels (λ x. x) no_tables s old new first f c.whole c.waits p in
     let fewer : (n : ℕ) → total (same n) p.forest ≤ total (same n) f =
     λ n. omega (
       arith,

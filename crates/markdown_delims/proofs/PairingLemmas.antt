@@ -9,7 +9,7 @@ use Rattle.markdown_base.specs.WellFormed.{RunCharacter, run_character, is_delim
 use Rattle.markdown_chains.specs.Tables.{Tables}
 use Rattle.markdown_base.specs.declared.item.ItemBody.{ItemBody}
 use Rattle.markdown_base.specs.declared.item.ItemBody.TheVariants as body
-use Rattle.markdown_chains.specs.Document.{Shape, leaf, enclosed as enclosed_shape, plain, backslash_break, unresolved, Label, is_unresolved, shape_of, as_text, text_over}
+use Rattle.markdown_chains.specs.Document.{Shape, leaf, enclosed as enclosed_shape, plain, backslash_break, unresolved, Label, is_unresolved, shape_of, block_of, as_text, text_over}
 use Rattle.markdown_chains.specs.Setting.{Setting}
 use Rattle.markdown_delims.specs.declared.marks.Marks.{Marks}
 use Rattle.markdown_delims.specs.declared.run.Delimiter.{Delimiter}
@@ -203,11 +203,17 @@ module _ {A : Type 0} (tag : ℕ → A) (tables : Tables) (s : Setting) where
       → Same (run_read s c.run.can_close c.run (firsts tag tables s c.number start c.count) (seen tag tables s es)) (with_run m start c es)
   run_seen start c es some h = run_seen_if c.run.can_close start c es some h
 
+  -- a character of a run is no block
+  run_block : (b : ItemBody) (c : RunCharacter) → run_character b ≡ Some c → block_of b ≡ None
+  run_block (body.MaybeEmphasis count opens closes) c e = refl
+  run_block other c e = cc e
+
   -- a character of a run, as a Text
-  character_seen : (a : Numbered) → a.item.end ≡ suc a.item.start → as_text s.text (look tag tables s a) ≡ look tag tables s (character a.number a.item.start)
-  character_seen a e =
+  character_seen : (a : Numbered) (c : RunCharacter) → run_character a.item.body ≡ Some c → a.item.end ≡ suc a.item.start → as_text s.text (look tag tables s a) ≡ look tag tables s (character a.number a.item.start)
+  character_seen a c r e =
       let f : a.item.end ≡ a.item.start + 1 = omega arith in
-      ap (λ (j : ℕ). let l : Label A = record { tag = tag a.number; part = record { shape = text_over (slice_range s.text a.item.start j); range = record { start = a.item.start; end = j }; block = None } } in l) f
+      ap (λ (j : ℕ). let l : Label A = record { tag = tag a.number; part = record { shape = text_over (slice_range s.text a.item.start j); range = record { start = a.item.start; end = j }; block = block_of a.item.body } } in l) f
+      ∙ ap (λ (o : Option ItemBody). let l : Label A = record { tag = tag a.number; part = record { shape = text_over (slice_range s.text a.item.start (a.item.start + 1)); range = record { start = a.item.start; end = a.item.start + 1 }; block = o } } in l) (run_block a.item.body c r)
 
   -- so are all of a run
   texts_of_run : (n : ℕ) (opens closes : Bool) (a : Numbered) (below after : Forest Numbered) → run_character a.item.body ≡ Some (record { count = n; can_open = opens; can_close = closes })
@@ -215,14 +221,14 @@ module _ {A : Type 0} (tag : ℕ → A) (tables : Tables) (s : Setting) where
   texts_of_run zero opens closes a below after e w = refl
   texts_of_run (suc zero) opens closes a below after e w =
       let x : StandsWhole s.text a below after (record { count = suc zero; can_open = opens; can_close = closes }) = subst (λ o. IfSome o (StandsWhole s.text a below after)) e w.0 in
-      ap (λ (l : Label A). l ∷ []) (character_seen a x.stands.one_byte)
+      ap (λ (l : Label A). l ∷ []) (character_seen a _ e x.stands.one_byte)
   texts_of_run (suc (suc n)) opens closes a below nil e w =
       let x : StandsWhole s.text a below nil (record { count = suc (suc n); can_open = opens; can_close = closes }) = subst (λ o. IfSome o (StandsWhole s.text a below nil)) e w.0 in
       absurd x.stands.goes_on
   texts_of_run (suc (suc n)) opens closes a below (node b inside after) e w =
       let x : StandsWhole s.text a below (node b inside after) (record { count = suc (suc n); can_open = opens; can_close = closes }) = subst (λ o. IfSome o (StandsWhole s.text a below (node b inside after))) e w.0 in
       let g = x.stands.goes_on in
-      ap (λ (l : Label A). l ∷ first_texts s.text (suc n) (trees tag tables s (node b inside after))) (character_seen a x.stands.one_byte)
+      ap (λ (l : Label A). l ∷ first_texts s.text (suc n) (trees tag tables s (node b inside after))) (character_seen a _ e x.stands.one_byte)
       ∙ ap (λ (xs : List (Label A)). look tag tables s (character a.number a.item.start) ∷ xs)
       (texts_of_run (suc n) opens closes b inside after g.body w.1
       ∙ ap (λ i. firsts tag tables s i b.item.start (suc n)) g.number

@@ -1,5 +1,5 @@
 -- Worked rows of the definitions: what becomes of small chains.
-use Rattle.std.proofs.Common.{◌≡◌, ℕ, zero, suc, ◌+◌, Bool, true, false, List, [], ◌∷◌, ◌++◌, refl}
+use Rattle.std.proofs.Common.{◌≡◌, ℕ, zero, suc, ◌+◌, Bool, true, false, List, [], ◌∷◌, ◌++◌, None, refl}
 use Rattle.std.specs.Prelude.{codes, encode_utf8, slice_range}
 use Rattle.markdown_base.specs.Event.{TagView, EventView, text, strong, emphasis, strikethrough, superscript, subscript}
 use Rattle.markdown_base.specs.Forest.{Forest, nil, node}

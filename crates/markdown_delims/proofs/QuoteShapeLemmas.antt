@@ -1,12 +1,12 @@
 -- The quotes of labels are those of the nodes that they are the labels of.
-use Rattle.std.proofs.Common.{◌≡◌, ℕ, Bool, true, false, List, refl, ap, ◌∙◌}
+use Rattle.std.proofs.Common.{◌≡◌, ℕ, Bool, true, false, List, Option, None, refl, ap, sym, ◌∙◌}
 use Rattle.std.specs.Prelude.{◌==◌, if◌then◌else◌, slice_range}
 use Rattle.markdown_base.specs.BlockTree.{Numbered}
 use Rattle.markdown_base.specs.Forest.{Forest, nil, node}
 use Rattle.markdown_chains.specs.Tables.{Tables}
 use Rattle.markdown_base.specs.declared.item.ItemBody.{ItemBody}
 use Rattle.markdown_base.specs.declared.item.ItemBody.TheVariants as body
-use Rattle.markdown_chains.specs.Document.{Label, shaped, shape_of}
+use Rattle.markdown_chains.specs.Document.{Shape, Label, shaped, shape_of, block_of}
 use Rattle.markdown_chains.specs.Setting.{Setting}
 use Rattle.markdown_delims.specs.declared.quotes.Kind.{Kind}
 use Rattle.markdown_delims.specs.declared.quotes.Kind.TheVariants as kind
@@ -67,6 +67,32 @@ turn_agrees tables source (kind.Double opens closes) b single double later last 
 turn_agrees tables source kind.Break b single double later last = break_agrees tables source b single double later last
 turn_agrees tables source kind.Other b single double later last = refl
 
+-- what is made of a quote is no block, and neither was the quote
+quote_block : (q opens closes : Bool) (b : ItemBody) (single double later last : Bool)
+    → block_of (turn_of (if q then kind.Single opens closes else kind.Double opens closes) b single double later last).made ≡ None
+quote_block true opens true b true double later last = refl
+quote_block true true false b true double true last = refl
+quote_block true true false b true double false last = refl
+quote_block true false false b true double later last = refl
+quote_block true true true b false double true last = refl
+quote_block true true true b false double false last = refl
+quote_block true false true b false double later last = refl
+quote_block true true false b false double true last = refl
+quote_block true true false b false double false last = refl
+quote_block true false false b false double later last = refl
+quote_block false opens true b single true later last = refl
+quote_block false opens true b single false later last = refl
+quote_block false opens false b single true later last = refl
+quote_block false opens false b single false later last = refl
+
+-- a turn keeps blocks
+turn_block : (b : ItemBody) (single double later last : Bool) → block_of (turn_of (kind_of b) b single double later last).made ≡ block_of b
+turn_block (body.MaybeSmartQuote quote opens closes) single double later last = quote_block (quote == 39) opens closes (body.MaybeSmartQuote quote opens closes) single double later last
+turn_block (body.HardBreak true) single double later true = refl
+turn_block (body.HardBreak true) single double later false = refl
+turn_block (body.HardBreak false) single double later last = refl
+turn_block other single double later last = refl
+
 module _ {A : Type 0} (tag : ℕ → A) (tables : Tables) (s : Setting) where
   later_seen : (f : Forest Numbered) → is_closed_later (trees tag tables s f) ≡ later_of f
   later_seen nil = refl
@@ -88,9 +114,13 @@ module _ {A : Type 0} (tag : ℕ → A) (tables : Tables) (s : Setting) where
   quotes_seen : (single double : Bool) (f : Forest Numbered) → quotes_after single double (trees tag tables s f) ≡ trees tag tables s (quoted_after single double f)
   quotes_seen single double nil = refl
   quotes_seen single double (node a below after) =
+      let t : Turn = turn_at a after single double in
+      let shape : Shape = shape_of tables (slice_range s.text a.item.start a.item.end) t.made in
+      let rest : Forest (Label A) = quotes_after t.single t.double (trees tag tables s after) in
       ap (λ (t : QuoteTurn). node (shaped t.made (look tag tables s a)) (trees tag tables s below) (quotes_after t.single t.double (trees tag tables s after))) (first_seen a after single double)
-      ∙ ap (λ (f : Forest (Label A)). node (look tag tables s (with_body (turn_at a after single double).made a)) (trees tag tables s below) f)
-      (quotes_seen (turn_at a after single double).single (turn_at a after single double).double after)
+      ∙ ap (λ (o : Option ItemBody). let l : Label A = record { tag = tag a.number; part = record { shape = shape; range = record { start = a.item.start; end = a.item.end }; block = o } } in node l (trees tag tables s below) rest)
+      (sym (turn_block a.item.body single double (later_of after) (is_nil after)))
+      ∙ ap (λ (f : Forest (Label A)). node (look tag tables s (with_body t.made a)) (trees tag tables s below) f) (quotes_seen t.single t.double after)
 
   pub with_quotes_seen : (f : Forest Numbered) → with_quotes (trees tag tables s f) ≡ trees tag tables s (quoted f)
   unfolding with_quotes
