@@ -35,6 +35,8 @@ shape-open tables source other h = cc h
 -- what is not read before its chain is resolved is open
 pub open-unresolved : (tables : Tables) (source : List ℕ) (b : ItemBody) → is_unresolved (shape_of tables source b) ≡ true → is_open b ≡ true
 open-unresolved tables source body.Paragraph h = cc h
+open-unresolved tables source (body.HardBreak true) h = cc h
+open-unresolved tables source (body.HardBreak false) h = cc h
 open-unresolved tables source other h = cc h
 
 -- a node weighs two at least

@@ -17,12 +17,13 @@ pub data Origin : Type 0 where
   made : Origin
 
 -- how a tree reads: as one event, with the origins of its texts, what is below it not being read; as a Start,
--- what is below it and the End that belongs to the Start; as what is below it alone; not before its chain is
--- resolved
+-- what is below it and the End that belongs to the Start; as what is below it alone; as a hard break that a backslash
+-- makes, which is a Text where it ends a chain that is paired; not before its chain is resolved
 pub data Shape : Type 0 where
   leaf : EventView → List Origin → Shape
   enclosed : TagView → Shape
   plain : Shape
+  backslash_break : Shape
   unresolved : ItemBody → Shape
 
 -- it is open
@@ -30,7 +31,14 @@ abbrev pub is_unresolved : Shape → Bool
 is_unresolved (leaf e origins) = false
 is_unresolved (enclosed tag) = false
 is_unresolved plain = false
+is_unresolved backslash_break = false
 is_unresolved (unresolved b) = true
+
+-- the event that a tree reads as, with the origins of its texts, where it reads as one
+abbrev pub event_of_shape : Shape → Option (EventView × List Origin)
+event_of_shape (leaf e origins) = Some (e, origins)
+event_of_shape backslash_break = Some (hard_break, [])
+event_of_shape other = None
 
 -- a shape over a range of bytes; and of a block its body
 pub record Part : Type 0 where
@@ -91,6 +99,11 @@ abbrev pub math : (display : Bool) → List ℕ → EventView
 math false t = inline_math t
 math true t = display_math t
 
+-- a hard break, by a backslash or by spaces
+abbrev pub break_shape : (backslash : Bool) → Shape
+break_shape true = backslash_break
+break_shape false = leaf hard_break []
+
 -- what gives no event: it is not read before its chain is resolved, or what is below it is read alone
 abbrev pub unless_open : (is_open : Bool) → ItemBody → Shape
 unless_open true b = unresolved b
@@ -108,7 +121,7 @@ other_shape tables source body.InlineHtml = leaf (inline_html source) (sliced �
 other_shape tables source (body.OwnedInlineHtml ix) = leaf (inline_html (text_at tables.cows ix.0)) (made ∷ [])
 other_shape tables source (body.FootnoteReference ix) = leaf (footnote_reference (text_at tables.cows ix.0)) (made ∷ [])
 other_shape tables source body.SoftBreak = leaf soft_break []
-other_shape tables source (body.HardBreak backslash) = leaf hard_break []
+other_shape tables source (body.HardBreak backslash) = break_shape backslash
 other_shape tables source body.Rule = leaf rule []
 other_shape tables source (body.TaskListMarker done) = leaf (task_list_marker done) []
 other_shape tables source (body.FencedCodeBlock ix) = enclosed (fenced_code (text_at tables.cows ix.0))

@@ -14,7 +14,7 @@ use Rattle.markdown_inline.proofs.CountLemmas.{begins-none, length-relabelled}
 use Rattle.markdown_chains.specs.Above.{above_at, no_blocks}
 use Rattle.markdown_chains.specs.Setting.{Known, Setting}
 use Rattle.markdown_inline.specs.Elements.{Element, question, Reading, nothing, then_reads}
-use Rattle.markdown_base.specs.Event.{start, end, end_of}
+use Rattle.markdown_base.specs.Event.{start, end, end_of, hard_break}
 use Rattle.markdown_base.specs.Forest.{Forest, nil, node}
 use Rattle.markdown_base.specs.Item.{is_open}
 use Rattle.markdown_base.specs.declared.item.Item.{Item}
@@ -28,7 +28,7 @@ use Rattle.markdown_inline.specs.Reading.{opened, settled_reading, then_resolved
 use Rattle.markdown_inline.specs.Walk.{around, left_of}
 use Rattle.markdown_chains.specs.Places.{label_at, trees_from, IsPlaced}
 use Rattle.markdown_resolver.specs.Resolved.{Resolved, resolved, all_paired}
-use Rattle.markdown_chains.specs.Document.{plain_tags, Plain, Shape, leaf, enclosed, plain, unresolved, is_unresolved, shape_of}
+use Rattle.markdown_chains.specs.Document.{plain_tags, Plain, Shape, leaf, enclosed, plain, backslash_break, unresolved, is_unresolved, shape_of}
 use Rattle.markdown_resolver.specs.Kept.{IsSettled, GivesFirst, Begins}
 use Rattle.markdown_chains.specs.Totals.{same, naming}
 use Rattle.markdown_chains.specs.Tables.{Tables, Named, number_of, size_for}
@@ -61,6 +61,7 @@ opened-begins : (shape : Shape) (range : Range ℕ) (inside : Reading → Readin
 opened-begins (leaf e origins) range inside after whole known h = record { first = (e, range, origins); rest = after known; is = refl }
 opened-begins (enclosed tag) range inside after whole known h = record { first = (start tag, range, []); rest = inside (then_reads (end (end_of tag), range, []) after) known; is = refl }
 opened-begins plain range inside after whole known h = absurd h
+opened-begins backslash_break range inside after whole known h = record { first = (hard_break, range, []); rest = after known; is = refl }
 opened-begins (unresolved b) range inside after whole known h = absurd h
 
 reading-begins : (f : Forest Plain) (s : Setting) (after : Reading) (known : Known) → Begins f → BeginsWithEvent (settled_reading (all_paired s plain_tags f) after known)

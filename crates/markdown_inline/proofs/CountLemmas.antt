@@ -1,13 +1,14 @@
 -- How the counts of work rise along a walk.
-use Rattle.std.proofs.Common.{◌≡◌, ℕ, zero, suc, ◌+◌, ◌-◌, ◌^◌, ◌<◌, min, List, [], ◌∷◌, ◌++◌, length, None, refl, sym, ap, ◌∙◌, arith}
+use Rattle.std.proofs.Common.{◌≡◌, ℕ, zero, suc, ◌+◌, ◌-◌, ◌^◌, ◌<◌, min, List, [], ◌∷◌, ◌++◌, length, Some, None, refl, sym, ap, ◌∙◌, arith}
 use Rattle.markdown_base.specs.Arena.{sibling_of}
 use Rattle.markdown_base.specs.BlockTree.{item_at}
+use Rattle.markdown_base.specs.Event.{EventView}
 use Rattle.markdown_base.specs.Forest.{Forest, nil, node, roots, relabelled}
 use Rattle.markdown_base.specs.declared.item.Item.{Item}
 use Rattle.markdown_base.specs.declared.node.Node.{Node}
 use Rattle.markdown_base.proofs.ArenaForestLemmas.{forest_at-none}
 use Rattle.markdown_base.specs.ArenaForest.{links_of}
-use Rattle.markdown_chains.specs.Document.{Shape, leaf, enclosed, plain, unresolved, Plain}
+use Rattle.markdown_chains.specs.Document.{Shape, Origin, event_of_shape, leaf, enclosed, plain, backslash_break, unresolved, Plain}
 use Rattle.markdown_chains.specs.Places.{trees_from}
 use Rattle.markdown_chains.specs.declared.work.Work.{Work}
 use Rattle.markdown_resolver.specs.Kept.{GivesFirst, Begins}
@@ -26,7 +27,16 @@ gives-none : (shape : Shape) (inside chain : ℕ) → GivesFirst shape → befor
 gives-none (leaf e origins) inside chain h = refl
 gives-none (enclosed tag) inside chain h = refl
 gives-none plain inside chain h = absurd h
+gives-none backslash_break inside chain h = refl
 gives-none (unresolved b) inside chain h = absurd h
+
+-- so does one that reads as one event
+pub event-none : (shape : Shape) (inside chain : ℕ) (e : EventView) (origins : List Origin) → event_of_shape shape ≡ Some (e, origins) → before_event shape inside chain ≡ 0
+event-none (leaf d origins') inside chain e origins h = refl
+event-none (enclosed tag) inside chain e origins h = cc h
+event-none plain inside chain e origins h = cc h
+event-none backslash_break inside chain e origins h = refl
+event-none (unresolved b) inside chain e origins h = cc h
 
 pub begins-none : (f : Forest Plain) (after : ℕ) → Begins f → first_items f after ≡ 0
 begins-none nil after h = absurd h

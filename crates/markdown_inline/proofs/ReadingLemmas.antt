@@ -4,14 +4,14 @@ use Rattle.std.proofs.Common.{◌≡◌, ℕ, Bool, true, false, [], refl, ap, �
 use Rattle.std.proofs.Math.Path.{fun_ext}
 use Rattle.std.specs.declared.ops.Range.{Range}
 use Rattle.markdown_inline.specs.Elements.{Reading, then_reads}
-use Rattle.markdown_base.specs.Event.{start, end, end_of}
+use Rattle.markdown_base.specs.Event.{start, end, end_of, hard_break}
 use Rattle.markdown_base.specs.Forest.{Forest, nil, node}
 use Rattle.markdown_inline.specs.Reading.{opened, settled_reading, chain_reading, reading}
 use Rattle.markdown_chains.specs.Above.{Above, inside_label}
 use Rattle.markdown_chains.specs.Setting.{Setting}
 use Rattle.markdown_resolver.specs.Pairing.{paired}
 use Rattle.markdown_resolver.specs.Resolved.{paired_from, paired_if_open, all_paired}
-use Rattle.markdown_chains.specs.Document.{plain_tags, is_unresolved, Shape, leaf, enclosed, plain, unresolved, Plain}
+use Rattle.markdown_chains.specs.Document.{plain_tags, is_unresolved, Shape, leaf, enclosed, plain, backslash_break, unresolved, Plain}
 use Rattle.markdown_resolver.specs.Kept.{IsQuiet, IsSettled}
 use Rattle.markdown_resolver.proofs.ResolvingLemmas.{resolved-quiet, all_paired-paired}
 
@@ -23,6 +23,7 @@ pub opened-open : (shape : Shape) (range : Range ℕ) (inside : Reading → Read
 opened-open (leaf e origins) range inside after whole h = cc h
 opened-open (enclosed tag) range inside after whole h = cc h
 opened-open plain range inside after whole h = cc h
+opened-open backslash_break range inside after whole h = cc h
 opened-open (unresolved b) range inside after whole h = refl
 
 opened-settled : (shape : Shape) (range : Range ℕ) (inside inside' : Reading → Reading) (after after' whole whole' : Reading) → is_unresolved shape ≡ false
@@ -31,6 +32,7 @@ opened-settled (leaf e origins) range inside inside' after after' whole whole' h
 opened-settled (enclosed tag) range inside inside' after after' whole whole' h i a =
     ap (λ (r : Reading). then_reads (start tag, range, []) r) (i _ ∙ ap (λ (r : Reading). inside' (then_reads (end (end_of tag), range, []) r)) a)
 opened-settled plain range inside inside' after after' whole whole' h i a = i after ∙ ap inside' a
+opened-settled backslash_break range inside inside' after after' whole whole' h i a = ap (λ (r : Reading). then_reads (hard_break, range, []) r) a
 opened-settled (unresolved b) range inside inside' after after' whole whole' h i a = cc h
 
 -- of a tree of a quiet chain: open, or not

@@ -1,30 +1,31 @@
 -- What is left of a walk, before and after a move over, into or out of a node.
 use Rattle.markdown_base.specs.declared.item.ItemBody.TheVariants as body
-use Rattle.std.proofs.Common.{◌≡◌, ℕ, ◌+◌, ◌<◌, ◌≤◌, Bool, true, false, List, [], ◌∷◌, ◌++◌, map, Option, Some, None, refl, arith}
+use Rattle.std.proofs.Common.{◌≡◌, ℕ, ◌+◌, ◌<◌, ◌≤◌, Bool, true, false, List, [], ◌∷◌, ◌++◌, map, Option, Some, None, refl, arith, ap}
 use Rattle.std.specs.Prelude.{slice_range}
 use Rattle.markdown_base.specs.Arena.{child_of, sibling_of}
 use Rattle.markdown_base.specs.ArenaForest.{Links, links_of, forest_at}
 use Rattle.markdown_base.specs.ArenaWalk.{Reaches, AllReach}
 use Rattle.markdown_base.specs.BlockTree.{item_at}
-use Rattle.markdown_inline.specs.Elements.{Placed, Reading, event, nothing}
+use Rattle.markdown_inline.specs.Elements.{Placed, Reading, event, nothing, then_reads}
 use Rattle.markdown_inline.specs.Counts.{items_around, items_ahead, first_items, unless_ended, LeavesAhead}
-use Rattle.markdown_inline.proofs.CountLemmas.{items_around-snoc}
+use Rattle.markdown_inline.proofs.CountLemmas.{items_around-snoc, event-none}
 use Rattle.markdown_chains.specs.Above.{Above, no_blocks, inside_item, inside_all, above_at}
 use Rattle.markdown_chains.specs.Setting.{Known, Setting}
-use Rattle.markdown_base.specs.Event.{EventView, TagView, start, end_of}
+use Rattle.std.specs.declared.ops.Range.{Range}
+use Rattle.markdown_base.specs.Event.{EventView, TagView, start, end_of, hard_break}
 use Rattle.markdown_base.specs.Item.{range_of, is_open}
 use Rattle.markdown_base.specs.declared.item.Item.{Item}
 use Rattle.markdown_base.specs.declared.item.ItemBody.{ItemBody}
 use Rattle.markdown_base.specs.declared.node.Node.{Node}
 use Rattle.markdown_base.proofs.ArenaForestLemmas.{opens, forest_at-none}
-use Rattle.markdown_inline.specs.Reading.{reading}
+use Rattle.markdown_inline.specs.Reading.{opened, reading}
 use Rattle.markdown_inline.specs.Walk.{ended, around, left_of, closing}
 use Rattle.markdown_chains.specs.Places.{label_at, trees_from, IsPlaced}
 use Rattle.markdown_chains.specs.Totals.{total, same, naming, weight_at}
 use Rattle.markdown_chains.specs.Tables.{Tables, Named}
 use Rattle.markdown_inline.specs.WalkTotals.{climbed, left_total, named_left, one_if, waits_at, steps_of}
 use Rattle.markdown_inline.specs.Standing.{AboveKept, Stands}
-use Rattle.markdown_chains.specs.Document.{plain_tags, Origin, leaf, enclosed, plain, shape_of}
+use Rattle.markdown_chains.specs.Document.{plain_tags, Origin, Shape, leaf, enclosed, plain, backslash_break, unresolved, shape_of, event_of_shape}
 use Rattle.markdown_chains.proofs.PlaceLemmas.{some_weight}
 
 -- a walk went from l below spine to m below deeper, and gave these events
@@ -94,16 +95,31 @@ climbed-snoc gone count k (j ∷ js) ix = omega (arith, climbed-snoc gone count 
 closing-enclosed : (tables : Tables) (source : List ℕ) (body : ItemBody) (tag : TagView) → shape_of tables source body ≡ enclosed tag → closing body ≡ Some (end_of tag)
 closing-enclosed tables source body.Paragraph tag h = cc h
 closing-enclosed tables source body.TightParagraph tag h = cc h
+closing-enclosed tables source (body.HardBreak true) tag h = cc h
+closing-enclosed tables source (body.HardBreak false) tag h = cc h
 closing-enclosed tables source other tag h = cc h
 
 closing-plain : (tables : Tables) (source : List ℕ) (body : ItemBody) → shape_of tables source body ≡ plain → closing body ≡ None
 closing-plain tables source body.Paragraph h = cc h
 closing-plain tables source body.TightParagraph h = refl
+closing-plain tables source (body.HardBreak true) h = cc h
+closing-plain tables source (body.HardBreak false) h = cc h
 closing-plain tables source other h = cc h
+
+-- a tree that reads as one event
+reads-event : (shape : Shape) (range : Range ℕ) (inside : Reading → Reading) (after whole : Reading) (e : EventView) (origins : List Origin) → event_of_shape shape ≡ Some (e, origins)
+    → opened shape range inside after whole ≡ then_reads (e, range, origins) after
+reads-event (leaf d origins') range inside after whole e origins h =
+    let same : (d, origins') ≡ (e, origins) = cc h in ap (λ (x : EventView × List Origin). then_reads (x.0, range, x.1) after) same
+reads-event (enclosed tag) range inside after whole e origins h = cc h
+reads-event plain range inside after whole e origins h = cc h
+reads-event backslash_break range inside after whole e origins h =
+    let same : (hard_break, []) ≡ (e, origins) = cc h in ap (λ (x : EventView × List Origin). then_reads (x.0, range, x.1) after) same
+reads-event (unresolved b) range inside after whole e origins h = cc h
 
 -- over a node that reads as one event
 pub moves_on : (s : Setting) (tables : Tables) (nodes : List (Node Item)) (ix : ℕ) (spine : List ℕ) (e : EventView) (origins : List Origin)
-    → Stands s.text tables nodes (Some ix) spine → (label_at s.text tables nodes ix).part.shape ≡ leaf e origins
+    → Stands s.text tables nodes (Some ix) spine → event_of_shape (label_at s.text tables nodes ix).part.shape ≡ Some (e, origins)
     → Moves s tables nodes (Some ix) spine (sibling_of nodes ix) spine ((e, range_of (item_at nodes ix), origins) ∷ [])
 unfolding left_of left_total items_ahead
 moves_on s tables nodes ix spine e origins w h =
@@ -117,8 +133,8 @@ moves_on s tables nodes ix spine e origins w h =
         here_kept = (rw o.here at w.here_kept).2;
         above_kept = w.above_kept;
       };
-      left = λ known. rw (o.here, h) refl;
-      items = rw (o.here, h) refl;
+      left = λ known. rw o.here (ap (λ (r : Reading). r known) (reads-event (label_at s.text tables nodes ix).part.shape _ _ _ _ e origins h));
+      items = rw o.here (event-none (label_at s.text tables nodes ix).part.shape _ _ e origins h);
       falls = let waits = waits_once nodes (sibling_of nodes ix) in rw o.here (omega arith);
     }
 

@@ -20,7 +20,7 @@ use Rattle.markdown_chains.specs.Totals.{same, naming}
 use Rattle.markdown_inline.specs.WalkTotals.{named_left}
 use Rattle.markdown_chains.specs.Places.{IsPlaced}
 use Rattle.markdown_inline.specs.Standing.{Stands}
-use Rattle.markdown_chains.specs.Document.{Origin, leaf, enclosed, plain, shape_of}
+use Rattle.markdown_chains.specs.Document.{Origin, enclosed, plain, shape_of, event_of_shape}
 use Rattle.markdown_chains.specs.Tables.{Tables, Named, tables_of}
 use Rattle.markdown_inline.specs.WalkSteps.{TreeStands, HasEnded, Went, IsRefused, TakesOnly, tree_left, tree_steps}
 use Rattle.markdown_inline.proofs.LeftFrameLemmas.{left_framed}
@@ -74,7 +74,7 @@ spine_within source tables s ix up w e = (AllReach-last (links_of s.nodes) (IsPl
 
 -- over a node
 pub went_on : (source : List ℕ) (s t : Arena Item) (held held' : Allocated) (ix : ℕ) (item : Item) (e : EventView) (origins : List Origin) → TreeStands source (tables_of held) s → s.cursor ≡ Some ix → item ≡ item_at s.nodes ix
-    → shape_of (tables_of held) (over source item) item.body ≡ leaf e origins → TakesOnly item.body held held' → t ≡ record s { cursor = sibling_of s.nodes ix } → Went source s t held held' ((e, range_of item, origins) ∷ [])
+    → event_of_shape (shape_of (tables_of held) (over source item) item.body) ≡ Some (e, origins) → TakesOnly item.body held held' → t ≡ record s { cursor = sibling_of s.nodes ix } → Went source s t held held' ((e, range_of item, origins) ∷ [])
 went_on source s t held held' ix item e origins w a h sh k c =
     let st = stands_at source (tables_of held) s (Some ix) s.spine a refl w in
     rw h (went source s t held held' ix (sibling_of s.nodes ix) s.spine ((e, range_of (item_at s.nodes ix), origins) ∷ []) a c (rw h at k) (λ n. moves_past source (tables_of held) s.nodes ix s.spine n st)

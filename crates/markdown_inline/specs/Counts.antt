@@ -6,7 +6,7 @@ use Rattle.markdown_base.specs.Forest.{Forest, nil, node, roots}
 use Rattle.markdown_base.specs.declared.item.Item.{Item}
 use Rattle.markdown_base.specs.declared.node.Node.{Node}
 use Rattle.markdown_base.specs.declared.tag.TagEnd.{TagEnd}
-use Rattle.markdown_chains.specs.Document.{Shape, leaf, enclosed, plain, unresolved, Label}
+use Rattle.markdown_chains.specs.Document.{Shape, leaf, enclosed, plain, backslash_break, unresolved, Label}
 use Rattle.markdown_chains.specs.Places.{trees_from}
 use Rattle.markdown_chains.specs.declared.work.Work.{Work}
 use Rattle.markdown_inline.specs.Elements.{Placed}
@@ -18,6 +18,7 @@ abbrev pub before_event : Shape → (inside chain : ℕ) → ℕ
 before_event (leaf e origins) inside chain = 0
 before_event (enclosed tag) inside chain = 0
 before_event plain inside chain = inside
+before_event backslash_break inside chain = 0
 before_event (unresolved b) inside chain = chain
 
 -- how many items the chain has that is reached before the first event of a forest, from its first open item on, or of

@@ -2,9 +2,9 @@
 -- between them.
 use Rattle.std.specs.Prelude.{ℕ, List, [], ◌++◌, map}
 use Rattle.std.specs.declared.ops.Range.{Range}
-use Rattle.markdown_base.specs.Event.{start, end, end_of}
+use Rattle.markdown_base.specs.Event.{start, end, end_of, hard_break}
 use Rattle.markdown_base.specs.Forest.{Forest, nil, node}
-use Rattle.markdown_chains.specs.Document.{Tags, Shape, leaf, enclosed, plain, unresolved, Label}
+use Rattle.markdown_chains.specs.Document.{Tags, Shape, leaf, enclosed, plain, backslash_break, unresolved, Label}
 use Rattle.markdown_inline.specs.Elements.{Element, question, Reading, then_reads}
 use Rattle.markdown_resolver.specs.Resolved.{Resolved, resolved, all_paired}
 use Rattle.markdown_chains.specs.Above.{Above, inside_label}
@@ -16,6 +16,7 @@ abbrev pub opened : Shape → Range ℕ → (inside : Reading → Reading) → (
 opened (leaf e origins) range inside after whole = then_reads (e, range, origins) after
 opened (enclosed tag) range inside after whole = then_reads (start tag, range, []) (inside (then_reads (end (end_of tag), range, []) after))
 opened plain range inside after whole = inside after
+opened backslash_break range inside after whole = then_reads (hard_break, range, []) after
 opened (unresolved b) range inside after whole = whole
 
 -- the reading of a forest without open items, and of what comes after it

@@ -9,7 +9,7 @@ use Rattle.markdown_base.specs.declared.item.Item.{Item}
 use Rattle.markdown_base.specs.declared.item.ItemBody.{ItemBody}
 use Rattle.markdown_base.specs.declared.node.Node.{Node}
 use Rattle.markdown_base.specs.declared.tag.TagEnd.{TagEnd}
-use Rattle.markdown_chains.specs.Document.{plain_tags, Shape, leaf, enclosed, plain, unresolved, shape_of}
+use Rattle.markdown_chains.specs.Document.{plain_tags, Shape, leaf, enclosed, plain, backslash_break, unresolved, shape_of}
 use Rattle.markdown_inline.specs.Elements.{Reading, nothing, then_reads}
 use Rattle.markdown_inline.specs.Reading.{reading}
 use Rattle.markdown_chains.specs.Above.{Above, no_blocks, inside_item, above_at}
@@ -22,6 +22,7 @@ abbrev pub end_of_shape : Shape → Option TagEnd
 end_of_shape (leaf e origins) = None
 end_of_shape (enclosed tag) = Some (end_of tag)
 end_of_shape plain = None
+end_of_shape backslash_break = None
 end_of_shape (unresolved b) = None
 
 -- its body alone tells it: what the Start named is gone by then

@@ -12,7 +12,7 @@ use Rattle.markdown_base.specs.declared.item.Item.{Item}
 use Rattle.markdown_base.specs.declared.item.ItemBody.{ItemBody}
 use Rattle.markdown_base.specs.declared.tag.TagEnd.{TagEnd}
 use Rattle.markdown_spans.specs.Allocations.{Allocated}
-use Rattle.markdown_chains.specs.Document.{Origin, Shape, leaf, enclosed, plain}
+use Rattle.markdown_chains.specs.Document.{Origin, Shape, event_of_shape, enclosed, plain}
 use Rattle.markdown_inline.specs.Elements.{Placed, Reading, event}
 use Rattle.markdown_chains.specs.Setting.{Rules, Setting, Known, setting_of}
 use Rattle.markdown_inline.specs.Slices.{texts_of, AreFrom}
@@ -28,7 +28,7 @@ use Rattle.markdown_inline.specs.declared.step.Step.{Step}
 -- an item of this shape begins with an event, whose texts are of the origins that the shape names
 pub record OpensWith (source : List ℕ) (shape : Shape) (e : Event) : Type 0 where
   pub origins : List Origin
-  pub is_leaf : shape ≡ leaf (event_view e) origins
+  pub is_leaf : event_of_shape shape ≡ Some (event_view e, origins)
   pub texts : AreFrom source origins (texts_of e)
 
 -- an item of this shape begins so

@@ -2,7 +2,7 @@
 use Rattle.std.proofs.Common.{◌≡◌, ℕ, Bool, true, false, List, [], ◌∷◌, refl, ap, ◌∙◌}
 use Rattle.markdown_base.specs.Forest.{Forest, nil, node}
 use Rattle.markdown_base.specs.declared.item.ItemBody.{ItemBody}
-use Rattle.markdown_chains.specs.Document.{Tags, Shape, leaf, enclosed, plain, unresolved, Label, is_unresolved}
+use Rattle.markdown_chains.specs.Document.{Tags, Shape, leaf, enclosed, plain, backslash_break, unresolved, Label, is_unresolved}
 use Rattle.markdown_resolver.specs.Kept.{IsQuiet, IsQuietBelow, IsKept, IsSettled, Begins}
 use Rattle.markdown_resolver.specs.Pairing.{paired, as_closed, text_if}
 use Rattle.markdown_resolver.specs.PassOne.{Entry, done, Progress, begun, is_quiet, text_unless, waits_for_pairing, read, read_all, trees_onto}
@@ -20,6 +20,7 @@ module _ {A : Type 0} where
   closed_unless source a (leaf x origins) e = refl
   closed_unless source a (enclosed tag) e = refl
   closed_unless source a plain e = refl
+  closed_unless source a backslash_break e = refl
   closed_unless source a (unresolved b) e = closed_text source a b (waits_for_pairing b) e refl
 
   -- forests that pair to the same do so behind a left list

@@ -1,7 +1,7 @@
 -- What resolving a chain keeps, and what it leaves.
 use Rattle.std.specs.Prelude.{◌≡◌, ⊤, true, false}
 use Rattle.markdown_base.specs.Forest.{Forest, nil, node}
-use Rattle.markdown_chains.specs.Document.{Shape, leaf, enclosed, plain, unresolved, Label, is_unresolved}
+use Rattle.markdown_chains.specs.Document.{Shape, leaf, enclosed, plain, backslash_break, unresolved, Label, is_unresolved}
 use Rattle.markdown_resolver.specs.PassOne.{is_quiet}
 
 -- nothing but what waits for pairing is open in it, at every depth
@@ -29,6 +29,7 @@ abbrev pub GivesFirst : Shape → Type 0
 GivesFirst (leaf e origins) = ⊤
 GivesFirst (enclosed tag) = ⊤
 GivesFirst plain = ⊥
+GivesFirst backslash_break = ⊤
 GivesFirst (unresolved b) = ⊥
 
 -- so does the first tree of a forest

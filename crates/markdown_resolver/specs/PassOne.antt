@@ -5,7 +5,7 @@ use Rattle.std.specs.Prelude.{ℕ, Bool, true, false, List, [], ◌∷◌}
 use Rattle.markdown_base.specs.Forest.{Forest, nil, node}
 use Rattle.markdown_base.specs.Questions.{Question}
 use Rattle.markdown_base.specs.declared.item.ItemBody.{ItemBody}
-use Rattle.markdown_chains.specs.Document.{Tags, Shape, leaf, enclosed, plain, unresolved, Label, as_text}
+use Rattle.markdown_chains.specs.Document.{Tags, Shape, leaf, enclosed, plain, backslash_break, unresolved, Label, as_text}
 use Rattle.markdown_chains.specs.Above.{Above}
 use Rattle.markdown_chains.specs.Setting.{Setting, Known}
 
@@ -33,6 +33,7 @@ abbrev pub is_quiet : Shape → Bool
 is_quiet (leaf e origins) = true
 is_quiet (enclosed tag) = true
 is_quiet plain = true
+is_quiet backslash_break = true
 is_quiet (unresolved b) = waits_for_pairing b
 
 -- an item at which nothing is found is a Text

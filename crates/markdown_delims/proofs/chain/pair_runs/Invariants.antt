@@ -1,0 +1,15 @@
+-- The same is made of what is left as of the whole, of whichever nodes the chain is.
+use Rattle.std.proofs.Common.{[], ℕ, length}
+use Rattle.markdown_base.specs.Forest.{Forest}
+use Rattle.markdown_delims.specs.ChainForest.{IsChain, chain_of}
+use Rattle.markdown_delims.specs.RunReading.{ReadFurther}
+use Rattle.markdown_delims.proofs.ChainLemmas.{whole_chain, numbers_left}
+use Rattle.markdown_delims.proofs.chain.pair_runs.Given as goal
+
+abbrev pub invariant-trees : goal.invariant-trees
+invariant-trees l =
+    (f : Forest ℕ) (c : IsChain l.text l.fn.tree.nodes l.first f)
+    → ReadFurther l.marks l.text (whole_chain l.marks l.text l.fn.tree l.first f c) l.fn.tree l.tree [] (chain_of l.fn.tree.nodes f) l.fn.openers.potential l.openers.potential l.openers.runs l.last l.cur 0
+
+abbrev pub decreases-trees : goal.decreases-trees
+decreases-trees l = numbers_left (length l.tree.nodes) l.cur

@@ -1,0 +1,114 @@
+-- The lower bounds of a stack of open runs, and what they say of it. Those of `~` and `^` are raised together, and
+-- so are counted once.
+use Rattle.std.specs.Prelude.{◌≡◌, ℕ, ◌+◌, ◌-◌, ◌%◌, ◌≤◌, min, List, length, take, true, false, ◌==◌, if◌then◌else◌, All}
+use Rattle.markdown_delims.specs.declared.run.Delimiter.{Delimiter}
+use Rattle.markdown_delims.specs.declared.run.Delimiter.TheVariants.{Star, Underscore, Tilde, Caret}
+use Rattle.markdown_delims.specs.declared.run.Run.{Run}
+use Rattle.markdown_delims.specs.declared.run.Characters.{Characters}
+use Rattle.markdown_delims.specs.declared.bounds.CharacterBounds.{CharacterBounds}
+use Rattle.markdown_delims.specs.declared.bounds.LowerBounds.{LowerBounds}
+use Rattle.markdown_delims.specs.MayPair.{same_delimiter, both, lengths_agree}
+
+abbrev pub no_bounds : CharacterBounds
+no_bounds = record { cannot_open = 0; remainder_zero = 0; remainder_one = 0; remainder_two = 0 }
+
+abbrev pub zero_bounds : LowerBounds
+zero_bounds = record { star = no_bounds; underscore = no_bounds; tilde = 0; caret = 0 }
+
+abbrev pub remainder_bound : ℕ → CharacterBounds → ℕ
+remainder_bound r b = if r == 0 then b.remainder_zero else if r == 1 then b.remainder_one else b.remainder_two
+
+abbrev pub character_bound_for : Run → CharacterBounds → ℕ
+character_bound_for closer b =
+    if both closer then remainder_bound (closer.length % 3) b
+    else min (remainder_bound (closer.length % 3) b) b.cannot_open
+
+abbrev pub bound_at : Delimiter → Run → LowerBounds → ℕ
+bound_at Star closer b = character_bound_for closer b.star
+bound_at Underscore closer b = character_bound_for closer b.underscore
+bound_at Tilde closer b = b.tilde
+bound_at Caret closer b = b.caret
+
+abbrev pub bound_for : Run → LowerBounds → ℕ
+bound_for closer b = bound_at closer.delimiter closer b
+
+-- the bounds that a search read are raised after it failed
+abbrev pub character_raised_for : Run → ℕ → CharacterBounds → CharacterBounds
+character_raised_for closer len b =
+    record {
+      cannot_open = if both closer then b.cannot_open else len;
+      remainder_zero = if closer.length % 3 == 0 then len else b.remainder_zero;
+      remainder_one = if closer.length % 3 == 1 then len else b.remainder_one;
+      remainder_two = if closer.length % 3 == 2 then len else b.remainder_two;
+    }
+
+abbrev pub raised_at : Delimiter → Run → ℕ → LowerBounds → LowerBounds
+raised_at Star closer len b = record b { star = character_raised_for closer len b.star }
+raised_at Underscore closer len b = record b { underscore = character_raised_for closer len b.underscore }
+raised_at Tilde closer len b = record b { tilde = len; caret = len }
+raised_at Caret closer len b = record b { tilde = len; caret = len }
+
+abbrev pub raised_for : Run → ℕ → LowerBounds → LowerBounds
+raised_for closer len b = raised_at closer.delimiter closer len b
+
+abbrev pub character_lowered : ℕ → CharacterBounds → CharacterBounds
+character_lowered len b =
+    record {
+      cannot_open = min b.cannot_open len;
+      remainder_zero = min b.remainder_zero len;
+      remainder_one = min b.remainder_one len;
+      remainder_two = min b.remainder_two len;
+    }
+
+abbrev pub lowered : ℕ → LowerBounds → LowerBounds
+lowered len b =
+    record {
+      star = character_lowered len b.star;
+      underscore = character_lowered len b.underscore;
+      tilde = min b.tilde len;
+      caret = min b.caret len;
+    }
+
+-- below which place a run of a character is dropped
+abbrev pub drop_bound : Delimiter → LowerBounds → ℕ
+drop_bound Star b = 0
+drop_bound Underscore b = 0
+drop_bound Tilde b = b.tilde
+drop_bound Caret b = b.caret
+
+-- how many runs of a stack stand at or above each bound, together
+abbrev pub character_above : ℕ → CharacterBounds → ℕ
+character_above len b =
+    (len - b.cannot_open) + (len - b.remainder_zero) + (len - b.remainder_one) + (len - b.remainder_two)
+
+abbrev pub above_bounds : ℕ → LowerBounds → ℕ
+above_bounds len b =
+    character_above len b.star + character_above len b.underscore + (len - b.tilde)
+
+-- a run of this character does not pair with a closer of this remainder by its length
+abbrev pub IsOutOfStep : Delimiter → ℕ → Characters → Type 0
+IsOutOfStep d r c = same_delimiter c.run.delimiter d ≡ true → lengths_agree c.run.length r ≡ false
+
+-- a run of this character can both open and close
+abbrev pub IsOfBoth : Delimiter → Characters → Type 0
+IsOfBoth d c = same_delimiter c.run.delimiter d ≡ true → both c.run ≡ true
+
+-- what the bounds of one character say of the stack
+pub record BoundCharacter (d : Delimiter) (stack : List Characters) (b : CharacterBounds) : Type 0 where
+  pub cannot_open_within : b.cannot_open ≤ length stack
+  pub zero_within : b.remainder_zero ≤ length stack
+  pub one_within : b.remainder_one ≤ length stack
+  pub two_within : b.remainder_two ≤ length stack
+  pub cannot_open : All (IsOfBoth d) (take b.cannot_open stack)
+  pub remainder_zero : All (IsOutOfStep d 0) (take b.remainder_zero stack)
+  pub remainder_one : All (IsOutOfStep d 1) (take b.remainder_one stack)
+  pub remainder_two : All (IsOutOfStep d 2) (take b.remainder_two stack)
+
+-- what the bounds say of the stack; below the last two each run of the character is dropped, so they say nothing of
+-- pairing
+pub record BoundStack (stack : List Characters) (b : LowerBounds) : Type 0 where
+  pub star : BoundCharacter Star stack b.star
+  pub underscore : BoundCharacter Underscore stack b.underscore
+  pub tilde_within : b.tilde ≤ length stack
+  pub caret_within : b.caret ≤ length stack
+  pub together : b.tilde ≡ b.caret

@@ -1,0 +1,77 @@
+-- What the characters of a pair become, by the options.
+use Rattle.std.specs.Prelude.{ℕ, zero, suc, Bool, true, false, ◌==◌, List, Option, Some, None, slice_index, slice_range}
+use Rattle.std.specs.Int.RustNames.{bit_and}
+use Rattle.markdown_base.specs.Event.{TagView, emphasis, strong, strikethrough, superscript, subscript}
+use Rattle.markdown_base.specs.declared.item.ItemBody.{ItemBody}
+use Rattle.markdown_base.specs.declared.item.ItemBody.TheVariants as body
+use Rattle.markdown_base.specs.declared.options.Options.{Options}
+use Rattle.markdown_chains.specs.Document.{Shape, leaf, enclosed, plain, backslash_break, unresolved, Part, Label, text_over}
+use Rattle.markdown_delims.specs.declared.marks.Marks.{Marks}
+use Rattle.markdown_delims.specs.declared.run.Delimiter.{Delimiter}
+use Rattle.markdown_delims.specs.declared.run.Delimiter.TheVariants.{Star, Underscore, Tilde, Caret}
+use Rattle.markdown_delims.specs.declared.run.Run.{Run}
+use Rattle.markdown_delims.specs.MayPair.{delimiter_of}
+
+-- an option is on
+abbrev pub has_option : Options → ℕ → Bool
+has_option options bits = bit_and options.0 bits == bits
+
+-- the marks of a set of options
+abbrev pub marks_of : Options → Marks
+marks_of options = record {
+  strikethrough = has_option options 8;
+  superscript = has_option options 8192;
+  subscript = has_option options 16384;
+}
+
+-- a mark where it is on, and else what stands in its place
+abbrev pub enclosed_if : (is_on : Bool) → TagView → Shape → Shape
+enclosed_if true tag other = enclosed tag
+enclosed_if false tag other = other
+
+-- a layer of two characters over these bytes, and a layer of one; one that is no mark is a Text over all of them
+abbrev pub layer_of_two : Marks → Delimiter → List ℕ → Shape
+layer_of_two m Star source = enclosed strong
+layer_of_two m Underscore source = enclosed strong
+layer_of_two m Tilde source = enclosed_if m.strikethrough strikethrough (text_over source)
+layer_of_two m Caret source = enclosed_if m.superscript superscript (text_over source)
+
+abbrev pub layer_of_one : Marks → Delimiter → List ℕ → Shape
+layer_of_one m Star source = enclosed emphasis
+layer_of_one m Underscore source = enclosed emphasis
+layer_of_one m Tilde source =
+    enclosed_if m.subscript subscript (enclosed_if m.strikethrough strikethrough (text_over source))
+layer_of_one m Caret source = enclosed_if m.superscript superscript (text_over source)
+
+-- the label of an opener's character with another shape, up to the end of a closer's character
+abbrev pub spanned : {A : Type 0} → List ℕ → (List ℕ → Shape) → Label A → Label A → Label A
+spanned source shape opener closer = record {
+  tag = opener.tag;
+  part = record {
+    shape = shape (slice_range source opener.part.range.start closer.part.range.end);
+    range = record { start = opener.part.range.start; end = closer.part.range.end };
+    block = opener.part.block;
+  };
+}
+
+-- a run of so many characters; one of none is no run
+abbrev pub run_by : ℕ → Bool → Bool → Option Delimiter → Option Run
+run_by count opens closes None = None
+run_by zero opens closes (Some d) = None
+run_by (suc n) opens closes (Some d) =
+    Some (record { delimiter = d; length = suc n; can_open = opens; can_close = closes })
+
+abbrev pub run_of_body : ItemBody → Option Delimiter → Option Run
+run_of_body (body.MaybeEmphasis count opens closes) d = run_by count opens closes d
+run_of_body other d = None
+
+abbrev pub run_of_shape : Shape → Option Delimiter → Option Run
+run_of_shape (leaf e origins) d = None
+run_of_shape (enclosed tag) d = None
+run_of_shape plain d = None
+run_of_shape backslash_break d = None
+run_of_shape (unresolved b) d = run_of_body b d
+
+-- the run that a part's character begins
+abbrev pub run_of : List ℕ → Part → Option Run
+run_of source part = run_of_shape part.shape (delimiter_of (slice_index source part.range.start))

@@ -1,0 +1,39 @@
+-- What paired characters become, by the marks that are on.
+use Rattle.std.specs.Prelude.{ℕ, false, List, Option, Some, None, if◌then◌else◌}
+use Rattle.markdown_base.specs.declared.item.Item.{Item}
+use Rattle.markdown_base.specs.declared.item.ItemBody.{ItemBody}
+use Rattle.markdown_base.specs.declared.item.ItemBody.TheVariants as body
+use Rattle.markdown_base.specs.WellFormed.{RunCharacter, run_character, byte_of}
+use Rattle.markdown_delims.specs.declared.marks.Marks.{Marks}
+use Rattle.markdown_delims.specs.declared.run.Delimiter.{Delimiter}
+use Rattle.markdown_delims.specs.declared.run.Delimiter.TheVariants.{Star, Underscore, Tilde, Caret}
+use Rattle.markdown_delims.specs.declared.run.Run.{Run}
+use Rattle.markdown_delims.specs.MayPair.{delimiter_of}
+
+-- a Text over its whole range, whose children are not read
+abbrev pub whole_text : ItemBody
+whole_text = body.Text false
+
+abbrev pub layer_of_two : Marks → Delimiter → ItemBody
+layer_of_two m Star = body.Strong
+layer_of_two m Underscore = body.Strong
+layer_of_two m Tilde = if m.strikethrough then body.Strikethrough else whole_text
+layer_of_two m Caret = if m.superscript then body.Superscript else whole_text
+
+abbrev pub layer_of_one : Marks → Delimiter → ItemBody
+layer_of_one m Star = body.Emphasis
+layer_of_one m Underscore = body.Emphasis
+layer_of_one m Tilde = if m.subscript then body.Subscript else if m.strikethrough then body.Strikethrough else whole_text
+layer_of_one m Caret = if m.superscript then body.Superscript else whole_text
+
+abbrev pub run_by : RunCharacter → Option Delimiter → Option Run
+run_by c None = None
+run_by c (Some d) = Some (record { delimiter = d; length = c.count; can_open = c.can_open; can_close = c.can_close })
+
+abbrev pub run_if : Option RunCharacter → Option Delimiter → Option Run
+run_if None d = None
+run_if (Some c) d = run_by c d
+
+-- the run that an item's character begins
+abbrev pub run_of : List ℕ → Item → Option Run
+run_of text item = run_if (run_character item.body) (delimiter_of (byte_of text item))

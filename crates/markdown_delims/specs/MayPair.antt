@@ -1,0 +1,67 @@
+-- Which delimiter characters pair.
+use Rattle.std.specs.Prelude.{ℕ, ◌+◌, ◌%◌, List, [], ◌∷◌, map, Bool, true, false, not, ◌&&◌, ◌||◌, ◌==◌, if◌then◌else◌, Option, Some, None}
+use Rattle.markdown_delims.specs.declared.run.Delimiter.{Delimiter}
+use Rattle.markdown_delims.specs.declared.run.Delimiter.TheVariants.{Star, Underscore, Tilde, Caret}
+use Rattle.markdown_delims.specs.declared.run.Run.{Run}
+use Rattle.markdown_delims.specs.declared.run.Characters.{Characters}
+
+-- the character that a byte is
+abbrev pub delimiter_of : ℕ → Option Delimiter
+delimiter_of byte =
+    if byte == 42 then Some Star else if byte == 95 then Some Underscore else if byte == 126 then Some Tilde else if byte == 94 then Some Caret else None
+
+-- the same character
+abbrev pub same_delimiter : Delimiter → Delimiter → Bool
+same_delimiter Star Star = true
+same_delimiter Underscore Underscore = true
+same_delimiter Tilde Tilde = true
+same_delimiter Caret Caret = true
+same_delimiter _ _ = false
+
+abbrev pub is_tilde_or_caret : Delimiter → Bool
+is_tilde_or_caret Star = false
+is_tilde_or_caret Underscore = false
+is_tilde_or_caret Tilde = true
+is_tilde_or_caret Caret = true
+
+abbrev pub needs_equal_length : Delimiter → Bool
+needs_equal_length Tilde = true
+needs_equal_length _ = false
+
+abbrev pub both : Run → Bool
+both run = run.can_open && run.can_close
+
+-- the rule of three, of an opener's length and a closer's
+abbrev pub lengths_agree : ℕ → ℕ → Bool
+lengths_agree opener closer = not ((opener + closer) % 3 == 0) || (closer % 3 == 0)
+
+abbrev pub may_pair : Run → Run → Bool
+may_pair opener closer =
+    same_delimiter opener.delimiter closer.delimiter
+    && ((not (both opener) && not (both closer)) || lengths_agree opener.length closer.length)
+    && (not (needs_equal_length closer.delimiter) || (opener.length == closer.length))
+
+-- a run that is still open, dropped or not
+pub record OpenRun : Type 0 where
+  pub dropped : Bool
+  pub opener : Characters
+
+abbrev pub may_take : Run → OpenRun → Bool
+may_take closer r = not r.dropped && may_pair r.opener.run closer
+
+-- an open run that was found, and those before it
+pub record Found : Type 0 where
+  pub opener : Characters
+  pub before : List OpenRun
+
+-- the nearest open run that is not dropped and may pair; the nearest comes first in the list
+abbrev pub nearest : Run → List OpenRun → Option Found
+nearest closer [] = None
+nearest closer (r ∷ rs) = if may_take closer r then Some (record { opener = r.opener; before = rs }) else nearest closer rs
+
+abbrev pub drop_run : OpenRun → OpenRun
+drop_run r = record { dropped = r.dropped || is_tilde_or_caret r.opener.run.delimiter; opener = r.opener }
+
+-- a search by `~` that found none drops every `~` run, and one by `^` every `^` run
+abbrev pub dropped_by : Run → List OpenRun → List OpenRun
+dropped_by closer rs = if is_tilde_or_caret closer.delimiter then map drop_run rs else rs

@@ -1,0 +1,57 @@
+-- A chain of an arena that is paired where it stands.
+use Rattle.std.specs.Prelude.{◌≡◌, ℕ, ◌+◌, ◌-◌, ◌^◌, ◌≤◌, min, true, List, [], Some, length}
+use Rattle.markdown_base.specs.ArenaForest.{links_of, Spells, forest_at}
+use Rattle.markdown_base.specs.BlockTree.{Numbered, trees_at}
+use Rattle.markdown_base.specs.Forest.{Forest, nil, node, roots}
+use Rattle.markdown_base.specs.Item.{is_open}
+use Rattle.markdown_chains.specs.Tables.{Tables, Named}
+use Rattle.markdown_base.specs.declared.item.Item.{Item}
+use Rattle.markdown_base.specs.declared.node.Node.{Node}
+use Rattle.markdown_chains.specs.Places.{IsSameAt, trees_from}
+use Rattle.markdown_chains.specs.Setting.{Setting}
+use Rattle.markdown_chains.specs.Stages.{times_in, named_in, weight_in}
+use Rattle.markdown_delims.specs.ChainForest.{RisesFrom}
+use Rattle.markdown_delims.specs.OpenRuns.{Openers}
+use Rattle.markdown_delims.specs.Pairing.{waits_for_pairing, paired}
+use Rattle.markdown_delims.specs.RunReading.{IsWhole}
+
+-- what is open in a chain waits for pairing
+abbrev pub WaitsForPairing : Forest Numbered → Type 0
+WaitsForPairing nil = Unit {0}
+WaitsForPairing (node a below after) =
+    (is_open a.item.body ≡ true → waits_for_pairing a.item.body ≡ true) × WaitsForPairing after
+
+-- from `first` on stands a chain: no node stands twice in it, the numbers of its own nodes rise, its runs are whole,
+-- and nothing of it is open but runs and quotes
+pub record CanPair (text : List ℕ) (nodes : List (Node Item)) (first : ℕ) : Type 0 where
+  pub spelled : Spells (links_of nodes) (Some first) (forest_at (links_of nodes) (Some first))
+  pub once : (n : ℕ) → times_in nodes (Some first) n ≤ 1
+  pub rising : RisesFrom 0 (roots (forest_at (links_of nodes) (Some first)))
+  pub whole : IsWhole text (trees_at nodes (Some first))
+  pub waits : WaitsForPairing (trees_at nodes (Some first))
+
+-- the chain from `first` on was paired where it stood
+pub record PairsChain (s : Setting) (first : ℕ) (old new : List (Node Item)) : Type 0 where
+  -- it is the chain that the rules make of it, whatever its items name
+  pub pairs : (tables : Tables)
+      → trees_from s.text tables new (Some first) ≡ paired s (trees_from s.text tables old (Some first))
+  -- its links spell a chain, in which no node stands that did not stand there before, and none twice; its numbers rise
+  pub spelled : Spells (links_of new) (Some first) (forest_at (links_of new) (Some first))
+  pub times : (n : ℕ) → times_in new (Some first) n ≤ times_in old (Some first) n
+  pub rising : RisesFrom 0 (roots (forest_at (links_of new) (Some first)))
+  -- other nodes are as they were
+  pub same_size : length new ≡ length old
+  pub outside : (n : ℕ) → times_in old (Some first) n ≡ 0 → IsSameAt old new n
+  -- no entry is named more often, and it is no heavier
+  pub named : (n : Named) → named_in new (Some first) n ≤ named_in old (Some first) n
+  pub no_heavier : weight_in new (Some first) ≤ weight_in old (Some first)
+
+-- no run is open, and nothing was examined yet
+abbrev pub no_runs : Openers
+no_runs = record { runs = []; examined = 0; potential = 0 }
+
+-- a count rises by so much at most, and stays where it can grow no more
+pub record ExaminesAtMost (most old new : ℕ) : Type 0 where
+  pub examined : ℕ
+  pub within : examined ≤ most
+  pub counted : new ≡ min (old + examined) (2 ^ 128 - 1)

@@ -1,0 +1,84 @@
+-- A chain whose runs are whole, and how far it has been read.
+use Rattle.std.specs.Prelude.{◌≡◌, ℕ, zero, suc, ◌+◌, ◌*◌, ◌<◌, ◌≤◌, ◌^◌, List, Option, Some, None, IfSome}
+use Rattle.markdown_base.specs.declared.item.Item.{Item}
+use Rattle.markdown_base.specs.Arena.{Arena}
+use Rattle.markdown_base.specs.BlockTree.{Numbered}
+use Rattle.markdown_base.specs.Forest.{Forest, nil, node, first_root}
+use Rattle.markdown_base.specs.WellFormed.{RunCharacter, StandsInRun, run_character}
+use Rattle.markdown_delims.specs.declared.marks.Marks.{Marks}
+use Rattle.markdown_delims.specs.MayPair.{OpenRun}
+use Rattle.markdown_delims.specs.Entries.{Entry, open_of, characters, paired_from}
+use Rattle.markdown_delims.specs.ChainStanding.{Chain, Stands, IsRead}
+use Rattle.markdown_delims.specs.Views.{Rises, Kept}
+
+-- a character of a run: it stands there with all that the run goes on with, and has no children
+pub record StandsWhole (text : List ℕ) (a : Numbered) (below after : Forest Numbered) (c : RunCharacter) : Type 0 where
+  pub stands : StandsInRun text a (first_root after) c
+  pub childless : below ≡ nil
+
+-- each run of a chain is whole. Of chains further down it says nothing.
+abbrev pub IsWhole : List ℕ → Forest Numbered → Type 0
+IsWhole text nil = Unit {0}
+IsWhole text (node a below after) = IfSome (run_character a.item.body) (StandsWhole text a below after) × IsWhole text after
+
+-- a chain begins with n nodes of consecutive numbers without children, and then comes the rest
+abbrev pub BeginsRun : ℕ → ℕ → Forest Numbered → Forest Numbered → Type 0
+BeginsRun number zero chain rest = chain ≡ rest
+BeginsRun number (suc n) nil rest = ⊥
+BeginsRun number (suc n) (node a below after) rest = (a.number ≡ number) × (below ≡ nil) × BeginsRun (suc number) n after rest
+
+abbrev pub counts_one : Option RunCharacter → ℕ
+counts_one None = 0
+counts_one (Some c) = 1
+
+-- the delimiter characters of a chain
+abbrev pub delimiters_of : Forest Numbered → ℕ
+delimiters_of nil = 0
+delimiters_of (node a below after) = counts_one (run_character a.item.body) + delimiters_of after
+
+-- characters of a run were settled as text
+pub record IsSettled (h : Chain) (s t : Arena Item) (es : List Entry) (number start n : ℕ) (last : Option ℕ) (rest : Forest Numbered) : Type 0 where
+  pub stands : Stands h t es last (Some number) (characters number start n rest)
+  pub kept : Kept h.touched s t
+
+-- the first n nodes of the rest become characters that stay text
+abbrev pub Settles : ℕ → ℕ → ℕ → Arena Item → Arena Item → Type 0
+Settles number start n s t =
+    (h : Chain) (es : List Entry) (last : Option ℕ) (chain rest : Forest Numbered) → Stands h s es last (Some number) chain → BeginsRun number n chain rest
+    → IsSettled h s t es number start n last rest
+
+-- that there are n such nodes
+pub record CanSettle (number n : ℕ) (s : Arena Item) : Type 0 where
+  pub chain : Chain
+  pub es : List Entry
+  pub last : Option ℕ
+  pub whole : Forest Numbered
+  pub rest : Forest Numbered
+  pub stands : Stands chain s es last (Some number) whole
+  pub begins : BeginsRun number n whole rest
+
+-- a chain that was read somewhat further: the same is made of the whole
+pub record ReadFurther (m : Marks) (text : List ℕ) (h : Chain) (s t : Arena Item) (begun : List Entry) (chain : Forest Numbered) (cost cost' : ℕ) (runs' : List OpenRun) (last' l : Option ℕ) (from : ℕ) : Type 0 where
+  pub es : List Entry
+  pub rest : Forest Numbered
+  pub is_read : IsRead h s t es runs' last' l rest
+  pub whole : IsWhole text rest
+  pub same : paired_from m text 0 rest es ≡ paired_from m text 0 chain begun
+  pub paid : cost' + 10 * delimiters_of rest ≤ cost + 10 * delimiters_of chain
+  pub further : Rises h.touched from rest h.bound
+
+-- a tree is read: the first of the rest, or all characters of a run
+abbrev pub ReadsTree : Marks → List ℕ → ℕ → Option ℕ → Arena Item → Arena Item → List OpenRun → List OpenRun → ℕ → ℕ → Option ℕ → Option ℕ → Type 0
+ReadsTree m text ix last s t runs runs' cost cost' last' l =
+    (h : Chain) (es : List Entry) (chain : Forest Numbered) → Stands h s es last (Some ix) chain → IsWhole text chain → runs ≡ open_of es
+    → ReadFurther m text h s t es chain cost cost' runs' last' l (suc ix)
+
+-- that there is one
+pub record CanReadTree (text : List ℕ) (ix : ℕ) (last : Option ℕ) (s : Arena Item) (runs : List OpenRun) (cost : ℕ) : Type 0 where
+  pub chain : Chain
+  pub es : List Entry
+  pub rest : Forest Numbered
+  pub stands : Stands chain s es last (Some ix) rest
+  pub whole : IsWhole text rest
+  pub runs_are : runs ≡ open_of es
+  pub room : cost + 10 * delimiters_of rest < 2 ^ 128

@@ -1,0 +1,131 @@
+//! A chain is paired where it stands: its quotes and its last break, and then its delimiter runs.
+ghost use Rattle.std.specs.Prelude.{◌≡◌, ℕ, ◌+◌, ◌-◌, ◌*◌, ◌^◌, ◌<◌, ◌≤◌, Some, OnOk, min};
+ghost use Rattle.markdown_base.specs.BlockTree.{trees_at};
+ghost use Rattle.markdown_base.specs.Forest.{Forest};
+ghost use Rattle.markdown_base.specs.WellFormed.{run_character};
+ghost use Rattle.markdown_chains.specs.Setting.{Rules, setting_of};
+ghost use Rattle.markdown_delims.specs.RunReading.{counts_one, delimiters_of};
+ghost use Rattle.markdown_delims.specs.Quoting.{IsSpelled, IsResolved};
+ghost use Rattle.markdown_delims.specs.ChainForest.{IsChain, IsPaired, IsEmptied, CanPairAll, chain_of};
+ghost use Rattle.markdown_delims.specs.PairedChain.{CanPair, PairsChain, ExaminesAtMost, no_runs};
+
+use crate::marks::Marks;
+use crate::open_runs::OpenRuns;
+use crate::quotes::quote_chain;
+use crate::read::read_tree;
+use markdown_base::item::{Item, ItemBody};
+use markdown_base::options::Options;
+use markdown_base::tree::Tree;
+use markdown_chains::work::Work;
+use std::alloc::AllocError;
+
+/// 1 for a character of a delimiter run, 0 for all else.
+fn counts_one(body: ItemBody) -> u128
+    ensures { result ≡ counts_one (run_character body) }
+{
+    match body {
+        ItemBody::MaybeEmphasis(_, _, _) => 1,
+        _ => 0,
+    }
+}
+
+/// How many items of the chain from `first` on are characters of delimiter runs.
+fn count_delimiters(tree: &Tree<Item>, first: usize) -> u128
+    requires chain { (f : Forest ℕ) × IsSpelled tree.now.nodes first f }
+    ensures count { (f : Forest ℕ) → IsSpelled tree.now.nodes first f → result ≡ delimiters_of (chain_of tree.now.nodes f) }
+    ensures small { result < 2 ^ 64 }
+{
+    // bounds the numbers
+    let _nodes = tree.len();
+    let mut count = 0;
+    let mut cur = Some(first);
+    'trees: while let Some(ix) = cur {
+        let next = tree.next(ix);
+        let more = counts_one(tree.item(ix).body);
+        count += more;
+        cur = next;
+    }
+    count
+}
+
+/// Pairs the runs of the chain from `first` on. No run is open before it. After a refusal nothing is said of the chain.
+fn pair_runs(
+    tree: &mut Tree<Item>,
+    openers: &mut OpenRuns,
+    text: &[u8],
+    marks: Marks,
+    first: usize,
+) -> Result<(), AllocError>
+    requires emptied { IsEmptied openers.old }
+    requires chain { CanPairAll text.now tree.old.nodes first openers.old }
+    ensures pairs { OnOk result ((f : Forest ℕ) → IsChain text.now tree.old.nodes first f → IsPaired marks text.now tree.old tree.new first f) }
+    ensures examined { OnOk result ((f : Forest ℕ) → IsChain text.now tree.old.nodes first f → openers.new.examined ≤ openers.old.examined + 10 * delimiters_of (chain_of tree.old.nodes f)) }
+{
+    let mut last = None;
+    let mut cur = Some(first);
+    'trees: while let Some(ix) = cur {
+        let (read, next) = read_tree(tree, openers, text, marks, ix, last)?;
+        last = read;
+        cur = next;
+    }
+    // no more was examined than was counted
+    let _examined = openers.examined();
+    Ok(())
+}
+
+/// Pairs what pass one leaves open in the chain from `first` on: its quotes, its last break and its runs.
+fn pair_nodes(
+    tree: &mut Tree<Item>,
+    openers: &mut OpenRuns,
+    text: &[u8],
+    marks: Marks,
+    first: usize,
+) -> Result<(), AllocError>
+    requires emptied { IsEmptied openers.old }
+    requires chain { CanPairAll text.now tree.old.nodes first openers.old }
+    ensures resolves { OnOk result ((f : Forest ℕ) → IsChain text.now tree.old.nodes first f → IsResolved marks text.now tree.old tree.new first f) }
+    ensures examined { OnOk result ((f : Forest ℕ) → IsChain text.now tree.old.nodes first f → openers.new.examined ≤ openers.old.examined + 10 * delimiters_of (chain_of tree.old.nodes f)) }
+{
+    quote_chain(tree, first);
+    pair_runs(tree, openers, text, marks, first)
+}
+
+/// Pairs the chain of inline items from the node `first` on where it stands, once pass one has left nothing open in it
+/// but quotes and delimiter runs: quotes become their characters, a hard break by a backslash at its end becomes that
+/// backslash, paired characters become nodes around what stands between them, and all others Texts of one byte each
+/// (CommonMark 6.2).
+///
+/// `open_runs` holds no run, before and after; its memory is kept for the next chain. `work` counts the characters of
+/// runs, and the open runs that were compared with a closer: at most ten for each character. After a refusal of memory
+/// the nodes of the chain may be in any state.
+pub fn pair_chain(
+    tree: &mut Tree<Item>,
+    open_runs: &mut OpenRuns,
+    text: &str,
+    options: Options,
+    first: usize,
+    work: &mut Work,
+) -> Result<(), AllocError>
+    requires none_open { open_runs.old ≡ no_runs }
+    requires chain { CanPair text.now tree.old.nodes first }
+    ensures pairs { OnOk result ((rules : Rules) → rules.options ≡ options
+        → PairsChain (setting_of text.now rules) first tree.old.nodes tree.new.nodes) }
+    ensures place { OnOk result (tree.new ≡ record tree.old { nodes = tree.new.nodes }) }
+    ensures examined { OnOk result (
+        ExaminesAtMost (10 * delimiters_of (trees_at tree.old.nodes (Some first))) work.old.examined work.new.examined) }
+
+    // whatever comes
+    ensures counted { work.new ≡ record work.old {
+      delimiters = min (work.old.delimiters + delimiters_of (trees_at tree.old.nodes (Some first))) (2 ^ 128 - 1);
+      examined = work.new.examined;
+    } }
+    ensures none_open { open_runs.new ≡ no_runs }
+{
+    let delimiters = count_delimiters(tree, first);
+    let marks = Marks::of_options(options);
+    let done = pair_nodes(tree, open_runs, text.as_bytes(), marks, first);
+    work.delimiters = work.delimiters.saturating_add(delimiters);
+    work.examined = work.examined.saturating_add(open_runs.examined());
+    open_runs.clear();
+    done
+}

@@ -1,0 +1,16 @@
+//! Delimiter runs, quotes and the last hard break of a chain of inline items, paired in place: the characters of an
+//! opener become nodes around what stands between them.
+#![tactic(auto)]
+
+mod bounds;
+pub mod chain;
+mod close;
+pub mod laws;
+mod layers;
+pub mod marks;
+mod nodes;
+pub mod open_runs;
+mod pair;
+mod quotes;
+mod read;
+pub mod run;

@@ -1,0 +1,35 @@
+//! A node of a tree is written as a whole, or led on.
+ghost use Rattle.std.specs.Prelude.{◌≡◌, ◌<◌, IfSome, length};
+ghost use Rattle.markdown_base.specs.Arena.{child_of};
+ghost use Rattle.markdown_base.specs.BlockTree.{item_at};
+ghost use Rattle.markdown_delims.specs.Views.{Wrote};
+
+use markdown_base::item::Item;
+use markdown_base::tree::Tree;
+
+/// Gives a node another item and other links.
+pub fn put_node(
+    tree: &mut Tree<Item>,
+    ix: usize,
+    item: Item,
+    child: Option<usize>,
+    next: Option<usize>,
+)
+    requires node { ix < length tree.old.nodes }
+    requires child { IfSome child (λ below. below < length tree.old.nodes) }
+    requires next { IfSome next (λ after. after < length tree.old.nodes) }
+    ensures { Wrote tree.old tree.new ix item child next }
+{
+    tree.set_item(ix, item);
+    tree.set_child(ix, child);
+    tree.set_next(ix, next);
+}
+
+/// Lets another node follow.
+pub fn lead_on(tree: &mut Tree<Item>, ix: usize, next: Option<usize>)
+    requires node { ix < length tree.old.nodes }
+    requires next { IfSome next (λ after. after < length tree.old.nodes) }
+    ensures { Wrote tree.old tree.new ix (item_at tree.old.nodes ix) (child_of tree.old.nodes ix) next }
+{
+    tree.set_next(ix, next);
+}

@@ -1,0 +1,66 @@
+//! A chain is read tree by tree.
+ghost use Rattle.std.specs.Prelude.{◌≡◌, ◌+◌, ◌*◌, ◌^◌, ◌<◌, ◌≤◌, List, IfOk};
+ghost use Rattle.markdown_delims.specs.RunReading.{CanSettle, Settles, CanReadTree, ReadsTree};
+
+use crate::close::read_run;
+use crate::marks::{Marks, run_of};
+use crate::open_runs::OpenRuns;
+use crate::run::Characters;
+use markdown_base::item::{Item, ItemBody};
+use markdown_base::tree::Tree;
+use std::alloc::AllocError;
+
+/// The characters of a run become texts of one byte each.
+fn settle_run(tree: &mut Tree<Item>, number: usize, start: usize, count: usize)
+    requires bytes { start + count < 2 ^ 64 }
+    requires some { 0 < count }
+    requires stands { CanSettle number count tree.old }
+    ensures { Settles number start count tree.old tree.new }
+{
+    // bounds the numbers
+    let _nodes = tree.len();
+    'settle: for i in 0..count {
+        let ix = number + i;
+        let start = start + i;
+        tree.set_item(
+            ix,
+            Item {
+                start,
+                end: start + 1,
+                body: ItemBody::Text {
+                    backslash_escaped: false,
+                },
+            },
+        );
+    }
+}
+
+/// A tree is read, and with the first character of a run all of the run. Answers the last node that was
+/// read, and the link to what follows it.
+pub fn read_tree(
+    tree: &mut Tree<Item>,
+    openers: &mut OpenRuns,
+    text: &[u8],
+    marks: Marks,
+    ix: usize,
+    last: Option<usize>,
+) -> Result<(Option<usize>, Option<usize>), AllocError>
+    requires stands { CanReadTree text.now ix last tree.old openers.old.runs openers.old.potential }
+    ensures ok { IfOk result (λ r. ReadsTree marks text.now ix last tree.old tree.new openers.old.runs openers.new.runs openers.old.potential openers.new.potential r.0 r.1) }
+{
+    // bounds the bytes
+    let _bytes = text.len();
+    let item = *tree.item(ix);
+    match run_of(text, item) {
+        None => Ok((Some(ix), tree.next(ix))),
+        Some(run) => {
+            settle_run(tree, ix, item.start, run.length);
+            let met = Characters {
+                run,
+                number: ix,
+                count: run.length,
+            };
+            read_run(tree, openers, marks, met, item.start, last)
+        }
+    }
+}

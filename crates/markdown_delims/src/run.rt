@@ -1,0 +1,63 @@
+ghost use Rattle.std.specs.Prelude.{◌≡◌};
+ghost use Rattle.markdown_delims.specs.MayPair.{may_pair, both, same_delimiter};
+
+#[derive(Clone, Copy)]
+pub enum Delimiter {
+    Star,
+    Underscore,
+    Tilde,
+    Caret,
+}
+
+/// A run of delimiter characters, as it is met.
+#[derive(Clone, Copy)]
+pub struct Run {
+    pub delimiter: Delimiter,
+    pub length: usize,
+    pub can_open: bool,
+    pub can_close: bool,
+}
+
+/// Characters of a run that are not paired yet.
+#[derive(Clone, Copy)]
+pub struct Characters {
+    pub run: Run,
+    pub number: usize,
+    pub count: usize,
+}
+
+impl Delimiter {
+    pub fn is_same(self, other: Delimiter) -> bool
+        ensures { result ≡ same_delimiter self other }
+    {
+        match (self, other) {
+            (Delimiter::Star, Delimiter::Star)
+            | (Delimiter::Underscore, Delimiter::Underscore)
+            | (Delimiter::Tilde, Delimiter::Tilde)
+            | (Delimiter::Caret, Delimiter::Caret) => true,
+            _ => false,
+        }
+    }
+}
+
+impl Run {
+    pub fn is_both(&self) -> bool
+        ensures { result ≡ both self.now }
+    {
+        self.can_open && self.can_close
+    }
+
+    /// Whether an opener and a closer may pair.
+    pub fn may_pair(&self, closer: &Run) -> bool
+        ensures { result ≡ may_pair self.now closer.now }
+    {
+        let lengths_agree = (self.length % 3 + closer.length % 3) % 3 != 0
+            || closer.length % 3 == 0;
+        let rule_of_three = !self.is_both() && !closer.is_both() || lengths_agree;
+        let equal_length = match closer.delimiter {
+            Delimiter::Tilde => self.length == closer.length,
+            _ => true,
+        };
+        self.delimiter.is_same(closer.delimiter) && rule_of_three && equal_length
+    }
+}
