@@ -25,17 +25,23 @@ fn listed(alloc: Global, text: &str, options: Options) -> Result<String, AllocEr
         }
     }
     for (label, link) in parts.definitions.iter() {
-        let title = match &link.title {
-            Some(title) => title.as_str(),
-            None => "",
+        let row = match &link.title {
+            Some(title) => format!(in alloc;
+                "[{}]: <{}> \"{}\" {}..{};",
+                label.as_str(),
+                link.dest.as_str(),
+                title.as_str(),
+                link.span.start,
+                link.span.end
+            )?,
+            None => format!(in alloc;
+                "[{}]: <{}> \"\" {}..{};",
+                label.as_str(),
+                link.dest.as_str(),
+                link.span.start,
+                link.span.end
+            )?,
         };
-        let row = format!(in alloc;
-            "[{}]: <{}> \"{title}\" {}..{};",
-            label.as_str(),
-            link.dest.as_str(),
-            link.span.start,
-            link.span.end
-        )?;
         list.push_str(row.as_str())?;
     }
     Ok(list)
