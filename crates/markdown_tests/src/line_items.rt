@@ -25,6 +25,9 @@ fn part_listed(
     items(&mut builder, end, options)?;
     builder.skip(text.as_bytes().len());
     builder.close();
+    if !builder.open_blocks().is_empty() {
+        return Ok(list);
+    }
     let (tree, _parts) = builder.finish();
     for ix in 2..tree.len() {
         let item = *tree.item(ix);
@@ -256,6 +259,7 @@ fn a_run_that_was_cut_stays_one_run(rt: HostRuntime) -> Result<(), Fail> {
     items(&mut builder, 2, Options::ENABLE_GFM)?;
     items(&mut builder, 4, Options::ENABLE_GFM)?;
     builder.close();
+    assert!(rt; builder.open_blocks().is_empty());
     let (tree, _parts) = builder.finish();
     assert_eq!(rt; tree.len(), 5);
     assert_eq!(rt; tree.item(3).body, ItemBody::MaybeEmphasis(1, false, true));
@@ -276,6 +280,7 @@ fn entities_are_kept(rt: HostRuntime) -> Result<(), Fail> {
     builder.open(ItemBody::Paragraph)?;
     items(&mut builder, 10, Options::ENABLE_GFM)?;
     builder.close();
+    assert!(rt; builder.open_blocks().is_empty());
     let (tree, parts) = builder.finish();
     assert_eq!(rt; tree.len(), 4);
     assert_eq!(rt; parts.cows.len(), 2);
