@@ -13,7 +13,7 @@ use Rattle.markdown_base.specs.declared.item.Item.{Item}
 use Rattle.markdown_base.specs.declared.item.ItemBody.{ItemBody}
 use Rattle.markdown_base.specs.declared.node.Node.{Node}
 use Rattle.markdown_base.proofs.ArenaForestLemmas.{height, height-followed, forest_at-fits}
-use Rattle.markdown_chains.specs.Places.{IsSameAt, label_at, trees_from, IsPlaced}
+use Rattle.markdown_chains.specs.Places.{IsSameAt, label_at, trees_from, HasSlices, IsPlaced}
 use Rattle.markdown_chains.specs.Totals.{total, same, naming, times_named, weight_at}
 use Rattle.markdown_chains.specs.Document.{Plain, shape_of, block_of}
 use Rattle.markdown_chains.specs.Tables.{Tables, Named, some_text, some_link, some_alignments, IsSameEntry, IsNoShorter}
@@ -28,18 +28,24 @@ pub record Stays (tables tables' : Tables) (nodes nodes' : List (Node Item)) (n 
 -- a body reads the same by the same entries
 shape-same : (tables tables' : Tables) (source : List ℕ) (body : ItemBody) → ((m : Named) → 0 < times_named m body → IsSameEntry tables tables' m) → tables'.headings ≡ tables.headings
     → shape_of tables' source body ≡ shape_of tables source body
-shape-same tables tables' source (body.SynthesizeText ix) h e = rw (h (some_text ix.0) (omega (arith, same-refl ix.0))) refl
-shape-same tables tables' source (body.OwnedInlineHtml ix) h e = rw (h (some_text ix.0) (omega (arith, same-refl ix.0))) refl
-shape-same tables tables' source (body.Code ix) h e = rw (h (some_text ix.0) (omega (arith, same-refl ix.0))) refl
-shape-same tables tables' source (body.Math ix display) h e = rw (h (some_text ix.0) (omega (arith, same-refl ix.0))) refl
-shape-same tables tables' source (body.FootnoteReference ix) h e = rw (h (some_text ix.0) (omega (arith, same-refl ix.0))) refl
-shape-same tables tables' source (body.FencedCodeBlock ix) h e = rw (h (some_text ix.0) (omega (arith, same-refl ix.0))) refl
-shape-same tables tables' source (body.FootnoteDefinition ix) h e = rw (h (some_text ix.0) (omega (arith, same-refl ix.0))) refl
+shape-same tables tables' source (body.SynthesizeText ix) h e = rw ((h (some_text ix.0) (omega (arith, same-refl ix.0))).0) refl
+shape-same tables tables' source (body.OwnedInlineHtml ix) h e = rw ((h (some_text ix.0) (omega (arith, same-refl ix.0))).0) refl
+shape-same tables tables' source (body.Code ix) h e = let same = h (some_text ix.0) (omega (arith, same-refl ix.0)) in rw (same.0, same.1) refl
+shape-same tables tables' source (body.Math ix display) h e = let same = h (some_text ix.0) (omega (arith, same-refl ix.0)) in rw (same.0, same.1) refl
+shape-same tables tables' source (body.FootnoteReference ix) h e = rw ((h (some_text ix.0) (omega (arith, same-refl ix.0))).0) refl
+shape-same tables tables' source (body.FencedCodeBlock ix) h e = rw ((h (some_text ix.0) (omega (arith, same-refl ix.0))).0) refl
+shape-same tables tables' source (body.FootnoteDefinition ix) h e = rw ((h (some_text ix.0) (omega (arith, same-refl ix.0))).0) refl
 shape-same tables tables' source (body.Table ix) h e = rw (h (some_alignments ix.0) (omega (arith, same-refl ix.0))) refl
 shape-same tables tables' source (body.Link ix) h e = rw (h (some_link ix.0) (omega (arith, same-refl ix.0))) refl
 shape-same tables tables' source (body.Image ix) h e = rw (h (some_link ix.0) (omega (arith, same-refl ix.0))) refl
 shape-same tables tables' source (body.Heading level named) h e = rw e refl
 shape-same tables tables' source other h e = refl
+
+-- what is a slice of the source stays one
+pub slices-same : (source : List ℕ) (tables tables' : Tables) (b : ItemBody) → ((m : Named) → 0 < times_named m b → IsSameEntry tables tables' m) → HasSlices source tables b → HasSlices source tables' b
+slices-same source tables tables' (body.Code ix) h p = let same = h (some_text ix.0) (omega (arith, same-refl ix.0)) in rw (same.0, same.1) p
+slices-same source tables tables' (body.Math ix display) h p = let same = h (some_text ix.0) (omega (arith, same-refl ix.0)) in rw (same.0, same.1) p
+slices-same source tables tables' other h p = tt
 
 pub label-same : (source : List ℕ) (tables tables' : Tables) (nodes nodes' : List (Node Item)) (n : ℕ) → Stays tables tables' nodes nodes' n → label_at source tables' nodes' n ≡ label_at source tables nodes n
 label-same source tables tables' nodes nodes' n h =
@@ -85,6 +91,7 @@ placed_same source tables tables' nodes nodes' l (node ix below after) s z h p =
   record {
     lies = rw h.0.at.item p.0.lies;
     named = rw h.0.at.item (entries-longer tables tables' (item_at nodes ix).body z p.0.named);
+    slices = rw h.0.at.item (slices-same source tables tables' (item_at nodes ix).body h.0.entries p.0.slices);
     keeps = rw (h.0.at.next, h.0.at.child, h.0.at.item, following_same tables tables' nodes nodes' (sibling_of nodes ix) after s.3 h.2) p.0.keeps;
   },
   placed_same source tables tables' nodes nodes' (child_of nodes ix) below s.2 z h.1 p.1,

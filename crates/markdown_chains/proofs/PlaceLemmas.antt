@@ -1,18 +1,18 @@
 -- Small facts of numbers, texts and shapes in an arena.
 use Rattle.markdown_base.specs.declared.item.ItemBody.TheVariants as body
-use Rattle.std.proofs.Common.{◌≡◌, ℕ, ◌≤◌, Bool, true, false, List, Option, refl, arith}
+use Rattle.std.proofs.Common.{◌≡◌, ℕ, ◌≤◌, Bool, true, false, List, Option, None, refl, arith}
 use Rattle.markdown_base.specs.ArenaForest.{Links, Spells}
 use Rattle.markdown_base.specs.BlockTree.{item_at}
 use Rattle.markdown_base.specs.Forest.{Forest, nil, node, Each}
-use Rattle.markdown_base.specs.Item.{is_open}
+use Rattle.markdown_base.specs.Item.{is_open, text_named}
 use Rattle.markdown_base.specs.declared.item.Item.{Item}
 use Rattle.markdown_base.specs.declared.item.ItemBody.{ItemBody}
 use Rattle.markdown_base.specs.declared.node.Node.{Node}
-use Rattle.markdown_chains.specs.Places.{IsPlaced}
+use Rattle.markdown_chains.specs.Places.{HasSlices, IsPlaced}
 use Rattle.markdown_chains.specs.Document.{unresolved, is_unresolved, shape_of}
-use Rattle.markdown_chains.specs.Totals.{total, same, naming, weight_if}
-use Rattle.markdown_chains.specs.Tables.{Tables, Named, number_of, size_for}
-use Rattle.markdown_chains.proofs.TablesLemmas.{same-apart, named-apart}
+use Rattle.markdown_chains.specs.Totals.{total, same, naming, times_named, weight_if}
+use Rattle.markdown_chains.specs.Tables.{Tables, Named, some_text, number_of, size_for}
+use Rattle.markdown_chains.proofs.TablesLemmas.{same-refl, same-apart, named-apart}
 
 -- numbers that no node has stand nowhere
 pub times-past : (k : Links) (l : Option ℕ) (f : Forest ℕ) (n : ℕ) → Spells k l f → k.size ≤ n → total (same n) f ≡ 0
@@ -26,6 +26,17 @@ pub named-past : (source : List ℕ) (tables : Tables) (nodes : List (Node Item)
 named-past source tables nodes nil n h z = refl
 named-past source tables nodes (node ix below after) n h z =
     omega (arith, named-apart n tables (item_at nodes ix).body h.0.named z, named-past source tables nodes below n h.1 z, named-past source tables nodes after n h.2 z)
+
+-- what names no text has no slice to be
+pub slices-unnamed : (source : List ℕ) (tables : Tables) (b : ItemBody) → text_named b ≡ None → HasSlices source tables b
+slices-unnamed source tables (body.Code ix) h = cc h
+slices-unnamed source tables (body.Math ix display) h = cc h
+slices-unnamed source tables other h = tt
+
+pub slices-none : (source : List ℕ) (tables : Tables) (b : ItemBody) → ((n : Named) → times_named n b ≡ 0) → HasSlices source tables b
+slices-none source tables (body.Code ix) h = let none = h (some_text ix.0) in absurd (omega (arith, none, same-refl ix.0))
+slices-none source tables (body.Math ix display) h = let none = h (some_text ix.0) in absurd (omega (arith, none, same-refl ix.0))
+slices-none source tables other h = tt
 
 -- an open item is not read before its chain is resolved
 pub shape-open : (tables : Tables) (source : List ℕ) (b : ItemBody) → is_open b ≡ true → shape_of tables source b ≡ unresolved b

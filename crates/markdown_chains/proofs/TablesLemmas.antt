@@ -6,6 +6,7 @@ use Rattle.markdown_base.specs.Item.{text_named, alignments_named}
 use Rattle.markdown_base.specs.declared.cow_str.CowStr.{CowStr}
 use Rattle.markdown_base.specs.declared.item.ItemBody.{ItemBody}
 use Rattle.markdown_spans.specs.Allocations.{LinkParts}
+use Rattle.markdown_chains.specs.Origins.{origin_at}
 use Rattle.markdown_chains.specs.Tables.{Tables, Named, some_text, some_link, some_alignments, text_at, link_at, link_named, number_of, size_for, NamesEntries, IsSameEntry, IsNoShorter, HasGrown}
 use Rattle.markdown_chains.specs.Totals.{same, same_as, times_named}
 
@@ -47,12 +48,12 @@ named-apart (some_alignments n) tables b h z = as_apart n (length tables.alignme
 
 -- an entry is the same as it is, and one that stays, and then stays
 pub same_entry-refl : (a : Tables) (n : Named) → IsSameEntry a a n
-same_entry-refl a (some_text n) = refl
+same_entry-refl a (some_text n) = (refl, refl)
 same_entry-refl a (some_link n) = refl
 same_entry-refl a (some_alignments n) = refl
 
 pub same_entry-trans : (a b c : Tables) (n : Named) → IsSameEntry a b n → IsSameEntry b c n → IsSameEntry a c n
-same_entry-trans a b c (some_text n) p q = q ∙ p
+same_entry-trans a b c (some_text n) p q = (q.0 ∙ p.0, q.1 ∙ p.1)
 same_entry-trans a b c (some_link n) p q = q ∙ p
 same_entry-trans a b c (some_alignments n) p q = q ∙ p
 
@@ -62,6 +63,11 @@ text_at-append [] more n l = absurd (omega (arith, l))
 text_at-append (c ∷ cows) more zero l = refl
 text_at-append (c ∷ cows) more (suc n) l = text_at-append cows more n (omega (arith, l))
 
+origin_at-append : (cows more : List CowStr) (n : ℕ) → n < length cows → origin_at (cows ++ more) n ≡ origin_at cows n
+origin_at-append [] more n l = absurd (omega (arith, l))
+origin_at-append (c ∷ cows) more zero l = refl
+origin_at-append (c ∷ cows) more (suc n) l = origin_at-append cows more n (omega (arith, l))
+
 link_at-append : (links more : List LinkParts) (n : ℕ) → n < length links → link_at (links ++ more) n ≡ link_at links n
 link_at-append [] more n l = absurd (omega (arith, l))
 link_at-append (c ∷ links) more zero l = refl
@@ -69,7 +75,7 @@ link_at-append (c ∷ links) more (suc n) l = link_at-append links more n (omega
 
 appended_same : (tables : Tables) (cows : List CowStr) (links : List LinkParts) (n : Named) → number_of n < size_for tables n
     → IsSameEntry tables (record tables { cows = tables.cows ++ cows; links = tables.links ++ links }) n
-appended_same tables cows links (some_text n) l = text_at-append tables.cows cows n l
+appended_same tables cows links (some_text n) l = (text_at-append tables.cows cows n l, origin_at-append tables.cows cows n l)
 appended_same tables cows links (some_link n) l = link_at-append tables.links links n l
 appended_same tables cows links (some_alignments n) l = refl
 

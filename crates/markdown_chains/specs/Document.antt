@@ -9,12 +9,8 @@ use Rattle.markdown_base.specs.Item.{is_open, is_block, range_of}
 use Rattle.markdown_base.specs.declared.item.Item.{Item}
 use Rattle.markdown_base.specs.declared.item.ItemBody.{ItemBody}
 use Rattle.markdown_base.specs.declared.node.Node.{Node}
+pub use Rattle.markdown_chains.specs.Origins.{Origin, sliced, made, origin_at}
 use Rattle.markdown_chains.specs.Tables.{Tables, text_at, link_at, alignments_at, attributes_for, heading_with}
-
--- where a text of an event comes from: it is a slice of the source, or it may have been made
-pub data Origin : Type 0 where
-  sliced : Origin
-  made : Origin
 
 -- how a tree reads: as one event, with the origins of its texts, what is below it not being read; as a Start,
 -- what is below it and the End that belongs to the Start; as what is below it alone; as a hard break that a backslash
@@ -114,8 +110,8 @@ abbrev pub other_shape : Tables → List ℕ → ItemBody → Shape
 other_shape tables source (body.Text escaped) = text_over source
 other_shape tables source (body.SynthesizeText ix) = leaf (text (text_at tables.cows ix.0)) (made ∷ [])
 other_shape tables source (body.SynthesizeChar c) = leaf (text (encode_utf8 c)) (made ∷ [])
-other_shape tables source (body.Code ix) = leaf (code (text_at tables.cows ix.0)) (made ∷ [])
-other_shape tables source (body.Math ix display) = leaf (math display (text_at tables.cows ix.0)) (made ∷ [])
+other_shape tables source (body.Code ix) = leaf (code (text_at tables.cows ix.0)) (origin_at tables.cows ix.0 ∷ [])
+other_shape tables source (body.Math ix display) = leaf (math display (text_at tables.cows ix.0)) (origin_at tables.cows ix.0 ∷ [])
 other_shape tables source body.Html = leaf (html source) (sliced ∷ [])
 other_shape tables source body.InlineHtml = leaf (inline_html source) (sliced ∷ [])
 other_shape tables source (body.OwnedInlineHtml ix) = leaf (inline_html (text_at tables.cows ix.0)) (made ∷ [])
@@ -158,13 +154,12 @@ Plain = Label (Unit {0})
 abbrev pub label_of : List ℕ → Tables → Item → Plain
 label_of source tables item = record { tag = tt; part = part_of source tables item }
 
--- the tags of what is made: the first, the second, and so on; and of the characters of a run, from the first's tag
+-- the tags of what is made: the first, the second, and so on
 pub record Tags (A : Type 0) : Type 0 where
   pub fresh : ℕ → A
-  pub further : A → ℕ → A
 
 abbrev pub plain_tags : Tags (Unit {0})
-plain_tags = record { fresh = λ n. tt; further = λ a n. tt }
+plain_tags = record { fresh = λ n. tt }
 
 -- the tree of a document: its blocks, and in them its chains, which may be open
 abbrev pub document : List ℕ → Tables → List (Node Item) → Forest Plain

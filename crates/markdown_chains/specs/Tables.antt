@@ -16,6 +16,7 @@ use Rattle.markdown_base.specs.declared.item.ItemBody.{ItemBody}
 use Rattle.markdown_base.specs.declared.tag.Alignment.{Alignment}
 use Rattle.markdown_base.specs.declared.tag.HeadingLevel.{HeadingLevel}
 use Rattle.markdown_base.specs.declared.tag.LinkType.TheVariants.{ShortcutUnknown}
+use Rattle.markdown_chains.specs.Origins.{origin_at}
 use Rattle.markdown_spans.specs.Allocations.{Allocated, LinkParts}
 
 -- the entries that can be named
@@ -116,9 +117,10 @@ pub record NamesEntries (tables : Tables) (b : ItemBody) : Type 0 where
   pub alignments : IfSome (alignments_named b) (λ n. n < length tables.alignments)
   pub attributes : IfSome (attributes_named b) (λ n. (1 ≤ n) × (n ≤ length tables.headings))
 
--- an entry says the same in two tables
+-- an entry says the same in two tables; of a text its origin is the same too
 abbrev pub IsSameEntry : (tables tables' : Tables) → Named → Type 0
-IsSameEntry tables tables' (some_text n) = text_at tables'.cows n ≡ text_at tables.cows n
+IsSameEntry tables tables' (some_text n) =
+    (text_at tables'.cows n ≡ text_at tables.cows n) × (origin_at tables'.cows n ≡ origin_at tables.cows n)
 IsSameEntry tables tables' (some_link n) = link_at tables'.links n ≡ link_at tables.links n
 IsSameEntry tables tables' (some_alignments n) = alignments_at tables'.alignments n ≡ alignments_at tables.alignments n
 

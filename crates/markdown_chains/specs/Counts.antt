@@ -1,0 +1,32 @@
+-- What resolving a chain counts, and how much the counts of work rise.
+use Rattle.std.specs.Prelude.{◌≡◌, ℕ, zero, suc, ◌+◌, ◌-◌, ◌*◌, ◌^◌, ◌≤◌, min}
+use Rattle.markdown_chains.specs.declared.work.Work.{Work}
+
+-- the items of a chain from its first open one on, and the delimiter characters that are left of it when pairing begins
+pub record ChainCounts : Type 0 where
+  pub items : ℕ
+  pub delimiters : ℕ
+
+-- those of no chain
+abbrev pub no_counts : ChainCounts
+no_counts = record { items = 0; delimiters = 0 }
+
+-- a count with n more, up to the greatest count
+abbrev pub risen : ℕ → ℕ → ℕ
+risen zero count = count
+risen (suc n) count = min (count + suc n) (2 ^ 128 - 1)
+
+-- a count rose by so much at most
+pub record RisesAtMost (most old new : ℕ) : Type 0 where
+  pub more : ℕ
+  pub within : more ≤ most
+  pub counted : new ≡ risen more old
+
+-- the counts after a chain with these was resolved, or none was: at most ten open runs are compared for each delimiter
+-- character, and searches for the ends of code look at no more items than there are, and so do those for the ends of math
+pub record WorkRises (n : ChainCounts) (old new : Work) : Type 0 where
+  pub items : new.items ≡ risen n.items old.items
+  pub delimiters : new.delimiters ≡ risen n.delimiters old.delimiters
+  pub examined : RisesAtMost (10 * n.delimiters) old.examined new.examined
+  pub code_visits : RisesAtMost n.items old.code_visits new.code_visits
+  pub math_visits : RisesAtMost n.items old.math_visits new.math_visits
