@@ -4,7 +4,7 @@ use Rattle.std.specs.Prelude.{is_some}
 use Rattle.std.specs.List.{list_all}
 use Rattle.std.specs.Char.{is_ascii}
 use Rattle.std.proofs.lemmas.Bool.Decides.{nat_tests}
-use Rattle.std.proofs.lemmas.List.{get_or-take, length-drop, length-take-le, drop_more, take_more, drop-drop, take-append-drop, drop_all, take_all, drop-take}
+use Rattle.std.proofs.lemmas.List.{get_or-take, length-drop, length-take-le, drop_more, take_more, drop-drop, take-append-drop, drop_all, take_all}
 use Rattle.std.proofs.Math.Seq.{take-append-add}
 use Rattle.std.proofs.lemmas.List.Folds.{list_all-append}
 use Rattle.std.proofs.lemmas.Option.{same_Some}
@@ -14,10 +14,12 @@ use Rattle.markdown_scan.specs.Beginnings.{begins_with}
 use Rattle.markdown_scan.specs.LineEnd.{line_ending, begins_line_feed, line_feed, carriage_return}
 use Rattle.markdown_scan.proofs.BoundaryLemmas.{before_ascii_of_rest, after_ascii_of_rest}
 use Rattle.markdown_scan.proofs.BeginsWithLemmas.{begins_with-split}
-use Rattle.markdown_code.specs.CodeText.{Piece, piece_at, begins_escaped_pipe, replaced_past, shown_ending, is_sliced, has_outer_spaces, is_space}
+use Rattle.markdown_chains.specs.Origins.{StandsIn}
+use Rattle.markdown_code.specs.CodeText.{Piece, piece_at, begins_escaped_pipe, replaced_past, shown_ending, is_sliced, has_outer_spaces, is_space, without_outer_spaces}
 use Rattle.markdown_code.specs.PrefixView.{length_by}
 use Rattle.markdown_code.specs.declared.span_text.SpanKind.{SpanKind}
 use Rattle.markdown_code.specs.declared.prefixes.ContainerPrefix.{ContainerPrefix}
+use Rattle.markdown_code.proofs.SliceLemmas.{stands_between, stands_whole}
 use Rattle.markdown_code.proofs.ContainerPrefixLemmas.{IsAsciiPrefix, length_by_is_ascii}
 
 -- ASCII bytes, and ASCII bytes after them
@@ -168,6 +170,41 @@ change_at in_table (b ∷ text) (suc at) h e =
     and_false true = refl
     and_false false = refl
 
+-- bytes that begin with no piece begin with no change
+pub no_change : (kind : SpanKind) (in_table : Bool) (prefix : List ℕ → ℕ) (bytes : List ℕ) → piece_at kind in_table prefix bytes ≡ None
+    → (is_some (line_ending bytes) || begins_escaped_pipe in_table bytes) ≡ false
+no_change kind in_table prefix bytes none = cases (line_ending bytes) (begins_escaped_pipe in_table bytes) refl refl none
+  where
+    cases : (ending : Option ℕ) (pipe : Bool) → line_ending bytes ≡ ending → begins_escaped_pipe in_table bytes ≡ pipe → piece_at kind in_table prefix bytes ≡ None
+        → (is_some (line_ending bytes) || begins_escaped_pipe in_table bytes) ≡ false
+    cases (Some n) pipe f g e = let found = rw f at e in cc
+    cases None true f g e = let found = rw (f, g) at e in cc
+    cases None false f g e = rw (f, g) refl
+
+-- they are a slice where what follows their first byte is
+sliced_past : (in_table : Bool) (b : ℕ) (bytes : List ℕ) → (is_some (line_ending (b ∷ bytes)) || begins_escaped_pipe in_table (b ∷ bytes)) ≡ false
+    → is_sliced in_table (b ∷ bytes) ≡ is_sliced in_table bytes
+unfolding is_sliced
+sliced_past in_table b bytes e = rw e refl
+
+pub sliced_on : (in_table : Bool) (text : List ℕ) (at : ℕ) → at < length text → (is_some (line_ending (drop at text)) || begins_escaped_pipe in_table (drop at text)) ≡ false
+    → is_sliced in_table (drop at text) ≡ is_sliced in_table (drop (at + 1) text)
+sliced_on in_table text at h none =
+    let here = drop_more text at 0 h in
+    ap (is_sliced in_table) here ∙ sliced_past in_table (get_or text at 0) (drop (at + 1) text) (rw here at none)
+
+pub sliced_end : (in_table : Bool) (text : List ℕ) (at : ℕ) → length text ≤ at → is_sliced in_table (drop at text) ≡ true
+unfolding is_sliced
+sliced_end in_table text at past = rw (drop_all at text past) refl
+
+-- what stands between a space at each end of a text stands in it
+pub stands_inside : (text : List ℕ) → StandsIn text (without_outer_spaces text)
+stands_inside text = by (has_outer_spaces text) refl
+  where
+    by : (b : Bool) → has_outer_spaces text ≡ b → StandsIn text (without_outer_spaces text)
+    by true e = rw e (stands_between text 1 (length text - 1) (take (length text - 2) (drop 1 text)) (ap (λ n. take n (drop 1 text)) (omega arith)))
+    by false e = rw e (stands_whole text)
+
 first_is_ascii : (x : ℕ) (rest : Bool) → (is_ascii x && rest) ≡ true → x < 128
 first_is_ascii x rest all = grind (arith, nat_tests)
 
@@ -235,9 +272,3 @@ spaced (b ∷ c ∷ bytes) e =
 
     space_is : (b : ℕ) → (b == 32) ≡ true → b ≡ 32
     space_is b e = grind (arith, nat_tests)
-
--- without its first and its last byte
-pub inner_bytes : (bytes : List ℕ) → 2 ≤ length bytes → drop 1 (take (length bytes - 1) bytes) ≡ take (length bytes - 2) (drop 1 bytes)
-inner_bytes bytes two =
-    let sum : length bytes - 1 ≡ 1 + (length bytes - 2) = omega arith in
-    ap (λ n. drop 1 (take n bytes)) sum ∙ drop-take 1 (length bytes - 2) bytes

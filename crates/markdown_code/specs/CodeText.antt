@@ -4,6 +4,7 @@
 use Rattle.std.specs.Prelude.{ℕ, suc, zero, ◌+◌, ◌-◌, Bool, true, not, ◌&&◌, ◌||◌, ◌==◌, List, [], ◌∷◌, ◌++◌, Option, Some, None, if◌then◌else◌, drop, take, length, is_some, slice_index}
 use Rattle.std.specs.List.{list_all}
 use Rattle.std.specs.Option.{option_map, option_map_or, option_or}
+use Rattle.markdown_chains.specs.Origins.{Origin, sliced, made}
 use Rattle.markdown_scan.specs.AsciiKinds.{pipe}
 use Rattle.markdown_scan.specs.Backslash.{backslash}
 use Rattle.markdown_scan.specs.Beginnings.{begins_with}
@@ -69,3 +70,7 @@ unfoldable pub is_sliced : Bool → List ℕ → Bool
 is_sliced in_table [] = true
 is_sliced in_table (b ∷ bytes) =
     not (is_some (line_ending (b ∷ bytes)) || begins_escaped_pipe in_table (b ∷ bytes)) && is_sliced in_table bytes
+
+-- where it comes from, then
+abbrev pub span_origin : Bool → List ℕ → Origin
+span_origin in_table bytes = if is_sliced in_table bytes then sliced else made

@@ -3,10 +3,16 @@ pub mod ContainerPrefix
 pub mod CodeText
 pub mod AfterLess
 pub mod Closers
+pub mod Finds
+pub mod VisitLaws
 -- of the representation
 pub mod BlocksAbove
 pub mod ChainInArena
-pub mod CodeSearch
+pub mod ChainSearch
+pub mod ChainWalk
+pub mod MathOpening
+pub mod SpanClosers
+pub mod SpanMarks
 pub mod PrefixView
 pub mod MarkupView
 -- the words of the lower crates that the clauses here are written in

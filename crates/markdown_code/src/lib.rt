@@ -2,6 +2,9 @@
 #![tactic(auto)]
 
 pub mod after_less;
-pub mod code_closers;
+pub mod laws;
+mod math_opener;
 pub mod prefixes;
+pub mod span_closers;
+mod span_marks;
 pub mod span_text;

@@ -5,7 +5,8 @@ ghost use Rattle.std.specs.List.{list_all};
 ghost use Rattle.std.specs.Char.{is_ascii};
 ghost use Rattle.markdown_base.specs.CowText.{text_of, IsBorrowed};
 ghost use Rattle.markdown_code.specs.CodeText as code;
-ghost use Rattle.markdown_code.specs.CodeText.{has_outer_spaces, without_outer_spaces, is_sliced};
+ghost use Rattle.markdown_chains.specs.Origins.{IsSlicedOf, StandsIn, origin_of};
+ghost use Rattle.markdown_code.specs.CodeText.{has_outer_spaces, without_outer_spaces, is_sliced, span_origin};
 ghost use Rattle.markdown_code.specs.PrefixView.{length_by};
 ghost use Rattle.markdown_scan.specs.LineEnd.{line_ending};
 
@@ -68,6 +69,7 @@ impl SpanKind {
         in_table: bool,
         prefix: &ContainerPrefix<'_>,
     ) -> Option<(&'t str, &'static str, &'t str)>
+        ensures same { IfNone result (code.is_sliced in_table text.now ≡ true) }
         ensures none { IfNone result (code.lines_joined self in_table (length_by prefix.now) text.now ≡ text.now) }
         ensures some { IfSome result (λ parts. code.lines_joined self in_table (length_by prefix.now) text.now
             ≡ parts.0.now ++ (parts.1.now ++ code.lines_joined self in_table (length_by prefix.now) parts.2.now)) }
@@ -126,7 +128,8 @@ fn has_outer_spaces(bytes: &[u8]) -> bool
 
 /// The slice without a space at each end, where it has such.
 fn slice_outer_spaces(text: &str) -> &str
-    ensures { result.now ≡ without_outer_spaces text.now }
+    ensures value { result.now ≡ without_outer_spaces text.now }
+    ensures stands { StandsIn text.now result.now }
 {
     if has_outer_spaces(text.as_bytes()) {
         &text[1..text.len() - 1]
@@ -159,6 +162,8 @@ pub fn span_text<'t>(
 ) -> Result<CowStr<'t>, AllocError>
     ensures value { IfOk result (λ made. text_of made ≡ code.span_text kind in_table (length_by prefix.now) text.entry.now) }
     ensures borrowed { is_sliced in_table text.entry.now ≡ true → IsOkAnd result IsBorrowed }
+    ensures origin { IfOk result (λ span. origin_of span ≡ span_origin in_table text.entry.now) }
+    ensures slice { IfOk result (λ span. IsSlicedOf text.entry.now (origin_of span) (text_of span)) }
 {
     if kind.split_at_piece(text, in_table, prefix).is_none() {
         return Ok(CowStr::Borrowed(match kind {

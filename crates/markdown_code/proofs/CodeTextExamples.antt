@@ -1,4 +1,4 @@
--- Texts of code and math spans, worked.
+-- Texts of code and math spans: small examples.
 use Rattle.std.proofs.Common.{◌≡◌, ℕ, List, [], ◌∷◌, ◌++◌, true, false, None, refl}
 use Rattle.std.specs.Prelude.{codes}
 use Rattle.markdown_base.specs.declared.item.ItemBody.TheVariants as body

@@ -1,4 +1,4 @@
--- Container prefixes of lines, worked.
+-- Container prefixes of lines: small examples.
 use Rattle.std.proofs.Common.{◌≡◌, [], ◌∷◌, ◌++◌, true, false, None, refl}
 use Rattle.std.specs.Prelude.{codes}
 use Rattle.markdown_base.specs.declared.item.ItemBody.{ItemBody}
