@@ -177,24 +177,29 @@ module _ (m : Marks) (opener : Characters) (count end : ℕ) (outer : Option ℕ
         kept = kept_more g.touched s t u (opener.number + (n - 2)) _ inner None a.kept root x;
       }
 
-  -- the outermost layer of two, and of one
+  -- the outermost layer, of the last k of n characters
+  layers_end : (t u : Arena Item) (n k left reached : ℕ) (body : ItemBody) (inner : Option ℕ) (es : List Entry) → n - k < n → flat es ≡ characters_after opener.number g.start (n - k) g.before
+      → (a : LayersAt m opener count end outer g s t n left reached inner) → Peeled g.touched (view_of t.nodes) g.first opener.number g.start (n - k) g.before inner a.chain g.hi
+      → Wrote t u (opener.number + (n - k)) (record { start = (item_at t.nodes (opener.number + (n - k))).start; end = reached + k; body = body }) inner outer
+      → IsEnclosed g s u (settled (labelled (opener.number + (n - k)) (g.start + (n - k)) (reached + k) body) a.chain) es (opener.number + (n - k)) outer
+  layers_end t u n k left reached body inner es h o a p w =
+      let x = wrote_layer t u n (n - k) (reached + k) body inner outer p.item w in
+      let root : g.touched (opener.number + (n - k)) ≡ true = touched_at g.touched opener.number g.start (n - k) n g.before h a.stands.left_touched in
+      record {
+        cut = subst (λ (f : Forest Numbered). Cut g.touched (view_of u.nodes) g.first (node (labelled (opener.number + (n - k)) (g.start + (n - k)) (reached + k) body) a.chain f) outer g.after g.bound) (sym o)
+            (layer_last g.touched (view_of t.nodes) (view_of u.nodes) g.first opener.number g.start (n - k) g.before inner outer a.chain g.after g.hi g.bound _ p a.stands.after a.stands.rises root x.nodes);
+        last = refl;
+        left_touched = (root, rw o (touched_first g.touched opener.number g.start (n - k) n g.before (omega arith) a.stands.left_touched));
+        kept = kept_more g.touched s t u (opener.number + (n - k)) _ inner outer a.kept root x;
+      }
+
   pub layers_two : (t u : Arena Item) (n reached : ℕ) (inner : Option ℕ) (es : List Entry) → 2 ≤ n → flat es ≡ characters_after opener.number g.start (n - 2) g.before
       → LayersAt m opener count end outer g s t n 2 reached inner
       → Wrote t u (opener.number + (n - 2)) (record { start = (item_at t.nodes (opener.number + (n - 2))).start; end = reached + 2; body = layer_of_two m opener.run.delimiter }) inner outer
       → IsEnclosed g s u (enclosed m opener.run.delimiter opener.number g.start opener.count end count g.inside) es (opener.number + (n - 2)) outer
   layers_two t u n reached inner es h o a w =
       let p = peel_two g.touched (view_of t.nodes) g.first opener.number g.start g.before inner a.chain g.hi n h a.stands.cut in
-      let x = wrote_layer t u n (n - 2) (reached + 2) (layer_of_two m opener.run.delimiter) inner outer p.item w in
-      let root : g.touched (opener.number + (n - 2)) ≡ true = touched_at g.touched opener.number g.start (n - 2) n g.before (omega arith) a.stands.left_touched in
-      rw (← a.same)
-      (let r : IsEnclosed g s u (settled (labelled (opener.number + (n - 2)) (g.start + (n - 2)) (reached + 2) (layer_of_two m opener.run.delimiter)) a.chain) es (opener.number + (n - 2)) outer =
-      record {
-        cut = subst (λ (f : Forest Numbered). Cut g.touched (view_of u.nodes) g.first (node (labelled (opener.number + (n - 2)) (g.start + (n - 2)) (reached + 2) (layer_of_two m opener.run.delimiter)) a.chain f) outer g.after g.bound) (sym o)
-            (layer_last g.touched (view_of t.nodes) (view_of u.nodes) g.first opener.number g.start (n - 2) g.before inner outer a.chain g.after g.hi g.bound _ p a.stands.after a.stands.rises root x.nodes);
-        last = refl;
-        left_touched = (root, rw o (touched_first g.touched opener.number g.start (n - 2) n g.before (omega arith) a.stands.left_touched));
-        kept = kept_more g.touched s t u (opener.number + (n - 2)) _ inner outer a.kept root x;
-      } in r)
+      rw (← a.same) (layers_end t u n 2 2 reached (layer_of_two m opener.run.delimiter) inner es (omega arith) o a p w)
 
   pub layers_one : (t u : Arena Item) (n reached : ℕ) (inner : Option ℕ) (es : List Entry) → 1 ≤ n → flat es ≡ characters_after opener.number g.start (n - 1) g.before
       → LayersAt m opener count end outer g s t n 1 reached inner
@@ -202,17 +207,7 @@ module _ (m : Marks) (opener : Characters) (count end : ℕ) (outer : Option ℕ
       → IsEnclosed g s u (enclosed m opener.run.delimiter opener.number g.start opener.count end count g.inside) es (opener.number + (n - 1)) outer
   layers_one t u n reached inner es h o a w =
       let p = peel_one g.touched (view_of t.nodes) g.first opener.number g.start g.before inner a.chain g.hi n h a.stands.cut in
-      let x = wrote_layer t u n (n - 1) (reached + 1) (layer_of_one m opener.run.delimiter) inner outer p.item w in
-      let root : g.touched (opener.number + (n - 1)) ≡ true = touched_at g.touched opener.number g.start (n - 1) n g.before (omega arith) a.stands.left_touched in
-      rw (← a.same)
-      (let r : IsEnclosed g s u (settled (labelled (opener.number + (n - 1)) (g.start + (n - 1)) (reached + 1) (layer_of_one m opener.run.delimiter)) a.chain) es (opener.number + (n - 1)) outer =
-      record {
-        cut = subst (λ (f : Forest Numbered). Cut g.touched (view_of u.nodes) g.first (node (labelled (opener.number + (n - 1)) (g.start + (n - 1)) (reached + 1) (layer_of_one m opener.run.delimiter)) a.chain f) outer g.after g.bound) (sym o)
-            (layer_last g.touched (view_of t.nodes) (view_of u.nodes) g.first opener.number g.start (n - 1) g.before inner outer a.chain g.after g.hi g.bound _ p a.stands.after a.stands.rises root x.nodes);
-        last = refl;
-        left_touched = (root, rw o (touched_first g.touched opener.number g.start (n - 1) n g.before (omega arith) a.stands.left_touched));
-        kept = kept_more g.touched s t u (opener.number + (n - 1)) _ inner outer a.kept root x;
-      } in r)
+      rw (← a.same) (layers_end t u n 1 1 reached (layer_of_one m opener.run.delimiter) inner es (omega arith) o a p w)
 
 -- a link that a chain stands behind leads to a node
 pub link_within : (k : View) (l : Option ℕ) (f : Forest Numbered) → Holds k l f → IfSome l (λ ix. ix < k.size)

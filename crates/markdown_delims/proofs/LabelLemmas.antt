@@ -71,6 +71,12 @@ enclosed_tree m d number start top end (suc zero) inside = tt
 enclosed_tree m d number start top end (suc (suc zero)) inside = tt
 enclosed_tree m d number start top end (suc (suc (suc k))) inside = enclosed_tree m d number start (top - 2) (end + 2) (suc k) _
 
+-- characters behind a left list are read back before a chain
+pub before_back : (number start n : ℕ) (before after : Forest Numbered) → read_back (characters_after number start n before) after ≡ read_back before (characters number start n after)
+before_back number start zero before after = refl
+before_back number start (suc n) before after =
+    before_back number start n before (node (character (number + n) (start + n)) nil after) ∙ ap (read_back before) (characters-last number start n after)
+
 module _ {A : Type 0} (tag : ℕ → A) (tables : Tables) (s : Setting) where
   -- the label of a node, and the trees of nodes
   abbrev pub look : Numbered → Label A
@@ -94,11 +100,6 @@ module _ {A : Type 0} (tag : ℕ → A) (tables : Tables) (s : Setting) where
   seen (settled a below ∷ es) = done (look a) (trees below) ∷ seen es
   seen (lone number start n ∷ es) = all_done (lasts number start n) (seen es)
   seen (open_entry start r ∷ es) = waiting r.dropped r.opener.run (lasts r.opener.number start r.opener.count) ∷ seen es
-
-  before_back : (number start n : ℕ) (before after : Forest Numbered) → read_back (characters_after number start n before) after ≡ read_back before (characters number start n after)
-  before_back number start zero before after = refl
-  before_back number start (suc n) before after =
-      before_back number start n before (node (character (number + n) (start + n)) nil after) ∙ ap (read_back before) (characters-last number start n after)
 
   texts_seen : (number start n : ℕ) (after : Forest Numbered) → texts_before (lasts number start n) (trees after) ≡ trees (characters number start n after)
   texts_seen number start zero after = refl

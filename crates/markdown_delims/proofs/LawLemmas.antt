@@ -1,28 +1,79 @@
 -- The laws of pairing, from its lemmas.
-use Rattle.std.proofs.Common.{◌≡◌, Bool, true, false, List, [], ◌∷◌, Option, Some, None, refl}
-use Rattle.std.specs.Prelude.{⊤, not, ◌&&◌, IfSome, IfNone}
-use Rattle.markdown_base.specs.Forest.{Forest, nil, node}
-use Rattle.markdown_chains.specs.Document.{Label}
+use Rattle.std.proofs.Common.{◌≡◌, Bool, true, false, List, [], ◌∷◌, Option, Some, None, refl, ap, sym, ◌∙◌}
+use Rattle.std.specs.Prelude.{not, ◌&&◌, IfSome, IfNone, slice_range}
+use Rattle.markdown_base.specs.Forest.{Forest, nil, node, Each}
+use Rattle.markdown_chains.specs.Document.{Label, is_unresolved, shaped, as_text}
+use Rattle.markdown_chains.specs.Labels.{retagged, retag}
+use Rattle.markdown_chains.specs.Setting.{Setting}
+use Rattle.markdown_chains.specs.Waiting.{text_if, as_closed}
 use Rattle.markdown_delims.specs.declared.run.Run.{Run}
 use Rattle.markdown_delims.specs.MayPair.{may_pair}
 use Rattle.markdown_delims.specs.Pairing.{Read, done, waiting, texts_before, FoundOpener, found_if, nearest_opener, paired}
-use Rattle.markdown_delims.specs.PairingLaws.{NothingOpen, NonePairs, ClosedLaw, OrderLaw, JoinsLaw, MissesNoneLaw}
-use Rattle.markdown_delims.proofs.KeepLemmas.{BelowEach, ClosedOver, paired-closed}
-use Rattle.markdown_delims.proofs.OrderLemmas.{paired-deep}
+use Rattle.markdown_delims.specs.Layers.{marks_of}
+use Rattle.markdown_delims.specs.PairingLaws.{NothingOpen, below_trees, NonePairs, ClosedLaw, OrderLaw, JoinsLaw, MissesNoneLaw, KeepsLaw, TagLaw}
+use Rattle.markdown_delims.specs.Quotes.{first_turn, quotes_after, with_quotes}
+use Rattle.markdown_delims.proofs.KeepLemmas.{EachTree, MakesTrees, IsReadable, runs-keep, IsClosedTree, as_closed-closed, paired-closed}
+use Rattle.markdown_delims.proofs.LayerLawLemmas.{one-closed, two-closed}
+use Rattle.markdown_delims.proofs.OrderLemmas.{deep, paired-deep}
 
-closed_nothing : {A : Type 0} (f : Forest (Label A)) → ClosedOver (λ g. ⊤) f → NothingOpen f
+closed_nothing : {A : Type 0} (f : Forest (Label A)) → EachTree IsClosedTree f → NothingOpen f
 closed_nothing nil h = tt
-closed_nothing (node a below after) h = (h.0, closed_nothing after h.2)
-
-anything_below : {A : Type 0} (f : Forest (Label A)) → BelowEach (λ g. ⊤) f
-anything_below nil = tt
-anything_below (node a below after) = (tt, anything_below after)
+closed_nothing (node a below after) h = (h.0, closed_nothing after h.1)
 
 pub closed-law : {A : Type 0} → ClosedLaw A
-closed-law s chain = closed_nothing (paired s chain) (paired-closed s (λ g. ⊤) tt (λ f h. tt) chain (anything_below chain))
+closed-law s chain = closed_nothing (paired s chain) (paired-closed s chain)
+
+-- a change below each tree, and no other
+below_same : {A : Type 0} (change : Forest (Label A) → Forest (Label A)) (f : Forest (Label A)) → deep (λ x. x) change f ≡ below_trees change f
+below_same change nil = refl
+below_same change (node a below after) = ap (node a (change below)) (below_same change after)
 
 pub order-law : {A : Type 0} → OrderLaw A
-order-law s change none stays chain = paired-deep s change none (λ f h. stays f (closed_nothing f h)) chain
+order-law s change none stays chain =
+    ap (paired s) (sym (below_same change chain)) ∙ paired-deep (λ x. x) change s none (λ f h. stays f (closed_nothing f h) ∙ sym (below_same change f)) chain ∙ below_same change (paired s chain)
+
+-- other tags, and no other change
+tags_same : {A B : Type 0} (f : A → B) (g : Forest (Label A)) → deep f (retagged f) g ≡ retagged f g
+tags_same f nil = refl
+tags_same f (node a below after) = ap (node (retag f a) (retagged f below)) (tags_same f after)
+
+pub tag-law : {A B : Type 0} → TagLaw A B
+tag-law f s chain = ap (paired s) (sym (tags_same f chain)) ∙ paired-deep f (retagged f) s refl (λ g h. sym (tags_same f g)) chain ∙ tags_same f (paired s chain)
+
+-- what holds of each label at every depth, and of a label that is not open where it held of one with the same block
+module _ {A : Type 0} (p : Label A → Type 0) (stays : (a b : Label A) → p a → b.part.block ≡ a.part.block → is_unresolved b.part.shape ≡ false → p b) (s : Setting) where
+  abbrev HoldsBelow : Label A → Forest (Label A) → Type 0
+  HoldsBelow a below = p a × Each p below
+
+  each_holds : (f : Forest (Label A)) → EachTree HoldsBelow f → Each p f
+  each_holds nil h = tt
+  each_holds (node a below after) h = (h.0.0, h.0.1, each_holds after h.1)
+
+  makes_such : MakesTrees s p HoldsBelow
+  makes_such = record {
+    text = λ x h. (h, tt);
+    one = λ d x v inside h i. (stays x _ h refl (one-closed (marks_of s.rules.options) d (slice_range s.text x.part.range.start v.part.range.end)), each_holds inside i);
+    two = λ d x v inside h i. (stays x _ h refl (two-closed (marks_of s.rules.options) d (slice_range s.text x.part.range.start v.part.range.end)), each_holds inside i);
+  }
+
+  same_block : (b : Bool) (a : Label A) → (text_if b s.text a).part.block ≡ a.part.block
+  same_block true a = refl
+  same_block false a = refl
+
+  quotes_readable : (single double : Bool) (chain : Forest (Label A)) → Each p chain → EachTree (IsReadable p HoldsBelow s) (quotes_after single double chain)
+  quotes_readable single double nil h = tt
+  quotes_readable single double (node a below after) h =
+      let quoted : Label A = shaped (first_turn a after single double).made a in (
+        (stays a (as_text s.text quoted) h.0 refl refl, (stays a (as_closed s.text quoted) h.0 (same_block (is_unresolved quoted.part.shape) quoted) (as_closed-closed s.text quoted), h.1)),
+        quotes_readable (first_turn a after single double).single (first_turn a after single double).double after h.2,
+      )
+
+  pub paired-keeps : (chain : Forest (Label A)) → Each p chain → Each p (paired s chain)
+  unfolding paired with_quotes
+  paired-keeps chain h = each_holds (paired s chain) (runs-keep p HoldsBelow s makes_such (with_quotes chain) (quotes_readable false false chain h))
+
+pub keeps-law : {A : Type 0} → KeepsLaw A
+keeps-law passes stays s chain h = paired-keeps (λ a. passes a ≡ true) stays s chain h
 
 -- a search
 joins_if : {A : Type 0} (closer : Run) (dropped : Bool) (f : FoundOpener A) (o : Option (FoundOpener A)) (b : Bool) → may_pair f.run closer ≡ b → IfSome o (λ g. may_pair g.run closer ≡ true)

@@ -1,9 +1,9 @@
--- What holds of each node of a chain, and of each that names nothing, holds of each node that pairing leaves.
+-- What holds of each node of a chain, and of each that is made, holds of each node that pairing leaves.
 use Rattle.std.proofs.Common.{◌≡◌, ℕ, zero, suc, ◌+◌, ◌-◌, Bool, true, false, List, [], ◌∷◌, Option, Some, None, refl, sym, subst, map, inl, inr}
 use Rattle.std.specs.Prelude.{⊤, ◌⊎◌, IfSome, nat_lt, min, ◌&&◌, if◌then◌else◌}
 use Rattle.markdown_base.specs.BlockTree.{Numbered}
 use Rattle.markdown_base.specs.Forest.{Forest, nil, node, Each}
-use Rattle.markdown_base.specs.Item.{text_named, alignments_named}
+use Rattle.markdown_base.specs.Item.{is_open, text_named, alignments_named, attributes_named}
 use Rattle.markdown_chains.specs.Tables.{link_named}
 use Rattle.markdown_base.specs.declared.item.ItemBody.{ItemBody}
 use Rattle.markdown_base.specs.declared.item.ItemBody.TheVariants as body
@@ -19,39 +19,44 @@ use Rattle.markdown_delims.specs.MarkBodies.{whole_text, layer_of_one, layer_of_
 use Rattle.markdown_delims.specs.MayPair.{is_tilde_or_caret, may_take}
 use Rattle.markdown_delims.specs.QuoteBodies.{kind_of, is_closed_later, is_nil, with_body, turn_of, turn_at, quoted_after, quoted}
 
--- a body that names no entry of a table
-abbrev pub NamesNothing : ItemBody → Type 0
-NamesNothing b = (text_named b ≡ None) × (link_named b ≡ None) × (alignments_named b ≡ None)
+-- a body that is made by pairing: it names no entry of a table, and is not open
+abbrev pub IsMade : ItemBody → Type 0
+IsMade b = (text_named b ≡ None) × (link_named b ≡ None) × (alignments_named b ≡ None) × (attributes_named b ≡ None) × (is_open b ≡ false)
 
-mark_unnamed : (x : Bool) (b c : ItemBody) → NamesNothing b → NamesNothing c → NamesNothing (if x then b else c)
-mark_unnamed true b c e f = e
-mark_unnamed false b c e f = f
+mark_made : (x : Bool) (b c : ItemBody) → IsMade b → IsMade c → IsMade (if x then b else c)
+mark_made true b c e f = e
+mark_made false b c e f = f
 
-two_unnamed : (m : Marks) (d : Delimiter) → NamesNothing (layer_of_two m d)
-two_unnamed m Star = (refl, refl, refl)
-two_unnamed m Underscore = (refl, refl, refl)
-two_unnamed m Tilde = mark_unnamed m.strikethrough body.Strikethrough whole_text (refl, refl, refl) (refl, refl, refl)
-two_unnamed m Caret = mark_unnamed m.superscript body.Superscript whole_text (refl, refl, refl) (refl, refl, refl)
+pub two_made : (m : Marks) (d : Delimiter) → IsMade (layer_of_two m d)
+two_made m Star = (refl, refl, refl, refl, refl)
+two_made m Underscore = (refl, refl, refl, refl, refl)
+two_made m Tilde = mark_made m.strikethrough body.Strikethrough whole_text (refl, refl, refl, refl, refl) (refl, refl, refl, refl, refl)
+two_made m Caret = mark_made m.superscript body.Superscript whole_text (refl, refl, refl, refl, refl) (refl, refl, refl, refl, refl)
 
-one_unnamed : (m : Marks) (d : Delimiter) → NamesNothing (layer_of_one m d)
-one_unnamed m Star = (refl, refl, refl)
-one_unnamed m Underscore = (refl, refl, refl)
-one_unnamed m Tilde = mark_unnamed m.subscript body.Subscript _ (refl, refl, refl) (mark_unnamed m.strikethrough body.Strikethrough whole_text (refl, refl, refl) (refl, refl, refl))
-one_unnamed m Caret = mark_unnamed m.superscript body.Superscript whole_text (refl, refl, refl) (refl, refl, refl)
+pub one_made : (m : Marks) (d : Delimiter) → IsMade (layer_of_one m d)
+one_made m Star = (refl, refl, refl, refl, refl)
+one_made m Underscore = (refl, refl, refl, refl, refl)
+one_made m Tilde = mark_made m.subscript body.Subscript _ (refl, refl, refl, refl, refl) (mark_made m.strikethrough body.Strikethrough whole_text (refl, refl, refl, refl, refl) (refl, refl, refl, refl, refl))
+one_made m Caret = mark_made m.superscript body.Superscript whole_text (refl, refl, refl, refl, refl) (refl, refl, refl, refl, refl)
 
--- a turn keeps a body, or makes one that names nothing
-turn_named : (k : Kind) (b : ItemBody) (single double later last : Bool) → (NamesNothing (turn_of k b single double later last).made) ⊎ ((turn_of k b single double later last).made ≡ b)
-turn_named (kind.Single opens true) b true double later last = inl (refl, refl, refl)
-turn_named (kind.Single opens false) b true double later last = inl (mark_unnamed (opens && later) (body.SynthesizeChar 8216) (body.SynthesizeChar 8217) (refl, refl, refl) (refl, refl, refl))
-turn_named (kind.Single opens closes) b false double later last = inl (mark_unnamed (opens && later) (body.SynthesizeChar 8216) (body.SynthesizeChar 8217) (refl, refl, refl) (refl, refl, refl))
-turn_named (kind.Double opens true) b single true later last = inl (refl, refl, refl)
-turn_named (kind.Double opens false) b single true later last = inl (refl, refl, refl)
-turn_named (kind.Double opens closes) b single false later last = inl (refl, refl, refl)
-turn_named kind.Break b single double later true = inl (refl, refl, refl)
-turn_named kind.Break b single double later false = inr refl
-turn_named kind.Other b single double later last = inr refl
+-- a turn keeps a body, or makes one
+turn_made : (k : Kind) (b : ItemBody) (single double later last : Bool) → (IsMade (turn_of k b single double later last).made) ⊎ ((turn_of k b single double later last).made ≡ b)
+turn_made (kind.Single opens true) b true double later last = inl (refl, refl, refl, refl, refl)
+turn_made (kind.Single opens false) b true double later last = inl (mark_made (opens && later) (body.SynthesizeChar 8216) (body.SynthesizeChar 8217) (refl, refl, refl, refl, refl) (refl, refl, refl, refl, refl))
+turn_made (kind.Single opens closes) b false double later last = inl (mark_made (opens && later) (body.SynthesizeChar 8216) (body.SynthesizeChar 8217) (refl, refl, refl, refl, refl) (refl, refl, refl, refl, refl))
+turn_made (kind.Double opens true) b single true later last = inl (refl, refl, refl, refl, refl)
+turn_made (kind.Double opens false) b single true later last = inl (refl, refl, refl, refl, refl)
+turn_made (kind.Double opens closes) b single false later last = inl (refl, refl, refl, refl, refl)
+turn_made kind.Break b single double later true = inl (refl, refl, refl, refl, refl)
+turn_made kind.Break b single double later false = inr refl
+turn_made kind.Other b single double later last = inr refl
 
-module _ (p : Numbered → Type 0) (made : (number start end : ℕ) (b : ItemBody) → NamesNothing b → p (labelled number start end b)) where
+-- an opener is found here or further on
+pub taken_if : (p : Taken → Type 0) (b : Bool) (t : Taken) (o : Option Taken) → p t → IfSome o p → IfSome (if b then Some t else o) p
+taken_if p true t o h k = h
+taken_if p false t o h k = k
+
+module _ (p : Numbered → Type 0) (made : (number start end : ℕ) (b : ItemBody) → IsMade b → p (labelled number start end b)) where
   abbrev EachEntry : List Entry → Type 0
   EachEntry [] = ⊤
   EachEntry (settled a below ∷ es) = p a × Each p below × EachEntry es
@@ -60,11 +65,11 @@ module _ (p : Numbered → Type 0) (made : (number start end : ℕ) (b : ItemBod
 
   each_characters : (number start n : ℕ) (after : Forest Numbered) → Each p after → Each p (characters number start n after)
   each_characters number start zero after h = h
-  each_characters number start (suc n) after h = (made number start (start + 1) whole_text (refl, refl, refl), tt, each_characters (suc number) (suc start) n after h)
+  each_characters number start (suc n) after h = (made number start (start + 1) whole_text (refl, refl, refl, refl, refl), tt, each_characters (suc number) (suc start) n after h)
 
   each_before : (number start n : ℕ) (before : Forest Numbered) → Each p before → Each p (characters_after number start n before)
   each_before number start zero before h = h
-  each_before number start (suc n) before h = (made (number + n) (start + n) (start + n + 1) whole_text (refl, refl, refl), tt, each_before number start n before h)
+  each_before number start (suc n) before h = (made (number + n) (start + n) (start + n + 1) whole_text (refl, refl, refl, refl, refl), tt, each_before number start n before h)
 
   each_flat : (es : List Entry) → EachEntry es → Each p (flat es)
   each_flat [] h = tt
@@ -79,24 +84,20 @@ module _ (p : Numbered → Type 0) (made : (number start end : ℕ) (b : ItemBod
   abbrev EachTaken : Taken → Type 0
   EachTaken t = Each p t.inside × EachEntry t.before
 
-  taken_if : (b : Bool) (t : Taken) (o : Option Taken) → EachTaken t → IfSome o EachTaken → IfSome (if b then Some t else o) EachTaken
-  taken_if true t o h k = h
-  taken_if false t o h k = k
-
   each_search : (closer : Run) (es : List Entry) (inside : Forest Numbered) → EachEntry es → Each p inside → IfSome (search closer es inside) EachTaken
   each_search closer [] inside h k = tt
   each_search closer (settled a below ∷ es) inside h k = each_search closer es (node a below inside) h.2 (h.0, h.1, k)
   each_search closer (lone number start n ∷ es) inside h k = each_search closer es (characters number start n inside) h (each_characters number start n inside k)
   each_search closer (waiting start r ∷ es) inside h k =
-      taken_if (may_take closer r) (record { inside = inside; start = start; opener = r.opener; before = es }) (search closer es (characters r.opener.number start r.opener.count inside)) (k, h)
+      taken_if EachTaken (may_take closer r) (record { inside = inside; start = start; opener = r.opener; before = es }) (search closer es (characters r.opener.number start r.opener.count inside)) (k, h)
       (each_search closer es (characters r.opener.number start r.opener.count inside) h (each_characters r.opener.number start r.opener.count inside k))
 
   each_enclosed : (m : Marks) (d : Delimiter) (number start top end k : ℕ) (inside : Forest Numbered) (es : List Entry) → Each p inside → EachEntry es → EachEntry (enclosed m d number start top end k inside ∷ es)
-  each_enclosed m d number start top end zero inside es h e = (made number start end whole_text (refl, refl, refl), h, e)
-  each_enclosed m d number start top end (suc zero) inside es h e = (made _ _ _ (layer_of_one m d) (one_unnamed m d), h, e)
-  each_enclosed m d number start top end (suc (suc zero)) inside es h e = (made _ _ _ (layer_of_two m d) (two_unnamed m d), h, e)
+  each_enclosed m d number start top end zero inside es h e = (made number start end whole_text (refl, refl, refl, refl, refl), h, e)
+  each_enclosed m d number start top end (suc zero) inside es h e = (made _ _ _ (layer_of_one m d) (one_made m d), h, e)
+  each_enclosed m d number start top end (suc (suc zero)) inside es h e = (made _ _ _ (layer_of_two m d) (two_made m d), h, e)
   each_enclosed m d number start top end (suc (suc (suc k))) inside es h e =
-      each_enclosed m d number start (top - 2) (end + 2) (suc k) (node (labelled (number + (top - 2)) (start + (top - 2)) (end + 2) (layer_of_two m d)) inside nil) es (made _ _ _ (layer_of_two m d) (two_unnamed m d), h, tt) e
+      each_enclosed m d number start (top - 2) (end + 2) (suc k) (node (labelled (number + (top - 2)) (start + (top - 2)) (end + 2) (layer_of_two m d)) inside nil) es (made _ _ _ (layer_of_two m d) (two_made m d), h, tt) e
 
   rest_if : (b : Bool) (n : ℕ) (t : Taken) → EachEntry t.before → EachEntry (if b then waiting t.start (record { dropped = false; opener = without_last n t.opener }) ∷ t.before else t.before)
   rest_if true n t h = h
@@ -156,14 +157,14 @@ module _ (p : Numbered → Type 0) (made : (number start end : ℕ) (b : ItemBod
   each_read m text zero (node a below after) es h e =
       each_tree m (λ skip fs. paired_from m text skip after fs) (run_of text a.item) a below es (λ skip fs k. each_read m text skip after fs h.2 k) h.0 h.1 e
 
-  quote_if : (a : Numbered) (b : ItemBody) → (NamesNothing b) ⊎ (b ≡ a.item.body) → p a → p (with_body b a)
+  quote_if : (a : Numbered) (b : ItemBody) → (IsMade b) ⊎ (b ≡ a.item.body) → p a → p (with_body b a)
   quote_if a b (inl e) h = made a.number a.item.start a.item.end b e
   quote_if a b (inr e) h = subst (λ c. p (with_body c a)) (sym e) h
 
   each_quoted : (single double : Bool) (f : Forest Numbered) → Each p f → Each p (quoted_after single double f)
   each_quoted single double nil h = h
   each_quoted single double (node a below after) h = (
-    quote_if a (turn_at a after single double).made (turn_named (kind_of a.item.body) a.item.body single double (is_closed_later after) (is_nil after)) h.0,
+    quote_if a (turn_at a after single double).made (turn_made (kind_of a.item.body) a.item.body single double (is_closed_later after) (is_nil after)) h.0,
     h.1,
     each_quoted (turn_at a after single double).single (turn_at a after single double).double after h.2,
   )

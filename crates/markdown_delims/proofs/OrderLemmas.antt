@@ -1,63 +1,75 @@
--- Pairing a chain, and doing the same to what is below each of its trees, may be done in either order: where what is
--- done to a chain in which nothing is open is done below its trees alone.
+-- Pairing a chain, and changing what is below each of its trees and the tags of its labels, may be done in either order:
+-- where what is done to a chain in which nothing is open is done below its trees and to its tags alone.
 use Rattle.std.proofs.Common.{◌≡◌, ℕ, zero, suc, ◌-◌, Bool, true, false, List, [], ◌∷◌, length, Option, Some, None, refl, ap, sym, ◌∙◌, map}
-use Rattle.std.specs.Prelude.{⊤, IfSome, not, ◌&&◌, ◌||◌, slice_range}
+use Rattle.std.specs.Prelude.{IfSome, not, ◌&&◌, ◌||◌, slice_range}
+use Rattle.std.specs.List.{AllByRecursion}
+use Rattle.std.proofs.lemmas.List.{length-map}
 use Rattle.markdown_base.specs.Forest.{Forest, nil, node}
-use Rattle.markdown_chains.specs.Document.{Label, as_text, shaped}
+use Rattle.markdown_chains.specs.Document.{Label, is_unresolved, as_text, shaped}
+use Rattle.markdown_chains.specs.Labels.{retag}
 use Rattle.markdown_chains.specs.Setting.{Setting}
+use Rattle.markdown_chains.specs.Waiting.{text_if, as_closed}
 use Rattle.markdown_delims.specs.declared.run.Delimiter.{Delimiter}
 use Rattle.markdown_delims.specs.declared.run.Run.{Run}
 use Rattle.markdown_delims.specs.Layers.{marks_of, layer_of_one, layer_of_two, spanned, run_of}
 use Rattle.markdown_delims.specs.MayPair.{is_tilde_or_caret, may_pair}
-use Rattle.markdown_delims.specs.Pairing.{Read, done, waiting, texts_before, all_done, read_trees, FoundOpener, found_if, nearest_opener, drop_read, dropped_if, Layers, layers, trees_done, still_waiting, last_first, opened_if, left_over, after_layers, after_search, closed_by, run_read, first_texts, as_closed, after_tree, reads_from, runs_paired, paired}
-use Rattle.markdown_delims.specs.PairingLaws.{below_trees}
+use Rattle.markdown_delims.specs.Pairing.{Read, done, waiting, texts_before, all_done, read_trees, FoundOpener, found_if, nearest_opener, drop_read, dropped_if, Layers, layers, trees_done, still_waiting, last_first, opened_if, left_over, after_layers, after_search, closed_by, run_read, first_texts, after_tree, reads_from, runs_paired, paired}
 use Rattle.markdown_delims.specs.Quotes.{kind_of_shape, closes_later, is_closed_later, is_end, QuoteTurn, turn_by, first_turn, quotes_after, with_quotes}
-use Rattle.markdown_delims.proofs.KeepLemmas.{ClosedOver, AllClosed, ReadOver, FoundOver, nearest_over, layers_over, after_layers_over, run_over, firsts_closed, as_closed-closed}
-use Rattle.markdown_delims.proofs.PairedChainLemmas.{two_closed}
+use Rattle.markdown_delims.proofs.KeepLemmas.{EachTree, EachRead, EachFound, Holds, nearest-keeps, found-keeps, firsts-keep, holds-on, IsClosed, IsClosedTree, as_closed-closed, readable, makes-closed}
+use Rattle.markdown_delims.proofs.LayerLawLemmas.{two-closed}
+use Rattle.markdown_delims.proofs.StepLawLemmas.{run-stays}
 
-module _ {A : Type 0} (s : Setting) (within : Forest (Label A) → Forest (Label A)) where
+-- none of a chain's own trees is open, nor is any that was read
+abbrev pub IsClosedChain : {A : Type 0} → Forest (Label A) → Type 0
+IsClosedChain f = EachTree IsClosedTree f
+
+abbrev AreClosed : {A : Type 0} → List (Label A) → Type 0
+AreClosed xs = AllByRecursion IsClosed xs
+
+abbrev Good : {A : Type 0} → List (Read A) → Type 0
+Good rs = EachRead IsClosed IsClosedTree rs
+
+module _ {A B : Type 0} (to : A → B) (within : Forest (Label A) → Forest (Label B)) where
   -- it is done below each tree
-  abbrev pub deep : Forest (Label A) → Forest (Label A)
-  deep f = below_trees within f
+  abbrev pub deep : Forest (Label A) → Forest (Label B)
+  deep nil = nil
+  deep (node a below after) = node (retag to a) (within below) (deep after)
 
-  abbrev Nothing : Forest (Label A) → Type 0
-  Nothing f = ⊤
+  abbrev moved : List (Label A) → List (Label B)
+  moved xs = map (retag to) xs
 
-  abbrev IsClosedChain : Forest (Label A) → Type 0
-  IsClosedChain f = ClosedOver Nothing f
+  abbrev deep_reads : List (Read A) → List (Read B)
+  deep_reads [] = []
+  deep_reads (done a below ∷ rs) = done (retag to a) (within below) ∷ deep_reads rs
+  deep_reads (waiting dropped run xs ∷ rs) = waiting dropped run (moved xs) ∷ deep_reads rs
 
-  abbrev Good : List (Read A) → Type 0
-  Good rs = ReadOver s Nothing tt (λ f h. tt) rs
+  abbrev deep_opener : FoundOpener A → FoundOpener B
+  deep_opener f = record { inside = deep f.inside; run = f.run; characters = moved f.characters; before = deep_reads f.before }
 
-  module _ (within_nil : within nil ≡ nil) (stays : (f : Forest (Label A)) → IsClosedChain f → within f ≡ deep f) where
-    abbrev deep_reads : List (Read A) → List (Read A)
-    deep_reads [] = []
-    deep_reads (done a below ∷ rs) = done a (within below) ∷ deep_reads rs
-    deep_reads (waiting dropped run xs ∷ rs) = waiting dropped run xs ∷ deep_reads rs
+  abbrev deep_found : Option (FoundOpener A) → Option (FoundOpener B)
+  deep_found None = None
+  deep_found (Some f) = Some (deep_opener f)
 
-    abbrev deep_found : Option (FoundOpener A) → Option (FoundOpener A)
-    deep_found None = None
-    deep_found (Some f) = Some (record { inside = deep f.inside; run = f.run; characters = f.characters; before = deep_reads f.before })
+  abbrev deep_layers : Layers A → Layers B
+  deep_layers l = record { whole = deep l.whole; opening = moved l.opening; closing = moved l.closing }
 
-    abbrev deep_layers : Layers A → Layers A
-    deep_layers l = record { whole = deep l.whole; opening = l.opening; closing = l.closing }
-
-    texts_deep : (xs : List (Label A)) (chain : Forest (Label A)) → texts_before xs (deep chain) ≡ deep (texts_before xs chain)
+  module _ (s : Setting) (within_nil : within nil ≡ nil) (stays : (f : Forest (Label A)) → IsClosedChain f → within f ≡ deep f) where
+    texts_deep : (xs : List (Label A)) (chain : Forest (Label A)) → texts_before (moved xs) (deep chain) ≡ deep (texts_before xs chain)
     texts_deep [] chain = refl
-    texts_deep (x ∷ xs) chain = ap (λ (f : Forest (Label A)). texts_before xs (node x f (deep chain))) (sym within_nil) ∙ texts_deep xs (node x nil chain)
+    texts_deep (x ∷ xs) chain = ap (λ (f : Forest (Label B)). texts_before (moved xs) (node (retag to x) f (deep chain))) (sym within_nil) ∙ texts_deep xs (node x nil chain)
 
     trees_deep : (rs : List (Read A)) (after : Forest (Label A)) → read_trees (deep_reads rs) (deep after) ≡ deep (read_trees rs after)
     trees_deep [] after = refl
     trees_deep (done a below ∷ rs) after = trees_deep rs (node a below after)
     trees_deep (waiting dropped run xs ∷ rs) after = ap (read_trees (deep_reads rs)) (texts_deep xs after) ∙ trees_deep rs (texts_before xs after)
 
-    done_deep : (xs : List (Label A)) (rs : List (Read A)) → all_done xs (deep_reads rs) ≡ deep_reads (all_done xs rs)
+    done_deep : (xs : List (Label A)) (rs : List (Read A)) → all_done (moved xs) (deep_reads rs) ≡ deep_reads (all_done xs rs)
     done_deep [] rs = refl
     done_deep (x ∷ xs) rs =
-        ap (λ (f : Forest (Label A)). done x f ∷ all_done xs (deep_reads rs)) (sym within_nil) ∙ ap (λ (os : List (Read A)). done x (within nil) ∷ os) (done_deep xs rs)
+        ap (λ (f : Forest (Label B)). done (retag to x) f ∷ all_done (moved xs) (deep_reads rs)) (sym within_nil)
+        ∙ ap (λ (os : List (Read B)). done (retag to x) (within nil) ∷ os) (done_deep xs rs)
 
-    found_deep : (b : Bool) (f : FoundOpener A) (o : Option (FoundOpener A))
-        → found_if b (record { inside = deep f.inside; run = f.run; characters = f.characters; before = deep_reads f.before }) (deep_found o) ≡ deep_found (found_if b f o)
+    found_deep : (b : Bool) (f : FoundOpener A) (o : Option (FoundOpener A)) → found_if b (deep_opener f) (deep_found o) ≡ deep_found (found_if b f o)
     found_deep true f o = refl
     found_deep false f o = refl
 
@@ -65,87 +77,103 @@ module _ {A : Type 0} (s : Setting) (within : Forest (Label A) → Forest (Label
     nearest_deep closer [] inside = refl
     nearest_deep closer (done a below ∷ rs) inside = nearest_deep closer rs (node a below inside)
     nearest_deep closer (waiting dropped run xs ∷ rs) inside =
-        ap (found_if (not dropped && may_pair run closer) (record { inside = deep inside; run = run; characters = xs; before = deep_reads rs }))
-        (ap (nearest_opener closer (deep_reads rs)) (texts_deep xs inside) ∙ nearest_deep closer rs (texts_before xs inside))
-        ∙ found_deep (not dropped && may_pair run closer) (record { inside = inside; run = run; characters = xs; before = rs }) (nearest_opener closer rs (texts_before xs inside))
+        let f : FoundOpener A = record { inside = inside; run = run; characters = xs; before = rs } in
+        ap (found_if (not dropped && may_pair run closer) (deep_opener f)) (ap (nearest_opener closer (deep_reads rs)) (texts_deep xs inside) ∙ nearest_deep closer rs (texts_before xs inside))
+        ∙ found_deep (not dropped && may_pair run closer) f (nearest_opener closer rs (texts_before xs inside))
 
     dropped_deep : (rs : List (Read A)) → map drop_read (deep_reads rs) ≡ deep_reads (map drop_read rs)
     dropped_deep [] = refl
-    dropped_deep (done a below ∷ rs) = ap (λ (os : List (Read A)). done a (within below) ∷ os) (dropped_deep rs)
-    dropped_deep (waiting dropped run xs ∷ rs) = ap (λ (os : List (Read A)). waiting (dropped || is_tilde_or_caret run.delimiter) run xs ∷ os) (dropped_deep rs)
+    dropped_deep (done a below ∷ rs) = ap (λ (os : List (Read B)). done (retag to a) (within below) ∷ os) (dropped_deep rs)
+    dropped_deep (waiting dropped run xs ∷ rs) = ap (λ (os : List (Read B)). waiting (dropped || is_tilde_or_caret run.delimiter) run (moved xs) ∷ os) (dropped_deep rs)
 
     drop_if_deep : (b : Bool) (rs : List (Read A)) → dropped_if b (deep_reads rs) ≡ deep_reads (dropped_if b rs)
     drop_if_deep true rs = dropped_deep rs
     drop_if_deep false rs = refl
 
-    layers_deep : (d : Delimiter) (xs vs : List (Label A)) (inside : Forest (Label A)) → IsClosedChain inside → layers s d xs vs (deep inside) ≡ deep_layers (layers s d xs vs inside)
+    layers_deep : (d : Delimiter) (xs vs : List (Label A)) (inside : Forest (Label A)) → IsClosedChain inside → layers s d (moved xs) (moved vs) (deep inside) ≡ deep_layers (layers s d xs vs inside)
     layers_deep d [] vs inside h = refl
     layers_deep d (x ∷ xs) [] inside h = refl
     layers_deep d (x ∷ []) (v ∷ vs) inside h =
-        ap (λ (f : Forest (Label A)). let l : Layers A = record { whole = node (spanned s.text (layer_of_one (marks_of s.rules.options) d) x v) f nil; opening = []; closing = vs } in l) (sym (stays inside h))
+        ap (λ (f : Forest (Label B)). let l : Layers B = record { whole = node (retag to (spanned s.text (layer_of_one (marks_of s.rules.options) d) x v)) f nil; opening = []; closing = moved vs } in l) (sym (stays inside h))
     layers_deep d (x ∷ y ∷ xs) (v ∷ []) inside h =
-        ap (λ (f : Forest (Label A)). let l : Layers A = record { whole = node (spanned s.text (layer_of_one (marks_of s.rules.options) d) x v) f nil; opening = y ∷ xs; closing = [] } in l) (sym (stays inside h))
+        ap (λ (f : Forest (Label B)). let l : Layers B = record { whole = node (retag to (spanned s.text (layer_of_one (marks_of s.rules.options) d) x v)) f nil; opening = moved (y ∷ xs); closing = [] } in l) (sym (stays inside h))
     layers_deep d (x ∷ y ∷ xs) (v ∷ w ∷ vs) inside h =
-        ap (λ (f : Forest (Label A)). layers s d xs vs (node (spanned s.text (layer_of_two (marks_of s.rules.options) d) y w) f nil)) (sym (stays inside h))
-        ∙ layers_deep d xs vs (node (spanned s.text (layer_of_two (marks_of s.rules.options) d) y w) inside nil) (two_closed (marks_of s.rules.options) d (slice_range s.text y.part.range.start w.part.range.end), tt, tt)
+        ap (λ (f : Forest (Label B)). layers s d (moved xs) (moved vs) (node (retag to (spanned s.text (layer_of_two (marks_of s.rules.options) d) y w)) f nil)) (sym (stays inside h))
+        ∙ layers_deep d xs vs (node (spanned s.text (layer_of_two (marks_of s.rules.options) d) y w) inside nil) (two-closed (marks_of s.rules.options) d (slice_range s.text y.part.range.start w.part.range.end), tt)
 
     done_trees_deep : (f : Forest (Label A)) (rs : List (Read A)) → trees_done (deep f) (deep_reads rs) ≡ deep_reads (trees_done f rs)
     done_trees_deep nil rs = refl
     done_trees_deep (node a below after) rs = done_trees_deep after (done a below ∷ rs)
 
-    still_deep : (run : Run) (xs : List (Label A)) (rs : List (Read A)) → still_waiting run xs (deep_reads rs) ≡ deep_reads (still_waiting run xs rs)
+    still_deep : (run : Run) (xs : List (Label A)) (rs : List (Read A)) → still_waiting run (moved xs) (deep_reads rs) ≡ deep_reads (still_waiting run xs rs)
     still_deep run [] rs = refl
     still_deep run (x ∷ xs) rs = refl
 
-    opened_deep : (b : Bool) (run : Run) (xs : List (Label A)) (rs : List (Read A)) → opened_if b run xs (deep_reads rs) ≡ deep_reads (opened_if b run xs rs)
+    turned_deep : (xs ys : List (Label A)) → last_first (moved xs) (moved ys) ≡ moved (last_first xs ys)
+    turned_deep [] ys = refl
+    turned_deep (x ∷ xs) ys = turned_deep xs (x ∷ ys)
+
+    opened_deep : (b : Bool) (run : Run) (xs : List (Label A)) (rs : List (Read A)) → opened_if b run (moved xs) (deep_reads rs) ≡ deep_reads (opened_if b run xs rs)
     opened_deep true run xs rs = refl
     opened_deep false run xs rs = done_deep xs rs
 
-    abbrev IsDeep : (List (Label A) → List (Read A) → List (Read A)) → Type 0
-    IsDeep again = (vs : List (Label A)) (rs : List (Read A)) → AllClosed vs → Good rs → again vs (deep_reads rs) ≡ deep_reads (again vs rs)
+    left_deep : (run : Run) (vs : List (Label A)) (rs : List (Read A)) → left_over run (moved vs) (deep_reads rs) ≡ deep_reads (left_over run vs rs)
+    left_deep run vs rs = ap (λ (xs : List (Label B)). opened_if run.can_open run xs (deep_reads rs)) (turned_deep vs []) ∙ opened_deep run.can_open run (last_first vs []) rs
 
-    searched_deep : (again : List (Label A) → List (Read A) → List (Read A)) (closer : Run) (vs : List (Label A)) (rs : List (Read A)) (o : Option (FoundOpener A)) → IsDeep again → AllClosed vs
-        → IfSome o (FoundOver s Nothing tt (λ f h. tt)) → after_search s again closer vs (deep_reads rs) (deep_found o) ≡ deep_reads (after_search s again closer vs rs o)
-    searched_deep again closer vs rs None h k g =
-        ap (left_over closer vs) (drop_if_deep (is_tilde_or_caret closer.delimiter) rs) ∙ opened_deep closer.can_open closer (last_first vs []) (dropped_if (is_tilde_or_caret closer.delimiter) rs)
-    searched_deep again closer vs rs (Some f) h k g =
+    abbrev IsDeep : (List (Label B) → List (Read B) → List (Read B)) → (List (Label A) → List (Read A) → List (Read A)) → Type 0
+    IsDeep again' again = (vs : List (Label A)) (rs : List (Read A)) → AreClosed vs → Good rs → again' (moved vs) (deep_reads rs) ≡ deep_reads (again vs rs)
+
+    searched_deep : (again' : List (Label B) → List (Read B) → List (Read B)) (again : List (Label A) → List (Read A) → List (Read A)) (closer : Run) (vs : List (Label A)) (rs : List (Read A))
+        (o : Option (FoundOpener A)) → IsDeep again' again → AreClosed vs → IfSome o (EachFound IsClosed IsClosedTree)
+        → after_search s again' closer (moved vs) (deep_reads rs) (deep_found o) ≡ deep_reads (after_search s again closer vs rs o)
+    searched_deep again' again closer vs rs None h k g =
+        ap (left_over closer (moved vs)) (drop_if_deep (is_tilde_or_caret closer.delimiter) rs) ∙ left_deep closer vs (dropped_if (is_tilde_or_caret closer.delimiter) rs)
+    searched_deep again' again closer vs rs (Some f) h k g =
         let made : Layers A = layers s f.run.delimiter f.characters vs f.inside in
-        ap (λ (l : Layers A). again l.closing (trees_done l.whole (still_waiting f.run l.opening (deep_reads f.before)))) (layers_deep f.run.delimiter f.characters vs f.inside g.0)
-        ∙ ap (λ (rs : List (Read A)). again made.closing (trees_done (deep made.whole) rs)) (still_deep f.run made.opening f.before)
-        ∙ ap (again made.closing) (done_trees_deep made.whole (still_waiting f.run made.opening f.before))
-        ∙ h made.closing (after_layers f made) (layers_over s Nothing tt (λ f h. tt) f.run.delimiter f.characters vs f.inside g.1 k g.0).2 (after_layers_over s Nothing tt (λ f h. tt) f vs g k)
+        let holds = found-keeps IsClosed IsClosedTree s (makes-closed s) vs nil f k tt g in
+        ap (λ (l : Layers B). again' l.closing (trees_done l.whole (still_waiting f.run l.opening (deep_reads f.before)))) (layers_deep f.run.delimiter f.characters vs f.inside g.0)
+        ∙ ap (λ (rs : List (Read B)). again' (moved made.closing) (trees_done (deep made.whole) rs)) (still_deep f.run made.opening f.before)
+        ∙ ap (again' (moved made.closing)) (done_trees_deep made.whole (still_waiting f.run made.opening f.before))
+        ∙ h made.closing (after_layers f made) holds.0 holds.1
 
-    closed_deep : (turns : ℕ) (closer : Run) (vs : List (Label A)) (rs : List (Read A)) → AllClosed vs → Good rs → closed_by s turns closer vs (deep_reads rs) ≡ deep_reads (closed_by s turns closer vs rs)
+    closed_deep : (turns : ℕ) (closer : Run) (vs : List (Label A)) (rs : List (Read A)) → AreClosed vs → Good rs → closed_by s turns closer (moved vs) (deep_reads rs) ≡ deep_reads (closed_by s turns closer vs rs)
     unfolding closed_by
     closed_deep zero closer [] rs h k = refl
     closed_deep (suc turns) closer [] rs h k = refl
     closed_deep zero closer (v ∷ vs) rs h k = refl
     closed_deep (suc turns) closer (v ∷ vs) rs h k =
-        ap (after_search s (λ left others. closed_by s turns closer left others) closer (v ∷ vs) (deep_reads rs)) (nearest_deep closer rs nil)
-        ∙ searched_deep (λ left others. closed_by s turns closer left others) closer (v ∷ vs) rs (nearest_opener closer rs nil) (λ left others a b. closed_deep turns closer left others a b) h
-        (nearest_over s Nothing tt (λ f h. tt) closer rs nil k tt)
+        ap (after_search s (λ left others. closed_by s turns closer left others) closer (moved (v ∷ vs)) (deep_reads rs)) (nearest_deep closer rs nil)
+        ∙ searched_deep (λ left others. closed_by s turns closer left others) (λ left others. closed_by s turns closer left others) closer (v ∷ vs) rs (nearest_opener closer rs nil)
+        (λ left others a b. closed_deep turns closer left others a b) h
+        (nearest-keeps IsClosed IsClosedTree s (makes-closed s) closer rs nil k tt)
 
-    run_deep : (b : Bool) (run : Run) (vs : List (Label A)) (rs : List (Read A)) → AllClosed vs → Good rs → run_read s b run vs (deep_reads rs) ≡ deep_reads (run_read s b run vs rs)
-    run_deep true run vs rs h k = closed_deep (length vs) run vs rs h k
-    run_deep false run vs rs h k = opened_deep run.can_open run (last_first vs []) rs
+    run_deep : (b : Bool) (run : Run) (vs : List (Label A)) (rs : List (Read A)) → AreClosed vs → Good rs → run_read s b run (moved vs) (deep_reads rs) ≡ deep_reads (run_read s b run vs rs)
+    run_deep true run vs rs h k = ap (λ n. closed_by s n run (moved vs) (deep_reads rs)) (length-map vs (retag to)) ∙ closed_deep (length vs) run vs rs h k
+    run_deep false run vs rs h k = left_deep run vs rs
 
-    firsts_deep : (n : ℕ) (chain : Forest (Label A)) → first_texts s.text n (deep chain) ≡ first_texts s.text n chain
+    firsts_deep : (n : ℕ) (chain : Forest (Label A)) → first_texts s.text n (deep chain) ≡ moved (first_texts s.text n chain)
     firsts_deep zero chain = refl
     firsts_deep (suc n) nil = refl
-    firsts_deep (suc n) (node a below after) = ap (λ (xs : List (Label A)). as_text s.text a ∷ xs) (firsts_deep n after)
+    firsts_deep (suc n) (node a below after) = ap (λ (xs : List (Label B)). as_text s.text (retag to a) ∷ xs) (firsts_deep n after)
 
-    abbrev NextDeep : (ℕ → List (Read A) → List (Read A)) → (ℕ → List (Read A) → List (Read A)) → Type 0
+    text_deep : (b : Bool) (a : Label A) → text_if b s.text (retag to a) ≡ retag to (text_if b s.text a)
+    text_deep true a = refl
+    text_deep false a = refl
+
+    abbrev NextDeep : (ℕ → List (Read B) → List (Read B)) → (ℕ → List (Read A) → List (Read A)) → Type 0
     NextDeep go_on' go_on = (skip : ℕ) (fs : List (Read A)) → Good fs → go_on' skip (deep_reads fs) ≡ deep_reads (go_on skip fs)
 
-    tree_deep : (go_on' go_on : ℕ → List (Read A) → List (Read A)) (a : Label A) (below after : Forest (Label A)) (rs : List (Read A)) (o : Option Run) → NextDeep go_on' go_on → Good rs
-        → after_tree s go_on' a (within below) (deep after) (deep_reads rs) o ≡ deep_reads (after_tree s go_on a below after rs o)
-    tree_deep go_on' go_on a below after rs None h k = h 0 (done (as_closed s.text a) below ∷ rs) (as_closed-closed s Nothing tt (λ f h. tt) a, tt, k)
+    tree_deep : (go_on' : ℕ → List (Read B) → List (Read B)) (go_on : ℕ → List (Read A) → List (Read A)) (a : Label A) (below after : Forest (Label A)) (rs : List (Read A)) (o : Option Run) → NextDeep go_on' go_on
+        → Good rs → after_tree s go_on' (retag to a) (within below) (deep after) (deep_reads rs) o ≡ deep_reads (after_tree s go_on a below after rs o)
+    tree_deep go_on' go_on a below after rs None h k =
+        ap (λ (l : Label B). go_on' 0 (done l (within below) ∷ deep_reads rs)) (text_deep (is_unresolved a.part.shape) a) ∙ h 0 (done (as_closed s.text a) below ∷ rs) (as_closed-closed s.text a, k)
     tree_deep go_on' go_on a below after rs (Some run) h k =
         let vs : List (Label A) = first_texts s.text run.length (node a below after) in
-        let closed : AllClosed vs = firsts_closed s Nothing tt (λ f h. tt) run.length (node a below after) in
-        ap (λ (xs : List (Label A)). go_on' (run.length - 1) (run_read s run.can_close run xs (deep_reads rs))) (firsts_deep run.length (node a below after))
+        let closed : AreClosed vs = (firsts-keep IsClosed IsClosedTree s (makes-closed s) run.length (node a below after) (readable s (node a below after))).0 in
+        ap (λ (xs : List (Label B)). go_on' (run.length - 1) (run_read s run.can_close run xs (deep_reads rs))) (firsts_deep run.length (node a below after))
         ∙ ap (go_on' (run.length - 1)) (run_deep run.can_close run vs rs closed k)
-        ∙ h (run.length - 1) (run_read s run.can_close run vs rs) (run_over s Nothing tt (λ f h. tt) run.can_close run vs rs closed k)
+        ∙ h (run.length - 1) (run_read s run.can_close run vs rs)
+        (run-stays s (Holds IsClosed IsClosedTree s (makes-closed s)) (holds-on IsClosed IsClosedTree s (makes-closed s)) run.can_close run vs rs nil (closed, k, tt)).1
 
     reads_deep : (skip : ℕ) (chain : Forest (Label A)) (rs : List (Read A)) → Good rs → reads_from s skip (deep chain) (deep_reads rs) ≡ deep_reads (reads_from s skip chain rs)
     unfolding reads_from
@@ -165,16 +193,16 @@ module _ {A : Type 0} (s : Setting) (within : Forest (Label A) → Forest (Label
     quotes_deep : (single double : Bool) (chain : Forest (Label A)) → quotes_after single double (deep chain) ≡ deep (quotes_after single double chain)
     quotes_deep single double nil = refl
     quotes_deep single double (node a below after) =
-        ap (λ (t : QuoteTurn). node (shaped t.made a) (within below) (quotes_after t.single t.double (deep after)))
+        ap (λ (t : QuoteTurn). node (shaped t.made (retag to a)) (within below) (quotes_after t.single t.double (deep after)))
         (ap (λ l. turn_by (kind_of_shape a.part.shape) a.part.shape single double l (is_end (deep after))) (later_deep after)
         ∙ ap (λ e. turn_by (kind_of_shape a.part.shape) a.part.shape single double (is_closed_later after) e) (end_deep after))
-        ∙ ap (λ (f : Forest (Label A)). node (shaped (first_turn a after single double).made a) (within below) f)
+        ∙ ap (λ (f : Forest (Label B)). node (shaped (first_turn a after single double).made (retag to a)) (within below) f)
         (quotes_deep (first_turn a after single double).single (first_turn a after single double).double after)
 
     -- in either order
     pub paired-deep : (chain : Forest (Label A)) → paired s (deep chain) ≡ deep (paired s chain)
     unfolding paired runs_paired with_quotes
     paired-deep chain =
-        ap (λ (f : Forest (Label A)). read_trees (reads_from s 0 f []) nil) (quotes_deep false false chain)
-        ∙ ap (λ (rs : List (Read A)). read_trees rs nil) (reads_deep 0 (quotes_after false false chain) [] tt)
+        ap (λ (f : Forest (Label B)). read_trees (reads_from s 0 f []) nil) (quotes_deep false false chain)
+        ∙ ap (λ (rs : List (Read B)). read_trees rs nil) (reads_deep 0 (quotes_after false false chain) [] tt)
         ∙ trees_deep (reads_from s 0 (quotes_after false false chain) []) nil

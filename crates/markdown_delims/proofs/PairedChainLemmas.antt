@@ -1,11 +1,10 @@
 -- A chain that was paired in place reads as its labels paired, and has no node more.
-use Rattle.std.proofs.Common.{◌≡◌, ℕ, suc, ◌+◌, ◌≤◌, Bool, true, false, List, [], Option, Some, None, length, refl, ap, sym, ◌∙◌, subst, arith}
+use Rattle.std.proofs.Common.{◌≡◌, ℕ, suc, ◌+◌, ◌≤◌, Bool, true, false, List, Option, Some, None, length, refl, ap, sym, ◌∙◌, subst, arith}
 use Rattle.std.specs.Prelude.{◌==◌, ◌&&◌, ◌||◌, if◌then◌else◌, slice_range}
 use Rattle.std.proofs.lemmas.Bool.{eqb-true}
 use Rattle.markdown_base.specs.Arena.{Arena}
 use Rattle.markdown_base.specs.ArenaForest.{links_of, forest_at}
 use Rattle.markdown_base.specs.BlockTree.{Numbered, numbered, item_at}
-use Rattle.markdown_base.specs.Event.{TagView}
 use Rattle.markdown_base.specs.Forest.{Forest, nil, node, Each, roots, relabelled}
 use Rattle.markdown_base.specs.Item.{is_open}
 use Rattle.markdown_base.specs.WellFormed.{RunCharacter, run_character}
@@ -15,33 +14,33 @@ use Rattle.markdown_base.specs.declared.item.ItemBody.{ItemBody}
 use Rattle.markdown_base.specs.declared.item.ItemBody.TheVariants as body
 use Rattle.markdown_base.specs.declared.node.Node.{Node}
 use Rattle.markdown_base.proofs.ForestLemmas.{relabelled-relabelled}
-use Rattle.markdown_chains.specs.Document.{Shape, Label, is_unresolved, shape_of, text_over}
+use Rattle.markdown_chains.specs.Document.{Label, is_unresolved, shape_of}
 use Rattle.markdown_chains.specs.Setting.{Setting}
 use Rattle.markdown_chains.specs.Totals.{total, same, same_as, naming, times_named, weight_if, weight_at}
 use Rattle.markdown_chains.proofs.FoundLemmas.{found}
 use Rattle.markdown_chains.proofs.TablesLemmas.{same-refl}
-use Rattle.markdown_chains.proofs.PlaceLemmas.{shape-open, some_weight}
+use Rattle.markdown_chains.proofs.PlaceLemmas.{shape-open}
 use Rattle.markdown_delims.specs.declared.marks.Marks.{Marks}
 use Rattle.markdown_delims.specs.declared.quotes.Kind.{Kind}
 use Rattle.markdown_delims.specs.declared.quotes.Kind.TheVariants as kind
-use Rattle.markdown_delims.specs.declared.run.Delimiter.{Delimiter}
-use Rattle.markdown_delims.specs.declared.run.Delimiter.TheVariants.{Star, Underscore, Tilde, Caret}
 use Rattle.markdown_delims.specs.ChainForest.{among, NoneBelow, chain_of, IsChain}
-use Rattle.markdown_delims.specs.Layers.{enclosed_if, marks_of, layer_of_one, layer_of_two}
+use Rattle.markdown_delims.specs.Layers.{marks_of}
 use Rattle.markdown_delims.specs.PairedChain.{WaitsForPairing, CanPair, PairsChain}
-use Rattle.markdown_delims.specs.Pairing.{waits_for_pairing, runs_paired, paired}
+use Rattle.markdown_chains.specs.Waiting.{waits_for_pairing}
+use Rattle.markdown_delims.specs.Pairing.{runs_paired, paired}
 use Rattle.markdown_delims.specs.QuoteBodies.{kind_of, is_closed_later as later_of, turn_of, is_nil, turn_at, quoted_after, quoted}
-use Rattle.markdown_delims.specs.Quotes.{kind_of_shape, is_closed_later, is_end, turn_by}
 use Rattle.markdown_delims.specs.Quoting.{IsSpelled, IsResolved}
 use Rattle.markdown_delims.specs.RunReading.{IsWhole, counts_one, delimiters_of}
 use Rattle.markdown_delims.specs.Views.{Rises}
 use Rattle.markdown_delims.proofs.ChainLemmas.{rises_chain}
 use Rattle.markdown_delims.proofs.LabelLemmas.{look, trees}
-use Rattle.markdown_delims.proofs.NodeLemmas.{NamesNothing, each-paired}
+use Rattle.markdown_delims.proofs.NodeLemmas.{IsMade, each-paired}
 use Rattle.markdown_delims.proofs.PairingLemmas.{HasRunsOnly, closed_shape, runs_seen}
+use Rattle.markdown_delims.proofs.PlacedLemmas.{items_placed, moved, moved_count, none_moved, still_before}
 use Rattle.markdown_delims.proofs.QuoteChainLemmas.{run_made, whole_quoted}
 use Rattle.markdown_delims.proofs.QuoteShapeLemmas.{with_quotes_seen}
 use Rattle.markdown_delims.proofs.SumLemmas.{sum_of, CountsNoMore, sum-paired}
+use Rattle.markdown_delims.proofs.WeightLawLemmas.{weighs, weights-count}
 
 -- how often a number stands among a chain's own nodes, and how often below them
 abbrev pub root_times : ℕ → Forest ℕ → ℕ
@@ -187,59 +186,12 @@ open_agrees tables source b = by_open (is_open b) refl
     by_open true e = ap is_unresolved (shape-open tables source b e) ∙ sym e
     by_open false e = closed_shape tables source b e ∙ sym e
 
-abbrev weighs : {A : Type 0} → Label A → ℕ
-weighs a = weight_if (is_unresolved a.part.shape)
-
 weight_sum : (s : Setting) (nodes : List (Node Item)) (f : Forest ℕ) → sum_of weighs (numbers s nodes f) ≡ total (weight_at nodes) f
 weight_sum s nodes nil = refl
 weight_sum s nodes (node ix below after) =
     let here : weight_if (is_unresolved (shape_of no_tables (slice_range s.text (item_at nodes ix).start (item_at nodes ix).end) (item_at nodes ix).body)) ≡ weight_at nodes ix =
     ap weight_if (open_agrees no_tables (slice_range s.text (item_at nodes ix).start (item_at nodes ix).end) (item_at nodes ix).body) in
     omega (arith, here, weight_sum s nodes below, weight_sum s nodes after)
-
-enclosed_closed : (b : Bool) (t : TagView) (other : Shape) → is_unresolved other ≡ false → is_unresolved (enclosed_if b t other) ≡ false
-enclosed_closed true t other h = refl
-enclosed_closed false t other h = h
-
-pub two_closed : (m : Marks) (d : Delimiter) (source : List ℕ) → is_unresolved (layer_of_two m d source) ≡ false
-two_closed m Star source = refl
-two_closed m Underscore source = refl
-two_closed m Tilde source = enclosed_closed m.strikethrough _ (text_over source) refl
-two_closed m Caret source = enclosed_closed m.superscript _ (text_over source) refl
-
-pub one_closed : (m : Marks) (d : Delimiter) (source : List ℕ) → is_unresolved (layer_of_one m d source) ≡ false
-one_closed m Star source = refl
-one_closed m Underscore source = refl
-one_closed m Tilde source = enclosed_closed m.subscript _ _ (enclosed_closed m.strikethrough _ (text_over source) refl)
-one_closed m Caret source = enclosed_closed m.superscript _ (text_over source) refl
-
--- what is not open weighs least
-least : (b c : Bool) → b ≡ false → weight_if b ≤ weight_if c
-least b c e = subst (λ x. weight_if x ≤ weight_if c) (sym e) (some_weight c)
-
-turn_weight : (k : Kind) (shape : Shape) (single double later last : Bool) → weight_if (is_unresolved (turn_by k shape single double later last).made) ≤ weight_if (is_unresolved shape)
-turn_weight (kind.Single opens true) shape true double later last = some_weight (is_unresolved shape)
-turn_weight (kind.Single true false) shape true double true last = some_weight (is_unresolved shape)
-turn_weight (kind.Single true false) shape true double false last = some_weight (is_unresolved shape)
-turn_weight (kind.Single false false) shape true double later last = some_weight (is_unresolved shape)
-turn_weight (kind.Single true closes) shape false double true last = some_weight (is_unresolved shape)
-turn_weight (kind.Single true closes) shape false double false last = some_weight (is_unresolved shape)
-turn_weight (kind.Single false closes) shape false double later last = some_weight (is_unresolved shape)
-turn_weight (kind.Double opens true) shape single true later last = some_weight (is_unresolved shape)
-turn_weight (kind.Double opens false) shape single true later last = some_weight (is_unresolved shape)
-turn_weight (kind.Double opens closes) shape single false later last = some_weight (is_unresolved shape)
-turn_weight kind.Break shape single double later true = some_weight (is_unresolved shape)
-turn_weight kind.Break shape single double later false = omega arith
-turn_weight kind.Other shape single double later last = omega arith
-
-weights_count : {A : Type 0} (s : Setting) → CountsNoMore {A = A} s weighs
-weights_count s =
-    record {
-      text = λ a. some_weight (is_unresolved a.part.shape);
-      one = λ d x v. least _ (is_unresolved x.part.shape) (one_closed (marks_of s.rules.options) d (slice_range s.text x.part.range.start v.part.range.end));
-      two = λ d x v. least _ (is_unresolved x.part.shape) (two_closed (marks_of s.rules.options) d (slice_range s.text x.part.range.start v.part.range.end));
-      quote = λ a after x y. turn_weight (kind_of_shape a.part.shape) a.part.shape x y (is_closed_later after) (is_end after);
-    }
 
 -- a number that stands nowhere in a chain is none of its own
 outside_if : (n : ℕ) (f : Forest ℕ) (b : Bool) → among (roots f) n ≡ b → total (same n) f ≡ 0 → among (roots f) n ≡ false
@@ -255,7 +207,7 @@ names_less : (old new : List (Node Item)) (n : Named) (f : Forest ℕ) → Each 
 names_less old new n nil h = omega arith
 names_less old new n (node ix below after) h = omega (arith, h.0, names_less old new n below h.1, names_less old new n after h.2)
 
-none_named : (n : Named) (i : ℕ) (b : ItemBody) → NamesNothing b → times_named n b ≤ i
+none_named : (n : Named) (i : ℕ) (b : ItemBody) → IsMade b → times_named n b ≤ i
 none_named (some_text n) i b e = subst (λ x. same_as n x ≤ i) (sym e.0) (omega arith)
 none_named (some_link n) i b e = subst (λ x. same_as n x ≤ i) (sym e.1) (omega arith)
 none_named (some_alignments n) i b e = subst (λ x. same_as n x ≤ i) (sym e.2) (omega arith)
@@ -292,6 +244,19 @@ pairs_chain s old new first c p =
       outside = λ n none.
           let same_at = p.kept.others n (outside_if n f (among (roots f) n) refl none) in
           record { child = same_at.child; next = same_at.next; item = same_at.item };
+      placed = λ tables blocks reaches. record {
+        spelled = rw is p.spelled;
+        each = rw is
+            (items_placed (marks_of s.rules.options) s.text tables old.nodes new.nodes (Some first) (Some first) f p.forest c.whole (runs_only (chain_of old.nodes f) false false c.waits) blocks reaches.spelled reaches.each
+            p.spelled p.resolves);
+      };
+      before = still_before s old.nodes new.nodes first p.forest p.spelled
+          (omega (
+            arith,
+            none_moved s old.nodes f,
+            ap (sum_of (moved old.nodes)) made,
+            sum-paired s (moved old.nodes) (moved_count s old.nodes) (numbers s old.nodes f),
+          ));
       named = λ n. rw is
           (omega (
             arith,
@@ -302,5 +267,5 @@ pairs_chain s old new first c p =
             sum-paired s (λ (a : Label ℕ). naming old.nodes n a.tag) (tags_count (naming old.nodes n) s) (numbers s old.nodes f),
           ));
       no_heavier = rw is
-          (omega (arith, weight_sum s new.nodes p.forest, weight_sum s old.nodes f, ap (sum_of weighs) made, sum-paired s weighs (weights_count s) (numbers s old.nodes f)));
+          (omega (arith, weight_sum s new.nodes p.forest, weight_sum s old.nodes f, ap (sum_of weighs) made, sum-paired s weighs (weights-count s) (numbers s old.nodes f)));
     }

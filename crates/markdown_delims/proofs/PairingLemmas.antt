@@ -20,9 +20,11 @@ use Rattle.markdown_delims.specs.Entries.{Entry, settled, lone, waiting as open_
 use Rattle.markdown_delims.specs.Layers.{marks_of, run_of_shape, run_of}
 use Rattle.markdown_delims.specs.MarkBodies.{run_if, run_of as run_of_item}
 use Rattle.markdown_delims.specs.MayPair.{delimiter_of, is_tilde_or_caret, may_take}
-use Rattle.markdown_delims.specs.Pairing.{Read, done, read_trees, nearest_opener, Layers, layers, trees_done, still_waiting, left_over, after_layers, after_search, closed_by, run_read, first_texts, text_if, after_tree, reads_from, runs_paired}
+use Rattle.markdown_chains.specs.Waiting.{text_if}
+use Rattle.markdown_delims.specs.Pairing.{Read, done, read_trees, nearest_opener, Layers, layers, trees_done, still_waiting, left_over, after_layers, after_search, closed_by, run_read, first_texts, after_tree, reads_from, runs_paired}
 use Rattle.markdown_delims.specs.RunReading.{StandsWhole, IsWhole}
 use Rattle.markdown_delims.proofs.LabelLemmas.{look, trees, firsts, lasts, seen, seen_trees, seen_taken, search_seen, dropped_seen, left_seen, tree_of_entry, layers_seen, IsTree, enclosed_tree, entry_seen, rest_seen}
+use Rattle.markdown_delims.proofs.NodeLemmas.{taken_if}
 use Rattle.markdown_chains.proofs.PlaceLemmas.{open-unresolved}
 
 -- each open run has characters
@@ -59,16 +61,12 @@ kept_counted start c es some h = kept_if_counted c.run.can_open start c es some 
 abbrev GoodTaken : Taken → Type 0
 GoodTaken t = (0 < t.opener.count) × AllCounted t.before
 
-taken_good_if : (b : Bool) (t : Taken) (further : Option Taken) → GoodTaken t → IfSome further GoodTaken → IfSome (if b then Some t else further) GoodTaken
-taken_good_if true t further h g = h
-taken_good_if false t further h g = g
-
 search_good : (closer : Run) (es : List Entry) (inside : Forest Numbered) → AllCounted es → IfSome (search closer es inside) GoodTaken
 search_good closer [] inside h = tt
 search_good closer (settled a below ∷ es) inside h = search_good closer es (node a below inside) h
 search_good closer (lone number start n ∷ es) inside h = search_good closer es (characters number start n inside) h
 search_good closer (open_entry start r ∷ es) inside h =
-    taken_good_if (may_take closer r) (record { inside = inside; start = start; opener = r.opener; before = es }) (search closer es (characters r.opener.number start r.opener.count inside)) h
+    taken_if GoodTaken (may_take closer r) (record { inside = inside; start = start; opener = r.opener; before = es }) (search closer es (characters r.opener.number start r.opener.count inside)) h
     (search_good closer es (characters r.opener.number start r.opener.count inside) h.1)
 
 rest_counted : (k : ℕ) (t : Taken) → AllCounted t.before → AllCounted (rest_open k t)
@@ -248,7 +246,7 @@ closed_shape tables source b e = closed_if (is_unresolved (shape_of tables sourc
     closed_if false p = p
 
 -- a delimiter's byte is one of the four
-delimiter_some : (i : ℕ) → IsTrue (is_delimiter i) → (d : Delimiter) × (delimiter_of i ≡ Some d)
+pub delimiter_some : (i : ℕ) → IsTrue (is_delimiter i) → (d : Delimiter) × (delimiter_of i ≡ Some d)
 delimiter_some i h =
     star (i == 42) refl
   where
@@ -286,7 +284,7 @@ run_of_closed plain d h = refl
 run_of_closed backslash_break d h = refl
 run_of_closed (unresolved b) d h = cc h
 
-count_some : (text : List ℕ) (a : Numbered) (n : ℕ) (opens closes : Bool) (next : Option Numbered) → RunGoesOn text a n opens closes next → 0 < n
+pub count_some : (text : List ℕ) (a : Numbered) (n : ℕ) (opens closes : Bool) (next : Option Numbered) → RunGoesOn text a n opens closes next → 0 < n
 count_some text a zero opens closes next g = absurd g
 count_some text a (suc n) opens closes next g = omega arith
 

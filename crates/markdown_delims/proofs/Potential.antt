@@ -1,6 +1,7 @@
 -- How many runs stand at or above the bounds, as a stack and its bounds change.
 use Rattle.std.proofs.Common.{◌≡◌, ℕ, ◌+◌, ◌-◌, ◌%◌, ◌≤◌, min, Bool, true, false, List, length, refl, arith}
 use Rattle.std.specs.Prelude.{if◌then◌else◌, ◌==◌}
+use Rattle.std.proofs.Math.Nat.{add-le-add}
 use Rattle.std.proofs.lemmas.Bool.{eqb-false, eq-eqb}
 use Rattle.markdown_delims.specs.declared.run.Delimiter.{Delimiter}
 use Rattle.markdown_delims.specs.declared.run.Delimiter.TheVariants.{Star, Underscore, Tilde, Caret}
@@ -43,17 +44,10 @@ cut_above n m a h = omega arith
 
 character_above-cut : (n m : ℕ) (b : CharacterBounds) → n ≤ m → character_above n (character_lowered n b) ≤ character_above m b
 character_above-cut n m b h =
-    five _ _ _ _ _ _ _ _ (cut_above n m b.cannot_open h) (cut_above n m b.remainder_zero h) (cut_above n m b.remainder_one h) (cut_above n m b.remainder_two h)
-  where
-    five : (a b c d e f g h : ℕ) → a ≤ b → c ≤ d → e ≤ f → g ≤ h → a + c + e + g ≤ b + d + f + h
-    five a b c d e f g h p q r s = omega arith
+    add-le-add (add-le-add (add-le-add (cut_above n m b.cannot_open h) (cut_above n m b.remainder_zero h)) (cut_above n m b.remainder_one h)) (cut_above n m b.remainder_two h)
 
 pub above_bounds-cut : (n m : ℕ) (b : LowerBounds) → n ≤ m → above_bounds n (lowered n b) ≤ above_bounds m b
-above_bounds-cut n m b h =
-    three _ _ _ _ _ _ (character_above-cut n m b.star h) (character_above-cut n m b.underscore h) (cut_above n m b.tilde h)
-  where
-    three : (a b c d e f : ℕ) → a ≤ b → c ≤ d → e ≤ f → a + c + e ≤ b + d + f
-    three a b c d e f p q r = omega arith
+above_bounds-cut n m b h = add-le-add (add-le-add (character_above-cut n m b.star h) (character_above-cut n m b.underscore h)) (cut_above n m b.tilde h)
 
 -- raising the bounds that were read pays for all that was examined
 raised_above : (bo t0 t1 t2 : Bool) (n c z o w : ℕ) → (t0 ≡ false → t1 ≡ false → t2 ≡ true) →

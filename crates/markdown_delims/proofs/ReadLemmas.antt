@@ -16,7 +16,7 @@ use Rattle.markdown_delims.specs.MarkBodies.{run_if, run_of}
 use Rattle.markdown_delims.specs.Entries.{Entry, settled, flat, open_of, with_run, all_of_run, after_tree, paired_from}
 use Rattle.markdown_delims.specs.Views.{view_of, Rises}
 use Rattle.markdown_delims.specs.ChainStanding.{Chain, Stands, ReadsOn, CanRead}
-use Rattle.markdown_delims.specs.RunReading.{StandsWhole, IsWhole, BeginsRun, counts_one, delimiters_of, Settles, CanSettle, ReadFurther}
+use Rattle.markdown_delims.specs.RunReading.{StandsWhole, IsWhole, BeginsRun, counts_one, delimiters_of, Settles, CanSettle, ReadFurther, CanReadTree}
 use Rattle.markdown_delims.proofs.CutLemmas.{Rises-lower, step_right}
 use Rattle.markdown_delims.proofs.EncloseLemmas.{kept_none, kept_both}
 
@@ -198,3 +198,13 @@ module _ (m : Marks) (text : List ℕ) (h : Chain) (s : Arena Item) (es : List E
         paid = omega (arith, r.begins.fewer);
         further = r.rises;
       }
+
+-- the same of a chain that can be read, at the item that stands there
+pub met_here : (m : Marks) (text : List ℕ) (s : Arena Item) (ix : ℕ) (last : Option ℕ) (runs : List OpenRun) (cost : ℕ) (p : CanReadTree text ix last s runs cost) (item : Item) (run : Run) → item ≡ item_at s.nodes ix → Some run ≡ run_of text item
+    → RunHere m text p.chain s p.es last ix run p.rest
+met_here m text s ix last runs cost p item run i e = run_here m text p.chain s p.es last ix run p.rest p.stands p.whole (ap (run_of text) (sym i) ∙ sym e)
+
+-- its characters lie in the text
+pub run_bytes : (m : Marks) (text : List ℕ) (s : Arena Item) (ix : ℕ) (last : Option ℕ) (runs : List OpenRun) (cost : ℕ) (p : CanReadTree text ix last s runs cost) (item : Item) (run : Run) → item ≡ item_at s.nodes ix → Some run ≡ run_of text item
+    → item.start + run.length ≤ length text
+run_bytes m text s ix last runs cost p item run i e = subst (λ (x : Item). x.start + run.length ≤ length text) (sym i) (met_here m text s ix last runs cost p item run i e).begins.bytes

@@ -1,16 +1,19 @@
 -- Sums over the labels of a chain do not rise by pairing, where those of what is made do not: each node that is made
 -- stands in the place of a character.
-use Rattle.std.proofs.Common.{◌≡◌, ℕ, zero, suc, ◌+◌, ◌-◌, ◌≤◌, Bool, true, false, List, [], ◌∷◌, length, Option, Some, None, refl, ap, subst, arith, map}
+use Rattle.std.proofs.Common.{◌≡◌, ℕ, zero, suc, ◌+◌, ◌≤◌, Bool, true, false, List, [], ◌∷◌, refl, ap, arith, map}
 use Rattle.std.specs.Prelude.{IfSome, not, ◌&&◌}
+use Rattle.std.proofs.lemmas.Option.{IfSome_then}
 use Rattle.markdown_base.specs.Forest.{Forest, nil, node}
 use Rattle.markdown_chains.specs.Document.{Label, shaped, as_text, is_unresolved}
 use Rattle.markdown_chains.specs.Setting.{Setting}
 use Rattle.markdown_delims.specs.declared.run.Delimiter.{Delimiter}
 use Rattle.markdown_delims.specs.declared.run.Run.{Run}
-use Rattle.markdown_delims.specs.Layers.{marks_of, layer_of_one, layer_of_two, spanned, run_of}
-use Rattle.markdown_delims.specs.MayPair.{is_tilde_or_caret, may_pair}
-use Rattle.markdown_delims.specs.Pairing.{Read, done, waiting, texts_before, all_done, read_trees, FoundOpener, found_if, nearest_opener, drop_read, dropped_if, Layers, layers, trees_done, still_waiting, last_first, opened_if, left_over, after_layers, after_search, closed_by, run_read, first_texts, text_if, as_closed, after_tree, reads_from, runs_paired, paired}
+use Rattle.markdown_delims.specs.Layers.{marks_of, layer_of_one, layer_of_two, spanned}
+use Rattle.markdown_delims.specs.MayPair.{may_pair}
+use Rattle.markdown_chains.specs.Waiting.{text_if}
+use Rattle.markdown_delims.specs.Pairing.{Read, done, waiting, texts_before, all_done, read_trees, FoundOpener, nearest_opener, drop_read, dropped_if, Layers, layers, trees_done, still_waiting, last_first, opened_if, left_over, after_layers, first_texts, reads_from, runs_paired, paired}
 use Rattle.markdown_delims.specs.Quotes.{first_turn, quotes_after, with_quotes}
+use Rattle.markdown_delims.proofs.StepLawLemmas.{later, StaysTrue, found-if, reads-stay}
 
 -- the sum over the labels of a forest, and of a list
 abbrev pub sum_of : {A : Type 0} → (Label A → ℕ) → Forest (Label A) → ℕ
@@ -51,15 +54,11 @@ module _ {A : Type 0} (s : Setting) (g : Label A → ℕ) (no_more : CountsNoMor
   abbrev Splits : ℕ → FoundOpener A → Type 0
   Splits n f = sum_of g f.inside + (sum_all g f.characters + sum_read f.before) ≡ n
 
-  splits_if : (b : Bool) (f : FoundOpener A) (o : Option (FoundOpener A)) (n : ℕ) → Splits n f → IfSome o (Splits n) → IfSome (found_if b f o) (Splits n)
-  splits_if true f o n h k = h
-  splits_if false f o n h k = k
-
   sum_nearest : (closer : Run) (rs : List (Read A)) (inside : Forest (Label A)) (n : ℕ) → sum_read rs + sum_of g inside ≡ n → IfSome (nearest_opener closer rs inside) (Splits n)
   sum_nearest closer [] inside n e = tt
   sum_nearest closer (done a below ∷ rs) inside n e = sum_nearest closer rs (node a below inside) n (omega (arith, e))
   sum_nearest closer (waiting dropped run xs ∷ rs) inside n e =
-      splits_if (not dropped && may_pair run closer) (record { inside = inside; run = run; characters = xs; before = rs }) (nearest_opener closer rs (texts_before xs inside)) n (omega (arith, e))
+      found-if (Splits n) (not dropped && may_pair run closer) (record { inside = inside; run = run; characters = xs; before = rs }) (nearest_opener closer rs (texts_before xs inside)) (omega (arith, e))
       (sum_nearest closer rs (texts_before xs inside) n (omega (arith, e, sum_texts xs inside)))
 
   sum_dropped : (rs : List (Read A)) → sum_read (map drop_read rs) ≡ sum_read rs
@@ -101,79 +100,41 @@ module _ {A : Type 0} (s : Setting) (g : Label A → ℕ) (no_more : CountsNoMor
   sum_left : (run : Run) (vs : List (Label A)) (rs : List (Read A)) → sum_read (left_over run vs rs) ≡ sum_all g vs + sum_read rs
   sum_left run vs rs = omega (arith, sum_opened run.can_open run (last_first vs []) rs, sum_turned vs [])
 
-  abbrev Again : (List (Label A) → List (Read A) → List (Read A)) → Type 0
-  Again again = (vs : List (Label A)) (rs : List (Read A)) → sum_read (again vs rs) ≤ sum_all g vs + sum_read rs
-
-  sum_searched : (again : List (Label A) → List (Read A) → List (Read A)) (closer : Run) (vs : List (Label A)) (rs : List (Read A)) (o : Option (FoundOpener A)) → Again again
-      → IfSome o (Splits (sum_read rs)) → sum_read (after_search s again closer vs rs o) ≤ sum_all g vs + sum_read rs
-  sum_searched again closer vs rs None h k =
-      omega (arith, sum_left closer vs (dropped_if (is_tilde_or_caret closer.delimiter) rs), sum_drop_if (is_tilde_or_caret closer.delimiter) rs)
-  sum_searched again closer vs rs (Some f) h k =
-      let l : Layers A = layers s f.run.delimiter f.characters vs f.inside in
-      omega (
-        arith,
-        h l.closing (after_layers f l),
-        sum_trees_done l.whole (still_waiting f.run l.opening f.before),
-        sum_still f.run l.opening f.before,
-        sum_layers f.run.delimiter f.characters vs f.inside (sum_of g f.inside + (sum_all g f.characters + sum_all g vs)) (omega arith),
-        k,
-      )
-
-  sum_closed : (turns : ℕ) (closer : Run) (vs : List (Label A)) (rs : List (Read A)) → sum_read (closed_by s turns closer vs rs) ≤ sum_all g vs + sum_read rs
-  unfolding closed_by
-  sum_closed zero closer [] rs = omega arith
-  sum_closed (suc turns) closer [] rs = omega arith
-  sum_closed zero closer (v ∷ vs) rs = omega arith
-  sum_closed (suc turns) closer (v ∷ vs) rs =
-      sum_searched (λ left others. closed_by s turns closer left others) closer (v ∷ vs) rs (nearest_opener closer rs nil) (λ left others. sum_closed turns closer left others)
-      (sum_nearest closer rs nil (sum_read rs) (omega arith))
-
-  sum_run : (b : Bool) (run : Run) (vs : List (Label A)) (rs : List (Read A)) → sum_read (run_read s b run vs rs) ≤ sum_all g vs + sum_read rs
-  sum_run true run vs rs = sum_closed (length vs) run vs rs
-  sum_run false run vs rs = omega (arith, sum_left run vs rs)
-
-  -- a chain without its first trees
-  abbrev later : ℕ → Forest (Label A) → Forest (Label A)
-  later zero chain = chain
-  later (suc n) nil = nil
-  later (suc n) (node a below after) = later n after
-
   sum_firsts : (n : ℕ) (chain : Forest (Label A)) → sum_all g (first_texts s.text n chain) + sum_of g (later n chain) ≤ sum_of g chain
   sum_firsts zero chain = omega arith
   sum_firsts (suc n) nil = omega arith
   sum_firsts (suc n) (node a below after) = omega (arith, sum_firsts n after, no_more.text a)
 
-  later_less : (n : ℕ) (chain : Forest (Label A)) → sum_of g (later n chain) ≤ sum_of g chain
-  later_less n chain = omega (arith, sum_firsts n chain)
-
   sum_text_if : (b : Bool) (a : Label A) → g (text_if b s.text a) ≤ g a
   sum_text_if true a = no_more.text a
   sum_text_if false a = omega arith
 
-  abbrev GoesOn : (ℕ → List (Read A) → List (Read A)) → Forest (Label A) → Type 0
-  GoesOn go_on after = (skip : ℕ) (rs : List (Read A)) → sum_read (go_on skip rs) ≤ sum_read rs + sum_of g (later skip after)
+  sum_pair : (vs : List (Label A)) (f : FoundOpener A) (n : ℕ) → Splits n f
+      → sum_all g (layers s f.run.delimiter f.characters vs f.inside).closing + sum_read (after_layers f (layers s f.run.delimiter f.characters vs f.inside)) ≤ sum_all g vs + n
+  sum_pair vs f n h =
+      let l : Layers A = layers s f.run.delimiter f.characters vs f.inside in
+      omega (
+        arith,
+        h,
+        sum_trees_done l.whole (still_waiting f.run l.opening f.before),
+        sum_still f.run l.opening f.before,
+        sum_layers f.run.delimiter f.characters vs f.inside (sum_of g f.inside + (sum_all g f.characters + sum_all g vs)) (omega arith),
+      )
 
-  -- of a run of n the first character is read here
-  sum_run_here : (n : ℕ) (a : Label A) (below after : Forest (Label A)) → sum_all g (first_texts s.text n (node a below after)) + sum_of g (later (n - 1) after) ≤ g a + (sum_of g below + sum_of g after)
-  sum_run_here zero a below after = omega (arith, later_less (zero - 1) after)
-  sum_run_here (suc n) a below after =
-      subst (λ i. sum_all g (first_texts s.text (suc n) (node a below after)) + sum_of g (later i after) ≤ g a + (sum_of g below + sum_of g after)) (let e : n ≡ suc n - 1 = omega arith in e)
-      (omega (arith, sum_firsts n after, no_more.text a))
+  -- a closer's characters, what was read and what is still to be read count n at most
+  abbrev AtMost : ℕ → List (Label A) → List (Read A) → Forest (Label A) → Type 0
+  AtMost n vs rs rest = sum_all g vs + (sum_read rs + sum_of g rest) ≤ n
 
-  sum_tree : (go_on : ℕ → List (Read A) → List (Read A)) (a : Label A) (below after : Forest (Label A)) (rs : List (Read A)) (o : Option Run) → GoesOn go_on after
-      → sum_read (after_tree s go_on a below after rs o) ≤ sum_read rs + (g a + (sum_of g below + sum_of g after))
-  sum_tree go_on a below after rs None h = omega (arith, h 0 (done (as_closed s.text a) below ∷ rs), sum_text_if (is_unresolved a.part.shape) a)
-  sum_tree go_on a below after rs (Some run) h =
-      let vs : List (Label A) = first_texts s.text run.length (node a below after) in
-      omega (arith, h (run.length - 1) (run_read s run.can_close run vs rs), sum_run run.can_close run vs rs, sum_run_here run.length a below after)
-
-  sum_reads : (skip : ℕ) (chain : Forest (Label A)) (rs : List (Read A)) → sum_read (reads_from s skip chain rs) ≤ sum_read rs + sum_of g (later skip chain)
-  unfolding reads_from
-  sum_reads zero nil rs = omega arith
-  sum_reads (suc skip) nil rs = omega arith
-  sum_reads (suc skip) (node a below after) rs = sum_reads skip after rs
-  sum_reads zero (node a below after) rs =
-      sum_tree (λ skip others. reads_from s skip after others) a below after rs (run_of s.text a.part) (λ skip others. sum_reads skip after others)
+  at_most_on : (n : ℕ) → StaysTrue s (AtMost n)
+  at_most_on n = record {
+    tree = λ a below after rs h. omega (arith, h, sum_text_if (is_unresolved a.part.shape) a);
+    skip = λ a below after rs h. omega (arith, h);
+    texts = λ k chain rs h. omega (arith, h, sum_firsts k chain);
+    left = λ drops closer vs rs rest h. omega (arith, h, sum_left closer vs (dropped_if drops rs), sum_drop_if drops rs);
+    gone = λ vs rs rest h. omega (arith, h);
+    found = λ closer vs rs rest h.
+        IfSome_then (nearest_opener closer rs nil) (sum_nearest closer rs nil (sum_read rs) (omega arith)) (λ f k. omega (arith, h, sum_pair vs f (sum_read rs) k));
+  }
 
   sum_quotes : (single double : Bool) (chain : Forest (Label A)) → sum_of g (quotes_after single double chain) ≤ sum_of g chain
   sum_quotes single double nil = omega arith
@@ -184,4 +145,5 @@ module _ {A : Type 0} (s : Setting) (g : Label A → ℕ) (no_more : CountsNoMor
   pub sum-paired : (chain : Forest (Label A)) → sum_of g (paired s chain) ≤ sum_of g chain
   unfolding paired runs_paired with_quotes
   sum-paired chain =
-      omega (arith, sum_trees (reads_from s 0 (quotes_after false false chain) []) nil, sum_reads 0 (quotes_after false false chain) [], sum_quotes false false chain)
+      let quoted : Forest (Label A) = quotes_after false false chain in
+      omega (arith, sum_trees (reads_from s 0 quoted []) nil, reads-stay s (AtMost (sum_of g quoted)) (at_most_on (sum_of g quoted)) 0 quoted [] (omega arith), sum_quotes false false chain)

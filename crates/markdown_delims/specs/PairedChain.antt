@@ -1,18 +1,20 @@
 -- A chain of an arena that is paired where it stands.
-use Rattle.std.specs.Prelude.{◌≡◌, ℕ, ◌+◌, ◌-◌, ◌^◌, ◌≤◌, min, true, List, [], Some, length}
+use Rattle.std.specs.Prelude.{◌≡◌, ℕ, ◌+◌, ◌-◌, ◌^◌, ◌≤◌, min, true, false, List, Some, length}
 use Rattle.markdown_base.specs.ArenaForest.{links_of, Spells, forest_at}
-use Rattle.markdown_base.specs.BlockTree.{Numbered, trees_at}
+use Rattle.markdown_base.specs.ArenaWalk.{Reaches}
+use Rattle.markdown_base.specs.BlockTree.{Numbered, numbered, trees_at}
 use Rattle.markdown_base.specs.Forest.{Forest, nil, node, roots}
-use Rattle.markdown_base.specs.Item.{is_open}
+use Rattle.markdown_base.specs.Item.{is_block, is_open}
 use Rattle.markdown_chains.specs.Tables.{Tables, Named}
 use Rattle.markdown_base.specs.declared.item.Item.{Item}
 use Rattle.markdown_base.specs.declared.node.Node.{Node}
-use Rattle.markdown_chains.specs.Places.{IsSameAt, trees_from}
+use Rattle.markdown_chains.specs.ItemRules.{StandsBefore}
+use Rattle.markdown_chains.specs.Places.{IsPlaced, IsSameAt, trees_from}
 use Rattle.markdown_chains.specs.Setting.{Setting}
 use Rattle.markdown_chains.specs.Stages.{times_in, named_in, weight_in}
+use Rattle.markdown_chains.specs.Waiting.{waits_for_pairing}
 use Rattle.markdown_delims.specs.ChainForest.{RisesFrom}
-use Rattle.markdown_delims.specs.OpenRuns.{Openers}
-use Rattle.markdown_delims.specs.Pairing.{waits_for_pairing, paired}
+use Rattle.markdown_delims.specs.Pairing.{paired}
 use Rattle.markdown_delims.specs.RunReading.{IsWhole}
 
 -- what is open in a chain waits for pairing
@@ -20,6 +22,11 @@ abbrev pub WaitsForPairing : Forest Numbered → Type 0
 WaitsForPairing nil = Unit {0}
 WaitsForPairing (node a below after) =
     (is_open a.item.body ≡ true → waits_for_pairing a.item.body ≡ true) × WaitsForPairing after
+
+-- no item of a chain is a block
+abbrev pub HasNoBlock : Forest Numbered → Type 0
+HasNoBlock nil = Unit {0}
+HasNoBlock (node a below after) = (is_block a.item.body ≡ false) × HasNoBlock after
 
 -- from `first` on stands a chain: no node stands twice in it, the numbers of its own nodes rise, its runs are whole,
 -- and nothing of it is open but runs and quotes
@@ -42,13 +49,13 @@ pub record PairsChain (s : Setting) (first : ℕ) (old new : List (Node Item)) :
   -- other nodes are as they were
   pub same_size : length new ≡ length old
   pub outside : (n : ℕ) → times_in old (Some first) n ≡ 0 → IsSameAt old new n
+  -- where its items were placed, they are, at every depth; and what stood before the chain still does
+  pub placed : (tables : Tables) → HasNoBlock (trees_at old (Some first))
+      → Reaches (links_of old) (IsPlaced s.text tables old) (Some first) → Reaches (links_of new) (IsPlaced s.text tables new) (Some first)
+  pub before : (a : Numbered) → StandsBefore a (Some (numbered old first)) → StandsBefore a (Some (numbered new first))
   -- no entry is named more often, and it is no heavier
   pub named : (n : Named) → named_in new (Some first) n ≤ named_in old (Some first) n
   pub no_heavier : weight_in new (Some first) ≤ weight_in old (Some first)
-
--- no run is open, and nothing was examined yet
-abbrev pub no_runs : Openers
-no_runs = record { runs = []; examined = 0; potential = 0 }
 
 -- a count rises by so much at most, and stays where it can grow no more
 pub record ExaminesAtMost (most old new : ℕ) : Type 0 where

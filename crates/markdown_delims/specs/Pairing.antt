@@ -2,21 +2,14 @@
 -- (CommonMark 6.2, and the appendix's "process emphasis").
 use Rattle.std.specs.Prelude.{ℕ, zero, suc, ◌-◌, Bool, true, false, not, ◌&&◌, ◌||◌, List, [], ◌∷◌, map, length, Option, Some, None}
 use Rattle.markdown_base.specs.Forest.{Forest, nil, node}
-use Rattle.markdown_base.specs.declared.item.ItemBody.{ItemBody}
-use Rattle.markdown_base.specs.declared.item.ItemBody.TheVariants as body
-use Rattle.markdown_chains.specs.Document.{Label, is_unresolved, as_text}
+use Rattle.markdown_chains.specs.Document.{Label, as_text}
 use Rattle.markdown_chains.specs.Setting.{Setting}
+use Rattle.markdown_chains.specs.Waiting.{as_closed}
 use Rattle.markdown_delims.specs.declared.run.Delimiter.{Delimiter}
 use Rattle.markdown_delims.specs.declared.run.Run.{Run}
 use Rattle.markdown_delims.specs.Layers.{marks_of, layer_of_one, layer_of_two, spanned, run_of}
 use Rattle.markdown_delims.specs.MayPair.{is_tilde_or_caret, may_pair}
 use Rattle.markdown_delims.specs.Quotes.{with_quotes}
-
--- pairing decides on it: a run's character, or a quote
-abbrev pub waits_for_pairing : ItemBody → Bool
-waits_for_pairing (body.MaybeEmphasis count opens closes) = true
-waits_for_pairing (body.MaybeSmartQuote quote opens closes) = true
-waits_for_pairing other = false
 
 -- what was read of a chain: a tree; or a run that is still open, dropped or not, by its characters that are not
 -- paired, the last one first
@@ -143,15 +136,7 @@ first_texts source zero chain = []
 first_texts source (suc n) nil = []
 first_texts source (suc n) (node a below after) = as_text source a ∷ first_texts source n after
 
--- what is open and no run is a Text
-abbrev pub text_if : {A : Type 0} → Bool → List ℕ → Label A → Label A
-text_if true source a = as_text source a
-text_if false source a = a
-
-abbrev pub as_closed : {A : Type 0} → List ℕ → Label A → Label A
-as_closed source a = text_if (is_unresolved a.part.shape) source a
-
--- a tree is read, and with the first character of a run all of the run
+-- a tree is read, which is a Text if it is open and no run; and with the first character of a run all of the run
 abbrev pub after_tree : {A : Type 0} → Setting → (go_on : ℕ → List (Read A) → List (Read A)) → Label A
     → (below after : Forest (Label A)) → List (Read A) → Option Run → List (Read A)
 after_tree s go_on a below after rs None = go_on 0 (done (as_closed s.text a) below ∷ rs)

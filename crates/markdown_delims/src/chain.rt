@@ -5,9 +5,9 @@ ghost use Rattle.markdown_base.specs.Forest.{Forest};
 ghost use Rattle.markdown_base.specs.WellFormed.{run_character};
 ghost use Rattle.markdown_chains.specs.Setting.{Rules, setting_of};
 ghost use Rattle.markdown_delims.specs.RunReading.{counts_one, delimiters_of};
-ghost use Rattle.markdown_delims.specs.Quoting.{IsSpelled, IsResolved};
+ghost use Rattle.markdown_delims.specs.Quoting.{IsSpelled};
 ghost use Rattle.markdown_delims.specs.ChainForest.{IsChain, IsPaired, IsEmptied, CanPairAll, chain_of};
-ghost use Rattle.markdown_delims.specs.PairedChain.{CanPair, PairsChain, ExaminesAtMost, no_runs};
+ghost use Rattle.markdown_delims.specs.PairedChain.{CanPair, PairsChain, ExaminesAtMost};
 
 use crate::marks::Marks;
 use crate::open_runs::OpenRuns;
@@ -73,31 +73,14 @@ fn pair_runs(
     Ok(())
 }
 
-/// Pairs what pass one leaves open in the chain from `first` on: its quotes, its last break and its runs.
-fn pair_nodes(
-    tree: &mut Tree<Item>,
-    openers: &mut OpenRuns,
-    text: &[u8],
-    marks: Marks,
-    first: usize,
-) -> Result<(), AllocError>
-    requires emptied { IsEmptied openers.old }
-    requires chain { CanPairAll text.now tree.old.nodes first openers.old }
-    ensures resolves { OnOk result ((f : Forest ℕ) → IsChain text.now tree.old.nodes first f → IsResolved marks text.now tree.old tree.new first f) }
-    ensures examined { OnOk result ((f : Forest ℕ) → IsChain text.now tree.old.nodes first f → openers.new.examined ≤ openers.old.examined + 10 * delimiters_of (chain_of tree.old.nodes f)) }
-{
-    quote_chain(tree, first);
-    pair_runs(tree, openers, text, marks, first)
-}
-
 /// Pairs the chain of inline items from the node `first` on where it stands, once pass one has left nothing open in it
 /// but quotes and delimiter runs: quotes become their characters, a hard break by a backslash at its end becomes that
 /// backslash, paired characters become nodes around what stands between them, and all others Texts of one byte each
 /// (CommonMark 6.2).
 ///
-/// `open_runs` holds no run, before and after; its memory is kept for the next chain. `work` counts the characters of
-/// runs, and the open runs that were compared with a closer: at most ten for each character. After a refusal of memory
-/// the nodes of the chain may be in any state.
+/// `open_runs` is emptied first; its memory is kept from chain to chain. `work` counts the characters of runs, and the
+/// open runs that were compared with a closer: at most ten for each character. After a refusal of memory the nodes of
+/// the chain may be in any state.
 pub fn pair_chain(
     tree: &mut Tree<Item>,
     open_runs: &mut OpenRuns,
@@ -106,7 +89,6 @@ pub fn pair_chain(
     first: usize,
     work: &mut Work,
 ) -> Result<(), AllocError>
-    requires none_open { open_runs.old ≡ no_runs }
     requires chain { CanPair text.now tree.old.nodes first }
     ensures pairs { OnOk result ((rules : Rules) → rules.options ≡ options
         → PairsChain (setting_of text.now rules) first tree.old.nodes tree.new.nodes) }
@@ -119,13 +101,13 @@ pub fn pair_chain(
       delimiters = min (work.old.delimiters + delimiters_of (trees_at tree.old.nodes (Some first))) (2 ^ 128 - 1);
       examined = work.new.examined;
     } }
-    ensures none_open { open_runs.new ≡ no_runs }
 {
+    open_runs.clear();
     let delimiters = count_delimiters(tree, first);
     let marks = Marks::of_options(options);
-    let done = pair_nodes(tree, open_runs, text.as_bytes(), marks, first);
+    quote_chain(tree, first);
+    let done = pair_runs(tree, open_runs, text.as_bytes(), marks, first);
     work.delimiters = work.delimiters.saturating_add(delimiters);
     work.examined = work.examined.saturating_add(open_runs.examined());
-    open_runs.clear();
     done
 }

@@ -1,6 +1,6 @@
 //! A closer pairs for as long as it has characters and finds an opener.
 ghost use Rattle.std.specs.Prelude.{◌≡◌, ◌+◌, ◌^◌, ◌<◌, ◌≤◌, List, IfOk};
-ghost use Rattle.markdown_delims.specs.Entries.{Entry, kept, closed_in, with_run};
+ghost use Rattle.markdown_delims.specs.Entries.{Entry, kept, with_run};
 ghost use Rattle.markdown_delims.specs.ChainStanding.{CanRead, ReadsOn};
 
 use crate::marks::Marks;
@@ -37,9 +37,10 @@ fn keep(
     Ok((Some(ix), next))
 }
 
-/// A run that can close pairs for as long as it has characters and finds an opener. `start` is its first
-/// byte, `last` the node before it. Answers the last node that was read, and the link to what follows it.
-fn close(
+/// A run is read. One that can close pairs for as long as it has characters and finds an opener; what is left of a run
+/// opens if it can. `start` is its first byte, `last` the node before it. Answers the last node that was read, and the
+/// link to what follows it.
+pub fn read_run(
     tree: &mut Tree<Item>,
     openers: &mut OpenRuns,
     marks: Marks,
@@ -51,9 +52,12 @@ fn close(
     requires bytes { start + met.count < 2 ^ 64 }
     requires room { openers.old.potential + 10 < 2 ^ 128 }
     requires stands { CanRead start met last tree.old openers.old.runs }
-    ensures ok { IfOk result (λ r. ReadsOn (λ es. closed_in marks met.count start met es) start met last tree.old tree.new openers.old.runs openers.new.runs r.0 r.1) }
+    ensures ok { IfOk result (λ r. ReadsOn (λ es. with_run marks start met es) start met last tree.old tree.new openers.old.runs openers.new.runs r.0 r.1) }
     ensures paid { openers.new.potential ≤ openers.old.potential + 10 }
 {
+    if !met.run.can_close {
+        return keep(tree, openers, met, start, last);
+    }
     // bounds the numbers
     let _nodes = tree.len();
     let mut closer = met;
@@ -78,27 +82,4 @@ fn close(
         at += opener.count;
     }
     keep(tree, openers, closer, at, before)
-}
-
-/// A run is read.
-pub fn read_run(
-    tree: &mut Tree<Item>,
-    openers: &mut OpenRuns,
-    marks: Marks,
-    met: Characters,
-    start: usize,
-    last: Option<usize>,
-) -> Result<(Option<usize>, Option<usize>), AllocError>
-    requires some { 0 < met.count }
-    requires bytes { start + met.count < 2 ^ 64 }
-    requires room { openers.old.potential + 10 < 2 ^ 128 }
-    requires stands { CanRead start met last tree.old openers.old.runs }
-    ensures ok { IfOk result (λ r. ReadsOn (λ es. with_run marks start met es) start met last tree.old tree.new openers.old.runs openers.new.runs r.0 r.1) }
-    ensures paid { openers.new.potential ≤ openers.old.potential + 10 }
-{
-    if met.run.can_close {
-        close(tree, openers, marks, met, start, last)
-    } else {
-        keep(tree, openers, met, start, last)
-    }
 }

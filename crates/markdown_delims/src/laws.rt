@@ -1,6 +1,6 @@
 //! Laws of pairing. The functions have no code: what each ensures is proved.
 ghost use Rattle.std.specs.Prelude.{ℕ, ⊤};
-ghost use Rattle.markdown_delims.specs.PairingLaws.{ClosedLaw, OrderLaw, JoinsLaw, MissesNoneLaw};
+ghost use Rattle.markdown_delims.specs.PairingLaws.{ClosedLaw, OrderLaw, JoinsLaw, MissesNoneLaw, NoneMissedLaw, KeepsLaw, BeginsLaw, WeightLaw, TagLaw};
 
 /// Pairing leaves nothing of its chain open.
 pub fn pairing_leaves_nothing_open()
@@ -20,4 +20,30 @@ pub fn pairs_join_what_may_pair()
 /// Where a closer finds none, no open run that is not dropped may pair with it.
 pub fn closer_misses_none()
     ensures { MissesNoneLaw ℕ × MissesNoneLaw ⊤ }
+{}
+
+/// Of two runs of `*` or `_` in a chain that may pair, the earlier one as the opener, some pair encloses what is left of
+/// one as text, and not what is left of the other.
+pub fn none_is_missed()
+    ensures { NoneMissedLaw ℕ × NoneMissedLaw ⊤ }
+{}
+
+/// What is made has the block of a label of the chain, and is not open.
+pub fn pairing_keeps_blocks()
+    ensures { KeepsLaw ℕ × KeepsLaw ⊤ }
+{}
+
+/// A chain whose first tree reads as more than what is below it begins with an event, once it is paired.
+pub fn paired_chain_begins()
+    ensures { BeginsLaw ℕ × BeginsLaw ⊤ }
+{}
+
+/// Pairing makes no chain heavier.
+pub fn paired_chain_is_no_heavier()
+    ensures { WeightLaw ℕ × WeightLaw ⊤ }
+{}
+
+/// The numbers of nodes say nothing.
+pub fn tags_say_nothing()
+    ensures { TagLaw ℕ ⊤ }
 {}

@@ -7,7 +7,7 @@ use Rattle.markdown_delims.specs.MarkBodies.{run_of}
 use Rattle.markdown_delims.specs.Entries.{all_of_run, with_run}
 use Rattle.markdown_delims.specs.ChainStanding.{CanRead, ReadsOn}
 use Rattle.markdown_delims.specs.RunReading.{Settles, delimiters_of}
-use Rattle.markdown_delims.proofs.ReadLemmas.{head_within, read_none, run_here, can_settle, can_read, read_some}
+use Rattle.markdown_delims.proofs.ReadLemmas.{head_within, read_none, run_here, met_here, run_bytes, can_settle, can_read, read_some}
 use Rattle.markdown_delims.proofs.read.read_tree.Goals as goal
 
 pub item-item-requires : goal.item-item-requires
@@ -16,45 +16,27 @@ item-item-requires c =
     head_within c.args.marks c.args.text.now p.chain c.args.tree.now p.es c.args.last c.args.ix p.rest p.stands
 
 pub settle_run-requires-clause-bytes : goal.settle_run-requires-clause-bytes
-settle_run-requires-clause-bytes c =
-    let p = c.requires.stands in
-    let i : c.item-item.result.now ≡ item_at c.args.tree.now.nodes c.args.ix = c.item-item.ensures no_item in
-    let r = run_here c.args.marks c.args.text.now p.chain c.args.tree.now p.es c.args.last c.args.ix c.in-Some.run' p.rest p.stands p.whole (ap (run_of c.args.text.now) (sym i) ∙ sym c.in-Some.ensures) in
-    let s : c.item-item.result.now.start ≡ (item_at c.args.tree.now.nodes c.args.ix).start = ap (λ (x : Item). x.start) i in
-    omega (arith, r.begins.bytes)
+settle_run-requires-clause-bytes c = omega (arith, run_bytes c.args.marks c.args.text.now c.args.tree.now c.args.ix c.args.last c.args.openers.now.runs c.args.openers.now.potential c.requires.stands c.item-item.result.now c.in-Some.run' (c.item-item.ensures no_item) c.in-Some.ensures)
 
 pub settle_run-requires-clause-some : goal.settle_run-requires-clause-some
-settle_run-requires-clause-some c =
-    let p = c.requires.stands in
-    let i : c.item-item.result.now ≡ item_at c.args.tree.now.nodes c.args.ix = c.item-item.ensures no_item in
-    (run_here c.args.marks c.args.text.now p.chain c.args.tree.now p.es c.args.last c.args.ix c.in-Some.run' p.rest p.stands p.whole (ap (run_of c.args.text.now) (sym i) ∙ sym c.in-Some.ensures)).begins.some
+settle_run-requires-clause-some c = (met_here c.args.marks c.args.text.now c.args.tree.now c.args.ix c.args.last c.args.openers.now.runs c.args.openers.now.potential c.requires.stands c.item-item.result.now c.in-Some.run' (c.item-item.ensures no_item) c.in-Some.ensures).begins.some
 
 pub settle_run-requires-clause-stands : goal.settle_run-requires-clause-stands
 settle_run-requires-clause-stands c =
     let p = c.requires.stands in
-    let i : c.item-item.result.now ≡ item_at c.args.tree.now.nodes c.args.ix = c.item-item.ensures no_item in
-    let r = run_here c.args.marks c.args.text.now p.chain c.args.tree.now p.es c.args.last c.args.ix c.in-Some.run' p.rest p.stands p.whole (ap (run_of c.args.text.now) (sym i) ∙ sym c.in-Some.ensures) in
-    can_settle c.args.marks c.args.text.now p.chain c.args.tree.now p.es c.args.last c.args.ix c.in-Some.run' p.rest p.stands r
+    can_settle c.args.marks c.args.text.now p.chain c.args.tree.now p.es c.args.last c.args.ix c.in-Some.run' p.rest p.stands
+    (met_here c.args.marks c.args.text.now c.args.tree.now c.args.ix c.args.last c.args.openers.now.runs c.args.openers.now.potential c.requires.stands c.item-item.result.now c.in-Some.run' (c.item-item.ensures no_item) c.in-Some.ensures)
 
 pub read_run-requires-clause-bytes : goal.read_run-requires-clause-bytes
-read_run-requires-clause-bytes c =
-    let p = c.requires.stands in
-    let i : c.item-item.result.now ≡ item_at c.args.tree.now.nodes c.args.ix = c.item-item.ensures no_item in
-    let r = run_here c.args.marks c.args.text.now p.chain c.args.tree.now p.es c.args.last c.args.ix c.in-Some.run' p.rest p.stands p.whole (ap (run_of c.args.text.now) (sym i) ∙ sym c.in-Some.ensures) in
-    let s : c.item-item.result.now.start ≡ (item_at c.args.tree.now.nodes c.args.ix).start = ap (λ (x : Item). x.start) i in
-    omega (arith, r.begins.bytes)
+read_run-requires-clause-bytes c = omega (arith, run_bytes c.args.marks c.args.text.now c.args.tree.now c.args.ix c.args.last c.args.openers.now.runs c.args.openers.now.potential c.requires.stands c.item-item.result.now c.in-Some.run' (c.item-item.ensures no_item) c.in-Some.ensures)
 
 pub read_run-requires-clause-some : goal.read_run-requires-clause-some
-read_run-requires-clause-some c =
-    let p = c.requires.stands in
-    let i : c.item-item.result.now ≡ item_at c.args.tree.now.nodes c.args.ix = c.item-item.ensures no_item in
-    (run_here c.args.marks c.args.text.now p.chain c.args.tree.now p.es c.args.last c.args.ix c.in-Some.run' p.rest p.stands p.whole (ap (run_of c.args.text.now) (sym i) ∙ sym c.in-Some.ensures)).begins.some
+read_run-requires-clause-some c = (met_here c.args.marks c.args.text.now c.args.tree.now c.args.ix c.args.last c.args.openers.now.runs c.args.openers.now.potential c.requires.stands c.item-item.result.now c.in-Some.run' (c.item-item.ensures no_item) c.in-Some.ensures).begins.some
 
 pub read_run-requires-clause-room : goal.read_run-requires-clause-room
 read_run-requires-clause-room c =
     let p = c.requires.stands in
-    let i : c.item-item.result.now ≡ item_at c.args.tree.now.nodes c.args.ix = c.item-item.ensures no_item in
-    let r = run_here c.args.marks c.args.text.now p.chain c.args.tree.now p.es c.args.last c.args.ix c.in-Some.run' p.rest p.stands p.whole (ap (run_of c.args.text.now) (sym i) ∙ sym c.in-Some.ensures) in
+    let r = met_here c.args.marks c.args.text.now c.args.tree.now c.args.ix c.args.last c.args.openers.now.runs c.args.openers.now.potential c.requires.stands c.item-item.result.now c.in-Some.run' (c.item-item.ensures no_item) c.in-Some.ensures in
     let room : c.args.openers.now.potential + 10 * delimiters_of p.rest < 2 ^ 128 = p.room in
     omega (arith, r.begins.fewer)
 
@@ -65,7 +47,7 @@ pub read_run-requires-clause-stands : goal.read_run-requires-clause-stands
 read_run-requires-clause-stands c =
     let p = c.requires.stands in
     let i : c.item-item.result.now ≡ item_at c.args.tree.now.nodes c.args.ix = c.item-item.ensures no_item in
-    let r = run_here c.args.marks c.args.text.now p.chain c.args.tree.now p.es c.args.last c.args.ix c.in-Some.run' p.rest p.stands p.whole (ap (run_of c.args.text.now) (sym i) ∙ sym c.in-Some.ensures) in
+    let r = met_here c.args.marks c.args.text.now c.args.tree.now c.args.ix c.args.last c.args.openers.now.runs c.args.openers.now.potential c.requires.stands c.item-item.result.now c.in-Some.run' (c.item-item.ensures no_item) c.in-Some.ensures in
     subst (λ (x : Item). CanRead x.start (all_of_run c.in-Some.run' c.args.ix) c.args.last c.settle_run.new.tree c.args.openers.now.runs) (sym i)
     (can_read c.args.marks c.args.text.now p.chain c.args.tree.now p.es c.args.last c.args.ix c.in-Some.run' p.rest c.args.openers.now.runs c.settle_run.new.tree p.stands p.runs_are r
     (settles_as c.args.ix c.in-Some.run'.length _ _ c.args.tree.now c.settle_run.new.tree i c.settle_run.ensures))

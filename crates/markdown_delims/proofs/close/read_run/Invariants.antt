@@ -5,7 +5,7 @@ use Rattle.markdown_base.specs.Forest.{Forest}
 use Rattle.markdown_delims.specs.Entries.{Entry, open_of}
 use Rattle.markdown_delims.specs.ChainStanding.{Chain, StandsAt}
 use Rattle.markdown_delims.proofs.ClosingLemmas.{ClosingAt}
-use Rattle.markdown_delims.proofs.close.close.Given as goal
+use Rattle.markdown_delims.proofs.close.read_run.Given as goal
 
 abbrev pub invariant-turns : goal.invariant-turns
 invariant-turns l =

@@ -1,9 +1,19 @@
--- Each find goes on as the definition does.
-use Rattle.std.proofs.Common.{◌≡◌, ◌<◌, ℕ, Option, Some, None, length, arith, ap, refl, ◌∙◌, Ok, Err}
-use Rattle.std.specs.Prelude.{IfOk, IsSome, Result}
+-- Each find goes on as the definition does, where the run can close.
+use Rattle.std.proofs.Common.{◌≡◌, ◌<◌, ℕ, Bool, false, List, Option, Some, None, length, arith, ap, refl, sym, ◌∙◌, subst, Ok, Err}
+use Rattle.std.specs.Prelude.{not, IfOk, IsSome, Result, if◌then◌else◌}
+use Rattle.std.proofs.lemmas.Bool.{not-false}
+use Rattle.markdown_base.specs.Arena.{Arena}
+use Rattle.markdown_base.specs.BlockTree.{Numbered}
+use Rattle.markdown_base.specs.Forest.{Forest}
+use Rattle.markdown_base.specs.declared.item.Item.{Item}
+use Rattle.markdown_delims.specs.declared.marks.Marks.{Marks}
+use Rattle.markdown_delims.specs.declared.run.Characters.{Characters}
+use Rattle.markdown_delims.specs.ChainStanding.{Chain, IsRead}
+use Rattle.markdown_delims.specs.Entries.{Entry, kept, closed_in, with_run}
+use Rattle.markdown_delims.specs.MayPair.{OpenRun}
 use Rattle.markdown_delims.proofs.CloseLemmas.{last_within}
 use Rattle.markdown_delims.proofs.ClosingLemmas.{closing_begin, can_keep, closing_none, opener_before, can_pair, closing_more, closing_used, closing_left}
-use Rattle.markdown_delims.proofs.close.close.Goals as goal
+use Rattle.markdown_delims.proofs.close.read_run.Goals as goal
 
 pub turns-init : goal.turns-init
 turns-init c =
@@ -13,6 +23,12 @@ turns-init c =
       bytes = refl;
       paid = omega arith;
     }
+
+-- the same of a run that can close
+closes : {h : Chain} {s t : Arena Item} {runs : List OpenRun} {last l : Option ℕ} {rest : Forest Numbered} (m : Marks) (start : ℕ) (c : Characters) (es : List Entry) → not c.run.can_close ≡ false
+    → IsRead h s t (closed_in m c.count start c es) runs last l rest → IsRead h s t (with_run m start c es) runs last l rest
+closes {h} {s} {t} {runs} {last} {l} {rest} m start c es e r =
+    subst (λ (b : Bool). IsRead h s t (if b then closed_in m c.count start c es else kept start c es) runs last l rest) (sym (not-false c.run.can_close e)) r
 
 is_some : (o : Option ℕ) → (o ≡ None → ⊥) → IsSome o
 is_some None h = absurd (h refl)
@@ -47,14 +63,15 @@ returns-then-closer-opener-clause-ok c h es after st runs =
     let r = closing_left c.args.marks c.args.start c.args.met h es after c.args.tree.now c.turns.tree c.turns.openers.runs c.turns.at c.turns.closer c.turns.before a c.turns.invariant.some
     c.in-Some.opener c.take_nearest.new.self.runs c.in-Some.ensures.found c.in-Some.ensures.some c.unwrap.result c.unwrap.ensures
     c.pair-root.new.tree c.pair-root.result.0 c.pair-root.result.1 c.pair-root.ensures c.if-closer-opener.true in
-    record { reads = r.reads; runs_are = ap (λ o. o.runs) c.in_ok-push.ensures.ok ∙ r.runs_are }
+    closes c.args.marks c.args.start c.args.met es c.if-not-met.false (record { reads = r.reads; runs_are = ap (λ o. o.runs) c.in_ok-push.ensures.ok ∙ r.runs_are })
 
 pub returns-then-closer-opener-2-clause-ok : goal.returns-then-closer-opener-2-clause-ok
 returns-then-closer-opener-2-clause-ok c h es after st runs =
     let a = c.turns.invariant.goes_on h es after st runs in
-    closing_used c.args.marks c.args.start c.args.met h es after c.args.tree.now c.turns.tree c.turns.openers.runs c.turns.at c.turns.closer c.turns.before a c.turns.invariant.some
+    closes c.args.marks c.args.start c.args.met es c.if-not-met.false
+    (closing_used c.args.marks c.args.start c.args.met h es after c.args.tree.now c.turns.tree c.turns.openers.runs c.turns.at c.turns.closer c.turns.before a c.turns.invariant.some
     c.in-Some.opener c.take_nearest.new.self.runs c.in-Some.ensures.found c.in-Some.ensures.some c.unwrap.result c.unwrap.ensures
-    c.pair-root.new.tree c.pair-root.result.0 c.pair-root.result.1 c.pair-root.ensures c.if-closer-opener-2.true
+    c.pair-root.new.tree c.pair-root.result.0 c.pair-root.result.1 c.pair-root.ensures c.if-closer-opener-2.true)
 
 pub turns-preserved : goal.turns-preserved
 turns-preserved c =
@@ -70,8 +87,8 @@ turns-preserved c =
       paid = omega (arith, c.in-Some.ensures.paid);
     }
 
-pub keep-requires-clause-stands : goal.keep-requires-clause-stands
-keep-requires-clause-stands c =
+pub keep-requires-2-clause-stands : goal.keep-requires-2-clause-stands
+keep-requires-2-clause-stands c =
     let p = c.requires.stands in
     let a = c.turns.invariant.goes_on p.chain p.es p.after p.stands p.runs_are in
     can_keep c.args.marks c.args.start c.args.met p.chain p.es p.after c.args.tree.now c.turns.tree c.turns.openers.runs c.turns.at c.turns.closer c.turns.before a c.turns.invariant.some
@@ -83,8 +100,9 @@ if_ok P Q (Err e) h i = tt
 
 pub returns-clause-ok : goal.returns-clause-ok
 returns-clause-ok c =
-    if_ok _ _ c.keep.result
+    if_ok _ _ c.keep-2.result
     (λ r next h es after st runs.
-    closing_none c.args.marks c.args.start c.args.met h es after c.args.tree.now c.turns.tree c.turns.openers.runs c.turns.at c.turns.closer c.turns.before (c.turns.invariant.goes_on h es after st runs) c.turns.invariant.some
-    c.turns.tree c.take_nearest.new.self.runs c.keep.new.openers.runs r.0 r.1 c.in_default.ensures.missed.0 c.in_default.ensures.missed.1 next)
-    c.keep.ensures.ok
+    closes c.args.marks c.args.start c.args.met es c.if-not-met.false
+    (closing_none c.args.marks c.args.start c.args.met h es after c.args.tree.now c.turns.tree c.turns.openers.runs c.turns.at c.turns.closer c.turns.before (c.turns.invariant.goes_on h es after st runs) c.turns.invariant.some
+    c.turns.tree c.take_nearest.new.self.runs c.keep-2.new.openers.runs r.0 r.1 c.in_default.ensures.missed.0 c.in_default.ensures.missed.1 next))
+    c.keep-2.ensures.ok

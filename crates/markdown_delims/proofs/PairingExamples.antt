@@ -1,12 +1,13 @@
--- Worked rows of the definitions: what becomes of small chains.
-use Rattle.std.proofs.Common.{◌≡◌, ℕ, zero, suc, ◌+◌, Bool, true, false, List, [], ◌∷◌, ◌++◌, None, refl}
-use Rattle.std.specs.Prelude.{codes, encode_utf8, slice_range}
+-- What becomes of small chains by the definitions.
+use Rattle.std.proofs.Common.{◌≡◌, ℕ, zero, suc, ◌+◌, Bool, true, false, List, [], ◌∷◌, ◌++◌, Option, Some, None, refl, map}
+use Rattle.std.specs.Prelude.{codes, encode_utf8, slice_range, option_map}
 use Rattle.markdown_base.specs.Event.{TagView, EventView, text, strong, emphasis, strikethrough, superscript, subscript}
-use Rattle.markdown_base.specs.Forest.{Forest, nil, node}
+use Rattle.markdown_base.specs.Forest.{Forest, nil, node, preorder}
 use Rattle.markdown_base.specs.declared.item.ItemBody.TheVariants as body
-use Rattle.markdown_chains.specs.Document.{Shape, leaf, enclosed, plain, backslash_break, unresolved, Plain, text_over}
+use Rattle.markdown_chains.specs.Document.{Shape, leaf, enclosed, plain, backslash_break, unresolved, Label, Plain, text_over}
 use Rattle.markdown_chains.specs.Setting.{Setting, Rules}
 use Rattle.markdown_delims.specs.Pairing.{closed_by, reads_from, runs_paired, paired}
+use Rattle.markdown_delims.specs.PairingLaws.{RunAt, with_runs, kept_run}
 use Rattle.markdown_delims.specs.Quotes.{with_quotes}
 
 -- a label over bytes i up to j
@@ -132,3 +133,28 @@ row_closing_quote rules = refl
 row_last_break : (rules : Rules) → shown (paired (under rules (codes "*a*\\") 0) (run 0 1 true false (word (codes "*a*\\") 1 1 (run 2 1 false true (node (over 3 4 backslash_break) nil nil))))) ≡ codes "[a]" ++ encode_utf8 92 ++ []
 unfolding paired runs_paired reads_from closed_by with_quotes
 row_last_break rules = refl
+
+-- where the run starts of which each tree is a character, and of which it is one that stayed text, in preorder
+abbrev start_of : Option RunAt → Option ℕ
+start_of r = option_map (λ (p : RunAt). p.start) r
+
+abbrev starts : Forest (Label (Option RunAt)) → List (Option ℕ)
+starts chain = map (λ (a : Label (Option RunAt)). start_of a.tag) (preorder chain)
+
+abbrev kept_starts : Forest (Label (Option RunAt)) → List (Option ℕ)
+kept_starts chain = map (λ (a : Label (Option RunAt)). start_of (kept_run a)) (preorder chain)
+
+-- each character of a run is told of which it is, and of what the opener keeps it is known
+told_4 : (rules : Rules) → starts (with_runs (under rules (codes "**a*") 0) 0 None (run 0 2 true false (word (codes "**a*") 2 1 (run 3 1 false true nil)))) ≡ Some 0 ∷ Some 0 ∷ None ∷ Some 3 ∷ []
+told_4 rules = refl
+
+kept_4 : (rules : Rules) → kept_starts (paired (under rules (codes "**a*") 0) (with_runs (under rules (codes "**a*") 0) 0 None (run 0 2 true false (word (codes "**a*") 2 1 (run 3 1 false true nil))))) ≡ Some 0 ∷ None ∷ None ∷ []
+unfolding paired runs_paired reads_from closed_by with_quotes
+kept_4 rules = refl
+
+-- two runs that may pair, of which a pair encloses one
+kept_5 : (rules : Rules)
+    → kept_starts (paired (under rules (codes "*a _b* c_") 0) (with_runs (under rules (codes "*a _b* c_") 0) 0 None (run 0 1 true false (word (codes "*a _b* c_") 1 2 (run 3 1 true false (word (codes "*a _b* c_") 4 1 (run 5 1 false true (word (codes "*a _b* c_") 6 2 (run 8 1 false true nil)))))))))
+    ≡ None ∷ None ∷ Some 3 ∷ None ∷ None ∷ Some 8 ∷ []
+unfolding paired runs_paired reads_from closed_by with_quotes
+kept_5 rules = refl

@@ -1,0 +1,39 @@
+-- Pairing makes no chain heavier: what it makes weighs no more than what stood in its place.
+use Rattle.std.proofs.Common.{◌≡◌, ℕ, ◌≤◌, Bool, false, refl, sym, subst, arith}
+use Rattle.std.specs.Prelude.{slice_range}
+use Rattle.markdown_base.specs.Forest.{Forest, nil, node}
+use Rattle.markdown_chains.specs.Document.{Label, is_unresolved}
+use Rattle.markdown_chains.specs.Labels.{weight}
+use Rattle.markdown_chains.specs.Setting.{Setting}
+use Rattle.markdown_chains.specs.Totals.{weight_if}
+use Rattle.markdown_chains.proofs.PlaceLemmas.{some_weight}
+use Rattle.markdown_delims.specs.Layers.{marks_of}
+use Rattle.markdown_delims.specs.PairingLaws.{WeightLaw}
+use Rattle.markdown_delims.specs.Pairing.{paired}
+use Rattle.markdown_delims.specs.Quotes.{kind_of_shape, is_closed_later, is_end}
+use Rattle.markdown_delims.proofs.LayerLawLemmas.{one-closed, two-closed, turn-made}
+use Rattle.markdown_delims.proofs.SumLemmas.{sum_of, CountsNoMore, sum-paired}
+
+abbrev pub weighs : {A : Type 0} → Label A → ℕ
+weighs a = weight_if (is_unresolved a.part.shape)
+
+-- what is not open weighs least
+least : (b c : Bool) → b ≡ false → weight_if b ≤ weight_if c
+least b c e = subst (λ x. weight_if x ≤ weight_if c) (sym e) (some_weight c)
+
+pub weights-count : {A : Type 0} (s : Setting) → CountsNoMore {A = A} s weighs
+weights-count s = record {
+  text = λ a. some_weight (is_unresolved a.part.shape);
+  one = λ d x v. least _ (is_unresolved x.part.shape) (one-closed (marks_of s.rules.options) d (slice_range s.text x.part.range.start v.part.range.end));
+  two = λ d x v. least _ (is_unresolved x.part.shape) (two-closed (marks_of s.rules.options) d (slice_range s.text x.part.range.start v.part.range.end));
+  quote = λ a after single double.
+      turn-made (λ shape. weight_if (is_unresolved shape) ≤ weighs a) (λ c. some_weight (is_unresolved a.part.shape)) (kind_of_shape a.part.shape) a.part.shape single double (is_closed_later after) (is_end after)
+      (omega arith);
+}
+
+weight_sum : {A : Type 0} (f : Forest (Label A)) → weight f ≡ sum_of weighs f
+weight_sum nil = refl
+weight_sum (node a below after) = omega (arith, weight_sum below, weight_sum after)
+
+pub weight-law : {A : Type 0} → WeightLaw A
+weight-law s chain = omega (arith, weight_sum (paired s chain), weight_sum chain, sum-paired s weighs (weights-count s) chain)
