@@ -1,5 +1,5 @@
 -- The laws of look-ups, case by case.
-use Rattle.std.proofs.Common.{◌≡◌, ℕ, ◌+◌, ◌≤◌, ◌==◌, ◌++◌, Bool, true, false, List, [], ◌∷◌, Option, Some, None, IfSome, cond, length, refl, arith, lit≤}
+use Rattle.std.proofs.Common.{◌≡◌, ℕ, ◌+◌, ◌-◌, ◌≤◌, ◌==◌, ◌++◌, Bool, true, false, List, [], ◌∷◌, Option, Some, None, IfSome, cond, length, refl, ◌∙◌, ap, arith, lit≤}
 use Rattle.std.proofs.lemmas.Bool.{cond_both}
 use Rattle.markdown_base.specs.Questions.{Question, Answer, Answers}
 use Rattle.markdown_base.specs.declared.block_parts.LinkDef.{LinkDef}
@@ -45,31 +45,41 @@ takes_bytes defined asks limit answers q = cases limit answers q (λ l. IfSome l
     in_case true None [] = tt
     in_case true None (a ∷ answers) = by_answer a answers
 
--- with one answer for each question
-abbrev IsHandedOn : Answers → Answers → LookedUp → LookedUp → Type 0
-IsHandedOn answers later alone more = length answers ≡ length alone.questions → more ≡ record { target = alone.target; questions = alone.questions; limit = alone.limit; answers = later }
+-- of a look-up with some answers, and of the same with more
+pub record LooksOn (answers later : Answers) (alone more : LookedUp) : Type 0 where
+  pub once : length alone.questions ≤ 1
+  pub takes : length alone.answers ≡ length answers - length alone.questions
+  pub hands_on : length alone.questions ≤ length answers → more ≡ record alone { answers = alone.answers ++ later }
+
+by_answer : (limit : ℕ) (rest later : Answers) (q : Question) (a : Option Answer) → LooksOn (a ∷ rest) later (answered limit rest q a) (answered limit (rest ++ later) q a)
+by_answer limit rest later q None = record { once = omega arith; takes = omega arith; hands_on = λ e. refl }
+by_answer limit rest later q (Some a) = record { once = omega arith; takes = omega arith; hands_on = λ e. refl }
+
+looks_on_in : (asks : Bool) (limit : ℕ) (q : Question) (o : Option LinkDef) (answers later : Answers)
+    → LooksOn answers later (defined_or_asked asks limit answers q o) (defined_or_asked asks limit (answers ++ later) q o)
+looks_on_in asks limit q (Some d) answers later = record { once = omega arith; takes = omega arith; hands_on = λ e. refl }
+looks_on_in false limit q None answers later = record { once = omega arith; takes = omega arith; hands_on = λ e. refl }
+looks_on_in true limit q None [] later = record { once = omega arith; takes = omega arith; hands_on = λ e. absurd (omega (arith, e)) }
+looks_on_in true limit q None (a ∷ answers) later = by_answer limit answers later q a
+
+pub looks_on : (defined : List Labelled) (asks : Bool) (limit : ℕ) (q : Question) (answers later : Answers)
+    → LooksOn answers later (look_up defined asks limit answers q) (look_up defined asks limit (answers ++ later) q)
+looks_on defined asks limit q answers later = by (limit == 0)
+  where
+    by : (b : Bool) → LooksOn answers later
+        (cond b (finds_nothing limit answers []) (defined_or_asked asks limit answers q (definitions.look_up q.reference defined)))
+        (cond b (finds_nothing limit (answers ++ later) []) (defined_or_asked asks limit (answers ++ later) q (definitions.look_up q.reference defined)))
+    by true = record { once = omega arith; takes = omega arith; hands_on = λ e. refl }
+    by false = looks_on_in asks limit q (definitions.look_up q.reference defined) answers later
+
+-- with one answer for each question none is left
+none_left : (answers : Answers) → length answers ≡ 0 → answers ≡ []
+none_left [] e = refl
+none_left (a ∷ answers) e = absurd (omega (arith, e))
 
 pub hands_on : (defined : List Labelled) (asks : Bool) (limit : ℕ) (q : Question) (answers later : Answers) → HandsOnLaterAnswers defined asks limit q answers later
-hands_on defined asks limit q answers later = by (limit == 0) (definitions.look_up q.reference defined) asks answers
-  where
-    by_answer : (a : Option Answer) → IsHandedOn (a ∷ []) later (answered limit [] q a) (answered limit later q a)
-    by_answer None e = refl
-    by_answer (Some a) e = refl
-
-    too_many : (a b : Option Answer) (answers : Answers) → IsHandedOn (a ∷ b ∷ answers) later (answered limit (b ∷ answers) q a) (answered limit (b ∷ answers ++ later) q a)
-    too_many None b answers e = absurd (omega arith)
-    too_many (Some a) b answers e = absurd (omega arith)
-
-    in_case : (o : Option LinkDef) (asks : Bool) (answers : Answers) → IsHandedOn answers later (defined_or_asked asks limit answers q o) (defined_or_asked asks limit (answers ++ later) q o)
-    in_case (Some d) asks [] e = refl
-    in_case (Some d) asks (a ∷ answers) e = absurd (omega arith)
-    in_case None false [] e = refl
-    in_case None false (a ∷ answers) e = absurd (omega arith)
-    in_case None true [] e = absurd (omega arith)
-    in_case None true (a ∷ []) e = by_answer a e
-    in_case None true (a ∷ b ∷ answers) e = too_many a b answers e
-
-    by : (b : Bool) (o : Option LinkDef) (asks : Bool) (answers : Answers) → IsHandedOn answers later (cond b (finds_nothing limit answers []) (defined_or_asked asks limit answers q o)) (cond b (finds_nothing limit (answers ++ later) []) (defined_or_asked asks limit (answers ++ later) q o))
-    by true o asks [] e = refl
-    by true o asks (a ∷ answers) e = absurd (omega arith)
-    by false o asks answers e = in_case o asks answers e
+hands_on defined asks limit q answers later e =
+    let alone : LookedUp = look_up defined asks limit answers q in
+    let l = looks_on defined asks limit q answers later in
+    l.hands_on (omega (arith, e))
+    ∙ ap (λ (rest : Answers). record alone { answers = rest ++ later }) (none_left alone.answers (omega (arith, e, l.takes)))

@@ -1,6 +1,9 @@
 -- The left list of a chain while its items are read: trees that are done, and openers `[` and `![` that wait, the
--- nearest first. Trees are of any type; each opener carries the tree that it is where nothing becomes of it.
-use Rattle.std.specs.Prelude.{ℕ, Bool, true, false, not, ◌==◌, List, [], ◌∷◌, map, if◌then◌else◌, Option, Some, None}
+-- nearest first.
+use Rattle.std.specs.Prelude.{ℕ, Bool, true, false, not, if◌then◌else◌, List, [], ◌∷◌, map, Option, Some, None}
+use Rattle.std.specs.Option.{option_map}
+use Rattle.markdown_base.specs.Forest.{Forest, nil, node}
+use Rattle.markdown_chains.specs.Document.{Label}
 use Rattle.markdown_brackets.specs.Openers.{Waiting}
 
 -- whether an opener may still become something; it is gone once a `]` was tried with it
@@ -9,16 +12,16 @@ pub data Flag : Type 0 where
   disabled : Flag
   gone : Flag
 
--- an opener: its number, whether it is an image's, whether it may still open a link or an image, and a wikilink
+-- an opener: whether it is an image's, whether it may still open a link or an image, and a wikilink
 pub record Mark : Type 0 where
-  pub node : ℕ
   pub is_image : Bool
   pub bracket : Flag
   pub wikilink : Flag
 
-pub data Entry (T : Type 0) : Type 0 where
-  done : T → Entry T
-  mark : Mark → T → Entry T
+-- a tree that is done; or an opener that waits, with the label of the Text that it is where nothing becomes of it
+pub data Entry (A : Type 0) : Type 0 where
+  done : Label A → Forest (Label A) → Entry A
+  waits : Mark → Label A → Entry A
 
 abbrev pub is_gone : Flag → Bool
 is_gone live = false
@@ -30,45 +33,68 @@ is_live live = true
 is_live disabled = false
 is_live gone = false
 
--- an entry as a tree
-abbrev pub tree_of : {T : Type 0} → Entry T → T
-tree_of (done t) = t
-tree_of (mark m t) = t
+-- the trees of a left list from left to right, and then those given
+abbrev pub trees_onto : {A : Type 0} → List (Entry A) → Forest (Label A) → Forest (Label A)
+trees_onto [] later = later
+trees_onto (done a below ∷ left) later = trees_onto left (node a below later)
+trees_onto (waits m a ∷ left) later = trees_onto left (node a nil later)
 
--- the trees of a left list from left to right, and then those given: an opener that is left is its own tree
-abbrev pub trees_onto : {T : Type 0} → List (Entry T) → List T → List T
-trees_onto [] trees = trees
-trees_onto (e ∷ left) trees = trees_onto left (tree_of e ∷ trees)
+-- a left list at one of its openers: the opener, the entries after it, the nearest first, and those before it
+pub record Split (A : Type 0) : Type 0 where
+  pub mark : Mark
+  pub opener : Label A
+  pub after : List (Entry A)
+  pub before : List (Entry A)
+
+-- the trees after it
+abbrev pub inside : {A : Type 0} → Split A → Forest (Label A)
+inside o = trees_onto o.after nil
+
+abbrev pub behind : {A : Type 0} → Entry A → Split A → Split A
+behind e o = record o { after = e ∷ o.after }
 
 -- the nearest opener that passes a test
-abbrev pub nearest_mark : {T : Type 0} → (Mark → Bool) → List (Entry T) → Option Mark
-nearest_mark test [] = None
-nearest_mark test (done t ∷ left) = nearest_mark test left
-nearest_mark test (mark m t ∷ left) = if test m then Some m else nearest_mark test left
+abbrev pub nearest : {A : Type 0} → (Mark → Bool) → List (Entry A) → Option (Split A)
+nearest test [] = None
+nearest test (done a below ∷ left) = option_map (behind (done a below)) (nearest test left)
+nearest test (waits m a ∷ left) =
+    if test m then Some (record { mark = m; opener = a; after = []; before = left })
+    else option_map (behind (waits m a)) (nearest test left)
+
+-- a left list in which that opener is changed
+abbrev pub change_nearest : {A : Type 0} → (Mark → Bool) → (Mark → Mark) → List (Entry A) → List (Entry A)
+change_nearest test f [] = []
+change_nearest test f (done a below ∷ left) = done a below ∷ change_nearest test f left
+change_nearest test f (waits m a ∷ left) =
+    if test m then waits (f m) a ∷ left else waits m a ∷ change_nearest test f left
 
 -- the opener for the next `]`, and for the next two
-abbrev pub nearest_bracket : {T : Type 0} → List (Entry T) → Option Mark
-nearest_bracket left = nearest_mark (λ m. not (is_gone m.bracket)) left
+abbrev pub opens_bracket : Mark → Bool
+opens_bracket m = not (is_gone m.bracket)
 
-abbrev pub nearest_wikilink : {T : Type 0} → List (Entry T) → Option Mark
-nearest_wikilink left = nearest_mark (λ m. not (is_gone m.wikilink)) left
-
-abbrev pub on_mark : {T : Type 0} → (Mark → Mark) → Entry T → Entry T
-on_mark f (done t) = done t
-on_mark f (mark m t) = mark (f m) t
-
--- all openers changed, or the one of a number
-abbrev pub on_marks : {T : Type 0} → (Mark → Mark) → List (Entry T) → List (Entry T)
-on_marks f left = map (on_mark f) left
-
-abbrev pub at_mark : {T : Type 0} → ℕ → (Mark → Mark) → List (Entry T) → List (Entry T)
-at_mark node f left = on_marks (λ m. if m.node == node then f m else m) left
+abbrev pub opens_wikilink : Mark → Bool
+opens_wikilink m = not (is_gone m.wikilink)
 
 abbrev pub without_bracket : Mark → Mark
 without_bracket m = record m { bracket = gone }
 
 abbrev pub without_wikilink : Mark → Mark
 without_wikilink m = record m { wikilink = gone }
+
+-- it is taken off
+abbrev pub bracket_taken : {A : Type 0} → List (Entry A) → List (Entry A)
+bracket_taken left = change_nearest opens_bracket without_bracket left
+
+abbrev pub wikilink_taken : {A : Type 0} → List (Entry A) → List (Entry A)
+wikilink_taken left = change_nearest opens_wikilink without_wikilink left
+
+abbrev pub on_mark : {A : Type 0} → (Mark → Mark) → Entry A → Entry A
+on_mark f (done a below) = done a below
+on_mark f (waits m a) = waits (f m) a
+
+-- all openers changed
+abbrev pub on_marks : {A : Type 0} → (Mark → Mark) → List (Entry A) → List (Entry A)
+on_marks f left = map (on_mark f) left
 
 abbrev pub disabled_flag : Flag → Flag
 disabled_flag live = disabled
@@ -81,54 +107,38 @@ disabled_mark m =
     if m.is_image then m
     else record m { bracket = disabled_flag m.bracket; wikilink = disabled_flag m.wikilink }
 
--- a left list at one of its openers: the opener's tree, the trees after it, and the entries before it
-pub record Split (T : Type 0) : Type 0 where
-  pub opener : T
-  pub inside : List T
-  pub before : List (Entry T)
-
-abbrev pub split_onto : {T : Type 0} → ℕ → List (Entry T) → List T → Option (Split T)
-split_onto node [] inside = None
-split_onto node (done t ∷ left) inside = split_onto node left (t ∷ inside)
-split_onto node (mark m t ∷ left) inside =
-    if m.node == node then Some (record { opener = t; inside = inside; before = left }) else split_onto node left (t ∷ inside)
-
-abbrev pub split_at : {T : Type 0} → ℕ → List (Entry T) → Option (Split T)
-split_at node left = split_onto node left []
-
--- trees from left to right, put at the right of a left list
-abbrev pub with_trees : {T : Type 0} → List T → List (Entry T) → List (Entry T)
-with_trees [] left = left
-with_trees (t ∷ trees) left = with_trees trees (done t ∷ left)
-
 -- the entry just before what was found opens no wikilink any more: what was found began with its second bracket
-abbrev pub second_folded : {T : Type 0} → List (Entry T) → List (Entry T)
+abbrev pub second_folded : {A : Type 0} → List (Entry A) → List (Entry A)
 second_folded [] = []
 second_folded (e ∷ left) = on_mark without_wikilink e ∷ left
 
--- what a finished link leaves before it, a finished image, a wikilink in either form, and a footnote reference
-abbrev pub after_link : {T : Type 0} → (is_image : Bool) → List (Entry T) → List (Entry T)
-after_link true left = second_folded left
-after_link false left = on_marks disabled_mark (second_folded left)
+-- what stands before a finished link, or before a finished image: no link stands in a link
+abbrev pub before_link : {A : Type 0} → (is_image : Bool) → List (Entry A) → List (Entry A)
+before_link true left = second_folded left
+before_link false left = on_marks disabled_mark (second_folded left)
 
-abbrev pub after_wikilink : {T : Type 0} → List (Entry T) → List (Entry T)
-after_wikilink left = on_marks without_wikilink (on_marks disabled_mark left)
+-- before a finished wikilink, as a link or as an image
+abbrev pub before_wikilink : {A : Type 0} → List (Entry A) → List (Entry A)
+before_wikilink left = on_marks without_wikilink (on_marks disabled_mark left)
 
-abbrev pub after_footnote : {T : Type 0} → List (Entry T) → List (Entry T)
-after_footnote left = on_marks without_bracket (second_folded left)
+-- before a footnote reference
+abbrev pub before_footnote : {A : Type 0} → List (Entry A) → List (Entry A)
+before_footnote left = on_marks without_bracket (second_folded left)
 
--- the openers for a `]`, and for two, as a stack holds them
-abbrev pub waiting_as : Mark → Flag → List Waiting → List Waiting
-waiting_as m live waiting = record { opener = record { node = m.node; is_image = m.is_image }; is_live = true } ∷ waiting
-waiting_as m disabled waiting = record { opener = record { node = m.node; is_image = m.is_image }; is_live = false } ∷ waiting
-waiting_as m gone waiting = waiting
+-- the openers for a `]`, and for two, as a stack of nodes holds them
+abbrev pub held_as : ℕ → Bool → Flag → List Waiting → List Waiting
+held_as number is_image live held =
+    record { opener = record { node = number; is_image = is_image }; is_live = true } ∷ held
+held_as number is_image disabled held =
+    record { opener = record { node = number; is_image = is_image }; is_live = false } ∷ held
+held_as number is_image gone held = held
 
-abbrev pub brackets_of : {T : Type 0} → List (Entry T) → List Waiting
+abbrev pub brackets_of : List (Entry ℕ) → List Waiting
 brackets_of [] = []
-brackets_of (done t ∷ left) = brackets_of left
-brackets_of (mark m t ∷ left) = waiting_as m m.bracket (brackets_of left)
+brackets_of (done a below ∷ left) = brackets_of left
+brackets_of (waits m a ∷ left) = held_as a.tag m.is_image m.bracket (brackets_of left)
 
-abbrev pub wikilinks_of : {T : Type 0} → List (Entry T) → List Waiting
+abbrev pub wikilinks_of : List (Entry ℕ) → List Waiting
 wikilinks_of [] = []
-wikilinks_of (done t ∷ left) = wikilinks_of left
-wikilinks_of (mark m t ∷ left) = waiting_as m m.wikilink (wikilinks_of left)
+wikilinks_of (done a below ∷ left) = wikilinks_of left
+wikilinks_of (waits m a ∷ left) = held_as a.tag m.is_image m.wikilink (wikilinks_of left)

@@ -15,8 +15,29 @@ pub mod WikilinkView
 -- openers that wait
 pub mod Openers
 pub mod OpenerStack
--- the left list of a chain, for whoever resolves it
+-- what brackets make of a chain
+pub mod BracketOptions
 pub mod LeftList
+pub mod BracketDecision
+pub mod ClosingBracket
+pub mod ReadChain
+pub mod BracketLaws
+pub mod BracketTags
+pub mod NoLinkInLink
+pub mod BracketWeight
+pub mod KeptShapes
+pub mod ChainBegins
+pub mod QuietItems
+-- and in an arena
+pub mod ChainHeld
+pub mod ChainAhead
+pub mod SpentEnds
+pub mod WrittenView
+pub mod WikilinkNodes
+pub mod DecisionView
+pub mod StandsAt
+pub mod Decides
+pub mod FoldedChain
 -- for private clauses
 pub mod TitleText
 pub mod TitlePart

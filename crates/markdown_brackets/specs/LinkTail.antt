@@ -31,7 +31,8 @@ closed_at text i written title is_joined =
 -- after the destination and the separator up to byte i, with the title that stands there, if any
 abbrev pub after_title : (List ℕ → Option ℕ) → List ℕ → ℕ → List ℕ → Option Title → Option LinkTail
 after_title skipped text i written None = closed_at text i written [] false
-after_title skipped text i written (Some t) = closed_at text (past_separator skipped text t.ends) written t.text t.is_joined
+after_title skipped text i written (Some t) =
+    closed_at text (past_separator skipped text t.ends) written t.text t.is_joined
 
 -- after the destination that stands at byte i
 abbrev pub after_destination : (List ℕ → Option ℕ) → (ℕ → Option ℕ) → List ℕ → ℕ → Option (ℕ × List ℕ) → Option LinkTail
@@ -44,5 +45,6 @@ after_destination skipped starts text i (Some d) =
 abbrev pub link_tail : (List ℕ → Option ℕ) → (ℕ → Option ℕ) → List ℕ → ℕ → Option LinkTail
 link_tail skipped starts text at =
     if slice_index text at == 40
-    then (let i = past_separator skipped text (at + 1) in after_destination skipped starts text i (destination max_nesting (drop i text)))
+    then (let i = past_separator skipped text (at + 1) in
+    after_destination skipped starts text i (destination max_nesting (drop i text)))
     else None

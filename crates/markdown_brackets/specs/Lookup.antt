@@ -1,6 +1,8 @@
 -- Look-ups of link labels: definitions, and questions about labels that are defined nowhere.
-use Rattle.std.specs.Prelude.{ℕ, ◌+◌, ◌-◌, Bool, ◌==◌, List, [], ◌∷◌, Option, Some, None, if◌then◌else◌, length, unwrap_or}
+use Rattle.std.specs.Prelude.{ℕ, ◌+◌, ◌-◌, Bool, ◌==◌, List, [], ◌∷◌, Option, Some, None, if◌then◌else◌, length}
+use Rattle.std.specs.Prelude.{unwrap_or}
 use Rattle.markdown_base.specs.BlockParts.{DefinitionView, definition_view}
+use Rattle.markdown_base.specs.Event.{LinkView}
 use Rattle.markdown_base.specs.Questions.{Question, Answer, Answers}
 use Rattle.markdown_base.specs.declared.block_parts.LinkDef.{LinkDef}
 use Rattle.markdown_base.specs.declared.tag.LinkType.{LinkType}
@@ -8,17 +10,10 @@ use Rattle.markdown_base.specs.declared.tag.LinkType.TheVariants as link
 use Rattle.markdown_spans.specs.Definitions as definitions
 use Rattle.markdown_spans.specs.Definitions.{Labelled}
 
--- where a link leads, its title and its label
-pub record Target : Type 0 where
-  pub link_type : LinkType
-  pub destination : List ℕ
-  pub title : List ℕ
-  pub id : List ℕ
-
 -- what a look-up finds, what it asks, and how many bytes references may still expand to after it; the answers that are
 -- still to be given
 pub record LookedUp : Type 0 where
-  pub target : Option Target
+  pub target : Option LinkView
   pub questions : List Question
   pub limit : ℕ
   pub answers : Answers
@@ -31,16 +26,16 @@ unknown link.Shortcut = link.ShortcutUnknown
 unknown other = other
 
 -- the bytes that a link expands to
-abbrev pub size_of : Target → ℕ
+abbrev pub size_of : LinkView → ℕ
 size_of t = length t.destination + length t.title
 
 -- what is left of a limit after a link, if there is one
-abbrev pub limit_after : ℕ → Option Target → ℕ
+abbrev pub limit_after : ℕ → Option LinkView → ℕ
 limit_after limit None = limit
 limit_after limit (Some t) = limit - size_of t
 
 -- something is found: it takes its bytes of the limit, as far as there are so many
-abbrev pub finds : ℕ → Answers → List Question → Target → LookedUp
+abbrev pub finds : ℕ → Answers → List Question → LinkView → LookedUp
 finds limit answers questions t =
     record { target = Some t; questions = questions; limit = limit - size_of t; answers = answers }
 
@@ -50,14 +45,14 @@ finds_nothing limit answers questions =
     record { target = None; questions = questions; limit = limit; answers = answers }
 
 -- the link to a definition
-abbrev pub defined_target : LinkType → DefinitionView → List ℕ → Target
+abbrev pub defined_target : LinkType → DefinitionView → List ℕ → LinkView
 defined_target link_type d label =
-    record { link_type = link_type; destination = d.destination; title = unwrap_or d.title []; id = label }
+    record { kind = link_type; destination = d.destination; title = unwrap_or d.title []; label = label }
 
 -- the link that answers a question
-abbrev pub answered_target : Question → Answer → Target
+abbrev pub answered_target : Question → Answer → LinkView
 answered_target q a =
-    record { link_type = unknown q.link_type; destination = a.destination; title = a.title; id = q.reference }
+    record { kind = unknown q.link_type; destination = a.destination; title = a.title; label = q.reference }
 
 abbrev pub answered : ℕ → Answers → Question → Option Answer → LookedUp
 answered limit answers q None = finds_nothing limit answers (q ∷ [])

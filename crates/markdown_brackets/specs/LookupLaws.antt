@@ -10,14 +10,16 @@ AsksOnceAtMost defined asks limit answers q = length (look_up defined asks limit
 
 -- at a limit of 0 nothing is found, and nothing asked
 abbrev pub FindsNothingAtZero : List Labelled → Bool → Answers → Question → Type 0
-FindsNothingAtZero defined asks answers q = look_up defined asks 0 answers q ≡ record { target = None; questions = []; limit = 0; answers = answers }
+FindsNothingAtZero defined asks answers q =
+    look_up defined asks 0 answers q ≡ record { target = None; questions = []; limit = 0; answers = answers }
 
 -- where there is one answer for each question, the result is the same whatever answers follow, which are handed on
 abbrev pub HandsOnLaterAnswers : List Labelled → Bool → ℕ → Question → Answers → Answers → Type 0
 HandsOnLaterAnswers defined asks limit q answers later =
     let alone = look_up defined asks limit answers q in
     length answers ≡ length alone.questions
-    → look_up defined asks limit (answers ++ later) q ≡ record { target = alone.target; questions = alone.questions; limit = alone.limit; answers = later }
+    → look_up defined asks limit (answers ++ later) q
+    ≡ record { target = alone.target; questions = alone.questions; limit = alone.limit; answers = later }
 
 -- what is found takes its bytes off the limit, but not below 0
 abbrev pub TakesItsBytes : List Labelled → Bool → ℕ → Answers → Question → Type 0

@@ -1,39 +1,56 @@
 -- What contracts see of look-ups: the callback went by at most one question and its answer.
 use Rattle.std.specs.Prelude.{◌≡◌, ℕ, ◌++◌, Bool, List, Option, Some, None, MatchOption}
-use Rattle.markdown_base.specs.CowText.{text_of}
-use Rattle.markdown_base.specs.Questions.{Question, Answer, Answers}
-use Rattle.markdown_spans.specs.Callback.{Asks}
+use Rattle.std.specs.declared.ops.Range.{Range}
 use Rattle.markdown_base.specs.BlockParts.{definition_view}
+use Rattle.markdown_base.specs.CowText.{text_of}
+use Rattle.markdown_base.specs.Event.{LinkView}
+use Rattle.markdown_base.specs.Questions.{Question, Answer, Answers}
+use Rattle.markdown_base.specs.declared.cow_str.CowStr.{CowStr}
+use Rattle.markdown_base.specs.declared.tag.LinkType.{LinkType}
+use Rattle.markdown_spans.specs.Callback.{Asks}
 use Rattle.markdown_spans.specs.Definitions as definitions
 use Rattle.markdown_spans.specs.Definitions.{Labelled}
-use Rattle.markdown_brackets.specs.Lookup as def
 use Rattle.markdown_brackets.specs.Lookup.{look_up, answered_target, defined_target}
 use Rattle.markdown_brackets.specs.declared.look_up.Target.{Target}
 
+-- the question about a label
+abbrev pub question : Range ℕ → LinkType → CowStr → Question
+question span link_type label = record { span = span; link_type = link_type; reference = text_of label }
+
 -- a target by the bytes of its texts
-abbrev pub target_view : Target → def.Target
-target_view t = record { link_type = t.link_type; destination = text_of t.destination; title = text_of t.title; id = text_of t.id }
+abbrev pub target_view : Target → LinkView
+target_view t = record {
+  kind = t.link_type;
+  destination = text_of t.destination;
+  title = text_of t.title;
+  label = text_of t.id;
+}
 
 -- what an answer gives
-abbrev pub target_by : Question → Option Answer → Option def.Target
+abbrev pub target_by : Question → Option Answer → Option LinkView
 target_by q None = None
 target_by q (Some a) = Some (answered_target q a)
 
 -- a callback, if there is one, answered this question, and the answer gave this target
-abbrev pub IsAnswered : {C : Type 0} → (C → Question → Option Answer → C → Type 0) → Question → Option C → Option C → Option def.Target → Type 0
+abbrev pub IsAnswered : {C : Type 0} → (C → Question → Option Answer → C → Type 0) → Question → Option C → Option C
+    → Option LinkView → Type 0
 IsAnswered step q None new target = (new ≡ None) × (target ≡ None)
-IsAnswered {C} step q (Some old) new target = (then : C) × (answer : Option Answer) × step old q answer then × (new ≡ Some then) × (target ≡ target_by q answer)
+IsAnswered {C} step q (Some old) new target =
+    (then : C) × (answer : Option Answer) × step old q answer then × (new ≡ Some then) × (target ≡ target_by q answer)
 
 -- a label found this target: its definition, and nobody was asked; or what was answered about it
-abbrev pub FindsTarget : {C : Type 0} → (C → Question → Option Answer → C → Type 0) → List Labelled → Question → Option C → Option C → Option def.Target → Type 0
+abbrev pub FindsTarget : {C : Type 0} → (C → Question → Option Answer → C → Type 0) → List Labelled → Question
+    → Option C → Option C → Option LinkView → Type 0
 FindsTarget step defined q old new target =
     MatchOption (definitions.look_up q.reference defined) (IsAnswered step q old new target)
     (λ d. (new ≡ old) × (target ≡ Some (defined_target q.link_type (definition_view d) q.reference)))
 
 -- a look-up found this target: the callback went by the questions asked and by these answers, and the look-up is the
 -- defined one whatever answers follow, which are handed on
-pub record LooksUp {C : Type 0} (step : C → Question → Option Answer → C → Type 0) (defined : List Labelled) (asks : Bool) (q : Question) (limit limit' : ℕ) (callback callback' : Option C) (target : Option def.Target) : Type 0 where
+pub record LooksUp {C : Type 0} (step : C → Question → Option Answer → C → Type 0) (defined : List Labelled)
+    (asks : Bool) (q : Question) (limit limit' : ℕ) (callback callback' : Option C) (target : Option LinkView) : Type 0 where
   pub answers : Answers
   pub questions : List Question
   pub asked : Asks step callback questions answers callback'
-  pub finds : (later : Answers) → look_up defined asks limit (answers ++ later) q ≡ record { target = target; questions = questions; limit = limit'; answers = later }
+  pub finds : (later : Answers) → look_up defined asks limit (answers ++ later) q
+      ≡ record { target = target; questions = questions; limit = limit'; answers = later }

@@ -22,7 +22,8 @@ stripped byte (b ∷ bytes) = if b == byte then Some bytes else None
 
 -- a label after so many bytes
 abbrev pub label_past : Bool → ℕ → Option (ℕ × List ℕ) → Option FoundLabel
-label_past is_footnote n found = option_map (λ f. record { is_footnote = is_footnote; length = n + f.0; name = f.1 }) found
+label_past is_footnote n found =
+    option_map (λ f. record { is_footnote = is_footnote; length = n + f.0; name = f.1 }) found
 
 -- lines of a footnote label: GFM wants it on one line
 abbrev pub footnote_lines : FootnoteStyle → (List ℕ → Option ℕ) → (List ℕ → Option ℕ)

@@ -14,4 +14,5 @@ pub record IsTitleText (in_table : Bool) (close end : ℕ) (text : List ℕ) (is
 
 abbrev pub IsTitlePart : (List ℕ → Option ℕ) → Bool → List ℕ → ℕ → Option Title → ℕ → CowStr → Type 0
 IsTitlePart skipped in_table text at None end found = IsTitleText in_table at end [] false found
-IsTitlePart skipped in_table text at (Some t) end found = IsTitleText in_table (past_separator skipped text t.ends) end t.text t.is_joined found
+IsTitlePart skipped in_table text at (Some t) end found =
+    IsTitleText in_table (past_separator skipped text t.ends) end t.text t.is_joined found

@@ -48,8 +48,8 @@ impl ChainOpeners {
         }
     }
 
-    /// A wikilink was found from the opener of this number on, as a link or as an image: it and all openers after it are
-    /// gone, each `[` before it may become no link any more, and no opener before it may become a wikilink.
+    /// A wikilink was found from the opener of this number on, as a link or as an image: it and all openers after it
+    /// are gone, each `[` before it may become no link any more, and no opener before it may become a wikilink.
     pub fn finish_wikilink(&mut self, node: usize)
         ensures brackets { self.new.brackets ≡ before_wikilink node self.old.brackets }
         ensures wikilinks { self.new.wikilinks ≡ [] }
@@ -66,7 +66,7 @@ impl ChainOpeners {
         ensures wikilinks { self.new.wikilinks ≡ before node self.old.wikilinks }
     {
         self.brackets.clear();
-        self.wikilinks.drop_from(node);
+        self.close_wikilink(node);
     }
 
     /// Openers from this number on open no wikilink any more, as one whose second bracket became a link or a footnote.

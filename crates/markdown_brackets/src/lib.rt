@@ -4,14 +4,22 @@
 
 mod byte_at;
 pub mod chain_openers;
+pub mod closing_bracket;
+pub mod decision;
+pub mod fold;
 pub mod footnote;
 pub mod items_after;
+mod items_ahead;
 pub mod laws;
 pub mod link_tail;
 pub mod link_title;
 pub mod look_up;
+mod nodes;
 pub mod openers;
 pub mod reference;
 pub mod separator;
+pub mod spent_ends;
 mod title_text;
 pub mod wikilink;
+pub mod wikilink_nodes;
+pub mod written;

@@ -62,7 +62,8 @@ fn scan_title_part<'t, R: LineRule, I: ItemsAfter>(
     requires at { IsCharBoundary text.now at }
     requires items { (n s : ℕ) → I.starts items.old n ≡ Some s → IsCharBoundary text.now s }
     ensures value { IfOk result (λ part.
-        IsTitlePart (R.skipped rule.now) in_table text.now at (title_at (I.starts items.old) text.now at) part.0 part.1) }
+        IsTitlePart (R.skipped rule.now) in_table text.now at (title_at (I.starts items.old) text.now at)
+        part.0 part.1) }
 {
     match scan_link_title(alloc, text, at, in_table, items)? {
         None => Ok((at, CowStr::Borrowed(""))),

@@ -26,7 +26,8 @@ fn closer_of(byte: u8) -> Option<u8>
 // The mark that closes a title which the byte at `at` opens.
 fn closer_at(text: &str, at: usize) -> Option<u8>
     ensures value { result ≡ title.first_closer (drop at text.now) }
-    ensures ascii { IfSome result (λ closer. (at < length text.now) × (slice_index text.now at < 128) × (closer < 128)) }
+    ensures ascii { IfSome result (λ closer.
+        (at < length text.now) × (slice_index text.now at < 128) × (closer < 128)) }
 {
     match text.as_bytes().get(at) {
         Some(byte) => closer_of(*byte),

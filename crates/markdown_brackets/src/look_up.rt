@@ -6,7 +6,8 @@ ghost use Rattle.markdown_base.specs.CowText.{text_of};
 ghost use Rattle.markdown_base.specs.declared.fault.Fault.{Fault};
 ghost use Rattle.markdown_spans.specs.Callback.{answer_of};
 ghost use Rattle.markdown_brackets.specs.Lookup as lookup;
-ghost use Rattle.markdown_brackets.specs.LookupView.{target_view, target_by, FindsTarget, IsAnswered, LooksUp};
+ghost use Rattle.markdown_brackets.specs.LookupView.{question, target_view, target_by};
+ghost use Rattle.markdown_brackets.specs.LookupView.{FindsTarget, IsAnswered, LooksUp};
 
 use markdown_base::block_parts::LinkDef;
 use markdown_base::cow_str::CowStr;
@@ -74,7 +75,8 @@ fn answered_target<'a>(
     link_type: LinkType,
     id: CowStr<'a>,
 ) -> Option<Target<'a>>
-    ensures { (span : _) → option_map target_view result ≡ target_by (record { span = span; link_type = link_type; reference = text_of id.entry }) (answer_of answer.entry) }
+    ensures { (span : _) → option_map target_view result
+        ≡ target_by (question span link_type id.entry) (answer_of answer.entry) }
 {
     match answer {
         Some((destination, title)) => Some(Target {
@@ -100,7 +102,8 @@ fn ask<'a, F: BrokenLinkCallback<'a>>(
 ) -> Result<Option<Target<'a>>, Fault>
     requires { IfSome callback.old F.can_ask }
     ensures answered { IfOk result (λ target.
-        IsAnswered F.answers (record { span = span; link_type = link_type; reference = text_of id.entry }) callback.old callback.new (option_map target_view target)) }
+        IsAnswered F.answers (question span link_type id.entry) callback.old callback.new
+        (option_map target_view target)) }
     ensures again { IfSome callback.new F.can_ask }
     ensures refused { IfErr result (λ fault. fault ≡ Fault.Memory) }
     ensures unchanged { OnErr result (callback.new ≡ callback.old) }
@@ -129,7 +132,8 @@ fn find_target<'a, F: BrokenLinkCallback<'a>>(
 ) -> Result<Option<Target<'a>>, Fault>
     requires { IfSome callback.old F.can_ask }
     ensures finds { IfOk result (λ target.
-        FindsTarget F.answers definitions.now (record { span = span; link_type = link_type; reference = text_of label.entry }) callback.old callback.new (option_map target_view target)) }
+        FindsTarget F.answers definitions.now (question span link_type label.entry) callback.old callback.new
+        (option_map target_view target)) }
     ensures again { IfSome callback.new F.can_ask }
     ensures refused { IfErr result (λ fault. fault ≡ Fault.Memory) }
     ensures unchanged { OnErr result (callback.new ≡ callback.old) }
@@ -167,7 +171,8 @@ pub fn look_up_label<'a, F: BrokenLinkCallback<'a>>(
 ) -> Result<Option<Target<'a>>, Fault>
     requires { IfSome callback.old F.can_ask }
     ensures looks_up { IfOk result (λ target.
-        LooksUp F.answers definitions.now (is_some callback.old) (record { span = span; link_type = link_type; reference = text_of label.entry }) limit.old limit.new callback.old callback.new (option_map target_view target)) }
+        LooksUp F.answers definitions.now (is_some callback.old) (question span link_type label.entry)
+        limit.old limit.new callback.old callback.new (option_map target_view target)) }
 
     ensures again { IfSome callback.new F.can_ask }
     ensures refused { IfErr result (λ fault. fault ≡ Fault.Memory) }

@@ -46,7 +46,8 @@ fn scan_name<'t, R: LineRule>(
 ) -> Result<Option<FoundLabel<'t>>, AllocError>
     requires { before + length text.now < 2 ^ 64 }
     ensures value { IfOk result (λ found.
-        option_map label_view found ≡ def.label_past is_footnote before (link_label (R.skipped rule.now) in_table text.now)) }
+        option_map label_view found
+        ≡ def.label_past is_footnote before (link_label (R.skipped rule.now) in_table text.now)) }
     ensures borrowed { IfOk result (λ found. IfSome found (BorrowsLabel before text.now)) }
     ensures kind { IfOk result (λ found. IfSome found (λ l. l.is_footnote ≡ is_footnote)) }
     ensures within { IfOk result (λ found. IfSome found (λ l. l.length ≤ before + length text.now)) }
@@ -70,7 +71,8 @@ fn scan_after_caret<'t, R: LineRule>(
 ) -> Result<Option<FoundLabel<'t>>, AllocError>
     requires { 1 + length text.now < 2 ^ 64 }
     ensures value { IfOk result (λ found.
-        option_map label_view found ≡ def.label_past true 2 (def.label_after 94 (R.skipped rule.now) in_table text.now)) }
+        option_map label_view found
+        ≡ def.label_past true 2 (def.label_after 94 (R.skipped rule.now) in_table text.now)) }
     ensures borrowed { IfOk result (λ found. IfSome found (BorrowsLabel 2 (drop 1 text.now))) }
     ensures kind { IfOk result (λ found. IfSome found (λ l. l.is_footnote ≡ true)) }
     ensures within { IfOk result (λ found. IfSome found (λ l. l.length ≤ 1 + length text.now)) }
@@ -168,7 +170,7 @@ fn is_opener(body: ItemBody) -> bool
     matches!(body, ItemBody::MaybeLinkOpen)
 }
 
-fn is_closer(body: ItemBody) -> bool
+pub(crate) fn is_closer(body: ItemBody) -> bool
     ensures { result ≡ def.is_closer body }
 {
     matches!(body, ItemBody::MaybeLinkClose(_))

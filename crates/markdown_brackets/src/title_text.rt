@@ -47,7 +47,8 @@ impl<'t> TitleText<'t> {
         requires here { IsCharBoundary self.old.text.now at }
         requires there { IsCharBoundary self.old.text.now start }
         ensures joined { IfOk result (λ _.
-            string_bytes self.new.joined ≡ string_bytes self.old.joined ++ slice_range self.old.text.now self.old.from at ++ line_feed ∷ []) }
+            string_bytes self.new.joined
+            ≡ string_bytes self.old.joined ++ slice_range self.old.text.now self.old.from at ++ line_feed ∷ []) }
         ensures from { IfOk result (λ _. self.new.from ≡ start) }
         ensures is_joined { IfOk result (λ _. self.new.is_joined ≡ true) }
         ensures text { IfOk result (λ _. self.new.text.now ≡ self.old.text.now) }

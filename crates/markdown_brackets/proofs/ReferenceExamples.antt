@@ -73,7 +73,7 @@ nobody_to_ask = refl
 
 -- an answer may be longer than what is left of the limit
 long_answer : lookup.look_up [] true 4 (Some (record { destination = codes "http"; title = codes "t" }) ∷ None ∷ []) (about (codes "a"))
-    ≡ record { target = Some (record { link_type = ShortcutUnknown; destination = codes "http"; title = codes "t"; id = codes "a" }); questions = about (codes "a") ∷ []; limit = 0; answers = None ∷ [] }
+    ≡ record { target = Some (record { kind = ShortcutUnknown; destination = codes "http"; title = codes "t"; label = codes "a" }); questions = about (codes "a") ∷ []; limit = 0; answers = None ∷ [] }
 long_answer = refl
 
 no_answer : lookup.look_up [] true 4 (None ∷ []) (about (codes "a")) ≡ record { target = None; questions = about (codes "a") ∷ []; limit = 4; answers = [] }

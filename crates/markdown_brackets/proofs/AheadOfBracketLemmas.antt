@@ -1,0 +1,138 @@
+-- What stands after a `]` in an arena, as its links tell it, is what the definition says of the chain that it reads as.
+use Rattle.std.proofs.Common.{◌≡◌, ℕ, ◌+◌, ◌-◌, ◌<◌, Bool, true, false, ◌&&◌, ◌==◌, List, Option, Some, None, refl, sym, ◌∙◌, ap, subst, arith, drop, nat_lt}
+use Rattle.std.specs.Prelude.{if◌then◌else◌}
+use Rattle.std.specs.Option.{option_and_then, option_map}
+use Rattle.markdown_base.specs.Arena.{sibling_of}
+use Rattle.markdown_base.specs.ArenaForest.{links_of, forest_at}
+use Rattle.markdown_base.specs.BlockTree.{item_at}
+use Rattle.markdown_base.specs.Forest.{Forest, nil, node}
+use Rattle.markdown_base.specs.declared.item.Item.{Item}
+use Rattle.markdown_base.specs.declared.item.ItemBody.{ItemBody}
+use Rattle.markdown_base.specs.declared.item.ItemBody.TheVariants as body
+use Rattle.markdown_base.specs.declared.node.Node.{Node}
+use Rattle.markdown_chains.specs.ChainRest.{start_of, end_of, open_body}
+use Rattle.markdown_chains.specs.Document.{Label, Part, part_of, shape_of}
+use Rattle.markdown_chains.specs.Tables.{Tables}
+use Rattle.markdown_brackets.specs.BracketDecision.{closer_ends_at, first_item, second_item, start_of_first_past}
+use Rattle.markdown_brackets.specs.ChainAhead.{begins_with_closer, first_start, numbers_past, reaches_closer, starts_from}
+use Rattle.markdown_brackets.specs.ChainHeld.{Holds, numbers_of}
+use Rattle.markdown_brackets.specs.Reference.{FoundLabel, reference, collapsed, shortcut, form_at, form_by_label, is_closer, is_opener, label_at, stands_at}
+use Rattle.markdown_brackets.specs.WrittenView.{EndsBehind}
+use Rattle.markdown_brackets.specs.declared.footnote.FootnoteStyle.{FootnoteStyle}
+use Rattle.markdown_brackets.proofs.ChainAheadLemmas.{below_is, not_below_is, is_below, is_not_below}
+
+-- a bracket reads as an open one, and nothing else does
+closer_reads : (tables : Tables) (source : List ℕ) (b : ItemBody) → is_closer (open_body (shape_of tables source b)) ≡ is_closer b
+closer_reads tables source body.Paragraph = refl
+closer_reads tables source (body.HardBreak true) = refl
+closer_reads tables source (body.HardBreak false) = refl
+closer_reads tables source other = refl
+
+opener_reads : (tables : Tables) (source : List ℕ) (b : ItemBody) → is_opener (open_body (shape_of tables source b)) ≡ is_opener b
+opener_reads tables source body.Paragraph = refl
+opener_reads tables source (body.HardBreak true) = refl
+opener_reads tables source (body.HardBreak false) = refl
+opener_reads tables source other = refl
+
+module _ (source : List ℕ) (tables : Tables) (nodes : List (Node Item)) where
+  -- an item as its label
+  abbrev ReadsAs : Label ℕ → Type 0
+  ReadsAs a = part_of source tables (item_at nodes a.tag) ≡ a.part
+
+  pub same_start : (a : Label ℕ) → ReadsAs a → (item_at nodes a.tag).start ≡ start_of a
+  same_start a h = ap (λ (p : Part). p.range.start) h
+
+  pub same_end : (a : Label ℕ) → ReadsAs a → (item_at nodes a.tag).end ≡ end_of a
+  same_end a h = ap (λ (p : Part). p.range.end) h
+
+  pub same_closer : (a : Label ℕ) → ReadsAs a → is_closer (item_at nodes a.tag).body ≡ is_closer (open_body a.part.shape)
+  same_closer a h =
+      sym (closer_reads tables _ (item_at nodes a.tag).body) ∙ ap (λ (p : Part). is_closer (open_body p.shape)) h
+
+  same_opener : (a : Label ℕ) → ReadsAs a → is_opener (item_at nodes a.tag).body ≡ is_opener (open_body a.part.shape)
+  same_opener a h =
+      sym (opener_reads tables _ (item_at nodes a.tag).body) ∙ ap (λ (p : Part). is_opener (open_body p.shape)) h
+
+  -- where the first item past a byte starts
+  start_ahead : (i : ℕ) (l : Option ℕ) (f : Forest (Label ℕ)) → Holds source tables nodes l f
+      → first_start nodes (numbers_past nodes i (numbers_of f)) ≡ start_of_first_past f i
+  start_ahead i l nil h = refl
+  start_ahead i l (node a below after) h =
+      rw (same_end a h.2) (by (nat_lt i (end_of a)) (start_ahead i (sibling_of nodes a.tag) after h.4))
+    where
+      by : (b : Bool) → first_start nodes (numbers_past nodes i (numbers_of after)) ≡ start_of_first_past after i
+          → first_start nodes (if b then node a.tag (numbers_of below) (numbers_of after) else numbers_past nodes i (numbers_of after))
+          ≡ (if b then Some (start_of a) else start_of_first_past after i)
+      by true more = ap Some (same_start a h.2)
+      by false more = more
+
+  pub starts_ahead : (l : Option ℕ) (f : Forest (Label ℕ)) → Holds source tables nodes l f
+      → forest_at (links_of nodes) l ≡ numbers_of f → (i : ℕ) → starts_from nodes l i ≡ start_of_first_past f i
+  starts_ahead l f h found i = rw found (start_ahead i l f h)
+
+  -- whether a `]` ends at a byte
+  closer_ahead : (i : ℕ) → 0 < i → (l : Option ℕ) (f : Forest (Label ℕ)) → Holds source tables nodes l f
+      → begins_with_closer nodes i (numbers_past nodes (i - 1) (numbers_of f)) ≡ closer_ends_at i f
+  closer_ahead i some l nil h = refl
+  closer_ahead i some l (node a below after) h =
+      rw (same_end a h.2) (by (nat_lt (end_of a) i) refl (closer_ahead i some (sibling_of nodes a.tag) after h.4))
+    where
+      Goal : Bool → Bool → Type 0
+      Goal b d =
+          begins_with_closer nodes i (if b then node a.tag (numbers_of below) (numbers_of after) else numbers_past nodes (i - 1) (numbers_of after))
+          ≡ (if d then closer_ends_at i after else is_closer (open_body a.part.shape) && (end_of a == i))
+
+      here : is_closer (item_at nodes a.tag).body && ((item_at nodes a.tag).end == i) ≡ is_closer (open_body a.part.shape) && (end_of a == i)
+      here = rw (same_closer a h.2, same_end a h.2) refl
+
+      by : (d : Bool) → nat_lt (end_of a) i ≡ d → begins_with_closer nodes i (numbers_past nodes (i - 1) (numbers_of after)) ≡ closer_ends_at i after
+          → Goal (nat_lt (i - 1) (end_of a)) d
+      by true e more =
+          let before = is_below (end_of a) i e in
+          subst (λ b. Goal b true) (sym (not_below_is (i - 1) (end_of a) (omega (arith, before)))) more
+      by false e more =
+          let past = is_not_below (end_of a) i e in
+          subst (λ b. Goal b false) (sym (below_is (i - 1) (end_of a) (omega (arith, past, some)))) here
+
+  pub closers_ahead : (l : Option ℕ) (f : Forest (Label ℕ)) → Holds source tables nodes l f
+      → forest_at (links_of nodes) l ≡ numbers_of f → (i : ℕ) → 0 < i → reaches_closer nodes i l ≡ closer_ends_at i f
+  closers_ahead l f h found i some = rw found (closer_ahead i some l f h)
+
+  -- what stands at a byte, of the first item and the second
+  first_stands : (at : ℕ) (kind : ItemBody → Bool) → ((a : Label ℕ) → ReadsAs a → kind (item_at nodes a.tag).body ≡ kind (open_body a.part.shape))
+      → (l : Option ℕ) (f : Forest (Label ℕ)) → Holds source tables nodes l f
+      → stands_at at kind (option_map (item_at nodes) l) ≡ stands_at at kind (first_item f)
+  first_stands at kind same l nil h = rw h refl
+  first_stands at kind same l (node a below after) h = rw (h.0, same_start a h.2, same a h.2) refl
+
+  second_stands : (at : ℕ) (kind : ItemBody → Bool) → ((a : Label ℕ) → ReadsAs a → kind (item_at nodes a.tag).body ≡ kind (open_body a.part.shape))
+      → (l : Option ℕ) (f : Forest (Label ℕ)) → Holds source tables nodes l f
+      → stands_at at kind (option_map (item_at nodes) (option_and_then (sibling_of nodes) l)) ≡ stands_at at kind (second_item f)
+  second_stands at kind same l nil h = rw h refl
+  second_stands at kind same l (node a below after) h = rw h.0 (first_stands at kind same (sibling_of nodes a.tag) after h.4)
+
+  pub form_ahead_is : (style : FootnoteStyle) (skipped : List ℕ → Option ℕ) (in_table : Bool) (text : List ℕ) (at : ℕ)
+      (l : Option ℕ) (f : Forest (Label ℕ)) → Holds source tables nodes l f
+      → form_at style skipped in_table text at (option_map (item_at nodes) l) (option_map (item_at nodes) (option_and_then (sibling_of nodes) l))
+      ≡ form_at style skipped in_table text at (first_item f) (second_item f)
+  form_ahead_is style skipped in_table text at l f h =
+      rw (first_stands at is_opener same_opener l f h, second_stands (at + 1) is_closer same_closer l f h, first_stands at (λ b. true) (λ a r. refl) l f h) refl
+
+-- the label of a full reference ends behind its `]`
+label_behind : (at : ℕ) (l : Option FoundLabel) → 0 < at → EndsBehind 0 (form_by_label at l)
+label_behind at None some = tt
+label_behind at (Some l) some = by l.is_footnote
+  where
+    by : (b : Bool) → EndsBehind 0 (if b then shortcut else reference l.name (at + l.length))
+    by true = tt
+    by false = omega (arith, some)
+
+pub form_behind : (style : FootnoteStyle) (skipped : List ℕ → Option ℕ) (in_table : Bool) (text : List ℕ) (at : ℕ) (next after : Option Item)
+    → 0 < at → EndsBehind 0 (form_at style skipped in_table text at next after)
+form_behind style skipped in_table text at next after some =
+    by (stands_at at is_opener next && stands_at (at + 1) is_closer after) (stands_at at (λ b. true) next)
+  where
+    by : (empty starts : Bool) → EndsBehind 0 (if empty then collapsed else if starts then form_by_label at (label_at style skipped in_table (drop at text)) else shortcut)
+    by true starts = tt
+    by false true = label_behind at (label_at style skipped in_table (drop at text)) some
+    by false false = tt

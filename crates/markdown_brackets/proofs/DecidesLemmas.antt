@@ -1,0 +1,102 @@
+-- The decision at a `]` is the wikilink that was found, or what its opener comes to.
+use Rattle.std.proofs.Common.{◌≡◌, ℕ, ◌++◌, Bool, List, [], ◌∷◌, Option, Some, None, refl, sym, ◌∙◌, ap, subst, append-nil}
+use Rattle.std.specs.Prelude.{IfSome, MatchOption}
+use Rattle.markdown_base.specs.Arena.{sibling_of}
+use Rattle.markdown_base.specs.BlockTree.{item_at}
+use Rattle.markdown_base.specs.Questions.{Question, Answer}
+use Rattle.markdown_base.specs.declared.item.Item.{Item}
+use Rattle.markdown_base.specs.declared.node.Node.{Node}
+use Rattle.markdown_chains.specs.ChainRest.{end_of}
+use Rattle.markdown_brackets.specs.BracketDecision.{Around, Closing, Decision, a_wikilink}
+use Rattle.markdown_brackets.specs.Decides.{Decides, StandsBefore, TakesNone, TakesOne}
+use Rattle.markdown_brackets.specs.DecisionView.{knowing, opener_of}
+use Rattle.markdown_brackets.specs.LeftList.{Entry, Split, nearest, opens_bracket, bracket_taken, wikilink_taken, brackets_of}
+use Rattle.markdown_brackets.specs.Openers.{Waiting}
+use Rattle.markdown_brackets.specs.StandsAt.{AreTaken, ComesToOpener, TriesOpener}
+use Rattle.markdown_brackets.specs.declared.closing_bracket.ClosedBracket.{ClosedBracket}
+use Rattle.markdown_brackets.specs.declared.openers.Opener.{Opener}
+use Rattle.markdown_brackets.specs.declared.spent_ends.SpentEnds.{SpentEnds}
+use Rattle.markdown_brackets.proofs.AheadOfBracketLemmas.{same_start, same_end}
+use Rattle.markdown_brackets.proofs.BracketStandsLemmas.{found_at}
+use Rattle.markdown_brackets.proofs.OpenerHeldLemmas.{TopBracket, SplitsAt, brackets_stay, splits_at, top_bracket, wikilinks_stay}
+use Rattle.markdown_brackets.proofs.TakeWikilinkLemmas.{closer_found, first_of, opener_holds, rest_brackets, rest_found, rest_of}
+
+-- what is left of a stack whose top was taken off
+pub left_of : (taken : Option (Opener × Bool)) (old new : List Waiting)
+    → MatchOption taken ((old ≡ []) × (new ≡ [])) (λ t. old ≡ record { opener = t.0; is_live = t.1 } ∷ new) → new ≡ rest_of old
+left_of None old new m = m.1 ∙ sym (ap rest_of m.0)
+left_of (Some t) old new m = sym (ap rest_of m)
+
+module _ {C : Type 0} (step : C → Question → Option Answer → C → Type 0) (w : Around) (c : Closing ℕ) (left : List (Entry ℕ))
+    (limit : ℕ) (uses : List ℕ → ℕ) (spent : SpentEnds) (callback : Option C)
+    (taken : Option (Opener × Bool)) (old new held : List Waiting) (old_is : old ≡ brackets_of left)
+    (m : MatchOption taken ((old ≡ []) × (new ≡ [])) (λ t. old ≡ record { opener = t.0; is_live = t.1 } ∷ new)) (found : ClosedBracket) where
+  pub decides_wikilink : TakesOne w c left held found
+      → Decides step w c left limit limit uses uses spent spent callback callback new held found
+  decides_wikilink t = record {
+    answers = [];
+    questions = [];
+    asked = refl;
+    becomes = a_wikilink t.opener t.wikilink t.end;
+    is = t.is;
+    left_then = wikilink_taken (bracket_taken left);
+    more = [];
+    decides = λ p later.
+        t.decides (knowing limit later uses p)
+        ∙ ap (λ (asked : List Question). let d : Decision ℕ = record { becomes = a_wikilink t.opener t.wikilink t.end; progress = record (knowing limit later uses p) { left = wikilink_taken (bracket_taken left); asked = asked } } in d) (sym (append-nil p.asked));
+    spends = λ end. refl;
+    brackets_are = left_of taken old new m ∙ (ap rest_of old_is ∙ (rest_brackets left ∙ sym (brackets_stay (bracket_taken left))));
+    wikilinks_are = t.held_is;
+  }
+
+  pub decides_one : (limit' : ℕ) (uses' : List ℕ → ℕ) (spent' : SpentEnds) (callback' : Option C) (t : TakesNone w c left held)
+      → ComesToOpener step w c (nearest opens_bracket t.left_then) limit limit' uses uses' spent spent' callback callback' found
+      → Decides step w c left limit limit' uses uses' spent spent' callback callback' new held found
+  decides_one limit' uses' spent' callback' t h = record {
+    answers = h.comes.answers;
+    questions = h.comes.questions;
+    asked = h.comes.asked;
+    becomes = h.comes.becomes;
+    is = h.comes.is;
+    left_then = bracket_taken t.left_then;
+    more = h.more;
+    decides = λ p later.
+        t.decides (knowing limit (h.comes.answers ++ later) uses p)
+        ∙ h.comes.comes (record p { left = bracket_taken t.left_then }) later;
+    spends = h.spends;
+    brackets_are = left_of taken old new m ∙ (ap rest_of (old_is ∙ sym t.brackets) ∙ rest_brackets t.left_then);
+    wikilinks_are = t.held_is ∙ sym (wikilinks_stay t.left_then);
+  }
+
+  -- the opener that was taken off is the nearest one
+  pub tries_nearest : (nodes : List (Node Item)) (closer : ℕ) (could_be : Bool) (s : StandsBefore nodes closer left c) → c.could_be_reference ≡ could_be
+      → (t : TakesNone w c left held) → TriesOpener nodes closer could_be taken c (nearest opens_bracket t.left_then)
+  tries_nearest nodes closer could_be s could t =
+      let there = rest_found nodes closer left c s in
+      record {
+        source = s.source;
+        tables = s.tables;
+        rest = there.holds;
+        rest_found = found_at s.source s.tables nodes (sibling_of nodes closer) c.rest there;
+        ends = subst (λ n. (item_at nodes n).end ≡ end_of c.label) s.number (same_end s.source s.tables nodes c.label (closer_found nodes closer left c s).holds.2);
+        could = could;
+        openers = by taken m (nearest opens_bracket t.left_then) (top_bracket t.left_then) (splits_at opens_bracket t.left_then);
+      }
+    where
+      by : (taken : Option (Opener × Bool)) → MatchOption taken ((old ≡ []) × (new ≡ [])) (λ t. old ≡ record { opener = t.0; is_live = t.1 } ∷ new)
+          → (o : Option (Split ℕ)) → TopBracket t.left_then o → IfSome o (SplitsAt t.left_then) → AreTaken nodes taken o
+      by None m None top splits = tt
+      by None m (Some o) top splits = let a = sym m.0 ∙ (old_is ∙ (sym t.brackets ∙ top)) in cc
+      by (Some k) m None top splits = let a = sym m ∙ (old_is ∙ (sym t.brackets ∙ top.0)) in cc
+      by (Some k) m (Some o) top splits =
+          let a = sym m ∙ (old_is ∙ (sym t.brackets ∙ top)) in
+          let first = ap (first_of (record { opener = k.0; is_live = k.1 })) a in
+          let opener : k.0 ≡ opener_of o = ap (λ (v : Waiting). v.opener) first in
+          let number : k.0.node ≡ o.opener.tag = ap (λ (p : Opener). p.node) opener in
+          let here = opener_holds nodes closer left c s t.left_then t.trees o splits in
+          record {
+            opener = opener;
+            live = ap (λ (v : Waiting). v.is_live) first;
+            starts = ap (λ n. (item_at nodes n).start) number ∙ same_start s.source s.tables nodes o.opener here.2;
+            ends = ap (λ n. (item_at nodes n).end) number ∙ same_end s.source s.tables nodes o.opener here.2;
+          }

@@ -1,0 +1,124 @@
+-- The openers of a left list as stacks hold them: the nearest one is on top; and the trees of a left list at an opener.
+use Rattle.std.proofs.Common.{◌≡◌, ℕ, Bool, true, false, List, [], ◌∷◌, Option, Some, None, refl, ap}
+use Rattle.std.specs.Prelude.{IfSome, if◌then◌else◌}
+use Rattle.std.specs.Option.{option_map}
+use Rattle.markdown_base.specs.Forest.{Forest, nil, node}
+use Rattle.markdown_chains.specs.ChainRest.{joined}
+use Rattle.markdown_chains.specs.Document.{Label}
+use Rattle.markdown_brackets.specs.DecisionView.{opener_of}
+use Rattle.markdown_brackets.specs.LeftList.{Flag, live, disabled, gone, Mark, Entry, done, waits, is_live, trees_onto, Split, behind, nearest, change_nearest, opens_bracket, opens_wikilink, without_bracket, without_wikilink, bracket_taken, wikilink_taken, brackets_of, wikilinks_of, held_as}
+
+-- the nearest opener for a `]` is on top of the stack, and taking it off is taking it off the stack
+abbrev pub TopBracket : List (Entry ℕ) → Option (Split ℕ) → Type 0
+TopBracket left None = (brackets_of left ≡ []) × (brackets_of (bracket_taken left) ≡ [])
+TopBracket left (Some o) =
+    brackets_of left ≡ record { opener = opener_of o; is_live = is_live o.mark.bracket } ∷ brackets_of (bracket_taken left)
+
+abbrev pub TopWikilink : List (Entry ℕ) → Option (Split ℕ) → Type 0
+TopWikilink left None = (wikilinks_of left ≡ []) × (wikilinks_of (wikilink_taken left) ≡ [])
+TopWikilink left (Some o) =
+    wikilinks_of left ≡ record { opener = opener_of o; is_live = is_live o.mark.wikilink } ∷ wikilinks_of (wikilink_taken left)
+
+bracket_behind_done : (a : Label ℕ) (below : Forest (Label ℕ)) (left : List (Entry ℕ)) (o : Option (Split ℕ)) → TopBracket left o
+    → TopBracket (done a below ∷ left) (option_map (behind (done a below)) o)
+bracket_behind_done a below left None h = h
+bracket_behind_done a below left (Some o) h = h
+
+bracket_behind_gone : (i : Bool) (w : Flag) (a : Label ℕ) (left : List (Entry ℕ)) (o : Option (Split ℕ)) → TopBracket left o
+    → TopBracket (waits (record { is_image = i; bracket = gone; wikilink = w }) a ∷ left) (option_map (behind (waits (record { is_image = i; bracket = gone; wikilink = w }) a)) o)
+bracket_behind_gone i w a left None h = h
+bracket_behind_gone i w a left (Some o) h = h
+
+pub top_bracket : (left : List (Entry ℕ)) → TopBracket left (nearest opens_bracket left)
+top_bracket [] = (refl, refl)
+top_bracket (done a below ∷ left) = bracket_behind_done a below left (nearest opens_bracket left) (top_bracket left)
+top_bracket (waits m a ∷ left) = by m.is_image m.bracket m.wikilink (top_bracket left)
+  where
+    by : (i : Bool) (b w : Flag) → TopBracket left (nearest opens_bracket left)
+        → TopBracket (waits (record { is_image = i; bracket = b; wikilink = w }) a ∷ left) (nearest opens_bracket (waits (record { is_image = i; bracket = b; wikilink = w }) a ∷ left))
+    by i live w h = refl
+    by i disabled w h = refl
+    by i gone w h = bracket_behind_gone i w a left (nearest opens_bracket left) h
+
+wikilink_behind_done : (a : Label ℕ) (below : Forest (Label ℕ)) (left : List (Entry ℕ)) (o : Option (Split ℕ)) → TopWikilink left o
+    → TopWikilink (done a below ∷ left) (option_map (behind (done a below)) o)
+wikilink_behind_done a below left None h = h
+wikilink_behind_done a below left (Some o) h = h
+
+wikilink_behind_gone : (i : Bool) (b : Flag) (a : Label ℕ) (left : List (Entry ℕ)) (o : Option (Split ℕ)) → TopWikilink left o
+    → TopWikilink (waits (record { is_image = i; bracket = b; wikilink = gone }) a ∷ left) (option_map (behind (waits (record { is_image = i; bracket = b; wikilink = gone }) a)) o)
+wikilink_behind_gone i b a left None h = h
+wikilink_behind_gone i b a left (Some o) h = h
+
+pub top_wikilink : (left : List (Entry ℕ)) → TopWikilink left (nearest opens_wikilink left)
+top_wikilink [] = (refl, refl)
+top_wikilink (done a below ∷ left) = wikilink_behind_done a below left (nearest opens_wikilink left) (top_wikilink left)
+top_wikilink (waits m a ∷ left) = by m.is_image m.bracket m.wikilink (top_wikilink left)
+  where
+    by : (i : Bool) (b w : Flag) → TopWikilink left (nearest opens_wikilink left)
+        → TopWikilink (waits (record { is_image = i; bracket = b; wikilink = w }) a ∷ left) (nearest opens_wikilink (waits (record { is_image = i; bracket = b; wikilink = w }) a ∷ left))
+    by i b live h = refl
+    by i b disabled h = refl
+    by i b gone h = wikilink_behind_gone i b a left (nearest opens_wikilink left) h
+
+-- the other stack stays
+pub wikilinks_stay : (left : List (Entry ℕ)) → wikilinks_of (bracket_taken left) ≡ wikilinks_of left
+wikilinks_stay [] = refl
+wikilinks_stay (done a below ∷ left) = wikilinks_stay left
+wikilinks_stay (waits m a ∷ left) = by (opens_bracket m) (wikilinks_stay left)
+  where
+    by : (b : Bool) → wikilinks_of (bracket_taken left) ≡ wikilinks_of left
+        → wikilinks_of (if b then waits (without_bracket m) a ∷ left else waits m a ∷ bracket_taken left) ≡ wikilinks_of (waits m a ∷ left)
+    by true h = refl
+    by false h = ap (held_as a.tag m.is_image m.wikilink) h
+
+pub brackets_stay : (left : List (Entry ℕ)) → brackets_of (wikilink_taken left) ≡ brackets_of left
+brackets_stay [] = refl
+brackets_stay (done a below ∷ left) = brackets_stay left
+brackets_stay (waits m a ∷ left) = by (opens_wikilink m) (brackets_stay left)
+  where
+    by : (b : Bool) → brackets_of (wikilink_taken left) ≡ brackets_of left
+        → brackets_of (if b then waits (without_wikilink m) a ∷ left else waits m a ∷ wikilink_taken left) ≡ brackets_of (waits m a ∷ left)
+    by true h = refl
+    by false h = ap (held_as a.tag m.is_image m.bracket) h
+
+-- what is taken off stays a tree
+pub trees_stay : (test : Mark → Bool) (f : Mark → Mark) (left : List (Entry ℕ)) (later : Forest (Label ℕ))
+    → trees_onto (change_nearest test f left) later ≡ trees_onto left later
+trees_stay test f [] later = refl
+trees_stay test f (done a below ∷ left) later = trees_stay test f left (node a below later)
+trees_stay test f (waits m a ∷ left) later = by (test m) (trees_stay test f left (node a nil later))
+  where
+    by : (b : Bool) → trees_onto (change_nearest test f left) (node a nil later) ≡ trees_onto left (node a nil later)
+        → trees_onto (if b then waits (f m) a ∷ left else waits m a ∷ change_nearest test f left) later ≡ trees_onto left (node a nil later)
+    by true h = refl
+    by false h = h
+
+-- the trees of a left list at an opener
+abbrev pub SplitsAt : List (Entry ℕ) → Split ℕ → Type 0
+SplitsAt left o = (later : Forest (Label ℕ)) → trees_onto left later ≡ trees_onto o.before (node o.opener nil (trees_onto o.after later))
+
+splits_behind_done : (a : Label ℕ) (below : Forest (Label ℕ)) (left : List (Entry ℕ)) (o : Option (Split ℕ)) → IfSome o (SplitsAt left)
+    → IfSome (option_map (behind (done a below)) o) (SplitsAt (done a below ∷ left))
+splits_behind_done a below left None h = tt
+splits_behind_done a below left (Some o) h = λ later. h (node a below later)
+
+splits_behind_waits : (m : Mark) (a : Label ℕ) (left : List (Entry ℕ)) (o : Option (Split ℕ)) → IfSome o (SplitsAt left)
+    → IfSome (option_map (behind (waits m a)) o) (SplitsAt (waits m a ∷ left))
+splits_behind_waits m a left None h = tt
+splits_behind_waits m a left (Some o) h = λ later. h (node a nil later)
+
+pub splits_at : (test : Mark → Bool) (left : List (Entry ℕ)) → IfSome (nearest test left) (SplitsAt left)
+splits_at test [] = tt
+splits_at test (done a below ∷ left) = splits_behind_done a below left (nearest test left) (splits_at test left)
+splits_at test (waits m a ∷ left) = by (test m) (splits_at test left)
+  where
+    by : (b : Bool) → IfSome (nearest test left) (SplitsAt left)
+        → IfSome (if b then Some (record { mark = m; opener = a; after = []; before = left }) else option_map (behind (waits m a)) (nearest test left)) (SplitsAt (waits m a ∷ left))
+    by true h = λ later. refl
+    by false h = splits_behind_waits m a left (nearest test left) h
+
+pub onto_joined : (left : List (Entry ℕ)) (f g : Forest (Label ℕ)) → trees_onto left (joined f g) ≡ joined (trees_onto left f) g
+onto_joined [] f g = refl
+onto_joined (done a below ∷ left) f g = onto_joined left (node a below f) g
+onto_joined (waits m a ∷ left) f g = onto_joined left (node a nil f) g

@@ -1,0 +1,247 @@
+-- A left list before a `]` in an arena: the openers on the stacks are those of the list, and stand where it says.
+use Rattle.std.proofs.Common.{◌≡◌, ℕ, ◌≤◌, Bool, true, false, ◌&&◌, List, [], ◌∷◌, Option, Some, None, length, refl, sym, ◌∙◌, ap, subst, arith}
+use Rattle.std.specs.Prelude.{IfSome, MatchOption, if◌then◌else◌}
+use Rattle.markdown_base.specs.Arena.{sibling_of}
+use Rattle.markdown_base.specs.ArenaForest.{links_of}
+use Rattle.markdown_base.specs.BlockTree.{item_at}
+use Rattle.markdown_base.specs.Forest.{Forest, nil, node}
+use Rattle.markdown_base.specs.declared.item.Item.{Item}
+use Rattle.markdown_base.specs.declared.node.Node.{Node}
+use Rattle.markdown_base.proofs.ArenaForestLemmas.{height}
+use Rattle.markdown_chains.specs.ChainRest.{start_of, end_of, joined, open_body}
+use Rattle.markdown_chains.specs.Document.{Label}
+use Rattle.markdown_chains.specs.Totals.{same}
+use Rattle.markdown_chains.proofs.TablesLemmas.{same-refl}
+use Rattle.markdown_brackets.specs.BracketDecision.{Around, Closing, Progress, Wikilink, decided, decided_before, one_decided, past_second, wikilink_in, wikilink_opener, wikilink_or_one, wikilink_tried}
+use Rattle.markdown_brackets.specs.BracketOptions.{wikilinks_on}
+use Rattle.markdown_brackets.specs.ChainHeld.{Holds, numbers_of, times_of}
+use Rattle.markdown_brackets.specs.Decides.{StandsBefore, TakesNone, TakesWikilink}
+use Rattle.markdown_brackets.specs.DecisionView.{opener_of}
+use Rattle.markdown_brackets.specs.LeftList.{Entry, Split, inside, is_live, nearest, opens_bracket, opens_wikilink, without_bracket, without_wikilink, bracket_taken, wikilink_taken, brackets_of, wikilinks_of, trees_onto}
+use Rattle.markdown_brackets.specs.Openers.{Waiting}
+use Rattle.markdown_brackets.specs.Reference.{is_closer}
+use Rattle.markdown_brackets.specs.StandsAt.{FindsWikilink, IsWikilink, StandsBetween, TriesWikilink}
+use Rattle.markdown_brackets.specs.declared.closing_bracket.ClosedBracket.{ClosedBracket}
+use Rattle.markdown_brackets.specs.declared.closing_bracket.ClosedBracket.TheVariants.{Text, Link, Footnote, Wikilinked}
+use Rattle.markdown_brackets.specs.declared.openers.Opener.{Opener}
+use Rattle.markdown_brackets.proofs.AheadOfBracketLemmas.{same_start, same_end, same_closer}
+use Rattle.markdown_brackets.proofs.BracketStandsLemmas.{Found, found_after, found_at, height_found}
+use Rattle.markdown_brackets.proofs.FoldLemmas.{Holds-from, height-later, total-onto, total-joined}
+use Rattle.markdown_brackets.proofs.OpenerHeldLemmas.{TopBracket, TopWikilink, top_bracket, top_wikilink, wikilinks_stay, brackets_stay, trees_stay, splits_at, SplitsAt, onto_joined}
+
+-- a stack that was not empty
+abbrev pub rest_of : List Waiting → List Waiting
+rest_of [] = []
+rest_of (t ∷ held) = held
+
+abbrev pub first_of : Waiting → List Waiting → Waiting
+first_of other [] = other
+first_of other (t ∷ held) = t
+
+-- without the one on top, a stack holds the list without the nearest opener
+pub rest_wikilinks : (left : List (Entry ℕ)) → rest_of (wikilinks_of left) ≡ wikilinks_of (wikilink_taken left)
+rest_wikilinks left = by (nearest opens_wikilink left) (top_wikilink left)
+  where
+    by : (o : Option (Split ℕ)) → TopWikilink left o → rest_of (wikilinks_of left) ≡ wikilinks_of (wikilink_taken left)
+    by None h = ap rest_of h.0 ∙ sym h.1
+    by (Some o) h = ap rest_of h
+
+pub rest_brackets : (left : List (Entry ℕ)) → rest_of (brackets_of left) ≡ brackets_of (bracket_taken left)
+rest_brackets left = by (nearest opens_bracket left) (top_bracket left)
+  where
+    by : (o : Option (Split ℕ)) → TopBracket left o → rest_of (brackets_of left) ≡ brackets_of (bracket_taken left)
+    by None h = ap rest_of h.0 ∙ sym h.1
+    by (Some o) h = ap rest_of h
+
+module _ (nodes : List (Node Item)) (closer : ℕ) (left : List (Entry ℕ)) (c : Closing ℕ) (s : StandsBefore nodes closer left c) where
+  abbrev behind_left : Forest (Label ℕ)
+  behind_left = node c.label nil c.rest
+
+  -- all that stands from a part of the left list on
+  low : height (numbers_of (trees_onto left behind_left)) ≤ length nodes
+  low = subst (λ g. height g ≤ length nodes) s.found (height_found (links_of nodes) s.first)
+
+  -- the `]` and the chain after it
+  pub closer_found : Found s.source s.tables nodes (Some closer) behind_left
+  closer_found =
+      let h = Holds-from s.source s.tables nodes s.first left behind_left s.holds in
+      let at : h.0 ≡ Some closer = h.1.0 ∙ ap (λ n. Some n) s.number in
+      record {
+        holds = subst (λ l. Holds s.source s.tables nodes l behind_left) at h.1;
+        low = omega (arith, low, height-later left behind_left);
+      }
+
+  pub rest_found : Found s.source s.tables nodes (sibling_of nodes closer) c.rest
+  rest_found = subst (λ n. Found s.source s.tables nodes (sibling_of nodes n) c.rest) s.number (found_after s.source s.tables nodes (Some closer) c.label nil c.rest closer_found)
+
+  -- an opener of the left list, with flags of its own
+  module _ (other : List (Entry ℕ)) (trees : (later : Forest (Label ℕ)) → trees_onto other later ≡ trees_onto left later) (o : Split ℕ) (splits : SplitsAt other o) where
+    onto : trees_onto left behind_left ≡ trees_onto o.before (node o.opener nil (trees_onto o.after behind_left))
+    onto = sym (trees behind_left) ∙ splits behind_left
+
+    pub opener_holds : Holds s.source s.tables nodes (Some o.opener.tag) (node o.opener nil (trees_onto o.after behind_left))
+    opener_holds =
+        let h = Holds-from s.source s.tables nodes s.first o.before _ (subst (λ f. Holds s.source s.tables nodes s.first f) onto s.holds) in
+        subst (λ l. Holds s.source s.tables nodes l (node o.opener nil (trees_onto o.after behind_left))) h.1.0 h.1
+
+    opener_low : height (numbers_of (node o.opener nil (trees_onto o.after behind_left))) ≤ length nodes
+    opener_low =
+        let whole : height (numbers_of (trees_onto o.before (node o.opener nil (trees_onto o.after behind_left)))) ≤ length nodes =
+        subst (λ f. height (numbers_of f) ≤ length nodes) onto low in
+        omega (arith, whole, height-later o.before (node o.opener nil (trees_onto o.after behind_left)))
+
+    pub between : (opener : Opener) → opener ≡ opener_of o → StandsBetween nodes closer opener c o
+    between opener e =
+        let n : opener.node ≡ o.opener.tag = ap (λ (p : Opener). p.node) e in
+        let after : trees_onto o.after behind_left ≡ joined (inside o) behind_left = onto_joined o.after nil behind_left in
+        let low_after : height (numbers_of (trees_onto o.after behind_left)) ≤ length nodes = omega (arith, opener_low) in
+        let all : Found s.source s.tables nodes (sibling_of nodes o.opener.tag) (trees_onto o.after behind_left) =
+        record { holds = opener_holds.4; low = low_after } in
+        let there : Found s.source s.tables nodes (sibling_of nodes opener.node) (joined (inside o) behind_left) =
+        subst (λ f. Found s.source s.tables nodes (sibling_of nodes opener.node) f) after
+        (subst (λ m. Found s.source s.tables nodes (sibling_of nodes m) (trees_onto o.after behind_left)) (sym n) all) in
+        let once = s.once c.label.tag in
+        let counted = ap (λ f. times_of c.label.tag f) onto in
+        let first = total-onto (same c.label.tag) o.before (node o.opener nil (trees_onto o.after behind_left)) in
+        let second = ap (λ f. times_of c.label.tag f) after in
+        let third = total-joined (same c.label.tag) (inside o) behind_left in
+        record {
+          source = s.source;
+          tables = s.tables;
+          holds = there.holds;
+          found = found_at s.source s.tables nodes (sibling_of nodes opener.node) (joined (inside o) behind_left) there;
+          apart = omega (arith, once, counted, first, second, third, same-refl c.label.tag);
+          number = s.number;
+          starts = subst (λ m. (item_at nodes m).start ≡ start_of c.label) s.number (same_start s.source s.tables nodes c.label closer_found.holds.2);
+          order = s.order;
+        }
+
+  module _ (w : Around) where
+    -- where no wikilink is tried
+    pub none_by_off : (held : List Waiting) → held ≡ wikilinks_of left → wikilinks_on w.setting.rules.options ≡ false → TakesNone w c left held
+    unfolding decided
+    none_by_off held h off = record { left_then = left; held_is = h; brackets = refl; trees = λ later. refl; decides = λ p. decides (record p { left = left }) }
+      where
+        by : (rest : Forest (Label ℕ)) (p : Progress ℕ) → decided_before w c rest p ≡ one_decided w c p
+        by nil p = refl
+        by (node a below after) p = rw off refl
+
+        decides : (p : Progress ℕ) → decided w c p ≡ one_decided w c p
+        decides p = by c.rest p
+
+    and_false : (b : Bool) → (b && false) ≡ false
+    and_false true = refl
+    and_false false = refl
+
+    pub none_by_next : (held : List Waiting) → held ≡ wikilinks_of left
+        → MatchOption (sibling_of nodes closer) (Unit {0}) (λ next. is_closer (item_at nodes next).body ≡ false) → TakesNone w c left held
+    unfolding decided
+    none_by_next held h next = record { left_then = left; held_is = h; brackets = refl; trees = λ later. refl; decides = λ p. decides (record p { left = left }) }
+      where
+        by : (rest : Forest (Label ℕ)) (l : Option ℕ) → Holds s.source s.tables nodes l rest → MatchOption l (Unit {0}) (λ next. is_closer (item_at nodes next).body ≡ false)
+            → (p : Progress ℕ) → decided_before w c rest p ≡ one_decided w c p
+        by nil l h m p = refl
+        by (node a below after) None h m p = let e = h.0 in cc
+        by (node a below after) (Some next) h m p =
+            let e : next ≡ a.tag = let q = h.0 in cc in
+            let none : is_closer (open_body a.part.shape) ≡ false =
+            sym (same_closer s.source s.tables nodes a h.2) ∙ subst (λ n. is_closer (item_at nodes n).body ≡ false) e m in
+            rw (none, and_false (wikilinks_on w.setting.rules.options)) refl
+
+        decides : (p : Progress ℕ) → decided w c p ≡ one_decided w c p
+        decides p = by c.rest (sibling_of nodes closer) rest_found.holds next p
+
+    -- where a wikilink is tried
+    module _ (next : ℕ) (is_next : sibling_of nodes closer ≡ Some next) (closes : is_closer (item_at nodes next).body ≡ true) (on : wikilinks_on w.setting.rules.options ≡ true) where
+      abbrev end : ℕ
+      end = (item_at nodes next).end
+
+      tried_two : (p : Progress ℕ) → decided w c p ≡ wikilink_tried w c end (wikilink_opener p.left) p
+      unfolding decided
+      tried_two p = by c.rest (sibling_of nodes closer) rest_found.holds is_next
+        where
+          by : (rest : Forest (Label ℕ)) (l : Option ℕ) → Holds s.source s.tables nodes l rest → l ≡ Some next
+              → decided_before w c rest p ≡ wikilink_tried w c end (wikilink_opener p.left) p
+          by nil l h e = let q : l ≡ None = h in cc
+          by (node a below after) l h e =
+              let n : next ≡ a.tag = let q = h.0 in cc in
+              let is : is_closer (open_body a.part.shape) ≡ true =
+              sym (same_closer s.source s.tables nodes a h.2) ∙ subst (λ n. is_closer (item_at nodes n).body ≡ true) n closes in
+              let ends : (item_at nodes next).end ≡ end_of a = ap (λ n. (item_at nodes n).end) n ∙ same_end s.source s.tables nodes a h.2 in
+              rw (on, is, ends) refl
+
+      module _ (taken : Option (Opener × Bool)) (old new : List Waiting) (old_is : old ≡ wikilinks_of left)
+          (m : MatchOption taken ((old ≡ []) × (new ≡ [])) (λ t. old ≡ record { opener = t.0; is_live = t.1 } ∷ new)) where
+        new_is : new ≡ rest_of (wikilinks_of left)
+        new_is = by taken m ∙ ap rest_of old_is
+          where
+            by : (taken : Option (Opener × Bool)) → MatchOption taken ((old ≡ []) × (new ≡ [])) (λ t. old ≡ record { opener = t.0; is_live = t.1 } ∷ new) → new ≡ rest_of old
+            by None m = m.1 ∙ sym (ap rest_of m.0)
+            by (Some t) m = sym (ap rest_of m)
+
+        tries_two : (o : Option (Split ℕ)) → wikilink_opener left ≡ o → TriesWikilink nodes closer taken c o
+        tries_two o e = by taken m o (subst (TopWikilink (bracket_taken left)) e (top_wikilink (bracket_taken left))) (subst (λ o. IfSome o (SplitsAt (bracket_taken left))) e (splits_at opens_wikilink (bracket_taken left)))
+          where
+            by : (taken : Option (Opener × Bool)) → MatchOption taken ((old ≡ []) × (new ≡ [])) (λ t. old ≡ record { opener = t.0; is_live = t.1 } ∷ new)
+                → (o : Option (Split ℕ)) → TopWikilink (bracket_taken left) o → IfSome o (SplitsAt (bracket_taken left)) → TriesWikilink nodes closer taken c o
+            by None m None top splits = tt
+            by None m (Some o) top splits = let a = sym m.0 ∙ (old_is ∙ (sym (wikilinks_stay left) ∙ top)) in cc
+            by (Some t) m None top splits = let a = sym m ∙ (old_is ∙ (sym (wikilinks_stay left) ∙ top.0)) in cc
+            by (Some t) m (Some o) top splits =
+                let a = sym m ∙ (old_is ∙ (sym (wikilinks_stay left) ∙ top)) in
+                let first = ap (first_of (record { opener = t.0; is_live = t.1 })) a in
+                let opener : t.0 ≡ opener_of o = ap (λ (v : Waiting). v.opener) first in
+                record {
+                  opener = opener;
+                  live = ap (λ (v : Waiting). v.is_live) first;
+                  stands = between (bracket_taken left) (trees_stay opens_bracket without_bracket left) o splits t.0 opener;
+                }
+
+        pub takes : (r : Option ClosedBracket) → ((o : Option (Split ℕ)) → TriesWikilink nodes closer taken c o → FindsWikilink w end c o r)
+            → TakesWikilink w c left new r
+        takes r finds = by (wikilink_opener left) refl (finds (wikilink_opener left) (tries_two (wikilink_opener left) refl))
+          where
+            by : (o : Option (Split ℕ)) → wikilink_opener left ≡ o → FindsWikilink w end c o r → TakesWikilink w c left new r
+            by None q h =
+                subst (λ r. TakesWikilink w c left new r) (sym h)
+                (record {
+                  left_then = left;
+                  held_is = new_is ∙ none_waits q;
+                  brackets = refl;
+                  trees = λ later. refl;
+                  decides = λ p. tried_two (record p { left = left }) ∙ ap (λ o. wikilink_tried w c end o (record p { left = left })) q;
+                })
+              where
+                none_waits : wikilink_opener left ≡ None → rest_of (wikilinks_of left) ≡ wikilinks_of left
+                none_waits q =
+                    let top : TopWikilink (bracket_taken left) None = subst (TopWikilink (bracket_taken left)) q (top_wikilink (bracket_taken left)) in
+                    let none : wikilinks_of left ≡ [] = sym (wikilinks_stay left) ∙ top.0 in
+                    ap rest_of none ∙ sym none
+            by (Some o) q h = inner (if is_live o.mark.wikilink then wikilink_in w (past_second (inside o)) (start_of c.label) else None) refl r h
+              where
+                inner : (x : Option (Wikilink ℕ)) → (if is_live o.mark.wikilink then wikilink_in w (past_second (inside o)) (start_of c.label) else None) ≡ x
+                    → (r : Option ClosedBracket) → IsWikilink w (opener_of o) end (past_second (inside o)) x r → TakesWikilink w c left new r
+                inner None e None h = record {
+                  left_then = wikilink_taken left;
+                  held_is = new_is ∙ rest_wikilinks left;
+                  brackets = brackets_stay left;
+                  trees = trees_stay opens_wikilink without_wikilink left;
+                  decides = λ p. tried_two (record p { left = left })
+                      ∙ (ap (λ o. wikilink_tried w c end o (record p { left = left })) q
+                      ∙ ap (λ x. wikilink_or_one w c end o x (record p { left = left })) e);
+                }
+                inner None e (Some x) h = absurd h
+                inner (Some v) e None h = absurd h
+                inner (Some v) e (Some Text) h = absurd h
+                inner (Some v) e (Some (Link a b d f)) h = absurd h
+                inner (Some v) e (Some (Footnote a b)) h = absurd h
+                inner (Some v) e (Some (Wikilinked a b d f g)) h = record {
+                  opener = o;
+                  wikilink = v;
+                  end = end;
+                  held_is = new_is ∙ (ap rest_of (sym (wikilinks_stay left)) ∙ rest_wikilinks (bracket_taken left));
+                  decides = λ p. tried_two (record p { left = left })
+                      ∙ (ap (λ o. wikilink_tried w c end o (record p { left = left })) q
+                      ∙ ap (λ x. wikilink_or_one w c end o x (record p { left = left })) e);
+                  is = h;
+                }

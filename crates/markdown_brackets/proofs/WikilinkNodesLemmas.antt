@@ -1,0 +1,88 @@
+-- The nodes of a wikilink's body are those of the trees between its opener and the `]`.
+use Rattle.std.proofs.Common.{◌≡◌, ℕ, ◌<◌, Bool, true, false, ◌==◌, List, Option, refl, sym, subst, arith, nat_le, nat_lt}
+use Rattle.std.specs.Prelude.{if◌then◌else◌}
+use Rattle.std.specs.Option.{option_map}
+use Rattle.std.proofs.lemmas.Bool.Decides.{nat_tests}
+use Rattle.markdown_base.specs.Arena.{sibling_of}
+use Rattle.markdown_base.specs.Forest.{Forest, nil, node, first_root}
+use Rattle.markdown_base.specs.declared.item.Item.{Item}
+use Rattle.markdown_base.specs.declared.node.Node.{Node}
+use Rattle.markdown_chains.specs.ChainRest.{end_of, begun_at, joined, past_byte}
+use Rattle.markdown_chains.specs.Document.{Label}
+use Rattle.markdown_chains.specs.Tables.{Tables}
+use Rattle.markdown_chains.specs.Totals.{same}
+use Rattle.markdown_chains.proofs.TablesLemmas.{same-refl}
+use Rattle.markdown_brackets.specs.BracketDecision.{past_second}
+use Rattle.markdown_brackets.specs.ChainAhead.{numbers_past}
+use Rattle.markdown_brackets.specs.ChainHeld.{Holds, numbers_of, times_of, link_to}
+use Rattle.markdown_brackets.specs.WikilinkNodes.{unless_is, body_start, shown_from_node}
+use Rattle.markdown_brackets.specs.declared.wikilink_nodes.ShownNodes.TheVariants.{From}
+use Rattle.markdown_brackets.proofs.AheadOfBracketLemmas.{same_end}
+use Rattle.markdown_brackets.proofs.ChainAheadLemmas.{below_is}
+
+is_itself : (n : ℕ) → (n == n) ≡ true
+is_itself n = grind (arith, nat_tests)
+
+equal_by : (n m : ℕ) → (n == m) ≡ true → n ≡ m
+equal_by n m e = grind (arith, nat_tests)
+
+-- a node that stands nowhere in some trees is not their first
+apart_root : (k : ℕ) (a : Label ℕ) (below after : Forest (Label ℕ)) → times_of k (node a below after) ≡ 0 → (a.tag == k) ≡ false
+apart_root k a below after none = by (a.tag == k) refl
+  where
+    by : (b : Bool) → (a.tag == k) ≡ b → b ≡ false
+    by false e = refl
+    by true e =
+        let one : same k a.tag ≡ 1 = subst (λ n. same k n ≡ 1) (sym (equal_by a.tag k e)) (same-refl k) in
+        absurd (omega (arith, one, none))
+
+-- nor the first of those after it
+apart_after : (k : ℕ) (a : Label ℕ) (below after : Forest (Label ℕ)) → times_of k (node a below after) ≡ 0 → times_of k after ≡ 0
+apart_after k a below after none = omega (arith, none)
+
+module _ (source : List ℕ) (tables : Tables) (nodes : List (Node Item)) (closer : Label ℕ) (below_closer rest : Forest (Label ℕ)) where
+  abbrev Up : Forest (Label ℕ) → Forest (Label ℕ)
+  Up f = joined f (node closer below_closer rest)
+
+  -- the link to what stands before the `]`
+  unless_closer : (l : Option ℕ) (f : Forest (Label ℕ)) → Holds source tables nodes l (Up f) → times_of closer.tag f ≡ 0
+      → unless_is closer.tag l ≡ link_to f
+  unless_closer l nil h none = rw (h.0, is_itself closer.tag) refl
+  unless_closer l (node a below after) h none = rw (h.0, apart_root closer.tag a below after none) refl
+
+  -- the second node of those
+  pub second_is : (opener : ℕ) (f : Forest (Label ℕ)) → Holds source tables nodes (sibling_of nodes opener) (Up f) → times_of closer.tag f ≡ 0
+      → body_start nodes opener closer.tag ≡ link_to (past_second f)
+  second_is opener nil h none = rw (unless_closer (sibling_of nodes opener) nil h none) refl
+  second_is opener (node a below after) h none =
+      rw (unless_closer (sibling_of nodes opener) (node a below after) h none)
+      (unless_closer (sibling_of nodes a.tag) after h.4 (apart_after closer.tag a below after none))
+
+  -- the node in which what stands from a byte on begins
+  pub from_is : (at : ℕ) → at < end_of closer → (l : Option ℕ) (f : Forest (Label ℕ)) → Holds source tables nodes l (Up f) → times_of closer.tag f ≡ 0
+      → shown_from_node closer.tag at (first_root (numbers_past nodes at (numbers_of (Up f)))) ≡ option_map (λ n. From n at) (link_to (past_byte at f))
+  from_is at behind l nil h none =
+      rw (same_end source tables nodes closer h.2, below_is at (end_of closer) behind, is_itself closer.tag) refl
+  from_is at behind l (node a below after) h none =
+      rw (same_end source tables nodes a h.2)
+      (by (nat_lt at (end_of a)) refl (from_is at behind (sibling_of nodes a.tag) after h.4 (apart_after closer.tag a below after none)))
+    where
+      Goal : Bool → Bool → Type 0
+      Goal b d =
+          shown_from_node closer.tag at (first_root (if b then node a.tag (numbers_of below) (numbers_of (Up after)) else numbers_past nodes at (numbers_of (Up after))))
+          ≡ option_map (λ n. From n at) (link_to (if d then past_byte at after else node (begun_at at a) below after))
+
+      less_or : (i j : ℕ) → nat_lt i j ≡ true → nat_le j i ≡ false
+      less_or i j e = grind (arith, nat_tests)
+
+      less_not : (i j : ℕ) → nat_lt i j ≡ false → nat_le j i ≡ true
+      less_not i j e = grind (arith, nat_tests)
+
+      here : Goal true false
+      here = rw (apart_root closer.tag a below after none) refl
+
+      by : (b : Bool) → nat_lt at (end_of a) ≡ b
+          → shown_from_node closer.tag at (first_root (numbers_past nodes at (numbers_of (Up after)))) ≡ option_map (λ n. From n at) (link_to (past_byte at after))
+          → Goal b (nat_le (end_of a) at)
+      by true e more = subst (λ d. Goal true d) (sym (less_or at (end_of a) e)) here
+      by false e more = subst (λ d. Goal false d) (sym (less_not at (end_of a) e)) more

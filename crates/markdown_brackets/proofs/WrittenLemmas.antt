@@ -1,0 +1,49 @@
+-- An inline link's tail is what is written, and where there is none, a reference is.
+use Rattle.std.proofs.Common.{rules, ◌≡◌, ℕ, Bool, List, Option, Some, None, Result, Ok, Err, take}
+use Rattle.std.specs.Prelude.{IfOk, OnOk, slice_range}
+use Rattle.markdown_base.specs.declared.item.Item.{Item}
+use Rattle.markdown_base.specs.declared.node.Node.{Node}
+use Rattle.markdown_brackets.specs.ChainAhead.{starts_from}
+use Rattle.markdown_brackets.specs.BracketDecision.{tail_or}
+use Rattle.markdown_brackets.specs.BracketDecision as decision
+use Rattle.markdown_brackets.specs.LinkTail.{link_tail}
+use Rattle.markdown_brackets.specs.LinkTail as scanned
+use Rattle.markdown_brackets.specs.LinkTailView.{ReadsTail}
+use Rattle.markdown_brackets.specs.WrittenView.{IsRead}
+use Rattle.markdown_brackets.specs.declared.link_tail.LinkTail.{LinkTail}
+use Rattle.markdown_brackets.specs.declared.written.Written.{Written}
+use Rattle.markdown_brackets.specs.declared.written.Written.TheVariants.{Inline}
+
+pub read_tail : (in_table : Bool) (other : decision.Written) (t : Option scanned.LinkTail) (found : LinkTail) → ReadsTail in_table t (Some found)
+    → IsRead in_table (tail_or other t) (Inline found)
+read_tail in_table other None found h = absurd h
+read_tail in_table other (Some t) found h = h
+
+pub read_other : {E : Type 0} (in_table : Bool) (other : decision.Written) (t : Option scanned.LinkTail) (r : Result Written E) → ReadsTail in_table t None
+    → IfOk r (λ found. (b : Bool) → IsRead b other found) → IfOk r (IsRead in_table (tail_or other t))
+read_other in_table other None (Ok found) h k = k in_table
+read_other in_table other (Some t) (Ok found) h k = absurd h
+read_other in_table other t (Err e) h k = tt
+
+-- the same of what the reader of tails was given
+pub tail_at : (in_table : Bool) (skipped : List ℕ → Option ℕ) (nodes : List (Node Item)) (next next' : Option ℕ) (text text' : List ℕ) (item item' : Item)
+    (found found' : Option LinkTail) → next ≡ next' → text ≡ text' → item ≡ item' → found ≡ found'
+    → ReadsTail in_table (link_tail skipped (starts_from nodes next) text item.end) found
+    → ReadsTail in_table (link_tail skipped (starts_from nodes next') text' item'.end) found'
+tail_at in_table skipped nodes next next' text text' item item' found found' en et ei ef h = rw (← en, ← et, ← ei, ← ef) h
+
+pub whole_range : (text : List ℕ) (end : ℕ) → slice_range text 0 end ≡ take end text
+whole_range text end = search rules
+
+-- what follows of a result that is no error
+pub ok_map : {X E : Type 0} (r : Result X E) (P G : X → Type 0) → IfOk r P → ((x : X) → P x → G x) → IfOk r G
+ok_map (Ok x) P G h f = f x h
+ok_map (Err e) P G h f = tt
+
+pub ok_with : {X E : Type 0} (r : Result X E) (P G : X → Type 0) (Q : Type 0) → IfOk r P → OnOk r Q → ((x : X) → P x → Q → G x) → IfOk r G
+ok_with (Ok x) P G Q h k f = f x h k
+ok_with (Err e) P G Q h k f = tt
+
+pub ok_both : {X E : Type 0} (r : Result X E) (P Q G : X → Type 0) → IfOk r P → IfOk r Q → ((x : X) → P x → Q x → G x) → IfOk r G
+ok_both (Ok x) P Q G h k f = f x h k
+ok_both (Err e) P Q G h k f = tt

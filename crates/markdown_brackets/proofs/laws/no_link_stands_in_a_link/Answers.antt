@@ -1,0 +1,6 @@
+-- By the lemma.
+use Rattle.markdown_brackets.proofs.NoLinkLemmas.{no_link_in_link}
+use Rattle.markdown_brackets.proofs.laws.no_link_stands_in_a_link.Goals as goal
+
+pub returns : goal.returns
+returns c = (no_link_in_link, no_link_in_link)

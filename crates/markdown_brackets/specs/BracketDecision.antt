@@ -1,0 +1,285 @@
+-- What a closing bracket becomes (CommonMark 6.3 and 6.4, with footnotes and wikilinks), by the left list before it, by
+-- the chain after it and by what is known: the decision, with nothing put yet.
+use Rattle.std.specs.Prelude.{ℕ, ◌+◌, ◌-◌, Bool, true, false, ◌&&◌, ◌==◌, List, [], ◌∷◌, ◌++◌, Option, Some}
+use Rattle.std.specs.Prelude.{None, if◌then◌else◌, nat_lt, min, ◌^◌, slice_range, take}
+use Rattle.std.specs.Option.{option_map, option_and_then}
+use Rattle.markdown_base.specs.Event.{LinkView}
+use Rattle.markdown_base.specs.Forest.{Forest, nil, node}
+use Rattle.markdown_base.specs.Questions.{Question}
+use Rattle.markdown_base.specs.declared.item.Item.{Item}
+use Rattle.markdown_base.specs.declared.item.ItemBody.{ItemBody}
+use Rattle.markdown_base.specs.declared.tag.LinkType.{LinkType}
+use Rattle.markdown_base.specs.declared.tag.LinkType.TheVariants as kind
+use Rattle.markdown_chains.specs.Above.{Above}
+use Rattle.markdown_chains.specs.Document.{Shape, Label}
+use Rattle.markdown_chains.specs.Document.{text_over}
+use Rattle.markdown_chains.specs.Setting.{Setting, Known}
+use Rattle.markdown_scan.specs.Unescape.{unescaped}
+use Rattle.markdown_spans.specs.Folding.{is_match}
+use Rattle.markdown_chains.specs.ChainRest.{start_of, end_of, open_body, as_item, past_byte}
+use Rattle.markdown_brackets.specs.BracketOptions.{footnote_style, wikilinks_on}
+use Rattle.markdown_brackets.specs.FootnoteUse.{is_reference}
+use Rattle.markdown_brackets.specs.LeftList.{Entry, Split, inside, is_live, nearest, opens_bracket}
+use Rattle.markdown_brackets.specs.LeftList.{opens_wikilink, bracket_taken, wikilink_taken}
+use Rattle.markdown_brackets.specs.LinkTail.{LinkTail, link_tail}
+use Rattle.markdown_brackets.specs.Lookup.{LookedUp, look_up}
+use Rattle.markdown_brackets.specs.Reference.{FoundLabel, Form, reference, collapsed, shortcut, form_at, own_label}
+use Rattle.markdown_brackets.specs.Reference.{is_closer}
+use Rattle.markdown_brackets.specs.Wikilink.{WikilinkBody, Shows, shows_name, shows_nothing, shows_from, has_pothole}
+use Rattle.markdown_brackets.specs.Wikilink.{wikilink_body}
+
+-- what the brackets of a chain are read by: the text with its rules; the blocks above; and of the bytes after a line
+-- ending, how many are the line's prefix
+pub record Around : Type 0 where
+  pub setting : Setting
+  pub above : Above
+  pub skipped : List ℕ → Option ℕ
+
+-- a `]`: its label, whether what it closes could be a reference, and the chain after it
+pub record Closing (A : Type 0) : Type 0 where
+  pub label : Label A
+  pub could_be_reference : Bool
+  pub rest : Forest (Label A)
+
+-- how far a chain was read: the left list; after a find, the byte up to which what comes is left out; the ends of the
+-- `]` that can be no references any more; what was asked; what is known; and how many trees were made that stood in no item
+pub record Progress (A : Type 0) : Type 0 where
+  pub left : List (Entry A)
+  pub goes_on : Option ℕ
+  pub spent : List ℕ
+  pub asked : List Question
+  pub known : Known
+  pub made : ℕ
+
+abbrev pub Step : Type 0 → Type 0
+Step A = Progress A → Progress A
+
+-- a wikilink: its name, whether a pipe stands in it, and what it shows
+pub record Wikilink (A : Type 0) : Type 0 where
+  pub name : List ℕ
+  pub has_pothole : Bool
+  pub children : Forest (Label A)
+
+-- what a `]` becomes: a Text; a link or an image, from its opener up to a byte, and the chain goes on at another one; a
+-- footnote reference, up to its end; a wikilink, up to a byte
+pub data Becomes (A : Type 0) : Type 0 where
+  a_text : Becomes A
+  a_link : Split A → LinkView → (end next : ℕ) → Becomes A
+  a_footnote : Split A → List ℕ → Becomes A
+  a_wikilink : Split A → Wikilink A → (end : ℕ) → Becomes A
+
+-- the decision: what it becomes, and how far the chain was read before that is put: the openers that were tried are taken
+-- off, it was asked, and is known
+pub record Decision (A : Type 0) : Type 0 where
+  pub becomes : Becomes A
+  pub progress : Progress A
+
+abbrev pub Try : Type 0 → Type 0
+Try A = Progress A → Decision A
+
+abbrev pub to_be : {A : Type 0} → Becomes A → Try A
+to_be becomes p = record { becomes = becomes; progress = p }
+
+-- the text up to the block's end, where no scan goes further
+abbrev pub block_text : Around → List ℕ
+block_text w = take w.above.block_end w.setting.text
+
+-- a label of the same node over other bytes
+abbrev pub over : {A : Type 0} → Label A → Shape → (start end : ℕ) → Label A
+over a shape start end =
+    record { tag = a.tag; part = record { shape = shape; range = record { start = start; end = end }; block = None } }
+
+abbrev pub text_from : {A : Type 0} → Around → Label A → (start end : ℕ) → Label A
+text_from w a start end = over a (text_over (slice_range w.setting.text start end)) start end
+
+-- the first item of a chain, and the second
+abbrev pub first_item : {A : Type 0} → Forest (Label A) → Option Item
+first_item nil = None
+first_item (node a below after) = Some (as_item a)
+
+abbrev pub second_item : {A : Type 0} → Forest (Label A) → Option Item
+second_item nil = None
+second_item (node a below after) = first_item after
+
+abbrev pub is_next : {A : Type 0} → (ItemBody → Bool) → Forest (Label A) → Bool
+is_next test nil = false
+is_next test (node a below after) = test (open_body a.part.shape)
+
+-- the start of the first item whose end is past a byte
+abbrev pub start_of_first_past : {A : Type 0} → Forest (Label A) → ℕ → Option ℕ
+start_of_first_past nil i = None
+start_of_first_past (node a below after) i =
+    if nat_lt i (end_of a) then Some (start_of a) else start_of_first_past after i
+
+-- the first item that reaches a byte is a `]` that ends there
+abbrev pub closer_ends_at : {A : Type 0} → ℕ → Forest (Label A) → Bool
+closer_ends_at i nil = false
+closer_ends_at i (node a below after) =
+    if nat_lt (end_of a) i then closer_ends_at i after else is_closer (open_body a.part.shape) && (end_of a == i)
+
+-- how often each footnote was used, once this one is used once more
+abbrev pub used_once_more : List ℕ → (List ℕ → ℕ) → (List ℕ → ℕ)
+used_once_more name uses = λ other. if is_match name other then min (uses other + 1) (2 ^ 64 - 1) else uses other
+
+abbrev pub footnote_used : {A : Type 0} → (is_defined : Bool) → List ℕ → Step A
+footnote_used false name p = p
+footnote_used true name p = record p { known = record p.known { uses = used_once_more name p.known.uses } }
+
+-- what is written at an opener and its `]`: no link; an inline link, by its tail; a reference, with its kind, its label,
+-- where it ends and where the chain goes on; or a footnote label
+pub data Written : Type 0 where
+  no_link : Written
+  inline_link : LinkTail → Written
+  link_label : LinkType → List ℕ → (end next : ℕ) → Written
+  footnote_label : List ℕ → Written
+
+-- what stands from the opener's `[` to this `]`, where it is exactly one label
+abbrev pub label_of_opener : {A : Type 0} → Around → Closing A → Split A → Option FoundLabel
+label_of_opener w c o =
+    own_label (footnote_style w.setting.rules.options) w.skipped w.above.in_table w.setting.text
+    (end_of o.opener - 1) (end_of c.label)
+
+abbrev pub own_written : LinkType → (end next : ℕ) → Option FoundLabel → Written
+own_written link_type end next None = no_link
+own_written link_type end next (Some l) =
+    if l.is_footnote then footnote_label l.name else link_label link_type l.name end next
+
+abbrev pub form_of : {A : Type 0} → Around → Closing A → Form
+form_of w c =
+    form_at (footnote_style w.setting.rules.options) w.skipped w.above.in_table (block_text w) (end_of c.label)
+    (first_item c.rest) (second_item c.rest)
+
+-- a reference, of a `]` that ends at a byte: in full, where a `]` ends the label that follows; collapsed; or a shortcut,
+-- where what it closes is a label of its own
+abbrev pub reference_written : (could_be : Bool) → (end : ℕ) → (closes : ℕ → Bool) → Option FoundLabel → Form → Written
+reference_written could_be end closes own (reference label to) =
+    if closes to then link_label kind.Reference label to to else no_link
+reference_written could_be end closes own collapsed =
+    if could_be then own_written kind.Collapsed end (end + 2) own else no_link
+reference_written could_be end closes own shortcut =
+    if could_be then own_written kind.Shortcut end end own else no_link
+
+-- an inline link, or else a reference
+abbrev pub tail_or : Written → Option LinkTail → Written
+tail_or other None = other
+tail_or other (Some t) = inline_link t
+
+abbrev pub written : {A : Type 0} → Around → Closing A → Split A → Written
+written w c o =
+    let end = end_of c.label in
+    tail_or
+    (reference_written c.could_be_reference end (λ i. closer_ends_at i c.rest) (label_of_opener w c o) (form_of w c))
+    (link_tail w.skipped (start_of_first_past c.rest) (block_text w) end)
+
+abbrev pub inline_target : Around → LinkTail → LinkView
+inline_target w t = record {
+  kind = kind.Inline;
+  destination = unescaped w.above.in_table t.destination;
+  title = unescaped w.above.in_table t.title;
+  label = [];
+}
+
+-- a footnote label: it is a reference where it is defined, and in the old style always
+abbrev pub footnote_tried : {A : Type 0} → Around → Split A → List ℕ → Try A
+footnote_tried w o name p =
+    let is_defined = w.setting.rules.is_footnote name in
+    if is_reference (footnote_style w.setting.rules.options) is_defined
+    then to_be (a_footnote o name) (footnote_used is_defined name p)
+    else to_be a_text p
+
+-- a link label is looked up
+abbrev pub target_tried : {A : Type 0} → Split A → (end next : ℕ) → Option LinkView → Try A
+target_tried o end next None p = to_be a_text p
+target_tried o end next (Some target) p = to_be (a_link o target end next) p
+
+abbrev pub after_look_up : {A : Type 0} → LookedUp → Step A
+after_look_up found p = record p {
+  asked = p.asked ++ found.questions;
+  known = record { limit = found.limit; answers = found.answers; uses = p.known.uses };
+}
+
+abbrev pub question_at : {A : Type 0} → Split A → LinkType → List ℕ → (end : ℕ) → Question
+question_at o link_type label end =
+    record { span = record { start = start_of o.opener; end = end }; link_type = link_type; reference = label }
+
+abbrev pub look_up_tried : {A : Type 0} → Around → Split A → LinkType → List ℕ → (end next : ℕ) → Try A
+look_up_tried w o link_type label end next p =
+    let found =
+    look_up w.setting.rules.definitions w.setting.rules.asks p.known.limit p.known.answers (question_at o link_type label end) in
+    target_tried o end next found.target (after_look_up found p)
+
+-- the `]` of a label that follows is no reference of its own then
+abbrev pub spent_by : LinkType → (end : ℕ) → List ℕ → List ℕ
+spent_by kind.Reference end spent = end ∷ spent
+spent_by other end spent = spent
+
+-- what is written comes to this
+abbrev pub tried : {A : Type 0} → Around → Split A → Written → Try A
+tried w o no_link p = to_be a_text p
+tried w o (inline_link t) p = to_be (a_link o (inline_target w t) t.ends t.ends) p
+tried w o (link_label link_type label end next) p =
+    look_up_tried w o link_type label end next (record p { spent = spent_by link_type end p.spent })
+tried w o (footnote_label name) p = footnote_tried w o name p
+
+-- the opener for a `]`, which is taken off: where it is live, a link is tried
+abbrev pub opener_tried : {A : Type 0} → Around → Closing A → Option (Split A) → Try A
+opener_tried w c None p = to_be a_text p
+opener_tried w c (Some o) p = if is_live o.mark.bracket then tried w o (written w c o) p else to_be a_text p
+
+abbrev pub one_decided : {A : Type 0} → Around → Closing A → Try A
+one_decided w c p = opener_tried w c (nearest opens_bracket p.left) (record p { left = bracket_taken p.left })
+
+abbrev pub if_some : {A : Type 0} → Forest (Label A) → Option (Forest (Label A))
+if_some nil = None
+if_some (node a below after) = Some (node a below after)
+
+-- its name, or what follows its pipe; of what follows it something has to be left
+abbrev pub children_of : {A : Type 0} → Around → Label A → Forest (Label A) → (end : ℕ) → Shows
+    → Option (Forest (Label A))
+children_of w first trees end shows_name = Some (node (text_from w first (start_of first) end) nil nil)
+children_of w first trees end (shows_nothing at) = Some (node (text_from w first at at) nil nil)
+children_of w first trees end (shows_from at) = if_some (past_byte at trees)
+
+abbrev pub wikilink_by : {A : Type 0} → Around → Label A → Forest (Label A) → (end : ℕ) → WikilinkBody
+    → Option (Wikilink A)
+wikilink_by w first trees end b = option_map
+    (λ children. record { name = b.name; has_pothole = has_pothole b.shows; children = children })
+    (children_of w first trees end b.shows)
+
+-- of the trees of a body, which ends at a byte
+abbrev pub wikilink_in : {A : Type 0} → Around → Forest (Label A) → (end : ℕ) → Option (Wikilink A)
+wikilink_in w nil end = None
+wikilink_in w (node first below after) end =
+    option_and_then (wikilink_by w first (node first below after) end)
+    (wikilink_body w.setting.text (start_of first) end)
+
+-- the body begins at the second item after the opener
+abbrev pub past_second : {A : Type 0} → Forest (Label A) → Forest (Label A)
+past_second nil = nil
+past_second (node a below after) = after
+
+-- a wikilink up to the second `]`, which ends at a byte; or else its opener is taken off too, and one `]` is closed
+abbrev pub wikilink_or_one : {A : Type 0} → Around → Closing A → (end : ℕ) → Split A → Option (Wikilink A) → Try A
+wikilink_or_one w c end o None p = one_decided w c (record p { left = wikilink_taken p.left })
+wikilink_or_one w c end o (Some found) p = to_be (a_wikilink o found end) (record p { left = wikilink_taken (bracket_taken p.left) })
+
+abbrev pub wikilink_tried : {A : Type 0} → Around → Closing A → (end : ℕ) → Option (Split A) → Try A
+wikilink_tried w c end None p = one_decided w c p
+wikilink_tried w c end (Some o) p =
+    wikilink_or_one w c end o
+    (if is_live o.mark.wikilink then wikilink_in w (past_second (inside o)) (start_of c.label) else None) p
+
+-- the opener of a wikilink, where the bracket's own opener is taken off
+abbrev pub wikilink_opener : {A : Type 0} → List (Entry A) → Option (Split A)
+wikilink_opener left = nearest opens_wikilink (bracket_taken left)
+
+-- a `]`, before another one or not
+abbrev pub decided_before : {A : Type 0} → Around → Closing A → Forest (Label A) → Try A
+decided_before w c nil p = one_decided w c p
+decided_before w c (node a below after) p =
+    if wikilinks_on w.setting.rules.options && is_closer (open_body a.part.shape)
+    then wikilink_tried w c (end_of a) (wikilink_opener p.left) p
+    else one_decided w c p
+
+unfoldable pub decided : {A : Type 0} → Around → Closing A → Try A
+decided w c p = decided_before w c c.rest p

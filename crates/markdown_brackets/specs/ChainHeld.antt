@@ -1,0 +1,47 @@
+-- How the trees of a chain stand in an arena: labels whose tags are the numbers of nodes.
+use Rattle.std.specs.Prelude.{◌≡◌, ℕ, ◌<◌, List, Option, Some, None, length}
+use Rattle.markdown_base.specs.Arena.{child_of, sibling_of}
+use Rattle.markdown_base.specs.BlockTree.{item_at}
+use Rattle.markdown_base.specs.Forest.{Forest, nil, node, Each, relabelled}
+use Rattle.markdown_base.specs.declared.item.Item.{Item}
+use Rattle.markdown_base.specs.declared.node.Node.{Node}
+use Rattle.markdown_chains.specs.Document.{Label, Plain, part_of}
+use Rattle.markdown_chains.specs.Places.{IsPlaced, IsSameAt}
+use Rattle.markdown_chains.specs.Tables.{Tables}
+use Rattle.markdown_chains.specs.Totals.{total, same}
+
+-- from the link l on the links lead through these trees: each node has its label's number, and reads as its label
+abbrev pub Holds : List ℕ → Tables → List (Node Item) → Option ℕ → Forest (Label ℕ) → Type 0
+Holds source tables nodes l nil = l ≡ None
+Holds source tables nodes l (node a below after) =
+    (l ≡ Some a.tag) × (a.tag < length nodes) × (part_of source tables (item_at nodes a.tag) ≡ a.part)
+    × Holds source tables nodes (child_of nodes a.tag) below
+    × Holds source tables nodes (sibling_of nodes a.tag) after
+
+-- their numbers, and what they read as without
+abbrev pub numbers_of : Forest (Label ℕ) → Forest ℕ
+numbers_of f = relabelled (λ a. a.tag) f
+
+abbrev pub untagged : Forest (Label ℕ) → Forest Plain
+untagged f = relabelled (λ a. record { tag = tt; part = a.part }) f
+
+-- how often a number stands in them
+abbrev pub times_of : ℕ → Forest (Label ℕ) → ℕ
+times_of n f = total (same n) (numbers_of f)
+
+-- the link that leads to them
+abbrev pub link_to : Forest (Label ℕ) → Option ℕ
+link_to nil = None
+link_to (node a below after) = Some a.tag
+
+-- all their nodes are placed
+abbrev pub ArePlaced : List ℕ → Tables → List (Node Item) → Forest (Label ℕ) → Type 0
+ArePlaced source tables nodes f = Each (IsPlaced source tables nodes) (numbers_of f)
+
+-- one node has this item and these links, and all others are as they were
+pub record IsWritten (old new : List (Node Item)) (ix : ℕ) (item : Item) (child next : Option ℕ) : Type 0 where
+  pub size : length new ≡ length old
+  pub item_is : item_at new ix ≡ item
+  pub child_is : child_of new ix ≡ child
+  pub next_is : sibling_of new ix ≡ next
+  pub others : (j : ℕ) → (j ≡ ix → ⊥) → IsSameAt old new j

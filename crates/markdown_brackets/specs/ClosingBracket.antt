@@ -1,0 +1,58 @@
+-- What a closing bracket makes of a chain: of the left list before it, of the chain after it, and of what is known.
+use Rattle.std.specs.Prelude.{ℕ, ◌+◌, Bool, true, false, List, [], ◌∷◌, Some}
+use Rattle.std.specs.Prelude.{if◌then◌else◌}
+use Rattle.markdown_base.specs.Event.{LinkView, TagView, link, image, footnote_reference}
+use Rattle.markdown_base.specs.Forest.{nil}
+use Rattle.markdown_base.specs.declared.tag.LinkType.TheVariants as kind
+use Rattle.markdown_chains.specs.Document.{made, leaf, enclosed, Label}
+use Rattle.markdown_chains.specs.Document.{as_text}
+use Rattle.markdown_chains.specs.ChainRest.{start_of, end_of}
+use Rattle.markdown_brackets.specs.BracketDecision.{Around, Becomes, Closing, Decision, Progress, Step, Wikilink, a_footnote, a_link, a_text, a_wikilink, decided, over, text_from}
+use Rattle.markdown_brackets.specs.LeftList.{Mark, Entry, done, Split, inside}
+use Rattle.markdown_brackets.specs.LeftList.{before_link}
+use Rattle.markdown_brackets.specs.LeftList.{before_wikilink, before_footnote}
+
+-- a link or an image, from its opener up to a byte
+abbrev pub tag_for : Mark → LinkView → TagView
+tag_for m target = if m.is_image then image target else link target
+
+abbrev pub linked : {A : Type 0} → Split A → LinkView → (end : ℕ) → Label A
+linked o target end = over o.opener (enclosed (tag_for o.mark target)) (start_of o.opener) end
+
+-- a footnote reference; of what begins with `![^` the `!` is a Text of its own
+abbrev pub footnote_from : {A : Type 0} → Label A → List ℕ → (start end : ℕ) → Label A
+footnote_from a name start end = over a (leaf (footnote_reference name) (made ∷ [])) start end
+
+abbrev pub footnote_onto : {A : Type 0} → Around → Closing A → (is_image : Bool) → Label A → List ℕ → List (Entry A)
+    → List (Entry A)
+footnote_onto w c false opener name left =
+    done (footnote_from opener name (start_of opener) (end_of c.label)) nil ∷ left
+footnote_onto w c true opener name left =
+    done (footnote_from c.label name (start_of opener + 1) (end_of c.label)) nil
+    ∷ done (text_from w opener (start_of opener) (start_of opener + 1)) nil ∷ left
+
+abbrev pub wikilink_target : {A : Type 0} → Wikilink A → LinkView
+wikilink_target found =
+    record { kind = kind.WikiLink found.has_pothole; destination = found.name; title = []; label = [] }
+
+-- what a `]` becomes is put into the left list
+abbrev pub put : {A : Type 0} → Around → Closing A → Becomes A → Step A
+put w c a_text p = record p { left = done (as_text w.setting.text c.label) nil ∷ p.left }
+put w c (a_link o target end next) p = record p {
+  left = done (linked o target end) (inside o) ∷ before_link o.mark.is_image o.before;
+  goes_on = Some next;
+}
+put w c (a_footnote o name) p = record p {
+  left = footnote_onto w c o.mark.is_image o.opener name (before_footnote o.before);
+  goes_on = Some (end_of c.label);
+}
+put w c (a_wikilink o found end) p = record p {
+  left = done (linked o (wikilink_target found) end) found.children ∷ before_wikilink o.before;
+  goes_on = Some end;
+}
+
+abbrev pub put_decided : {A : Type 0} → Around → Closing A → Decision A → Progress A
+put_decided w c d = put w c d.becomes d.progress
+
+unfoldable pub closed : {A : Type 0} → Around → Closing A → Step A
+closed w c p = put_decided w c (decided w c p)

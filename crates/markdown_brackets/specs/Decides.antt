@@ -1,0 +1,81 @@
+-- The decision at a `]` of an arena, with the openers that wait on stacks.
+use Rattle.std.specs.Prelude.{◌≡◌, ℕ, ◌≤◌, ◌++◌, ◌||◌, List, [], ◌∷◌, Option, Some, None}
+use Rattle.markdown_base.specs.ArenaForest.{links_of, forest_at}
+use Rattle.markdown_base.specs.Forest.{Forest, nil, node}
+use Rattle.markdown_base.specs.Questions.{Question, Answer, Answers}
+use Rattle.markdown_base.specs.declared.item.Item.{Item}
+use Rattle.markdown_base.specs.declared.node.Node.{Node}
+use Rattle.markdown_chains.specs.ChainRest.{start_of, end_of}
+use Rattle.markdown_chains.specs.Document.{Label}
+use Rattle.markdown_chains.specs.Tables.{Tables}
+use Rattle.markdown_spans.specs.Callback.{Asks}
+use Rattle.markdown_brackets.specs.BracketDecision.{Around, Becomes, a_wikilink, Closing, Progress, Wikilink, decided, one_decided}
+use Rattle.markdown_brackets.specs.ChainHeld.{Holds, numbers_of, times_of}
+use Rattle.markdown_brackets.specs.DecisionView.{IsBecome, knowing}
+use Rattle.markdown_brackets.specs.LeftList.{Entry, Split, bracket_taken, wikilink_taken, brackets_of, wikilinks_of, trees_onto}
+use Rattle.markdown_brackets.specs.Openers.{Waiting}
+use Rattle.markdown_brackets.specs.ReadChain.{among}
+use Rattle.markdown_brackets.specs.SpentEnds.{is_spent}
+use Rattle.markdown_brackets.specs.declared.closing_bracket.ClosedBracket.{ClosedBracket}
+use Rattle.markdown_brackets.specs.declared.spent_ends.SpentEnds.{SpentEnds}
+
+-- a fact of each opener that waits
+abbrev pub EachOpener : (ℕ → Type 0) → List Waiting → Type 0
+EachOpener p [] = Unit {0}
+EachOpener p (t ∷ held) = p t.opener.node × EachOpener p held
+
+-- a left list stands in an arena, with the `]` of a node behind it and a chain after that, no node twice
+pub record StandsBefore (nodes : List (Node Item)) (closer : ℕ) (left : List (Entry ℕ)) (c : Closing ℕ) : Type 0 where
+  pub source : List ℕ
+  pub tables : Tables
+  pub first : Option ℕ
+  pub holds : Holds source tables nodes first (trees_onto left (node c.label nil c.rest))
+  pub found : forest_at (links_of nodes) first ≡ numbers_of (trees_onto left (node c.label nil c.rest))
+  pub once : (n : ℕ) → times_of n (trees_onto left (node c.label nil c.rest)) ≤ 1
+  pub number : c.label.tag ≡ closer
+  pub order : start_of c.label ≤ end_of c.label
+
+-- no wikilink: one `]` is decided, by a left list without the opener that was tried
+pub record TakesNone (w : Around) (c : Closing ℕ) (left : List (Entry ℕ)) (held : List Waiting) : Type 0 where
+  pub left_then : List (Entry ℕ)
+  pub held_is : held ≡ wikilinks_of left_then
+  pub brackets : brackets_of left_then ≡ brackets_of left
+  pub trees : (later : Forest (Label ℕ)) → trees_onto left_then later ≡ trees_onto left later
+  pub decides : (p : Progress ℕ) → decided w c (record p { left = left }) ≡ one_decided w c (record p { left = left_then })
+
+-- a wikilink
+pub record TakesOne (w : Around) (c : Closing ℕ) (left : List (Entry ℕ)) (held : List Waiting) (found : ClosedBracket)
+    : Type 0 where
+  pub opener : Split ℕ
+  pub wikilink : Wikilink ℕ
+  pub end : ℕ
+  pub held_is : held ≡ wikilinks_of (wikilink_taken (bracket_taken left))
+  pub decides : (p : Progress ℕ) → decided w c (record p { left = left })
+      ≡ record { becomes = a_wikilink opener wikilink end; progress = record p { left = wikilink_taken (bracket_taken left) } }
+  pub is : IsBecome w (a_wikilink opener wikilink end) found
+
+abbrev pub TakesWikilink : Around → Closing ℕ → List (Entry ℕ) → List Waiting → Option ClosedBracket → Type 0
+TakesWikilink w c left held None = TakesNone w c left held
+TakesWikilink w c left held (Some found) = TakesOne w c left held found
+
+-- the decision: the callback went by these questions, one at most, and by these answers, and it is what the rules say,
+-- whatever answers follow, which are handed on; the stacks hold the openers that are left
+pub record Decides {C : Type 0} (step : C → Question → Option Answer → C → Type 0) (w : Around) (c : Closing ℕ)
+    (left : List (Entry ℕ)) (limit limit' : ℕ) (uses uses' : List ℕ → ℕ) (spent spent' : SpentEnds)
+    (callback callback' : Option C) (brackets wikilinks : List Waiting) (found : ClosedBracket) : Type 0 where
+  pub answers : Answers
+  pub questions : List Question
+  pub asked : Asks step callback questions answers callback'
+  pub becomes : Becomes ℕ
+  pub is : IsBecome w becomes found
+  pub left_then : List (Entry ℕ)
+  pub more : List ℕ
+  pub decides : (p : Progress ℕ) (later : Answers)
+      → decided w c (knowing limit (answers ++ later) uses (record p { left = left }))
+      ≡ record {
+        becomes = becomes;
+        progress = record (knowing limit' later uses' p) { left = left_then; spent = more ++ p.spent; asked = p.asked ++ questions };
+      }
+  pub spends : (end : ℕ) → is_spent spent' end ≡ (among end more || is_spent spent end)
+  pub brackets_are : brackets ≡ brackets_of left_then
+  pub wikilinks_are : wikilinks ≡ wikilinks_of left_then

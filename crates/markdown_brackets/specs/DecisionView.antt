@@ -1,0 +1,116 @@
+-- What contracts see of what a `]` becomes, in an arena.
+use Rattle.std.specs.Prelude.{◌≡◌, ℕ, ◌++◌, Bool, true, false, List, [], Option, Some, None, is_some}
+use Rattle.markdown_base.specs.CowText.{text_of}
+use Rattle.markdown_base.specs.Event.{LinkView}
+use Rattle.markdown_base.specs.Forest.{Forest, nil, node}
+use Rattle.markdown_base.specs.Questions.{Question, Answer, Answers}
+use Rattle.markdown_base.specs.declared.item.ItemBody.{ItemBody}
+use Rattle.markdown_chains.specs.ChainRest.{past_byte}
+use Rattle.markdown_chains.specs.Document.{Label}
+use Rattle.markdown_spans.specs.Callback.{Asks}
+use Rattle.markdown_spans.specs.Definitions.{Labelled}
+use Rattle.markdown_spans.specs.Footnotes.{footnote_at}
+use Rattle.markdown_spans.specs.declared.defs.footnotes.FootnoteDefs.{FootnoteDefs}
+use Rattle.markdown_brackets.specs.BracketDecision.{Around, Becomes, a_text, a_link, a_footnote, a_wikilink, Progress, Try}
+use Rattle.markdown_brackets.specs.BracketDecision.{past_second, spent_by, text_from, link_label}
+use Rattle.markdown_brackets.specs.BracketDecision as decision
+use Rattle.markdown_brackets.specs.BracketOptions.{footnote_style}
+use Rattle.markdown_brackets.specs.declared.footnote.FootnoteStyle.{FootnoteStyle}
+use Rattle.markdown_brackets.specs.ChainHeld.{link_to}
+use Rattle.markdown_brackets.specs.LeftList.{Split, inside}
+use Rattle.markdown_brackets.specs.LookupView.{target_view}
+use Rattle.markdown_brackets.specs.declared.closing_bracket.ClosedBracket.{ClosedBracket}
+use Rattle.markdown_brackets.specs.declared.closing_bracket.ClosedBracket.TheVariants.{Text, Link, Footnote, Wikilinked}
+use Rattle.markdown_brackets.specs.declared.openers.Opener.{Opener}
+use Rattle.markdown_brackets.specs.declared.wikilink_nodes.ShownNodes.{ShownNodes}
+use Rattle.markdown_brackets.specs.declared.wikilink_nodes.ShownNodes.TheVariants.{Over, From}
+use Rattle.markdown_brackets.specs.declared.written.BracketPlace.{BracketPlace}
+
+-- what the brackets of a chain at a place are read by: its lines go on by a rule; the blocks above are these; these
+-- definitions and footnotes can be found, and there is somebody to ask or not
+abbrev pub around_at : BracketPlace → (List ℕ → Option ℕ) → List ItemBody → List Labelled → FootnoteDefs → Bool → Around
+around_at place skipped bodies definitions footnotes asks = record {
+  setting = record {
+    text = place.text.now;
+    rules = record {
+      options = place.options;
+      definitions = definitions;
+      is_footnote = λ name. is_some (footnote_at footnotes name);
+      asks = asks;
+    };
+  };
+  above = record { block_end = place.block_end; in_table = place.in_table; bodies = bodies };
+  skipped = skipped;
+}
+
+-- an opener as a stack holds it
+abbrev pub opener_of : Split ℕ → Opener
+opener_of o = record { node = o.opener.tag; is_image = o.mark.is_image }
+
+-- what a wikilink shows of the trees of its body, and the node that it begins in
+abbrev pub shown_of : Around → Forest (Label ℕ) → ShownNodes → Forest (Label ℕ)
+shown_of w nil shown = nil
+shown_of w (node first below after) (Over ix start end) = node (text_from w first start end) nil nil
+shown_of w (node first below after) (From ix at) = past_byte at (node first below after)
+
+abbrev pub first_shown : ShownNodes → ℕ
+first_shown (Over ix start end) = ix
+first_shown (From ix at) = ix
+
+-- a `]` becomes this
+abbrev pub IsBecome : Around → Becomes ℕ → ClosedBracket → Type 0
+IsBecome w a_text Text = Unit {0}
+IsBecome w (a_link o target end next) (Link opener found found_end found_next) =
+    (opener ≡ opener_of o) × (target_view found ≡ target) × (found_end ≡ end) × (found_next ≡ next)
+IsBecome w (a_footnote o name) (Footnote opener found) = (opener ≡ opener_of o) × (text_of found ≡ name)
+IsBecome w (a_wikilink o v end) (Wikilinked opener name has_pothole shown found_end) =
+    (opener ≡ opener_of o) × (name.now ≡ v.name) × (has_pothole ≡ v.has_pothole)
+    × (shown_of w (past_second (inside o)) shown ≡ v.children) × (link_to v.children ≡ Some (first_shown shown))
+    × (found_end ≡ end)
+IsBecome w other found = ⊥
+
+-- a link to a target, if there is one, is found
+abbrev pub IsLinkOr : Opener → (end next : ℕ) → Option LinkView → ClosedBracket → Type 0
+IsLinkOr opener end next None Text = Unit {0}
+IsLinkOr opener end next (Some target) (Link found_opener found found_end found_next) =
+    (found_opener ≡ opener) × (target_view found ≡ target) × (found_end ≡ end) × (found_next ≡ next)
+IsLinkOr opener end next target found = ⊥
+
+-- or a footnote reference, if it is one
+abbrev pub IsFootnoteOr : Opener → List ℕ → Bool → ClosedBracket → Type 0
+IsFootnoteOr opener name false Text = Unit {0}
+IsFootnoteOr opener name true (Footnote found_opener found) = (found_opener ≡ opener) × (text_of found ≡ name)
+IsFootnoteOr opener name is_one found = ⊥
+
+-- rules by which labels are found: these definitions and footnotes, and somebody to ask or not
+pub record KnowsRules (w : Around) (definitions : List Labelled) (footnotes : FootnoteDefs) (asks : Bool)
+    (style : FootnoteStyle) : Type 0 where
+  pub definitions_are : w.setting.rules.definitions ≡ definitions
+  pub footnotes_are : (name : List ℕ) → w.setting.rules.is_footnote name ≡ is_some (footnote_at footnotes name)
+  pub asks_is : w.setting.rules.asks ≡ asks
+  pub style_is : footnote_style w.setting.rules.options ≡ style
+
+-- how far a chain was read, where this is known
+abbrev pub knowing : ℕ → Answers → (List ℕ → ℕ) → Progress ℕ → Progress ℕ
+knowing limit answers uses p = record p { known = record { limit = limit; answers = answers; uses = uses } }
+
+-- the ends that what is written uses up
+abbrev pub spent_in : decision.Written → List ℕ
+spent_in (link_label link_type label end next) = spent_by link_type end []
+spent_in other = []
+
+-- a try comes to this: the callback went by these questions, one at most, and by these answers, and it is what the rules
+-- say, whatever answers follow, which are handed on
+pub record ComesTo {C : Type 0} (step : C → Question → Option Answer → C → Type 0) (w : Around) (try : Try ℕ)
+    (more : List ℕ) (limit limit' : ℕ) (uses uses' : List ℕ → ℕ) (callback callback' : Option C)
+    (found : ClosedBracket) : Type 0 where
+  pub answers : Answers
+  pub questions : List Question
+  pub asked : Asks step callback questions answers callback'
+  pub becomes : Becomes ℕ
+  pub comes : (p : Progress ℕ) (later : Answers) → try (knowing limit (answers ++ later) uses p)
+      ≡ record {
+        becomes = becomes;
+        progress = record (knowing limit' later uses' p) { spent = more ++ p.spent; asked = p.asked ++ questions };
+      }
+  pub is : IsBecome w becomes found

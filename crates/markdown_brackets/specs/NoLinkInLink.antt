@@ -1,0 +1,61 @@
+-- No link stands in a link but an autolink (CommonMark 6.3), at any depth.
+use Rattle.std.specs.Prelude.{◌≡◌, ⊤, Bool, true, false, List, [], ◌∷◌, ◌++◌}
+use Rattle.markdown_base.specs.Event.{TagView, link}
+use Rattle.markdown_base.specs.Forest.{Forest, nil, Each, Throughout}
+use Rattle.markdown_base.specs.declared.tag.LinkType.{LinkType}
+use Rattle.markdown_base.specs.declared.tag.LinkType.TheVariants as kind
+use Rattle.markdown_chains.specs.Document.{Shape, enclosed, Label}
+use Rattle.markdown_chains.specs.Setting.{Known}
+use Rattle.markdown_brackets.specs.BracketDecision.{Around, Progress}
+use Rattle.markdown_brackets.specs.LeftList.{Entry, done, waits, trees_onto}
+use Rattle.markdown_brackets.specs.ReadChain.{Reader, begun, read_chain}
+
+abbrev pub is_autolink : LinkType → Bool
+is_autolink kind.Autolink = true
+is_autolink other = false
+
+-- a tag that opens no link but an autolink
+abbrev pub OpensNoLink : TagView → Type 0
+OpensNoLink (link v) = is_autolink v.kind ≡ true
+OpensNoLink other = ⊤
+
+abbrev pub IsNoLink : Shape → Type 0
+IsNoLink (enclosed tag) = OpensNoLink tag
+IsNoLink other = ⊤
+
+-- no tree is such a link, at any depth
+abbrev pub IsFreeOfLinks : {A : Type 0} → Forest (Label A) → Type 0
+IsFreeOfLinks f = Each (λ a. IsNoLink a.part.shape) f
+
+-- what a link has below it is free of links
+abbrev pub ClosesOverNone : {A : Type 0} → TagView → Forest (Label A) → Type 0
+ClosesOverNone (link v) below = IsFreeOfLinks below
+ClosesOverNone other below = ⊤
+
+abbrev pub HasNoneBelow : {A : Type 0} → Shape → Forest (Label A) → Type 0
+HasNoneBelow (enclosed tag) below = ClosesOverNone tag below
+HasNoneBelow other below = ⊤
+
+-- and that is so throughout
+abbrev pub HasNoLinkInLink : {A : Type 0} → Forest (Label A) → Type 0
+HasNoLinkInLink f = Throughout (λ a below after. HasNoneBelow a.part.shape below) f
+
+-- trees that are done, and free of links
+abbrev pub AreFreeTrees : {A : Type 0} → List (Entry A) → Type 0
+AreFreeTrees [] = ⊤
+AreFreeTrees (done a below ∷ more) = IsNoLink a.part.shape × IsFreeOfLinks below × AreFreeTrees more
+AreFreeTrees (waits m a ∷ more) = ⊥
+
+-- a left list with such trees at its right
+pub record HasMoreTrees {A : Type 0} (left left' : List (Entry A)) : Type 0 where
+  pub more : List (Entry A)
+  pub free : AreFreeTrees more
+  pub grown : left' ≡ more ++ left
+
+-- a chain free of links is read so that no link stands in a link, where the rule for what is no bracket puts such trees
+abbrev pub NoLinkLaw : Type 0 → Type 0
+NoLinkLaw A = (w : Around) (others : Reader A)
+    → ((a : Label A) (below rest : Forest (Label A)) (p : Progress A) → IsNoLink a.part.shape → IsFreeOfLinks below
+    → HasMoreTrees p.left (others a below rest p).left)
+    → (chain : Forest (Label A)) (known : Known) → IsFreeOfLinks chain
+    → HasNoLinkInLink (trees_onto (read_chain w others chain (begun known)).left nil)

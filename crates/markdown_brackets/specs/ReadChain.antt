@@ -1,0 +1,62 @@
+-- A chain that is read from left to right, each item once: brackets by their rules, all else by a rule that is given.
+use Rattle.std.specs.Prelude.{ℕ, Bool, true, false, not, ◌&&◌, ◌||◌, ◌==◌, List, [], ◌∷◌, Option, Some, None}
+use Rattle.std.specs.Prelude.{if◌then◌else◌, nat_le}
+use Rattle.markdown_base.specs.Forest.{Forest, nil, node}
+use Rattle.markdown_base.specs.declared.item.ItemBody.{ItemBody}
+use Rattle.markdown_base.specs.declared.item.ItemBody.TheVariants as body
+use Rattle.markdown_chains.specs.Document.{Label, as_text}
+use Rattle.markdown_chains.specs.Setting.{Known}
+use Rattle.markdown_chains.specs.ChainRest.{begun_at, end_of, open_body}
+use Rattle.markdown_brackets.specs.BracketOptions.{wikilinks_on}
+use Rattle.markdown_brackets.specs.BracketDecision.{Around, Closing, Progress, Step, is_next}
+use Rattle.markdown_brackets.specs.ClosingBracket.{closed}
+use Rattle.markdown_brackets.specs.LeftList.{waits, live, gone}
+use Rattle.markdown_brackets.specs.Reference.{is_opener}
+
+abbrev pub begun : {A : Type 0} → Known → Progress A
+begun known = record { left = []; goes_on = None; spent = []; asked = []; known = known; made = 0 }
+
+-- a `[` or `![`: with wikilinks on, one before a `[` opens a wikilink too
+abbrev pub opened : {A : Type 0} → Around → (is_image : Bool) → Label A → Forest (Label A) → Step A
+opened w is_image a rest p = record p {
+  left = waits (record {
+    is_image = is_image;
+    bracket = live;
+    wikilink = if wikilinks_on w.setting.rules.options && is_next is_opener rest then live else gone;
+  }) (as_text w.setting.text a) ∷ p.left;
+}
+
+abbrev pub among : ℕ → List ℕ → Bool
+among n [] = false
+among n (m ∷ others) = (n == m) || among n others
+
+-- a `]` that can be no reference any more is none
+abbrev pub closing : {A : Type 0} → (could_be_reference : Bool) → Label A → Forest (Label A) → Progress A → Closing A
+closing could_be_reference a rest p =
+    record { label = a; could_be_reference = could_be_reference && not (among (end_of a) p.spent); rest = rest }
+
+-- what is read of other items: by the label, the trees below it and the chain after it
+abbrev pub Reader : Type 0 → Type 0
+Reader A = Label A → Forest (Label A) → Forest (Label A) → Step A
+
+abbrev pub read_as : {A : Type 0} → Around → Reader A → ItemBody → Reader A
+read_as w others body.MaybeLinkOpen a below rest p = opened w false a rest p
+read_as w others body.MaybeImage a below rest p = opened w true a rest p
+read_as w others (body.MaybeLinkClose could_be_reference) a below rest p =
+    closed w (closing could_be_reference a rest p) p
+read_as w others other a below rest p = others a below rest p
+
+abbrev pub read : {A : Type 0} → Around → Reader A → Reader A
+read w others a below rest p = read_as w others (open_body a.part.shape) a below rest p
+
+-- after a find that ends at a byte, what ends there or before is left out, and the next item begins there at the
+-- earliest
+abbrev pub read_past : {A : Type 0} → Around → Reader A → Option ℕ → Reader A
+read_past w others None a below rest p = read w others a below rest p
+read_past w others (Some i) a below rest p =
+    if nat_le (end_of a) i then p else read w others (begun_at i a) below rest (record p { goes_on = None })
+
+-- all of them are read
+unfoldable pub read_chain : {A : Type 0} → Around → Reader A → Forest (Label A) → Step A
+read_chain w others nil p = p
+read_chain w others (node a below rest) p = read_chain w others rest (read_past w others p.goes_on a below rest p)

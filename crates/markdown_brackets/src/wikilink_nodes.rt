@@ -1,0 +1,87 @@
+//! Wikilinks where they stand: the nodes of a wikilink's body, and what it shows of them.
+ghost use Rattle.std.specs.Prelude.{◌≡◌, ◌<◌, Some, IfSome, length};
+ghost use Rattle.markdown_base.specs.Arena.{sibling_of};
+ghost use Rattle.markdown_brackets.specs.ChainAhead.{IsChain};
+ghost use Rattle.markdown_brackets.specs.WikilinkNodes.{body_start, shown_in, shown_from_node, unless_is};
+ghost use Rattle.markdown_brackets.specs.WikilinkView.{shown_view};
+
+use crate::items_ahead::first_past;
+use crate::wikilink::Shown;
+use markdown_base::item::Item;
+use markdown_base::tree::Tree;
+
+/// What a wikilink shows.
+#[derive(Clone, Copy, Debug, PartialEq, Eq, Drop)]
+pub enum ShownNodes {
+    /// A Text over these bytes, in the first node of the body.
+    Over {
+        node: usize,
+        start: usize,
+        end: usize,
+    },
+    /// What stands in the body from this byte on, which begins in this node.
+    From {
+        node: usize,
+        at: usize,
+    },
+}
+
+// The node after another one, unless it is the `]`.
+fn next_before(tree: &Tree<Item>, ix: usize, closer: usize) -> Option<usize>
+    requires { ix < length tree.now.nodes }
+    ensures value { result ≡ unless_is closer (sibling_of tree.now.nodes ix) }
+    ensures within { IfSome result (λ next. next < length tree.now.nodes) }
+{
+    match tree.next(ix) {
+        Some(next) if next != closer => Some(next),
+        _ => None,
+    }
+}
+
+/// The first node of a wikilink's body: the second after its opener, if it stands before the `]`.
+pub(crate) fn body_of(tree: &Tree<Item>, opener: usize, closer: usize) -> Option<usize>
+    requires { opener < length tree.now.nodes }
+    ensures value { result ≡ body_start tree.now.nodes opener closer }
+    ensures within { IfSome result (λ first. first < length tree.now.nodes) }
+{
+    let second = next_before(tree, opener, closer)?;
+    next_before(tree, second, closer)
+}
+
+// What stands from a byte on, which begins in a node, unless that is the `]`.
+fn from_node(node: Option<usize>, closer: usize, at: usize) -> Option<ShownNodes>
+    ensures { result ≡ shown_from_node closer at node }
+{
+    match node {
+        Some(node) if node != closer => Some(ShownNodes::From { node, at }),
+        _ => None,
+    }
+}
+
+/// What a wikilink shows of a body from the byte `start` to the byte `end`, whose first node is this one; None where nothing
+/// of what it shows stands before the `]`.
+pub(crate) fn find_shown(
+    tree: &Tree<Item>,
+    first: usize,
+    closer: usize,
+    shown: Shown,
+    start: usize,
+    end: usize,
+) -> Option<ShownNodes>
+    requires { IsChain tree.now.nodes (Some first) }
+    ensures { result ≡ shown_in tree.now.nodes first closer (shown_view shown) start end }
+{
+    match shown {
+        Shown::Name => Some(ShownNodes::Over {
+            node: first,
+            start,
+            end,
+        }),
+        Shown::Nothing(at) => Some(ShownNodes::Over {
+            node: first,
+            start: at,
+            end: at,
+        }),
+        Shown::From(at) => from_node(first_past(tree, Some(first), at), closer, at),
+    }
+}

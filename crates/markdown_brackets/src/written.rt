@@ -1,0 +1,222 @@
+//! What is written at an opener and its `]`: an inline link, a reference or a footnote label.
+ghost use Rattle.std.specs.Prelude.{◌≡◌, ◌≤◌, ◌<◌, ◌^◌, ◌+◌, Bool, Some, IfOk, take, if◌then◌else◌};
+ghost use Rattle.std.specs.Str.{IsCharBoundary};
+ghost use Rattle.markdown_base.specs.BlockTree.{item_at};
+ghost use Rattle.markdown_base.specs.CowText.{text_of};
+ghost use Rattle.markdown_base.specs.declared.tag.LinkType.TheVariants as kind;
+ghost use Rattle.markdown_brackets.specs.BracketDecision.{link_label, no_link, own_written};
+ghost use Rattle.markdown_brackets.specs.BracketOptions.{footnote_style, wikilinks_on};
+ghost use Rattle.markdown_brackets.specs.ChainAhead.{IsChain, reaches_closer};
+ghost use Rattle.markdown_brackets.specs.Reference.{own_label};
+ghost use Rattle.markdown_brackets.specs.ReferenceView.{form_view, label_view};
+ghost use Rattle.markdown_brackets.specs.WrittenView.{CanRead, EndsBehind, IsRead, form_ahead, reference_at, written_at};
+
+use crate::footnote::FootnoteStyle;
+use crate::items_ahead::{ItemsAhead, link_after, linked_item, reaches_closer};
+use crate::link_tail::{LinkTail, scan_link_tail};
+use crate::reference::{Form, FoundLabel, scan_form, scan_own_label};
+use bitflags::Flags;
+use markdown_base::cow_str::CowStr;
+use markdown_base::item::Item;
+use markdown_base::options::Options;
+use markdown_base::tag::LinkType;
+use markdown_base::tree::Tree;
+use markdown_scan::line_rule::LineRule;
+use std::alloc::{AllocError, Global};
+
+/// Where a chain stands, as far as its brackets ask.
+#[derive(Clone, Copy, Drop)]
+pub struct BracketPlace<'t> {
+    /// The whole text.
+    pub text: &'t str,
+    /// The byte past which no scan goes: the end of the innermost block.
+    pub block_end: usize,
+    /// Whether that block is a cell of a table.
+    pub in_table: bool,
+    pub options: Options,
+}
+
+/// What is written at an opener and its `]`.
+#[derive(Drop)]
+pub(crate) enum Written<'t> {
+    /// No link.
+    Nothing,
+    Inline(LinkTail<'t>),
+    /// A reference: its form, its label, where it ends, and where the chain goes on.
+    Label {
+        link_type: LinkType,
+        label: CowStr<'t>,
+        end: usize,
+        next: usize,
+    },
+    /// A footnote's label.
+    Footnote(CowStr<'t>),
+}
+
+/// How options take footnotes.
+pub(crate) fn footnote_style(options: Options) -> FootnoteStyle
+    ensures { result ≡ footnote_style options }
+{
+    if options.contains(Options::ENABLE_OLD_FOOTNOTES) {
+        FootnoteStyle::Old
+    } else if options.contains(Options::ENABLE_FOOTNOTES) {
+        FootnoteStyle::Gfm
+    } else {
+        FootnoteStyle::Off
+    }
+}
+
+/// Whether options take wikilinks.
+pub(crate) fn wikilinks_on(options: Options) -> bool
+    ensures { result ≡ wikilinks_on options }
+{
+    options.contains(Options::ENABLE_WIKILINKS)
+}
+
+// A label from an opener's `[` to its `]`, which ends at a byte.
+fn of_own_label(label: FoundLabel<'_>, link_type: LinkType, end: usize, next: usize) -> Written<'_>
+    ensures { (in_table : Bool)
+        → IsRead in_table (own_written link_type end next (Some (label_view label.entry))) result }
+{
+    if label.is_footnote {
+        return Written::Footnote(label.name);
+    }
+    Written::Label {
+        link_type,
+        label: label.name,
+        end,
+        next,
+    }
+}
+
+// What stands from the byte `start` of an opener's `[` to its `]`, which ends at the byte `end`, as a label.
+fn read_own<'t, R: LineRule>(
+    alloc: Global,
+    place: &BracketPlace<'t>,
+    rule: &R,
+    start: usize,
+    end: usize,
+    link_type: LinkType,
+    next: usize,
+) -> Result<Written<'t>, AllocError>
+    requires start { IsCharBoundary place.now.text.now start }
+    requires end { IsCharBoundary place.now.text.now end }
+    requires order { start ≤ end }
+    ensures { IfOk result (λ found. (in_table : Bool) → IsRead in_table
+        (own_written link_type end next (own_label (footnote_style place.now.options) (R.skipped rule.now)
+        place.now.in_table place.now.text.now start end)) found) }
+{
+    let style = footnote_style(place.options);
+    match scan_own_label(alloc, place.text, start, end, style, rule, place.in_table)? {
+        None => Ok(Written::Nothing),
+        Some(label) => Ok(of_own_label(label, link_type, end, next)),
+    }
+}
+
+// A reference in full, whose label ends at a byte, if a `]` ends there.
+fn read_full<'t>(
+    tree: &Tree<Item>,
+    next: Option<usize>,
+    label: CowStr<'t>,
+    end: usize,
+) -> Written<'t>
+    requires chain { IsChain tree.now.nodes next }
+    requires some { 0 < end }
+    ensures { (in_table : Bool) → IsRead in_table
+        (if reaches_closer tree.now.nodes end next then link_label kind.Reference (text_of label.entry) end end
+        else no_link) result }
+{
+    if !reaches_closer(tree, next, end) {
+        drop(label);
+        return Written::Nothing;
+    }
+    Written::Label {
+        link_type: LinkType::Reference,
+        label,
+        end,
+        next: end,
+    }
+}
+
+// A reference whose form is known: its `[` starts at the byte `start`, and its `]` ends at the byte `end`.
+fn read_form<'t, R: LineRule>(
+    alloc: Global,
+    tree: &Tree<Item>,
+    closer: usize,
+    could_be: bool,
+    place: &BracketPlace<'t>,
+    rule: &R,
+    start: usize,
+    form: Form<'t>,
+) -> Result<Written<'t>, AllocError>
+    requires ready { CanRead tree.now.nodes place.now closer start }
+    requires some { EndsBehind 0 (form_view form) }
+    requires small { (item_at tree.now.nodes closer).end + 2 < 2 ^ 64 }
+    ensures { IfOk result (λ found. (in_table : Bool) → IsRead in_table
+        (reference_at tree.now.nodes place.now (R.skipped rule.now) closer could_be start (form_view form.entry)) found) }
+{
+    let end = tree.item(closer).end;
+    let (link_type, next) = match form {
+        Form::Reference { label, end } => {
+            return Ok(read_full(tree, tree.next(closer), label, end));
+        }
+        Form::Collapsed => (LinkType::Collapsed, end + 2),
+        Form::Shortcut => (LinkType::Shortcut, end),
+    };
+    if !could_be {
+        return Ok(Written::Nothing);
+    }
+    read_own(alloc, place, rule, start, end, link_type, next)
+}
+
+// A reference.
+fn read_reference<'t, R: LineRule>(
+    alloc: Global,
+    tree: &Tree<Item>,
+    closer: usize,
+    could_be: bool,
+    place: &BracketPlace<'t>,
+    rule: &R,
+    start: usize,
+) -> Result<Written<'t>, AllocError>
+    requires { CanRead tree.now.nodes place.now closer start }
+    ensures { IfOk result (λ found. (in_table : Bool) → IsRead in_table
+        (reference_at tree.now.nodes place.now (R.skipped rule.now) closer could_be start
+        (form_ahead tree.now.nodes place.now (R.skipped rule.now) closer)) found) }
+{
+    let end = tree.item(closer).end;
+    let next = tree.next(closer);
+    let style = footnote_style(place.options);
+    let first = linked_item(tree, next);
+    let second = linked_item(tree, link_after(tree, next));
+    let text = &place.text[..place.block_end];
+    let form = scan_form(alloc, text, end, style, rule, place.in_table, first, second)?;
+    read_form(alloc, tree, closer, could_be, place, rule, start, form)
+}
+
+/// Reads what is written at an opener, whose `[` starts at the byte `start`, and at the `]` of a node, which could be a
+/// reference or not.
+pub(crate) fn read_written<'t, R: LineRule>(
+    alloc: Global,
+    tree: &Tree<Item>,
+    closer: usize,
+    could_be: bool,
+    place: &BracketPlace<'t>,
+    rule: &R,
+    start: usize,
+) -> Result<Written<'t>, AllocError>
+    requires { CanRead tree.now.nodes place.now closer start }
+    ensures { IfOk result (IsRead place.now.in_table
+        (written_at tree.now.nodes place.now (R.skipped rule.now) closer could_be start)) }
+{
+    let end = tree.item(closer).end;
+    let mut items = ItemsAhead {
+        tree,
+        next: tree.next(closer),
+    };
+    let text = &place.text[..place.block_end];
+    match scan_link_tail(alloc, text, end, place.in_table, rule, &mut items)? {
+        Some(tail) => Ok(Written::Inline(tail)),
+        None => read_reference(alloc, tree, closer, could_be, place, rule, start),
+    }
+}
