@@ -1,223 +1,394 @@
--- A chain is resolved when its first item is settled and then the rest of it.
-use Rattle.std.proofs.Common.{false, ◌≡◌, ℕ, ◌<◌, ◌≤◌, List, ◌++◌, length, Option, Some, ⊎_elim, refl, sym, ◌∙◌, subst, arith, append_assoc}
+-- A chain that is changed where it stands: from one link on it becomes what another link leads to. Such changes follow
+-- one another, and a first item is written before a rest that changes.
+use Rattle.std.proofs.Common.{◌≡◌, ℕ, ◌+◌, ◌<◌, ◌≤◌, true, List, length, Option, Some, None, ⊎_elim, refl, sym, ◌∙◌, subst, arith}
 use Rattle.std.proofs.lemmas.Bool.{cases_lt}
+use Rattle.std.specs.Option.{option_map}
 use Rattle.markdown_base.specs.Arena.{child_of, sibling_of}
 use Rattle.markdown_base.specs.ArenaForest.{links_of, Spells, forest_at}
 use Rattle.markdown_base.specs.ArenaWalk.{Reaches}
-use Rattle.std.specs.Option.{option_map}
-use Rattle.markdown_base.specs.ArenaRules.{next_at}
-use Rattle.markdown_base.specs.Item.{is_open}
-use Rattle.markdown_chains.specs.ItemRules.{StandsBefore, KeepsItemRules}
-use Rattle.markdown_chains.proofs.ItemRulesLemmas.{keeps-closed}
 use Rattle.markdown_base.specs.BlockTree.{Numbered, numbered, item_at}
-use Rattle.markdown_base.specs.Questions.{Question, Answer, Answers}
-use Rattle.markdown_chains.specs.Setting.{Known}
-use Rattle.markdown_base.specs.Forest.{Forest, node, Each}
+use Rattle.markdown_base.specs.Forest.{Forest, nil, node, Each}
+use Rattle.markdown_base.specs.Item.{LiesIn, is_open}
+use Rattle.markdown_base.specs.WellFormed.{MarkupIsThere, RunsAreWhole}
 use Rattle.markdown_base.specs.declared.item.Item.{Item}
 use Rattle.markdown_base.specs.declared.item.ItemBody.{ItemBody}
 use Rattle.markdown_base.specs.declared.node.Node.{Node}
 use Rattle.markdown_base.proofs.ArenaForestLemmas.{opens}
-use Rattle.markdown_spans.specs.Callback.{Asks}
-use Rattle.markdown_chains.specs.Places.{IsSameAt, IsPlaced, label_at, trees_from}
-use Rattle.markdown_chains.specs.Stages.{known_at, Stage, times_in, named_in, weight_in}
-use Rattle.markdown_resolver.specs.Chains.{ResolvesFrom, CanResolve}
-use Rattle.markdown_resolver.specs.Resolved.{Resolved}
-use Rattle.markdown_chains.specs.Totals.{total, same, naming, times_named, weight_at}
-use Rattle.markdown_chains.specs.Document.{Plain}
+use Rattle.markdown_chains.specs.Document.{label_of}
+use Rattle.markdown_chains.specs.ItemRules.{StandsBefore}
+use Rattle.markdown_chains.specs.Places.{HasSlices, IsSameAt, IsPlaced, label_at, trees_from}
+use Rattle.markdown_chains.specs.Stages.{times_in, named_in, weight_in}
 use Rattle.markdown_chains.specs.Tables.{Tables, Named, number_of, size_for, NamesEntries, IsNoShorter, HasGrown}
-use Rattle.markdown_chains.proofs.PlaceLemmas.{times-past, named-past}
-use Rattle.markdown_chains.proofs.TablesLemmas.{same-refl, same-apart, named-once, named-apart, same_entry-trans, grown-same, grown-longer, grown-twice, longer-trans, entries-longer}
+use Rattle.markdown_chains.specs.Totals.{total, same, naming, times_named, weight_at}
 use Rattle.markdown_chains.proofs.FoundLemmas.{found}
-use Rattle.markdown_chains.proofs.FrameLemmas.{Stays, label-same, stay_throughout, Framed, framed}
-use Rattle.markdown_chains.proofs.CallbackLemmas.{Asks-append}
+use Rattle.markdown_chains.proofs.FrameLemmas.{Stays, label-same, stay_throughout, Framed, framed, slices-same}
+use Rattle.markdown_chains.proofs.PlaceLemmas.{times-past, named-past}
+use Rattle.markdown_chains.proofs.TablesLemmas.{same-refl, same-apart, named-once, named-apart, same_entry-trans, grown-same, grown-longer, grown-nothing, grown-twice, longer-trans, entries-longer}
+use Rattle.markdown_resolver.specs.Chains.{CanResolve, ChangesChain}
 
-same_trans : (a b c : List (Node Item)) (n : ℕ) → IsSameAt a b n → IsSameAt b c n → IsSameAt a c n
+-- a node that stayed, and stayed again
+pub same_trans : (a b c : List (Node Item)) (n : ℕ) → IsSameAt a b n → IsSameAt b c n → IsSameAt a c n
 same_trans a b c n p q = record { child = q.child ∙ p.child; next = q.next ∙ p.next; item = q.item ∙ p.item }
 
--- one node was changed, and the tables have grown
-pub record HeadChanged (source : List ℕ) (ix : ℕ) (nodes nodes' : List (Node Item)) (tables tables' : Tables) : Type 0 where
-  pub others : (n : ℕ) → (n ≡ ix → ⊥) → IsSameAt nodes nodes' n
-  pub size : length nodes' ≡ length nodes
+-- the chain from a link on is there, and nothing stands or is named twice in it
+pub record Stands (source : List ℕ) (tables : Tables) (nodes : List (Node Item)) (l : Option ℕ) : Type 0 where
+  pub reaches : Reaches (links_of nodes) (IsPlaced source tables nodes) l
+  pub once : (n : ℕ) → times_in nodes l n ≤ 1
+  pub named_once : (n : Named) → named_in nodes l n ≤ 1
+
+pub stands_ready : (source : List ℕ) (tables : Tables) (nodes : List (Node Item)) (l : Option ℕ) → CanResolve source tables nodes l → Stands source tables nodes l
+stands_ready source tables nodes l ready = record { reaches = ready.reaches; once = ready.once; named_once = ready.named_once }
+
+-- the chain from the link l on became what the link l' leads to
+pub record Moves (source : List ℕ) (l l' : Option ℕ) (old new : List (Node Item)) (tables tables' : Tables) : Type 0 where
+  pub stands : Stands source tables' new l'
+  pub of_chain : (n : ℕ) → n < length old → times_in new l' n ≤ times_in old l n
+  pub more_nodes : length old ≤ length new
+  pub outside : (n : ℕ) → n < length old → times_in old l n ≡ 0 → IsSameAt old new n
   pub grown : HasGrown tables tables'
-  pub placed : IsPlaced source tables' nodes' ix
-  pub closed : is_open (item_at nodes' ix).body ≡ false
-  pub before : (a : Numbered) → StandsBefore a (Some (numbered nodes ix)) → StandsBefore a (Some (numbered nodes' ix))
+  pub named : (n : Named) → number_of n < size_for tables n → named_in new l' n ≤ named_in old l n
+  pub no_heavier : weight_in new l' ≤ weight_in old l
+
+-- a change from a link on that stays is such a one
+pub changes_move : (source : List ℕ) (l : Option ℕ) (old new : List (Node Item)) (tables tables' : Tables) → ChangesChain source l old new tables tables' → Moves source l l old new tables tables'
+changes_move source l old new tables tables' c = record {
+  stands = record { reaches = c.reaches; once = c.once; named_once = c.named_once };
+  of_chain = c.of_chain;
+  more_nodes = c.more_nodes;
+  outside = c.outside;
+  grown = c.grown;
+  named = c.named;
+  no_heavier = c.no_heavier;
+}
+
+pub moves_change : (source : List ℕ) (l : Option ℕ) (old new : List (Node Item)) (tables tables' : Tables) → Moves source l l old new tables tables'
+    → ((a : Numbered) → StandsBefore a (option_map (numbered old) l) → StandsBefore a (option_map (numbered new) l)) → ChangesChain source l old new tables tables'
+moves_change source l old new tables tables' m before = record {
+  reaches = m.stands.reaches;
+  once = m.stands.once;
+  of_chain = m.of_chain;
+  more_nodes = m.more_nodes;
+  outside = m.outside;
+  grown = m.grown;
+  named_once = m.stands.named_once;
+  named = m.named;
+  before = before;
+  no_heavier = m.no_heavier;
+}
+
+-- nothing is changed
+pub moves_none : (source : List ℕ) (l : Option ℕ) (nodes : List (Node Item)) (tables : Tables) → Stands source tables nodes l → Moves source l l nodes nodes tables tables
+moves_none source l nodes tables s = record {
+  stands = s;
+  of_chain = λ n h. omega arith;
+  more_nodes = omega arith;
+  outside = λ n h z. record { child = refl; next = refl; item = refl };
+  grown = grown-nothing tables;
+  named = λ n h. omega arith;
+  no_heavier = omega arith;
+}
+
+-- one change, and then another
+pub moves_twice : (source : List ℕ) (l l' l'' : Option ℕ) (a b c : List (Node Item)) (t u v : Tables) → Moves source l l' a b t u → Moves source l' l'' b c u v → Moves source l l'' a c t v
+moves_twice source l l' l'' a b c t u v p q =
+    let longer = grown-longer t u p.grown in
+    let more : length a ≤ length b = p.more_nodes in
+    record {
+      stands = q.stands;
+      of_chain = λ n h. omega (arith, p.of_chain n h, q.of_chain n (omega (arith, h, more)));
+      more_nodes = omega (arith, p.more_nodes, q.more_nodes);
+      outside = λ n h z. same_trans a b c n (p.outside n h z) (q.outside n (omega (arith, h, more)) (omega (arith, p.of_chain n h, z)));
+      grown = grown-twice t u v p.grown q.grown;
+      named = λ n h. omega (arith, p.named n h, q.named n (omega (arith, h, longer.sizes n)));
+      no_heavier = omega (arith, p.no_heavier, q.no_heavier);
+    }
+
+-- the first item leaves the chain
+pub first_leaves : (source : List ℕ) (ix : ℕ) (nodes : List (Node Item)) (tables : Tables) → Stands source tables nodes (Some ix) → Moves source (Some ix) (sibling_of nodes ix) nodes nodes tables tables
+first_leaves source ix nodes tables s =
+    let o = opens (links_of nodes) (IsPlaced source tables nodes) ix s.reaches in
+    record {
+      stands = record {
+        reaches = o.after;
+        once = λ n. let x = rw o.here at (s.once n) in omega arith;
+        named_once = λ n. let x = rw o.here at (s.named_once n) in omega arith;
+      };
+      of_chain = λ n h. rw o.here (omega arith);
+      more_nodes = omega arith;
+      outside = λ n h z. record { child = refl; next = refl; item = refl };
+      grown = grown-nothing tables;
+      named = λ n h. rw o.here (omega arith);
+      no_heavier = rw o.here (omega arith);
+    }
+
+-- one node was written, and others may have been added; its item may stand there, but for what follows it
+pub record HeadWritten (source : List ℕ) (ix : ℕ) (nodes nodes' : List (Node Item)) (tables tables' : Tables) : Type 0 where
+  pub others : (n : ℕ) → n < length nodes → (n ≡ ix → ⊥) → IsSameAt nodes nodes' n
+  pub more : length nodes ≤ length nodes'
+  pub grown : HasGrown tables tables'
+  pub lies : LiesIn source (item_at nodes' ix)
+  pub entries : NamesEntries tables' (item_at nodes' ix).body
+  pub slices : HasSlices source tables' (item_at nodes' ix).body
+  pub markup : MarkupIsThere source (item_at nodes' ix)
+  pub childless : is_open (item_at nodes' ix).body ≡ true → child_of nodes' ix ≡ None
   pub named : (n : Named) → number_of n < size_for tables n → naming nodes' n ix ≤ naming nodes n ix
 
-longer : (source : List ℕ) (ix : ℕ) (nodes nodes' : List (Node Item)) (tables tables' : Tables) → HeadChanged source ix nodes nodes' tables tables' → IsNoShorter tables tables'
-longer source ix nodes nodes' tables tables' h = grown-longer tables tables' h.grown
+pub head_longer : (source : List ℕ) (ix : ℕ) (nodes nodes' : List (Node Item)) (tables tables' : Tables) → HeadWritten source ix nodes nodes' tables tables' → IsNoShorter tables tables'
+head_longer source ix nodes nodes' tables tables' h = grown-longer tables tables' h.grown
 
 -- a forest in which that node does not stand stays
-pub rest_stays : (source : List ℕ) (ix : ℕ) (nodes nodes' : List (Node Item)) (tables tables' : Tables) (f : Forest ℕ) → HeadChanged source ix nodes nodes' tables tables'
-    → total (same ix) f ≡ 0 → Each (IsPlaced source tables nodes) f → Each (Stays tables tables' nodes nodes') f
-rest_stays source ix nodes nodes' tables tables' f h z placed =
-    stay_throughout tables tables' nodes nodes' f (longer source ix nodes nodes' tables tables' h).headings
-    (λ n l. h.others n (λ e. let none : total (same n) f ≡ 0 = subst (λ (m : ℕ). total (same m) f ≡ 0) (sym e) z in absurd (omega (arith, l, none))))
-    (λ n l. grown-same tables tables' n h.grown (⊎_elim (λ x. x) (λ x. absurd (omega (arith, named-past source tables nodes f n placed x, l))) (cases_lt (number_of n) (size_for tables n))))
+rest_stays : (source : List ℕ) (ix : ℕ) (nodes nodes' : List (Node Item)) (tables tables' : Tables) (l : Option ℕ) (f : Forest ℕ) → HeadWritten source ix nodes nodes' tables tables'
+    → total (same ix) f ≡ 0 → Spells (links_of nodes) l f → Each (IsPlaced source tables nodes) f → Each (Stays tables tables' nodes nodes') f
+rest_stays source ix nodes nodes' tables tables' l f h z spelled placed =
+    stay_throughout tables tables' nodes nodes' f (head_longer source ix nodes nodes' tables tables' h).headings
+    (λ n k. h.others n
+    (⊎_elim (λ x. x) (λ x. absurd (omega (arith, times-past (links_of nodes) l f n spelled x, k))) (cases_lt n (length nodes)))
+    (λ e. let none : total (same n) f ≡ 0 = subst (λ (m : ℕ). total (same m) f ≡ 0) (sym e) z in absurd (omega (arith, k, none))))
+    (λ n k. grown-same tables tables' n h.grown (⊎_elim (λ x. x) (λ x. absurd (omega (arith, named-past source tables nodes f n placed x, k))) (cases_lt (number_of n) (size_for tables n))))
 
--- what follows the changed node is as it was
+-- what follows the written node is as it was
 pub record After (source : List ℕ) (ix : ℕ) (nodes nodes' : List (Node Item)) (tables tables' : Tables) : Type 0 where
   pub within : ix < length nodes
+  pub holds : IsPlaced source tables nodes ix
   pub here : forest_at (links_of nodes) (Some ix) ≡ node ix (forest_at (links_of nodes) (child_of nodes ix)) (forest_at (links_of nodes) (sibling_of nodes ix))
   pub below : Reaches (links_of nodes) (IsPlaced source tables nodes) (child_of nodes ix)
   pub after : Reaches (links_of nodes) (IsPlaced source tables nodes) (sibling_of nodes ix)
   pub not_below : times_in nodes (child_of nodes ix) ix ≡ 0
   pub not_after : times_in nodes (sibling_of nodes ix) ix ≡ 0
   pub rest : Framed source tables tables' nodes nodes' (sibling_of nodes ix)
+  pub stands : Stands source tables' nodes' (sibling_of nodes ix)
 
-pub after_head : (source : List ℕ) (ix : ℕ) (nodes nodes' : List (Node Item)) (tables tables' : Tables) → CanResolve source tables nodes (Some ix) → HeadChanged source ix nodes nodes' tables tables'
+pub after_head : (source : List ℕ) (ix : ℕ) (nodes nodes' : List (Node Item)) (tables tables' : Tables) → Stands source tables nodes (Some ix) → HeadWritten source ix nodes nodes' tables tables'
     → After source ix nodes nodes' tables tables'
-after_head source ix nodes nodes' tables tables' ready h =
-    let o = opens (links_of nodes) (IsPlaced source tables nodes) ix ready.reaches in
-    let once = rw o.here at (ready.once ix) in
+after_head source ix nodes nodes' tables tables' s h =
+    let o = opens (links_of nodes) (IsPlaced source tables nodes) ix s.reaches in
+    let once = rw o.here at (s.once ix) in
     let one = same-refl ix in
     let z : times_in nodes (sibling_of nodes ix) ix ≡ 0 = omega (arith, once, one) in
+    let rest = framed source tables tables' nodes nodes' (sibling_of nodes ix) h.more (head_longer source ix nodes nodes' tables tables' h) o.after
+    (rest_stays source ix nodes nodes' tables tables' (sibling_of nodes ix) (forest_at (links_of nodes) (sibling_of nodes ix)) h z o.after.spelled o.after.each) in
     record {
       within = o.within;
+      holds = o.holds;
       here = o.here;
       below = o.below;
       after = o.after;
       not_below = omega (arith, once, one);
       not_after = z;
-      rest = framed source tables tables' nodes nodes' (sibling_of nodes ix) (omega (arith, h.size)) (longer source ix nodes nodes' tables tables' h) o.after
-          (rest_stays source ix nodes nodes' tables tables' (forest_at (links_of nodes) (sibling_of nodes ix)) h z o.after.each);
+      rest = rest;
+      stands = record {
+        reaches = rest.reaches;
+        once = λ n. rw rest.forest (let x = rw o.here at (s.once n) in omega arith);
+        named_once = λ n. rw (rest.naming n) (let x = rw o.here at (s.named_once n) in omega arith);
+      };
     }
 
--- so it may be resolved
-pub ready_after : (source : List ℕ) (ix : ℕ) (nodes nodes' : List (Node Item)) (tables tables' : Tables) → CanResolve source tables nodes (Some ix) → HeadChanged source ix nodes nodes' tables tables'
-    → CanResolve source tables' nodes' (sibling_of nodes ix)
-ready_after source ix nodes nodes' tables tables' ready h =
-    let a = after_head source ix nodes nodes' tables tables' ready h in
-    record {
-      reaches = a.rest.reaches;
-      once = λ n. rw a.rest.forest (let x = rw a.here at (ready.once n) in omega arith);
-      named_once = λ n. rw (a.rest.naming n) (let x = rw a.here at (ready.named_once n) in omega arith);
-      quiet_below = rw a.rest.trees (rw a.here at ready.quiet_below).1;
-    }
+-- what stands below the written node once all is done
+pub record Below (source : List ℕ) (ix : ℕ) (old mid new : List (Node Item)) (later : Tables) : Type 0 where
+  pub reaches : Reaches (links_of new) (IsPlaced source later new) (child_of mid ix)
+  pub once : (n : ℕ) → times_in new (child_of mid ix) n ≤ 1
+  pub of_chain : (n : ℕ) → n < length old → times_in new (child_of mid ix) n ≤ times_in old (child_of old ix) n
+  pub none_new : (n : ℕ) → length mid ≤ n → times_in new (child_of mid ix) n ≡ 0
+  pub named : (n : Named) → named_in new (child_of mid ix) n ≤ named_in old (child_of old ix) n
+  pub no_heavier : weight_at mid ix + weight_in new (child_of mid ix) ≤ weight_at old ix + weight_in old (child_of old ix)
 
--- it weighs less than the chain with the node before it
-pub lighter_after : (source : List ℕ) (ix : ℕ) (nodes nodes' : List (Node Item)) (tables tables' : Tables) → CanResolve source tables nodes (Some ix) → HeadChanged source ix nodes nodes' tables tables'
-    → 0 < weight_at nodes ix → weight_in nodes' (sibling_of nodes ix) < weight_in nodes (Some ix)
-lighter_after source ix nodes nodes' tables tables' ready h l =
-    let a = after_head source ix nodes nodes' tables tables' ready h in
-    rw (a.rest.weight, a.here) (omega (arith, l))
-
--- what follows was resolved: the changed node is as it was after its change, and so is what is below it
-pub record Rest (source : List ℕ) (ix : ℕ) (nodes nodes1 nodes2 : List (Node Item)) (tables tables1 tables2 : Tables) : Type 0 where
-  pub head : IsSameAt nodes1 nodes2 ix
-  pub below : Framed source tables tables2 nodes nodes2 (child_of nodes ix)
-  pub placed : IsPlaced source tables2 nodes2 ix
-  pub label : label_at source tables2 nodes2 ix ≡ label_at source tables1 nodes1 ix
-  pub naming : (n : Named) → naming nodes2 n ix ≡ naming nodes1 n ix
-  pub weight : weight_at nodes2 ix ≡ weight_at nodes1 ix
+-- the first item was written, and what follows it was changed
+pub record HeadMoved (source : List ℕ) (ix : ℕ) (old mid new : List (Node Item)) (tables tables' later : Tables) : Type 0 where
+  pub moves : Moves source (Some ix) (Some ix) old new tables later
+  pub item : item_at new ix ≡ item_at mid ix
+  pub trees : trees_from source later new (Some ix)
+      ≡ node (label_of source tables' (item_at mid ix)) (trees_from source later new (child_of mid ix)) (trees_from source later new (sibling_of mid ix))
 
 named_within : (tables : Tables) (b : ItemBody) (n : Named) → NamesEntries tables b → 0 < times_named n b → number_of n < size_for tables n
 named_within tables b n h l = ⊎_elim (λ x. x) (λ x. absurd (omega (arith, named-apart n tables b h x, l))) (cases_lt (number_of n) (size_for tables n))
 
-pub rest_of : {C : Type 0} (step : C → Question → Option Answer → C → Type 0) (source : List ℕ) (rule : Forest Plain → Known → Resolved (Unit {0})) (ix : ℕ) (old mid new : Stage C)
-    → CanResolve source old.tables old.nodes (Some ix) → HeadChanged source ix old.nodes mid.nodes old.tables mid.tables → sibling_of mid.nodes ix ≡ sibling_of old.nodes ix
-    → ResolvesFrom step source rule (sibling_of old.nodes ix) mid new → Rest source ix old.nodes mid.nodes new.nodes old.tables mid.tables new.tables
-rest_of step source rule ix old mid new ready h next r =
-    let a = after_head source ix old.nodes mid.nodes old.tables mid.tables ready h in
-    let size = h.size in
-    let none : times_in mid.nodes (sibling_of old.nodes ix) ix ≡ 0 = rw a.rest.forest a.not_after in
-    let head : IsSameAt mid.nodes new.nodes ix = r.outside ix (omega (arith, a.within, size)) none in
-    let grown : IsNoShorter mid.tables new.tables = grown-longer mid.tables new.tables r.grown in
-    let longer_head = longer source ix old.nodes mid.nodes old.tables mid.tables h in
-    let longer_all : IsNoShorter old.tables new.tables = longer-trans old.tables mid.tables new.tables longer_head grown in
-    let stays : Stays mid.tables new.tables mid.nodes new.nodes ix = record {
-      at = head;
-      entries = λ m l. grown-same mid.tables new.tables m r.grown (named_within mid.tables (item_at mid.nodes ix).body m h.placed.named l);
-      headings = grown.headings;
-    } in
-    let f = forest_at (links_of old.nodes) (child_of old.nodes ix) in
-    let stay = stay_throughout old.tables new.tables old.nodes new.nodes f longer_all.headings
+module _ (source : List ℕ) (ix : ℕ) (old mid new : List (Node Item)) (tables tables' later : Tables) (s : Stands source tables old (Some ix)) (h : HeadWritten source ix old mid tables tables')
+    (m : Moves source (sibling_of old ix) (sibling_of mid ix) mid new tables' later) (below : Below source ix old mid new later) where
+  -- the written node stays while what follows it is changed
+  head_stays : IsSameAt mid new ix
+  head_stays =
+      let a = after_head source ix old mid tables tables' s h in
+      let size = h.more in
+      m.outside ix (omega (arith, a.within, size)) (rw a.rest.forest a.not_after)
+
+  -- what follows it then was in the chain
+  rest_times : (n : ℕ) → n < length mid → times_in new (sibling_of mid ix) n ≤ times_in old (sibling_of old ix) n
+  rest_times n l = rw (← (after_head source ix old mid tables tables' s h).rest.forest) (m.of_chain n l)
+
+  rest_named : (n : Named) → number_of n < size_for tables' n → named_in new (sibling_of mid ix) n ≤ named_in old (sibling_of old ix) n
+  rest_named n l = rw (← (after_head source ix old mid tables tables' s h).rest.naming n) (m.named n l)
+
+  -- nothing stands twice in the whole
+  abbrev now : Forest ℕ
+  now = node ix (forest_at (links_of new) (child_of mid ix)) (forest_at (links_of new) (sibling_of mid ix))
+
+  now_spelled : Spells (links_of new) (Some ix) now
+  now_spelled =
+      let within = (after_head source ix old mid tables tables' s h).within in
+      let size = h.more in
+      let more = m.more_nodes in
+      (refl, omega (arith, within, size, more), rw head_stays.child below.reaches.spelled, rw head_stays.next m.stands.reaches.spelled)
+
+  now_once : (n : ℕ) → total (same n) now ≤ 1
+  now_once n =
+      let a = after_head source ix old mid tables tables' s h in
+      let size = h.more in
+      ⊎_elim
+      (λ (l : n < length old). let x = rw a.here at (s.once n) in let y = rest_times n (omega (arith, l, size)) in let z = below.of_chain n l in omega arith)
+      (λ (l : length old ≤ n). let x = same-apart n ix (omega (arith, a.within, l)) in
+      let none = times-past (links_of old) (sibling_of old ix) (forest_at (links_of old) (sibling_of old ix)) n a.after.spelled l in ⊎_elim
+      (λ (k : n < length mid). let y = rest_times n k in let z = below.once n in omega arith)
+      (λ (k : length mid ≤ n). let y = m.stands.once n in let z = below.none_new n k in omega arith)
+      (cases_lt n (length mid)))
+      (cases_lt n (length old))
+
+  now_here : forest_at (links_of new) (Some ix) ≡ now
+  now_here = found (links_of new) (Some ix) now now_spelled now_once
+
+  -- nor is anything named twice
+  now_named_once : (n : Named) → naming mid n ix + (named_in new (child_of mid ix) n + named_in new (sibling_of mid ix) n) ≤ 1
+  now_named_once n =
+      let a = after_head source ix old mid tables tables' s h in
+      let z = below.named n in
+      let longer = head_longer source ix old mid tables tables' h in
+      ⊎_elim
+      (λ (l : number_of n < size_for tables n). let x = rw a.here at (s.named_once n) in let k = h.named n l in let y = rest_named n (omega (arith, l, longer.sizes n)) in omega arith)
+      (λ (l : size_for tables n ≤ number_of n).
+      let none = named-past source tables old (forest_at (links_of old) (child_of old ix)) n a.below.each l in
+      let none' = named-past source tables old (forest_at (links_of old) (sibling_of old ix)) n a.after.each l in
+      let one = named-once n (item_at mid ix).body in ⊎_elim
+      (λ (k : number_of n < size_for tables' n). let y = rest_named n k in omega arith)
+      (λ (k : size_for tables' n ≤ number_of n). let x = named-apart n tables' (item_at mid ix).body h.entries k in let y = m.stands.named_once n in omega arith)
+      (cases_lt (number_of n) (size_for tables' n)))
+      (cases_lt (number_of n) (size_for tables n))
+
+  -- its item is placed, if it stands right before what follows it
+  head_placed : StandsBefore (numbered mid ix) (option_map (numbered new) (sibling_of mid ix)) → RunsAreWhole source (numbered mid ix) (option_map (numbered new) (sibling_of mid ix)) → IsPlaced source later new ix
+  head_placed follows goes_on = record {
+    lies = rw head_stays.item h.lies;
+    named = rw head_stays.item (entries-longer tables' later (item_at mid ix).body (grown-longer tables' later m.grown) h.entries);
+    slices = rw head_stays.item (slices-same source tables' later (item_at mid ix).body (λ n l. grown-same tables' later n m.grown (named_within tables' (item_at mid ix).body n h.entries l)) h.slices);
+    keeps = record {
+      in_order = rw (head_stays.next, head_stays.item) follows;
+      markup_is_there = rw head_stays.item h.markup;
+      runs_are_whole = rw (head_stays.next, head_stays.item) goes_on;
+      childless = rw (head_stays.item, head_stays.child) h.childless;
+    };
+  }
+
+  head_label : label_at source later new ix ≡ label_of source tables' (item_at mid ix)
+  head_label = label-same source tables' later mid new ix (record {
+    at = head_stays;
+    entries = λ n l. grown-same tables' later n m.grown (named_within tables' (item_at mid ix).body n h.entries l);
+    headings = (grown-longer tables' later m.grown).headings;
+  })
+
+  whole_outside : (n : ℕ) → n < length old → times_in old (Some ix) n ≡ 0 → IsSameAt old new n
+  whole_outside n l z =
+      let a = after_head source ix old mid tables tables' s h in
+      let size = h.more in
+      let x : total (same n) (node ix (forest_at (links_of old) (child_of old ix)) (forest_at (links_of old) (sibling_of old ix))) ≡ 0 = rw a.here at z in
+      let other = λ (e : n ≡ ix). let one : same n ix ≡ 1 = subst (λ (m : ℕ). same n m ≡ 1) e (same-refl n) in let y : ⊥ = absurd (omega (arith, x, one)) in y in
+      let apart : times_in mid (sibling_of old ix) n ≡ 0 = rw a.rest.forest (omega (arith, x)) in
+      same_trans old mid new n (h.others n l other) (m.outside n (omega (arith, l, size)) apart)
+
+  pub head_moves : StandsBefore (numbered mid ix) (option_map (numbered new) (sibling_of mid ix)) → RunsAreWhole source (numbered mid ix) (option_map (numbered new) (sibling_of mid ix))
+      → HeadMoved source ix old mid new tables tables' later
+  head_moves follows goes_on =
+      let a = after_head source ix old mid tables tables' s h in
+      let size = h.more in
+      let more = m.more_nodes in
+      let longer = head_longer source ix old mid tables tables' h in
+      let item = head_stays.item in
+      let weight : weight_in new (sibling_of mid ix) ≤ weight_in old (sibling_of old ix) = rw (← a.rest.weight) m.no_heavier in
+      let lighter = below.no_heavier in
+      record {
+        moves = record {
+          stands = record {
+            reaches = record { spelled = rw now_here now_spelled; each = rw now_here (head_placed follows goes_on, below.reaches.each, m.stands.reaches.each) };
+            once = λ n. rw now_here (now_once n);
+            named_once = λ n. rw (now_here, item) (now_named_once n);
+          };
+          of_chain = λ n l. let y = rest_times n (omega (arith, l, size)) in let z = below.of_chain n l in rw (now_here, a.here) (omega arith);
+          more_nodes = omega (arith, size, more);
+          outside = whole_outside;
+          grown = grown-twice tables tables' later h.grown m.grown;
+          named = λ n l. let k = h.named n l in let y = rest_named n (omega (arith, l, longer.sizes n)) in let z = below.named n in rw (now_here, a.here, item) (omega arith);
+          no_heavier = rw (now_here, a.here, item) (omega arith);
+        };
+        item = item;
+        trees = rw (now_here, head_label) refl;
+      }
+
+-- what was below the item stays below it
+pub record KeptBelow (source : List ℕ) (ix : ℕ) (old mid new : List (Node Item)) (tables later : Tables) : Type 0 where
+  pub below : Below source ix old mid new later
+  pub trees : trees_from source later new (child_of mid ix) ≡ trees_from source tables old (child_of old ix)
+
+pub below_kept : (source : List ℕ) (ix : ℕ) (old mid new : List (Node Item)) (tables tables' later : Tables) (l' : Option ℕ)
+    → Stands source tables old (Some ix) → HeadWritten source ix old mid tables tables' → Moves source (sibling_of old ix) l' mid new tables' later
+    → child_of mid ix ≡ child_of old ix → weight_at mid ix ≤ weight_at old ix → KeptBelow source ix old mid new tables later
+below_kept source ix old mid new tables tables' later l' s h m child lighter =
+    let a = after_head source ix old mid tables tables' s h in
+    let size : length old ≤ length mid = h.more in
+    let more : length mid ≤ length new = m.more_nodes in
+    let longer_head = head_longer source ix old mid tables tables' h in
+    let longer_all = longer-trans tables tables' later longer_head (grown-longer tables' later m.grown) in
+    let f = forest_at (links_of old) (child_of old ix) in
+    let stay = stay_throughout tables later old new f longer_all.headings
     (λ n l.
-    let once = rw a.here at (ready.once n) in
+    let once = rw a.here at (s.once n) in
     let other = λ (e : n ≡ ix). let z : total (same n) f ≡ 0 = subst (λ (m : ℕ). total (same m) f ≡ 0) (sym e) a.not_below in let y : ⊥ = absurd (omega (arith, l, z)) in y in
-    let within : n < length old.nodes = ⊎_elim (λ x. x) (λ x. absurd (omega (arith, times-past (links_of old.nodes) (child_of old.nodes ix) f n a.below.spelled x, l))) (cases_lt n (length old.nodes)) in
-    let apart : times_in mid.nodes (sibling_of old.nodes ix) n ≡ 0 = rw a.rest.forest (omega (arith, once, l)) in
-    same_trans old.nodes mid.nodes new.nodes n (h.others n other) (r.outside n (omega (arith, within, size)) apart))
+    let within : n < length old = ⊎_elim (λ x. x) (λ x. absurd (omega (arith, times-past (links_of old) (child_of old ix) f n a.below.spelled x, l))) (cases_lt n (length old)) in
+    let apart : times_in mid (sibling_of old ix) n ≡ 0 = rw a.rest.forest (omega (arith, once, l)) in
+    same_trans old mid new n (h.others n within other) (m.outside n (omega (arith, within, size)) apart))
     (λ n l.
-    let within : number_of n < size_for old.tables n = ⊎_elim (λ x. x) (λ x. absurd (omega (arith, named-past source old.tables old.nodes f n a.below.each x, l))) (cases_lt (number_of n) (size_for old.tables n)) in
-    same_entry-trans old.tables mid.tables new.tables n (grown-same old.tables mid.tables n h.grown within)
-    (grown-same mid.tables new.tables n r.grown (omega (arith, within, longer_head.sizes n)))) in
-    let follows : StandsBefore (numbered mid.nodes ix) (option_map (numbered new.nodes) (sibling_of old.nodes ix)) = r.before (numbered mid.nodes ix) (rw next at h.placed.keeps.in_order) in
-    let keeps : KeepsItemRules source (numbered new.nodes ix) (child_of new.nodes ix) (next_at new.nodes ix) =
-    keeps-closed source (numbered new.nodes ix) (child_of new.nodes ix) (next_at new.nodes ix) (rw head.item h.closed) (rw (head.next, next, head.item) follows) in
+    let within : number_of n < size_for tables n = ⊎_elim (λ x. x) (λ x. absurd (omega (arith, named-past source tables old f n a.below.each x, l))) (cases_lt (number_of n) (size_for tables n)) in
+    same_entry-trans tables tables' later n (grown-same tables tables' n h.grown within)
+    (grown-same tables' later n m.grown (omega (arith, within, longer_head.sizes n)))) in
+    let b = framed source tables later old new (child_of old ix) (omega (arith, size, more)) longer_all a.below stay in
+    let at_once : (n : ℕ) → times_in old (child_of old ix) n ≤ 1 = λ n. let x = rw a.here at (s.once n) in omega arith in
     record {
-      head = head;
-      below = framed source old.tables new.tables old.nodes new.nodes (child_of old.nodes ix) (omega (arith, size, r.more_nodes)) longer_all a.below stay;
-      placed = record { lies = rw head.item h.placed.lies; named = rw head.item (entries-longer mid.tables new.tables (item_at mid.nodes ix).body grown h.placed.named); keeps = keeps };
-      label = label-same source mid.tables new.tables mid.nodes new.nodes ix stays;
-      naming = λ n. rw head.item refl;
-      weight = rw head.item refl;
+      below = record {
+        reaches = rw child b.reaches;
+        once = λ n. rw (child, b.forest) (at_once n);
+        of_chain = λ n l. rw (child, b.forest) (omega arith);
+        none_new = λ n l. rw (child, b.forest) (times-past (links_of old) (child_of old ix) f n a.below.spelled (omega (arith, size, l)));
+        named = λ n. rw (child, b.naming n) (omega arith);
+        no_heavier = rw (child, b.weight) (omega arith);
+      };
+      trees = rw child b.trees;
     }
 
--- the first item of a chain was settled with these questions, and then the rest of it was resolved: the item
--- keeps what is below it
-pub keeps_head : {C : Type 0} (step : C → Question → Option Answer → C → Type 0) (source : List ℕ) (rule rest_rule : Forest Plain → Known → Resolved (Unit {0})) (ix : ℕ) (old mid new : Stage C)
-    (questions : List Question) (answers : Answers)
-    → CanResolve source old.tables old.nodes (Some ix) → HeadChanged source ix old.nodes mid.nodes old.tables mid.tables
-    → child_of mid.nodes ix ≡ child_of old.nodes ix → sibling_of mid.nodes ix ≡ sibling_of old.nodes ix
-    → weight_at mid.nodes ix ≤ weight_at old.nodes ix → Asks step old.callback questions answers mid.callback
-    → ((below after : Forest Plain) (later : Answers) → rule (node (label_at source old.tables old.nodes ix) below after) (known_at old (answers ++ later))
-    ≡ record {
-      questions = questions ++ (rest_rule after (known_at mid later)).questions;
-      forest = node (label_at source mid.tables mid.nodes ix) below (rest_rule after (known_at mid later)).forest;
-      known = (rest_rule after (known_at mid later)).known;
-    })
-    → ResolvesFrom step source rest_rule (sibling_of old.nodes ix) mid new → ResolvesFrom step source rule (Some ix) old new
-keeps_head step source rule rest_rule ix old mid new questions answers ready h child next lighter asked law r =
-    let a = after_head source ix old.nodes mid.nodes old.tables mid.tables ready h in
-    let t = rest_of step source rest_rule ix old mid new ready h next r in
-    let size = h.size in
-    let more_entries = longer source ix old.nodes mid.nodes old.tables mid.tables h in
-    let b2 = forest_at (links_of new.nodes) (child_of old.nodes ix) in
-    let a2 = forest_at (links_of new.nodes) (sibling_of old.nodes ix) in
-    let child2 : child_of new.nodes ix ≡ child_of old.nodes ix = t.head.child ∙ child in
-    let next2 : sibling_of new.nodes ix ≡ sibling_of old.nodes ix = t.head.next ∙ next in
-    let spelled : Spells (links_of new.nodes) (Some ix) (node ix b2 a2) = (refl, omega (arith, a.within, size, r.more_nodes), rw child2 t.below.reaches.spelled, rw next2 r.reaches.spelled) in
-    let once : (n : ℕ) → total (same n) (node ix b2 a2) ≤ 1 = λ n. ⊎_elim
-    (λ (l : n < length old.nodes). let x = rw a.here at (ready.once n) in let y : times_in new.nodes (sibling_of old.nodes ix) n ≤ times_in old.nodes (sibling_of old.nodes ix) n = rw (← a.rest.forest) (r.of_chain n (omega (arith, l, size))) in rw t.below.forest (omega arith))
-    (λ (l : length old.nodes ≤ n). let x = same-apart n ix (omega (arith, a.within, l)) in let y = times-past (links_of old.nodes) (child_of old.nodes ix) (forest_at (links_of old.nodes) (child_of old.nodes ix)) n a.below.spelled l in let z = r.once n in rw t.below.forest (omega arith))
-    (cases_lt n (length old.nodes)) in
-    let here : forest_at (links_of new.nodes) (Some ix) ≡ node ix b2 a2 = found (links_of new.nodes) (Some ix) (node ix b2 a2) spelled once in
+-- what follows the written node is the same item
+following_of : (source : List ℕ) (ix : ℕ) (nodes nodes' : List (Node Item)) (tables tables' : Tables) (l : Option ℕ) (f : Forest ℕ) → HeadWritten source ix nodes nodes' tables tables'
+    → Spells (links_of nodes) l f → total (same ix) f ≡ 0 → option_map (numbered nodes') l ≡ option_map (numbered nodes) l
+following_of source ix nodes nodes' tables tables' l nil h s z = rw s refl
+following_of source ix nodes nodes' tables tables' l (node j below after) h s z =
+    let one = same-refl j in
+    let other = λ (e : j ≡ ix). let apart : same j j ≡ 0 = subst (λ (m : ℕ). same m j ≡ 0) (sym e) (omega (arith, z)) in let y : ⊥ = absurd (omega (arith, apart, one)) in y in
+    rw (s.0, (h.others j s.1 other).item) refl
+
+pub following_kept : (source : List ℕ) (ix : ℕ) (nodes nodes' : List (Node Item)) (tables tables' : Tables) → Stands source tables nodes (Some ix) → HeadWritten source ix nodes nodes' tables tables'
+    → option_map (numbered nodes') (sibling_of nodes ix) ≡ option_map (numbered nodes) (sibling_of nodes ix)
+following_kept source ix nodes nodes' tables tables' s h =
+    let a = after_head source ix nodes nodes' tables tables' s h in
+    following_of source ix nodes nodes' tables tables' (sibling_of nodes ix) (forest_at (links_of nodes) (sibling_of nodes ix)) h a.after.spelled a.not_after
+
+-- the first item is written, and then leaves the chain
+pub head_leaves : (source : List ℕ) (ix : ℕ) (nodes nodes' : List (Node Item)) (tables tables' : Tables) → Stands source tables nodes (Some ix) → HeadWritten source ix nodes nodes' tables tables'
+    → Moves source (Some ix) (sibling_of nodes ix) nodes nodes' tables tables'
+head_leaves source ix nodes nodes' tables tables' s h =
+    let a = after_head source ix nodes nodes' tables tables' s h in
     record {
-      reaches = record { spelled = rw here spelled; each = rw here (t.placed, t.below.reaches.each, r.reaches.each) };
-      once = λ n. rw here (once n);
-      of_chain = λ n l. let y : times_in new.nodes (sibling_of old.nodes ix) n ≤ times_in old.nodes (sibling_of old.nodes ix) n = rw (← a.rest.forest) (r.of_chain n (omega (arith, l, size))) in rw (here, a.here, t.below.forest) (omega arith);
-      more_nodes = omega (arith, size, r.more_nodes);
+      stands = a.stands;
+      of_chain = λ n l. rw (a.rest.forest, a.here) (omega arith);
+      more_nodes = h.more;
       outside = λ n l z.
-          let x : total (same n) (node ix (forest_at (links_of old.nodes) (child_of old.nodes ix)) (forest_at (links_of old.nodes) (sibling_of old.nodes ix))) ≡ 0 = rw a.here at z in
-          let other = λ (e : n ≡ ix). let one : same n ix ≡ 1 = subst (λ (m : ℕ). same n m ≡ 1) e (same-refl n) in let y : ⊥ = absurd (omega (arith, x, one)) in y in
-          let apart : times_in mid.nodes (sibling_of old.nodes ix) n ≡ 0 = rw a.rest.forest (omega (arith, x)) in
-          same_trans old.nodes mid.nodes new.nodes n (h.others n other) (r.outside n (omega (arith, l, size)) apart);
-      grown = grown-twice old.tables mid.tables new.tables h.grown r.grown;
-      named_once = λ n. rw (here, t.naming n, t.below.naming n) (⊎_elim
-          (λ l. let x = rw a.here at (ready.named_once n) in let k = h.named n l in let y : named_in new.nodes (sibling_of old.nodes ix) n ≤ named_in old.nodes (sibling_of old.nodes ix) n = rw (← a.rest.naming n) (r.named n (omega (arith, l, more_entries.sizes n))) in omega arith)
-          (λ l. let b0 = named-past source old.tables old.nodes (forest_at (links_of old.nodes) (child_of old.nodes ix)) n a.below.each l in let a0 = named-past source old.tables old.nodes (forest_at (links_of old.nodes) (sibling_of old.nodes ix)) n a.after.each l in
-          let one = named-once n (item_at mid.nodes ix).body in ⊎_elim
-          (λ m. let y : named_in new.nodes (sibling_of old.nodes ix) n ≤ named_in old.nodes (sibling_of old.nodes ix) n = rw (← a.rest.naming n) (r.named n m) in omega arith)
-          (λ m. let x = named-apart n mid.tables (item_at mid.nodes ix).body h.placed.named m in let z = r.named_once n in omega arith)
-          (cases_lt (number_of n) (size_for mid.tables n)))
-          (cases_lt (number_of n) (size_for old.tables n)));
-      named = λ n l. let k = h.named n l in let y : named_in new.nodes (sibling_of old.nodes ix) n ≤ named_in old.nodes (sibling_of old.nodes ix) n = rw (← a.rest.naming n) (r.named n (omega (arith, l, more_entries.sizes n))) in
-          rw (here, a.here, t.naming n, t.below.naming n) (omega arith);
-      before = λ b stands. rw t.head.item (h.before b stands);
-      no_heavier = let y : weight_in new.nodes (sibling_of old.nodes ix) ≤ weight_in old.nodes (sibling_of old.nodes ix) = rw (← a.rest.weight) (let z = r.no_heavier in omega arith) in
-          rw (here, a.here, t.weight, t.below.weight) (omega arith);
-      answers = answers ++ r.answers;
-      questions = questions ++ r.questions;
-      asked = Asks-append step old.callback mid.callback new.callback questions r.questions answers r.answers asked r.asked;
-      resolves = λ later. rw (
-        here,
-        a.here,
-        append_assoc answers r.answers later,
-        t.label,
-        t.below.trees,
-        law (trees_from source old.tables old.nodes (child_of old.nodes ix)) (trees_from source old.tables old.nodes (sibling_of old.nodes ix)) (r.answers ++ later),
-        ← a.rest.trees,
-        r.resolves later,
-      ) refl;
+          let x : total (same n) (node ix (forest_at (links_of nodes) (child_of nodes ix)) (forest_at (links_of nodes) (sibling_of nodes ix))) ≡ 0 = rw a.here at z in
+          let one = same-refl n in
+          h.others n l (λ e. let at : same n ix ≡ 1 = subst (λ (m : ℕ). same n m ≡ 1) e one in absurd (omega (arith, x, at)));
+      grown = h.grown;
+      named = λ n l. rw (a.rest.naming n, a.here) (omega arith);
+      no_heavier = rw (a.rest.weight, a.here) (omega arith);
     }

@@ -1,77 +1,54 @@
--- One item of a chain is settled, in one node of an arena.
+-- One item of a chain at which nothing is found is settled, in one node of an arena.
 use Rattle.markdown_base.specs.declared.item.ItemBody.TheVariants as body
-use Rattle.std.proofs.Common.{subst, ◌≡◌, ℕ, zero, suc, ◌+◌, ◌-◌, ◌^◌, ◌<◌, ◌≤◌, min, Bool, true, false, ◌⊎◌, inl, inr, ⊎_elim, List, [], ◌∷◌, length, Option, Some, None, refl, sym, ap, ◌∙◌, arith}
-use Rattle.std.specs.Prelude.{slice_range}
+use Rattle.std.proofs.Common.{◌≡◌, ℕ, zero, suc, ◌<◌, ◌≤◌, Bool, true, false, List, length, Option, Some, None, refl, sym, ap, ◌∙◌, arith}
+use Rattle.std.specs.Prelude.{not, ◌&&◌, slice_range, IfSome}
+use Rattle.std.specs.Option.{option_map}
 use Rattle.markdown_base.specs.Arena.{Arena, child_of, sibling_of, changed_at}
-use Rattle.markdown_base.specs.ArenaForest.{Spells, forest_at, links_of}
+use Rattle.markdown_base.specs.ArenaForest.{forest_at, links_of}
+use Rattle.markdown_base.specs.ArenaRules.{next_at}
 use Rattle.markdown_base.specs.BlockTree.{Numbered, numbered, item_at}
+use Rattle.markdown_base.specs.Forest.{Forest, nil, node}
 use Rattle.markdown_base.specs.Item.{is_block, is_open}
-use Rattle.markdown_base.specs.Questions.{Question, Answer}
+use Rattle.markdown_base.specs.WellFormed.{RunCharacter, run_character, RunGoesOn, StandsInRun}
 use Rattle.markdown_base.specs.declared.item.Item.{Item}
 use Rattle.markdown_base.specs.declared.item.ItemBody.{ItemBody}
 use Rattle.markdown_base.specs.declared.node.Node.{Node}
 use Rattle.markdown_base.proofs.ArenaForestLemmas.{opens, forest_at-none}
 use Rattle.markdown_base.proofs.ArenaLemmas.{length-changed_at}
-use Rattle.markdown_chains.specs.Places.{IsSameAt, IsPlaced}
-use Rattle.markdown_chains.specs.Stages.{Stage, weight_in, items_from}
-use Rattle.markdown_resolver.specs.Chains.{ResolvesFrom, CanResolve}
-use Rattle.markdown_chains.specs.Document.{plain_tags, Plain, is_unresolved, shape_of, label_of}
-use Rattle.markdown_resolver.specs.Pairing.{paired, as_closed}
-use Rattle.markdown_resolver.specs.Resolved.{Resolved, resolved}
-use Rattle.markdown_chains.specs.Above.{Above}
-use Rattle.markdown_chains.specs.Setting.{Setting, Known}
-use Rattle.markdown_resolver.specs.Settling.{settled_if, settled_item, settled_at}
-use Rattle.markdown_chains.specs.Totals.{total, same, times_named, weight_if}
+use Rattle.markdown_chains.specs.ChainRest.{joined}
+use Rattle.markdown_chains.specs.Document.{Plain, Shape, leaf, enclosed, plain, backslash_break, unresolved, is_unresolved, shape_of, label_of}
+use Rattle.markdown_chains.specs.ItemRules.{StandsBefore, KeepsItemRules}
+use Rattle.markdown_chains.specs.Places.{HasSlices, IsPlaced, trees_from}
 use Rattle.markdown_chains.specs.Tables.{Tables, Named, some_text, some_link, some_alignments, NamesEntries}
-use Rattle.markdown_chains.proofs.TablesLemmas.{grown-nothing}
-use Rattle.markdown_base.specs.Forest.{Forest, nil, node}
-use Rattle.markdown_chains.proofs.PlaceLemmas.{shape-open, open-unresolved, some_weight}
-use Rattle.std.specs.Option.{option_map}
-use Rattle.markdown_base.specs.ArenaRules.{next_at}
-use Rattle.markdown_chains.specs.ItemRules.{StandsBefore}
-use Rattle.markdown_chains.proofs.ItemRulesLemmas.{keeps-closed}
-use Rattle.markdown_chains.proofs.TablesLemmas.{same-refl}
+use Rattle.markdown_chains.specs.Totals.{same, times_named, weight_if}
+use Rattle.markdown_chains.specs.Waiting.{waits_for_pairing, is_quiet}
 use Rattle.markdown_chains.proofs.AboveLemmas.{block-open, open-no-block}
-use Rattle.markdown_resolver.proofs.ComposeLemmas.{HeadChanged, after_head, ready_after, lighter_after, keeps_head}
-use Rattle.markdown_resolver.proofs.ResolvingLemmas.{resolved-texts}
+use Rattle.markdown_chains.proofs.ItemRulesLemmas.{keeps-closed}
+use Rattle.markdown_chains.proofs.PlaceLemmas.{shape-open, some_weight}
+use Rattle.markdown_chains.proofs.TablesLemmas.{grown-nothing}
+use Rattle.markdown_delims.proofs.PairingLemmas.{closed_shape}
+use Rattle.markdown_resolver.specs.Chains.{CanResolve}
+use Rattle.markdown_resolver.specs.Rewritten.{Puts, text_unless, settled}
+use Rattle.markdown_resolver.specs.Settling.{becomes_text, settled_if, settled_item, settled_at}
+use Rattle.markdown_resolver.proofs.ChainOrderLemmas.{leads_kept}
+use Rattle.markdown_resolver.proofs.ComposeLemmas.{Stands, stands_ready, changes_move, moves_none, HeadWritten, head_moves, after_head, below_kept, following_kept}
+use Rattle.markdown_resolver.proofs.NodeChangeLemmas.{changed_other, changed_here, item_again}
+use Rattle.markdown_resolver.proofs.PastByteLemmas.{tree_same}
+use Rattle.markdown_resolver.proofs.PutLemmas.{rest_same, leaves_rest, whole_put}
 
--- a node that was changed, and the others
-changed_other : (nodes : List (Node Item)) (ix : ℕ) (change : Node Item → Node Item) (n : ℕ) → (n ≡ ix → ⊥) → IsSameAt nodes (changed_at ix change nodes) n
-changed_other [] ix change n h = record { child = refl; next = refl; item = refl }
-changed_other (m ∷ nodes) zero change zero h = absurd (h refl)
-changed_other (m ∷ nodes) zero change (suc n) h = record { child = refl; next = refl; item = refl }
-changed_other (m ∷ nodes) (suc ix) change zero h = record { child = refl; next = refl; item = refl }
-changed_other (m ∷ nodes) (suc ix) change (suc n) h =
-    let s = changed_other nodes ix change n (λ e. h (ap suc e)) in record { child = s.child; next = s.next; item = s.item }
-
-record IsAt (nodes nodes' : List (Node Item)) (ix : ℕ) (item : Item) : Type 0 where
-  item_is : item_at nodes' ix ≡ item
-  child_is : child_of nodes' ix ≡ child_of nodes ix
-  next_is : sibling_of nodes' ix ≡ sibling_of nodes ix
-
-item_changed : (nodes : List (Node Item)) (ix : ℕ) (item : Item) → ix < length nodes → IsAt nodes (changed_at ix (λ n. record n { item = item }) nodes) ix item
-item_changed [] ix item l = absurd (omega (arith, l))
-item_changed (m ∷ nodes) zero item l = record { item_is = refl; child_is = refl; next_is = refl }
-item_changed (m ∷ nodes) (suc ix) item l = let s = item_changed nodes ix item (omega (arith, l)) in record { item_is = s.item_is; child_is = s.child_is; next_is = s.next_is }
-
--- an item that is written again
-item_again : (nodes : List (Node Item)) (ix : ℕ) → changed_at ix (λ n. record n { item = item_at nodes ix }) nodes ≡ nodes
-item_again [] ix = refl
-item_again (m ∷ nodes) zero = refl
-item_again (m ∷ nodes) (suc ix) = ap (λ (rest : List (Node Item)). m ∷ rest) (item_again nodes ix)
-
--- an open item that is written as a Text is settled, and so is another as it is
-pub settled_open : (tree tree' : Arena Item) (ix : ℕ) (item : Item) → item ≡ item_at tree.nodes ix → is_open item.body ≡ true
+-- an item that is written as a Text where it becomes one is settled, and so is another as it is
+pub settled_open : (tree tree' : Arena Item) (ix : ℕ) (item : Item) → item ≡ item_at tree.nodes ix → becomes_text item.body ≡ true
     → tree' ≡ record tree { nodes = changed_at ix (λ n. record n { item = record { start = item.start; end = item.end; body = body.Text false } }) tree.nodes }
     → tree' ≡ record tree { nodes = settled_at ix tree.nodes }
 settled_open tree tree' ix item same is made =
     let text : Item = record { start = item.start; end = item.end; body = body.Text false } in
-    let e : text ≡ settled_item item = rw is refl in
+    let e : text ≡ settled_item item = ap (λ x. let t : Item = record item { body = settled_if x item.body } in t) (sym is) in
     made ∙ ap (λ (x : Item). let t : Arena Item = record tree { nodes = changed_at ix (λ n. record n { item = x }) tree.nodes } in t) (e ∙ ap settled_item same)
 
-pub settled_closed : (tree : Arena Item) (ix : ℕ) → is_open (item_at tree.nodes ix).body ≡ false → tree ≡ record tree { nodes = settled_at ix tree.nodes }
+pub settled_closed : (tree : Arena Item) (ix : ℕ) → becomes_text (item_at tree.nodes ix).body ≡ false → tree ≡ record tree { nodes = settled_at ix tree.nodes }
 settled_closed tree ix is =
-    let e : item_at tree.nodes ix ≡ settled_item (item_at tree.nodes ix) = rw is refl in
+    let item = item_at tree.nodes ix in
+    let e : item ≡ settled_item item = ap (λ x. let t : Item = record item { body = settled_if x item.body } in t) (sym is) in
     ap (λ (nodes : List (Node Item)). let t : Arena Item = record tree { nodes = nodes } in t) (sym (item_again tree.nodes ix))
     ∙ ap (λ (x : Item). let t : Arena Item = record tree { nodes = changed_at ix (λ n. record n { item = x }) tree.nodes } in t) e
 
@@ -89,194 +66,160 @@ in_table_settled : (is : Bool) (b : ItemBody) (tables : Tables) → NamesEntries
 in_table_settled true b tables h = record { text = tt; link = tt; alignments = tt; attributes = tt }
 in_table_settled false b tables h = h
 
-weight_settled : (is : Bool) (b : ItemBody) → is_open b ≡ is → weight_if (is_open (settled_if is b)) ≤ weight_if (is_open b)
-weight_settled true b e = rw e (omega arith)
-weight_settled false b e = omega arith
+slices_settled : (source : List ℕ) (is : Bool) (b : ItemBody) (tables : Tables) → HasSlices source tables b → HasSlices source tables (settled_if is b)
+slices_settled source true b tables h = tt
+slices_settled source false b tables h = h
 
--- it reads as the closed label of what it was
-unopened : (tables : Tables) (source : List ℕ) (b : ItemBody) (is : Bool) → is_unresolved (shape_of tables source b) ≡ is → is_open b ≡ false → is ≡ false
-unopened tables source b true e h = cc (open-unresolved tables source b e, h)
-unopened tables source b false e h = refl
+weight_settled : (is : Bool) (b : ItemBody) → weight_if (is_open (settled_if is b)) ≤ weight_if (is_open b)
+weight_settled true b = some_weight (is_open b)
+weight_settled false b = omega arith
 
-label_settled : (source : List ℕ) (tables : Tables) (item : Item) (is : Bool) → is_open item.body ≡ is
-    → label_of source tables (record item { body = settled_if is item.body }) ≡ as_closed source (label_of source tables item)
-label_settled source tables item true e = rw (shape-open tables (slice_range source item.start item.end) item.body e, block-open item.body e) refl
-label_settled source tables item false e =
-    rw (unopened tables (slice_range source item.start item.end) item.body (is_unresolved (shape_of tables (slice_range source item.start item.end) item.body)) refl e) refl
+-- what becomes a Text is open, and is no run's character
+text_open : (b : ItemBody) → becomes_text b ≡ true → is_open b ≡ true
+text_open b h = by_open (is_open b) (waits_for_pairing b) h
+  where
+    by_open : (is waits : Bool) → (is && not waits) ≡ true → is ≡ true
+    by_open true waits h = refl
+    by_open false waits h = cc h
 
--- where all that is open in a chain is a Text
-abbrev texts : Setting → Forest Plain → Known → Resolved (Unit {0})
-texts s chain known = record { questions = []; forest = paired s plain_tags chain; known = known }
+text_waits_not : (b : ItemBody) → becomes_text b ≡ true → waits_for_pairing b ≡ false
+text_waits_not b h = by_open (is_open b) (waits_for_pairing b) h
+  where
+    by_open : (is waits : Bool) → (is && not waits) ≡ true → waits ≡ false
+    by_open true true h = cc h
+    by_open true false h = refl
+    by_open false waits h = cc h
+
+text_no_run : (b : ItemBody) → becomes_text b ≡ true → run_character b ≡ None
+text_no_run (body.MaybeEmphasis n opens closes) h = cc h
+text_no_run other h = refl
+
+-- what does not is quiet
+closed_quiet : (shape : Shape) → is_unresolved shape ≡ false → is_quiet shape ≡ true
+closed_quiet (leaf e origins) h = refl
+closed_quiet (enclosed tag) h = refl
+closed_quiet plain h = refl
+closed_quiet backslash_break h = refl
+closed_quiet (unresolved b) h = cc h
+
+quiet_shape : (tables : Tables) (source : List ℕ) (b : ItemBody) → is_quiet (shape_of tables source b) ≡ not (becomes_text b)
+quiet_shape tables source b = by_open (is_open b) refl
+  where
+    not_twice : (x : Bool) → x ≡ not (not x)
+    not_twice true = refl
+    not_twice false = refl
+
+    by_open : (is : Bool) → is_open b ≡ is → is_quiet (shape_of tables source b) ≡ not (is && not (waits_for_pairing b))
+    by_open true e = rw (shape-open tables source b e) (not_twice (waits_for_pairing b))
+    by_open false e = closed_quiet (shape_of tables source b) (closed_shape tables source b e)
+
+-- it reads as what stands for the label of what it was, where nothing is below what becomes a Text
+reads_settled : (source : List ℕ) (tables : Tables) (item : Item) (below rest : Forest Plain) (is : Bool) → becomes_text item.body ≡ is → (is_open item.body ≡ true → below ≡ nil)
+    → node (label_of source tables (record item { body = settled_if is item.body })) below rest ≡ joined (text_unless (not is) source (label_of source tables item) below) rest
+reads_settled source tables item below rest true e childless = rw (block-open item.body (text_open item.body e), childless (text_open item.body e)) refl
+reads_settled source tables item below rest false e childless = refl
+
+settled_reads : (source : List ℕ) (tables : Tables) (item : Item) (below rest : Forest Plain) → (is_open item.body ≡ true → below ≡ nil)
+    → node (label_of source tables (settled_item item)) below rest ≡ joined (settled source (label_of source tables item) below) rest
+settled_reads source tables item below rest childless =
+    reads_settled source tables item below rest (becomes_text item.body) refl childless
+    ∙ ap (λ quiet. joined (text_unless quiet source (label_of source tables item) below) rest) (sym (quiet_shape tables (slice_range source item.start item.end) item.body))
 
 -- the node is there
 pub node_within : (source : List ℕ) (tables : Tables) (nodes : List (Node Item)) (ix : ℕ) → CanResolve source tables nodes (Some ix) → ix < length nodes
 node_within source tables nodes ix ready = (opens (links_of nodes) (IsPlaced source tables nodes) ix ready.reaches).within
 
--- what a settled item stands before and after
-closed_settled : (is : Bool) (b : ItemBody) → is_open b ≡ is → is_open (settled_if is b) ≡ false
-closed_settled true b e = refl
-closed_settled false b e = e
-
-block_settled : (is : Bool) (b : ItemBody) → is_open b ≡ is → is_block (settled_if is b) ≡ false → is_block b ≡ false
-block_settled true b e h = open-no-block b e
+-- what a settled item stands before and after, and the rules that it keeps
+block_settled : (is : Bool) (b : ItemBody) → becomes_text b ≡ is → is_block (settled_if is b) ≡ false → is_block b ≡ false
+block_settled true b e h = open-no-block b (text_open b e)
 block_settled false b e h = h
 
 before_settled : (a : Numbered) (nodes nodes' : List (Node Item)) (ix : ℕ) → item_at nodes' ix ≡ settled_item (item_at nodes ix) → StandsBefore a (Some (numbered nodes ix)) → StandsBefore a (Some (numbered nodes' ix))
 before_settled a nodes nodes' ix e stands = rw e (λ x y.
-    let p = stands x (block_settled (is_open (item_at nodes ix).body) (item_at nodes ix).body refl y) in
+    let p = stands x (block_settled (becomes_text (item_at nodes ix).body) (item_at nodes ix).body refl y) in
     record { ends = p.ends; numbers = p.numbers })
 
-follows_settled : (ix : ℕ) (item : Item) (next : Option Numbered) → StandsBefore (record { number = ix; item = item }) next → StandsBefore (record { number = ix; item = settled_item item }) next
-follows_settled ix item None stands = tt
-follows_settled ix item (Some b) stands = λ x y.
-    let p = stands (block_settled (is_open item.body) item.body refl x) y in
+follows_settled : (ix : ℕ) (item : Item) (next : Option Numbered) → becomes_text item.body ≡ true → StandsBefore (record { number = ix; item = item }) next
+    → StandsBefore (record { number = ix; item = record item { body = body.Text false } }) next
+follows_settled ix item None e stands = tt
+follows_settled ix item (Some b) e stands = λ x y.
+    let p = stands (open-no-block item.body (text_open item.body e)) y in
     record { ends = p.ends; numbers = p.numbers }
 
--- the item after it stays
-following_apart : (nodes : List (Node Item)) (ix : ℕ) (change : Node Item → Node Item) (l : Option ℕ) (f : Forest ℕ) → Spells (links_of nodes) l f → total (same ix) f ≡ 0
-    → option_map (numbered (changed_at ix change nodes)) l ≡ option_map (numbered nodes) l
-following_apart nodes ix change l nil s z = rw s refl
-following_apart nodes ix change l (node j below after) s z =
-    let one = same-refl j in
-    let other = λ (e : j ≡ ix). let apart : same j j ≡ 0 = subst (λ (m : ℕ). same m j ≡ 0) (sym e) (omega (arith, z)) in let y : ⊥ = absurd (omega (arith, apart, one)) in y in
-    rw (s.0, (changed_other nodes ix change j other).item) refl
+keeps_settled : (source : List ℕ) (ix : ℕ) (item : Item) (child : Option ℕ) (next : Option Numbered) (is : Bool) → becomes_text item.body ≡ is
+    → KeepsItemRules source (record { number = ix; item = item }) child next → KeepsItemRules source (record { number = ix; item = record item { body = settled_if is item.body } }) child next
+keeps_settled source ix item child next true e h =
+    keeps-closed source (record { number = ix; item = record item { body = body.Text false } }) child next refl (follows_settled ix item next e h.in_order)
+keeps_settled source ix item child next false e h = h
 
-head_settled : (source : List ℕ) (tables : Tables) (nodes : List (Node Item)) (ix : ℕ) → CanResolve source tables nodes (Some ix) → HeadChanged source ix nodes (settled_at ix nodes) tables tables
-head_settled source tables nodes ix ready =
-    let o = opens (links_of nodes) (IsPlaced source tables nodes) ix ready.reaches in
-    let item = item_at nodes ix in
-    let at = item_changed nodes ix (settled_item item) o.within in
-    let lies = o.holds.lies in
-    let closed : is_open (item_at (settled_at ix nodes) ix).body ≡ false = rw at.item_is (closed_settled (is_open item.body) item.body refl) in
-    let once = rw o.here at (ready.once ix) in
-    let one = same-refl ix in
-    let follows = following_apart nodes ix (λ n. record n { item = settled_item item }) (sibling_of nodes ix) (forest_at (links_of nodes) (sibling_of nodes ix)) o.after.spelled (omega (arith, once, one)) in
-    record {
-      others = λ n h. changed_other nodes ix (λ n. record n { item = settled_item item }) n h;
-      size = length-changed_at ix (λ n. record n { item = settled_item item }) nodes;
-      grown = grown-nothing tables;
-      placed = record {
-        lies = rw at.item_is (record { ordered = lies.ordered; start = lies.start; end = lies.end });
-        named = rw at.item_is (in_table_settled (is_open item.body) item.body tables o.holds.named);
-        keeps = keeps-closed source (numbered (settled_at ix nodes) ix) (child_of (settled_at ix nodes) ix) (next_at (settled_at ix nodes) ix) closed (rw (at.item_is, at.next_is, follows) (follows_settled ix item (next_at nodes ix) o.holds.keeps.in_order));
-      };
-      closed = closed;
-      before = λ a stands. before_settled a nodes (settled_at ix nodes) ix at.item_is stands;
-      named = λ n l. rw at.item_is (named_settled (is_open item.body) item.body n);
-    }
+-- a run that goes on at an item still does where that is settled, which changes no run's character
+goes_on_settled : (source : List ℕ) (a b : Numbered) (count : ℕ) (opens closes is : Bool) → becomes_text b.item.body ≡ is → RunGoesOn source a count opens closes (Some b)
+    → RunGoesOn source a count opens closes (Some (record { number = b.number; item = record b.item { body = settled_if is b.item.body } }))
+goes_on_settled source a b zero opens closes is e h = h
+goes_on_settled source a b (suc zero) opens closes true e h = tt
+goes_on_settled source a b (suc (suc n)) opens closes true e h = let none = text_no_run b.item.body e in cc (none, h.body)
+goes_on_settled source a b (suc zero) opens closes false e h = h
+goes_on_settled source a b (suc (suc n)) opens closes false e h = h
 
-pub within_settled : (source : List ℕ) (tables : Tables) (nodes : List (Node Item)) (ix : ℕ) → CanResolve source tables nodes (Some ix) → ix < length (settled_at ix nodes)
-within_settled source tables nodes ix ready = omega (arith, node_within source tables nodes ix ready, length-changed_at ix (λ n. record n { item = settled_item (item_at nodes ix) }) nodes)
-
--- the rest of the chain may be resolved, and weighs less
-pub ready_next : (source : List ℕ) (tables : Tables) (nodes : List (Node Item)) (ix : ℕ) → CanResolve source tables nodes (Some ix) → CanResolve source tables (settled_at ix nodes) (sibling_of nodes ix)
-ready_next source tables nodes ix ready = ready_after source ix nodes (settled_at ix nodes) tables tables ready (head_settled source tables nodes ix ready)
-
-pub next_settled : (source : List ℕ) (tables : Tables) (nodes : List (Node Item)) (ix : ℕ) → CanResolve source tables nodes (Some ix) → sibling_of (settled_at ix nodes) ix ≡ sibling_of nodes ix
-next_settled source tables nodes ix ready = (item_changed nodes ix (settled_item (item_at nodes ix)) (node_within source tables nodes ix ready)).next_is
-
-pub lighter_next : (source : List ℕ) (tables : Tables) (nodes : List (Node Item)) (ix : ℕ) → CanResolve source tables nodes (Some ix) → weight_in (settled_at ix nodes) (sibling_of nodes ix) < weight_in nodes (Some ix)
-lighter_next source tables nodes ix ready =
-    let two = some_weight (is_open (item_at nodes ix).body) in
-    lighter_after source ix nodes (settled_at ix nodes) tables tables ready (head_settled source tables nodes ix ready) (omega arith)
-
--- it has one item less
-pub items_next : (source : List ℕ) (tables : Tables) (nodes : List (Node Item)) (ix : ℕ) → CanResolve source tables nodes (Some ix) → items_from nodes (Some ix) ≡ suc (items_from (settled_at ix nodes) (sibling_of nodes ix))
-items_next source tables nodes ix ready =
-    let a = after_head source ix nodes (settled_at ix nodes) tables tables ready (head_settled source tables nodes ix ready) in
-    rw (a.here, a.rest.forest) refl
-
--- of all items some were counted, up to the greatest count, and the others follow
-pub record Counted (old now all rest : ℕ) : Type 0 where
-  pub done : ℕ
-  pub is_all : all ≡ done + rest
-  pub count : ((done ≡ 0) × (now ≡ old)) ⊎ (now ≡ min (old + done) (2 ^ 128 - 1))
-
-pub counted_none : (old all : ℕ) → Counted old old all all
-counted_none old all = record { done = 0; is_all = omega arith; count = inl (refl, refl) }
-
-one_more : (old now new done most : ℕ) → new ≡ min (now + 1) most → ((done ≡ 0) × (now ≡ old)) ⊎ (now ≡ min (old + done) most) → new ≡ min (old + suc done) most
-one_more old now new done most e h = ⊎_elim (λ (z : (done ≡ 0) × (now ≡ old)). omega (arith, e, z.0, z.1)) (λ z. omega (arith, e, z)) h
-
-pub counted_more : (old now new all rest more : ℕ) → Counted old now all rest → rest ≡ suc more → new ≡ min (now + 1) (2 ^ 128 - 1) → Counted old new all more
-counted_more old now new all rest more c r e = record {
-  done = suc c.done;
-  is_all = omega (arith, c.is_all, r);
-  count = inr (one_more old now new c.done (2 ^ 128 - 1) e c.count);
+run_settled : (source : List ℕ) (a b : Numbered) (o : Option RunCharacter) → IfSome o (StandsInRun source a (Some b))
+    → IfSome o (StandsInRun source a (Some (record { number = b.number; item = settled_item b.item })))
+run_settled source a b None h = h
+run_settled source a b (Some c) h = record {
+  one_byte = h.one_byte;
+  delimiter = h.delimiter;
+  goes_on = goes_on_settled source a b c.count c.can_open c.can_close (becomes_text b.item.body) refl h.goes_on;
 }
 
-all_done : (old now done all most : ℕ) → done ≡ all → 0 < all → ((done ≡ 0) × (now ≡ old)) ⊎ (now ≡ min (old + done) most) → now ≡ min (old + all) most
-all_done old now done all most e l h = ⊎_elim (λ (z : (done ≡ 0) × (now ≡ old)). absurd (omega (arith, e, l, z.0))) (λ z. omega (arith, e, z)) h
-
-pub counted_all : (old now all rest : ℕ) → Counted old now all rest → rest ≡ 0 → 0 < all → now ≡ min (old + all) (2 ^ 128 - 1)
-counted_all old now all rest c r l = all_done old now c.done all (2 ^ 128 - 1) (omega (arith, c.is_all, r)) l c.count
-
--- where the rest of the chain is resolved, the whole is
-pub Whole : {C : Type 0} → (C → Question → Option Answer → C → Type 0) → Setting → ℕ → Option ℕ → Stage C → Stage C → Type 0
-Whole {C} step s first at old now = (new : Stage C) → ResolvesFrom step s.text (texts s) at now new → ResolvesFrom step s.text (texts s) (Some first) old new
-
-pub whole_none : {C : Type 0} (step : C → Question → Option Answer → C → Type 0) (s : Setting) (first : ℕ) (old : Stage C) → Whole step s first (Some first) old old
-unfolding Whole
-whole_none step s first old new r = r
-
-pub whole_more : {C : Type 0} (step : C → Question → Option Answer → C → Type 0) (s : Setting) (first ix : ℕ) (old now : Stage C) → CanResolve s.text now.tables now.nodes (Some ix) → Whole step s first (Some ix) old now
-    → Whole step s first (sibling_of now.nodes ix) old (record { nodes = settled_at ix now.nodes; tables = now.tables; limit = now.limit; uses = now.uses; callback = now.callback })
-unfolding Whole paired
-whole_more {C} step s first ix old now ready w new r =
-    let item = item_at now.nodes ix in
-    let at = item_changed now.nodes ix (settled_item item) (node_within s.text now.tables now.nodes ix ready) in
-    let mid : Stage C = record { nodes = settled_at ix now.nodes; tables = now.tables; limit = now.limit; uses = now.uses; callback = now.callback } in
-    w new (keeps_head step s.text (texts s) (texts s) ix now mid new [] []
-    ready (head_settled s.text now.tables now.nodes ix ready) at.child_is at.next_is
-    (rw at.item_is (weight_settled (is_open item.body) item.body refl)) refl
-    (λ below after later. rw (at.item_is, label_settled s.text now.tables item (is_open item.body) refl) refl) r)
-
--- a chain has an item, and one that has ended has none
-pub items_some : (source : List ℕ) (tables : Tables) (nodes : List (Node Item)) (ix : ℕ) → CanResolve source tables nodes (Some ix) → 0 < items_from nodes (Some ix)
-items_some source tables nodes ix ready = rw (opens (links_of nodes) (IsPlaced source tables nodes) ix ready.reaches).here (omega arith)
-
-pub items_none : (nodes : List (Node Item)) → items_from nodes None ≡ 0
-items_none nodes = rw (forest_at-none (links_of nodes)) refl
-
--- nothing is left of the chain
-texts_none : {C : Type 0} (step : C → Question → Option Answer → C → Type 0) (s : Setting) (now : Stage C) → ResolvesFrom step s.text (texts s) None now now
-unfolding paired
-texts_none step s now =
-    let e = forest_at-none (links_of now.nodes) in
+-- the node of an item is written
+head_settled : (source : List ℕ) (tables : Tables) (nodes : List (Node Item)) (ix : ℕ) → Stands source tables nodes (Some ix) → HeadWritten source ix nodes (settled_at ix nodes) tables tables
+head_settled source tables nodes ix s =
+    let o = opens (links_of nodes) (IsPlaced source tables nodes) ix s.reaches in
+    let item = item_at nodes ix in
+    let c = changed_here nodes ix (λ n. record n { item = settled_item item }) o.within in
+    let lies = o.holds.lies in
+    let size = length-changed_at ix (λ n. record n { item = settled_item item }) nodes in
+    let keeps = keeps_settled source ix item (child_of nodes ix) (next_at nodes ix) (becomes_text item.body) refl o.holds.keeps in
     record {
-      reaches = record { spelled = rw e refl; each = rw e tt };
-      once = λ n. rw e (omega arith);
-      of_chain = λ n l. omega arith;
-      more_nodes = omega arith;
-      outside = λ n l z. record { child = refl; next = refl; item = refl };
-      grown = grown-nothing now.tables;
-      named_once = λ n. rw e (omega arith);
-      named = λ n l. omega arith;
-      before = λ a stands. stands;
-      no_heavier = omega arith;
-      answers = [];
-      questions = [];
-      asked = refl;
-      resolves = λ later. rw e refl;
+      others = λ n l d. changed_other nodes ix (λ n. record n { item = settled_item item }) n d;
+      more = omega (arith, size);
+      grown = grown-nothing tables;
+      lies = rw c.item (record { ordered = lies.ordered; start = lies.start; end = lies.end });
+      slices = rw c.item (slices_settled source (becomes_text item.body) item.body tables o.holds.slices);
+      entries = rw c.item (in_table_settled (becomes_text item.body) item.body tables o.holds.named);
+      markup = rw c.item keeps.markup_is_there;
+      childless = rw (c.item, c.child) keeps.childless;
+      named = λ n l. rw c.item (named_settled (becomes_text item.body) item.body n);
     }
 
-pub whole_all : {C : Type 0} (step : C → Question → Option Answer → C → Type 0) (s : Setting) (above : Above) (first : ℕ) (at : Option ℕ) (old now : Stage C) → at ≡ None → Whole step s first at old now → ResolvesFrom step s.text (resolved s plain_tags above) (Some first) old now
-unfolding Whole
-whole_all step s above first at old now none w =
-    let r = (rw none at w) now (texts_none step s now) in
+-- what stands for it is put there
+pub settle_puts : (source : List ℕ) (tables : Tables) (nodes : List (Node Item)) (ix : ℕ) → CanResolve source tables nodes (Some ix)
+    → Puts source ix (settled source) None (sibling_of nodes ix) nodes (settled_at ix nodes) tables tables
+settle_puts source tables nodes ix ready =
+    let s = stands_ready source tables nodes (Some ix) ready in
+    let item = item_at nodes ix in
+    let mid = settled_at ix nodes in
+    let o = opens (links_of nodes) (IsPlaced source tables nodes) ix s.reaches in
+    let c = changed_here nodes ix (λ n. record n { item = settled_item item }) o.within in
+    let h = head_settled source tables nodes ix s in
+    let a = after_head source ix nodes mid tables tables s h in
+    let keeps = keeps_settled source ix item (child_of nodes ix) (next_at nodes ix) (becomes_text item.body) refl o.holds.keeps in
+    let following = following_kept source ix nodes mid tables tables s h in
+    let l = sibling_of nodes ix in
     record {
-      reaches = r.reaches;
-      once = r.once;
-      of_chain = r.of_chain;
-      more_nodes = r.more_nodes;
-      outside = r.outside;
-      grown = r.grown;
-      named_once = r.named_once;
-      named = r.named;
-      before = r.before;
-      no_heavier = r.no_heavier;
-      answers = r.answers;
-      questions = r.questions;
-      asked = r.asked;
-      resolves = λ later. resolved-texts s plain_tags above _ _ ∙ r.resolves later;
+      whole = λ rule new later r.
+          let m = changes_move source l mid new tables later r.changes in
+          let kept = below_kept source ix nodes mid new tables tables later l s h m c.child (rw c.item (weight_settled (becomes_text item.body) item.body)) in
+          let follows : StandsBefore (numbered mid ix) (option_map (numbered new) l) = r.changes.before (numbered mid ix) (rw (following, c.item) keeps.in_order) in
+          let goes_on = r.runs (numbered mid ix) (rw (following, c.item) keeps.runs_are_whole) in
+          let hm = head_moves source ix nodes mid new tables tables later s h (rw c.next m) kept.below (rw c.next follows) (rw c.next goes_on) in
+          let none : is_open item.body ≡ true → trees_from source tables nodes (child_of nodes ix) ≡ nil = λ e. rw (o.holds.keeps.childless e, forest_at-none (links_of nodes)) refl in
+          let rest : trees_from source later new (sibling_of mid ix) ≡ rule (trees_from source tables nodes l) =
+          ap (λ (k : Option ℕ). trees_from source later new k) c.next ∙ r.rewritten ∙ ap rule a.rest.trees in
+          whole_put source ix nodes mid new tables tables later (settled source) None rule ready h hm
+          (λ b stands. before_settled b nodes mid ix c.item stands)
+          (λ b whole. rw c.item (run_settled source b (numbered nodes ix) (run_character b.item.body) whole))
+          (tree_same _ _ _ _ _ _ (ap (λ x. label_of source tables x) c.item) kept.trees rest
+          ∙ settled_reads source tables item (trees_from source tables nodes (child_of nodes ix)) (rule (trees_from source tables nodes l)) none);
+      leaves = leaves_rest source ix nodes mid mid tables tables tables l None ready h (moves_none source l mid tables a.stands) a.rest.trees;
+      leads = λ low chain k. leads_kept nodes mid l (forest_at (links_of nodes) l) low chain a.after.spelled h.more (rest_same source ix nodes mid tables tables s h) k;
     }

@@ -1,24 +1,33 @@
 -- The laws of what a chain is resolved to, on which a walk rests that resolves chains where they stand. They hold
 -- whatever blocks are open above, and at labels with any tags.
-use Rattle.std.specs.Prelude.{◌≡◌, ℕ, ◌+◌, ◌≤◌, true, [], ◌++◌, length}
-use Rattle.markdown_base.specs.Forest.{Forest, nil, node, relabelled}
+use Rattle.std.specs.Prelude.{◌≡◌, ℕ, ◌≤◌, true, List, [], ◌++◌, length}
+use Rattle.std.specs.Option.{option_map}
+use Rattle.markdown_base.specs.BlockTree.{Numbered}
+use Rattle.markdown_base.specs.Forest.{Forest, node, Throughout, first_root}
 use Rattle.markdown_base.specs.Questions.{Answers}
+use Rattle.markdown_base.specs.WellFormed.{IsWellFormed, RunsAreWhole}
+use Rattle.markdown_base.specs.declared.block_parts.BlockParts.{BlockParts}
+use Rattle.markdown_base.specs.declared.item.Item.{Item}
+use Rattle.markdown_base.specs.declared.node.Node.{Node}
 use Rattle.markdown_chains.specs.Above.{Above}
-use Rattle.markdown_chains.specs.Document.{Tags, Label, is_unresolved}
+use Rattle.markdown_chains.specs.ChainRest.{start_of, as_item}
+use Rattle.markdown_chains.specs.Document.{Tags, Label, document, is_unresolved}
 use Rattle.markdown_chains.specs.Setting.{Setting, Known}
-use Rattle.markdown_chains.specs.Totals.{weight_if}
-use Rattle.markdown_resolver.specs.Kept.{IsQuiet, IsQuietBelow, IsSettled, Begins}
-use Rattle.markdown_resolver.specs.Pairing.{paired}
-use Rattle.markdown_resolver.specs.Resolved.{Resolved, resolved, all_paired}
+use Rattle.markdown_chains.specs.Labels.{Begins, weight, retagged}
+use Rattle.markdown_chains.specs.Tables.{Tables}
+use Rattle.markdown_delims.specs.Pairing.{paired}
+use Rattle.markdown_resolver.specs.Kept.{IsQuiet, IsQuietBelow, IsSettled}
+use Rattle.markdown_resolver.specs.PassOne.{Outcome, pass_one}
+use Rattle.markdown_resolver.specs.Resolved.{resolved, all_paired}
 
 -- a chain in which only runs and quotes are open asks nothing, keeps what is known, and is paired
 abbrev pub QuietLaw : Type 0 → Type 0
 QuietLaw A = (s : Setting) (tags : Tags A) (above : Above) (chain : Forest (Label A)) (known : Known) → IsQuiet chain
-    → resolved s tags above chain known ≡ record { questions = []; forest = paired s tags chain; known = known }
+    → resolved s tags above chain known ≡ record { questions = []; forest = paired s chain; known = known }
 
 -- pairing a chain and pairing the chains below it may be done in either order
 abbrev pub OrderLaw : Type 0 → Type 0
-OrderLaw A = (s : Setting) (tags : Tags A) (chain : Forest (Label A)) → all_paired s tags (paired s tags chain) ≡ paired s tags (all_paired s tags chain)
+OrderLaw A = (s : Setting) (chain : Forest (Label A)) → all_paired s (paired s chain) ≡ paired s (all_paired s chain)
 
 -- nothing of a resolved chain is open, and below it runs and quotes are at most
 abbrev pub SettledLaw : Type 0 → Type 0
@@ -36,33 +45,39 @@ with_answers answers known = record { limit = known.limit; answers = answers; us
 -- with one answer for each question the result is the same whatever answers follow, and those are handed on
 abbrev pub AnswerLaw : Type 0 → Type 0
 AnswerLaw A = (s : Setting) (tags : Tags A) (above : Above) (chain : Forest (Label A)) (known : Known) (answers later : Answers)
-    → let r : Resolved A = resolved s tags above chain (with_answers answers known) in
+    → let r : Outcome A = resolved s tags above chain (with_answers answers known) in
     length r.questions ≡ length answers
     → resolved s tags above chain (with_answers (answers ++ later) known) ≡ record { questions = r.questions; forest = r.forest; known = with_answers later r.known }
-
--- what a forest weighs
-abbrev pub weight : {A : Type 0} → Forest (Label A) → ℕ
-weight nil = 0
-weight (node a below after) = weight_if (is_unresolved a.part.shape) + (weight below + weight after)
 
 -- a chain is resolved to one that is no heavier
 abbrev pub WeightLaw : Type 0 → Type 0
 WeightLaw A = (s : Setting) (tags : Tags A) (above : Above) (chain : Forest (Label A)) (known : Known) → weight (resolved s tags above chain known).forest ≤ weight chain
 
--- a forest with other tags
-abbrev pub retag : {A B : Type 0} → (A → B) → Label A → Label B
-retag f a = record { tag = f a.tag; part = a.part }
-
-abbrev pub retagged : {A B : Type 0} → (A → B) → Forest (Label A) → Forest (Label B)
-retagged f trees = relabelled (retag f) trees
-
--- the tags of what is made, and of a run's characters, go the same way
+-- the tags of what is made go the same way
 pub record Follows {A B : Type 0} (f : A → B) (tags : Tags A) (tags' : Tags B) : Type 0 where
   pub makes : (n : ℕ) → tags'.fresh n ≡ f (tags.fresh n)
-  pub goes_on : (a : A) (n : ℕ) → tags'.further (f a) n ≡ f (tags.further a n)
 
 -- tags say nothing: a chain with other tags is resolved to the same, with those tags
 abbrev pub TagLaw : Type 0 → Type 0 → Type 0
 TagLaw A B = (f : A → B) (s : Setting) (tags : Tags A) (tags' : Tags B) → Follows f tags tags' → (above : Above) (chain : Forest (Label A)) (known : Known)
-    → let r : Resolved A = resolved s tags above chain known in
+    → let r : Outcome A = resolved s tags above chain known in
     resolved s tags' above (retagged f chain) known ≡ record { questions = r.questions; forest = retagged f r.forest; known = r.known }
+
+-- a label as an item, with the byte at which it begins for a number: those of a run's characters follow each other
+abbrev pub by_place : {A : Type 0} → Label A → Numbered
+by_place a = record { number = start_of a; item = as_item a }
+
+-- runs are whole in a chain, and at every depth below it, as in a block result: a character that is counted n > 1 is
+-- followed, touching, by one of the same byte and flags that is counted n - 1; one counted 1 by none of the same byte
+abbrev pub RunsStandWhole : {A : Type 0} → List ℕ → Forest (Label A) → Type 0
+RunsStandWhole source chain = Throughout (λ a below after. RunsAreWhole source (by_place a) (option_map by_place (first_root after))) chain
+
+-- so they are in the tree of a document
+abbrev pub DocumentLaw : Type 0
+DocumentLaw = (source : List ℕ) (nodes : List (Node Item)) (parts : BlockParts) (tables : Tables) → IsWellFormed source nodes parts
+    → RunsStandWhole source (document source tables nodes)
+
+-- where runs are whole in a chain, they are whole in what pass one makes of it
+abbrev pub WholeLaw : Type 0 → Type 0
+WholeLaw A = (s : Setting) (tags : Tags A) (above : Above) (chain : Forest (Label A)) (known : Known) → RunsStandWhole s.text chain
+    → RunsStandWhole s.text (pass_one s tags above chain known).forest

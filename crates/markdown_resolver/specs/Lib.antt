@@ -1,6 +1,6 @@
 -- what a chain is resolved to
 pub mod PassOne
-pub mod Pairing
+pub mod ChainCounts
 pub mod Resolved
 pub mod Kept
 pub mod Laws
@@ -8,3 +8,8 @@ pub mod Laws
 pub mod Chains
 -- what private contracts speak of
 pub mod Settling
+pub mod Rewritten
+pub mod ClosedOver
+pub mod ChainPlace
+pub mod PutCode
+pub mod MarkupItems

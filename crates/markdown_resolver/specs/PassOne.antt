@@ -1,60 +1,36 @@
--- Pass one over a chain: its items are read from left to right, each once, onto a left list. Each rule that finds
--- something in a chain has its place here.
-use Rattle.markdown_base.specs.declared.item.ItemBody.TheVariants as body
-use Rattle.std.specs.Prelude.{ℕ, Bool, true, false, List, [], ◌∷◌}
+-- Pass one over a chain: its items are read from left to right, each once. Code, math, autolinks and raw HTML are found;
+-- an opener of them at which nothing is found is a Text, and so are brackets.
+use Rattle.std.specs.Prelude.{ℕ, List, [], Option, Some, None, if◌then◌else◌, nat_le}
 use Rattle.markdown_base.specs.Forest.{Forest, nil, node}
 use Rattle.markdown_base.specs.Questions.{Question}
-use Rattle.markdown_base.specs.declared.item.ItemBody.{ItemBody}
-use Rattle.markdown_chains.specs.Document.{Tags, Shape, leaf, enclosed, plain, backslash_break, unresolved, Label, as_text}
 use Rattle.markdown_chains.specs.Above.{Above}
+use Rattle.markdown_chains.specs.ChainRest.{begun_at, end_of, joined}
+use Rattle.markdown_chains.specs.Document.{Tags, Label}
 use Rattle.markdown_chains.specs.Setting.{Setting, Known}
+use Rattle.markdown_code.specs.Finds.{Passed, Reader, read_tree}
 
--- what was read: a tree that is done
-pub data Entry (A : Type 0) : Type 0 where
-  done : Label A → Forest (Label A) → Entry A
-
--- how far pass one has come in a chain: the entries, the nearest first, what was asked, and what is known
-pub record Progress (A : Type 0) : Type 0 where
-  pub left : List (Entry A)
-  pub asked : List Question
-  pub known : Known
-
-abbrev pub begun : {A : Type 0} → Known → Progress A
-begun known = record { left = []; asked = []; known = known }
-
--- pairing decides on it: a run's character, or a quote
-abbrev pub waits_for_pairing : ItemBody → Bool
-waits_for_pairing (body.MaybeEmphasis count opens closes) = true
-waits_for_pairing (body.MaybeSmartQuote quote opens closes) = true
-waits_for_pairing other = false
-
--- pass one leaves it as it is: it is not open, or waits for pairing
-abbrev pub is_quiet : Shape → Bool
-is_quiet (leaf e origins) = true
-is_quiet (enclosed tag) = true
-is_quiet plain = true
-is_quiet backslash_break = true
-is_quiet (unresolved b) = waits_for_pairing b
-
--- an item at which nothing is found is a Text
-abbrev pub text_unless : {A : Type 0} → Bool → List ℕ → Label A → Label A
-text_unless true source a = a
-text_unless false source a = as_text source a
-
--- a tree of the chain is read, below the blocks that are open above it
-abbrev pub read : {A : Type 0} → Setting → Tags A → Above → Label A → Forest (Label A) → Progress A → Progress A
-read s tags above a below p = record {
-  left = done (text_unless (is_quiet a.part.shape) s.text a) below ∷ p.left;
-  asked = p.asked;
-  known = p.known;
-}
+-- a tree is read, where n were made before it. After a find that ends at a byte, what ends there or before is left out,
+-- and the next item begins there at the earliest.
+abbrev pub read_past : {A : Type 0} → Setting → Tags A → Above → Option ℕ → (made : ℕ) → Reader A
+read_past s tags above None n a below rest = read_tree s tags above n a below rest
+read_past s tags above (Some i) n a below rest =
+    if nat_le (end_of a) i then record { trees = nil; goes_on = Some i; made = n }
+    else read_tree s tags above n (begun_at i a) below rest
 
 -- all of them are read
-unfoldable pub read_all : {A : Type 0} → Setting → Tags A → Above → Forest (Label A) → Progress A → Progress A
-read_all s tags above nil p = p
-read_all s tags above (node a below rest) p = read_all s tags above rest (read s tags above a below p)
+unfoldable pub read_chain : {A : Type 0} → Setting → Tags A → Above → Option ℕ → (made : ℕ) → Forest (Label A) → Forest (Label A)
+read_chain s tags above goes_on n nil = nil
+read_chain {A} s tags above goes_on n (node a below rest) =
+    let r : Passed A = read_past s tags above goes_on n a below rest in
+    joined r.trees (read_chain s tags above r.goes_on r.made rest)
 
--- the trees of a left list, from left to right, and then those given
-abbrev pub trees_onto : {A : Type 0} → List (Entry A) → Forest (Label A) → Forest (Label A)
-trees_onto [] later = later
-trees_onto (done a below ∷ left) later = trees_onto left (node a below later)
+-- what becomes of a chain: the questions on the way, the forest, and what is known after it
+pub record Outcome (A : Type 0) : Type 0 where
+  pub questions : List Question
+  pub forest : Forest (Label A)
+  pub known : Known
+
+-- by pass one, where the chain is reached at its first open item, below the blocks that are open above it
+unfoldable pub pass_one : {A : Type 0} → Setting → Tags A → Above → Forest (Label A) → Known → Outcome A
+pass_one s tags above chain known =
+    record { questions = []; forest = read_chain s tags above None 0 chain; known = known }

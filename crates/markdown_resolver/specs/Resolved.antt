@@ -1,36 +1,30 @@
--- What a chain is resolved to.
-use Rattle.std.specs.Prelude.{Bool, true, false, List}
+-- What a chain is resolved to: pass one reads it, and then it is paired.
+use Rattle.std.specs.Prelude.{Bool, true, false}
 use Rattle.markdown_base.specs.Forest.{Forest, nil, node}
-use Rattle.markdown_base.specs.Questions.{Question}
-use Rattle.markdown_chains.specs.Document.{Tags, Label, is_unresolved}
-use Rattle.markdown_resolver.specs.Pairing.{paired}
-use Rattle.markdown_resolver.specs.PassOne.{Progress, begun, read_all, trees_onto}
 use Rattle.markdown_chains.specs.Above.{Above}
+use Rattle.markdown_chains.specs.Document.{Tags, Label, is_unresolved}
 use Rattle.markdown_chains.specs.Setting.{Setting, Known}
+use Rattle.markdown_delims.specs.Pairing.{paired}
+use Rattle.markdown_resolver.specs.PassOne.{Outcome, pass_one}
 
--- the questions on the way, the forest, and what is known after it
-pub record Resolved (A : Type 0) : Type 0 where
-  pub questions : List Question
-  pub forest : Forest (Label A)
-  pub known : Known
-
-abbrev pub after_pass_one : {A : Type 0} → Setting → Tags A → Progress A → Resolved A
-after_pass_one s tags p = record { questions = p.asked; forest = paired s tags (trees_onto p.left nil); known = p.known }
+-- what pass one leaves open is paired
+abbrev pub then_paired : {A : Type 0} → Setting → Outcome A → Outcome A
+then_paired s r = record { questions = r.questions; forest = paired s r.forest; known = r.known }
 
 -- a chain that is reached at its first open item, below the blocks that are open above it
-unfoldable pub resolved : {A : Type 0} → Setting → Tags A → Above → Forest (Label A) → Known → Resolved A
-resolved s tags above chain known = after_pass_one s tags (read_all s tags above chain (begun known))
+unfoldable pub resolved : {A : Type 0} → Setting → Tags A → Above → Forest (Label A) → Known → Outcome A
+resolved s tags above chain known = then_paired s (pass_one s tags above chain known)
 
 -- a chain of children, from its first open item on: nothing in it asks
-abbrev pub paired_from : {A : Type 0} → Setting → Tags A → Bool → Label A → (below after later : Forest (Label A)) → Forest (Label A)
-paired_from s tags true a below after later = paired s tags (node a below after)
-paired_from s tags false a below after later = node a below later
+abbrev pub paired_from : {A : Type 0} → Setting → Bool → Label A → (below after later : Forest (Label A)) → Forest (Label A)
+paired_from s true a below after later = paired s (node a below after)
+paired_from s false a below after later = node a below later
 
-abbrev pub paired_if_open : {A : Type 0} → Setting → Tags A → Forest (Label A) → Forest (Label A)
-paired_if_open s tags nil = nil
-paired_if_open s tags (node a below after) = paired_from s tags (is_unresolved a.part.shape) a below after (paired_if_open s tags after)
+abbrev pub paired_if_open : {A : Type 0} → Setting → Forest (Label A) → Forest (Label A)
+paired_if_open s nil = nil
+paired_if_open s (node a below after) = paired_from s (is_unresolved a.part.shape) a below after (paired_if_open s after)
 
 -- a forest with each chain of children in it paired, the inner ones first
-abbrev pub all_paired : {A : Type 0} → Setting → Tags A → Forest (Label A) → Forest (Label A)
-all_paired s tags nil = nil
-all_paired s tags (node a below after) = node a (paired_if_open s tags (all_paired s tags below)) (all_paired s tags after)
+abbrev pub all_paired : {A : Type 0} → Setting → Forest (Label A) → Forest (Label A)
+all_paired s nil = nil
+all_paired s (node a below after) = node a (paired_if_open s (all_paired s below)) (all_paired s after)

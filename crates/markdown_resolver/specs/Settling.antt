@@ -1,22 +1,43 @@
--- What one item of a chain becomes, where it stands.
+-- What is written where a chain is read: an item at which nothing is found is settled, and what is left of a chain past
+-- a byte begins there.
 use Rattle.markdown_base.specs.declared.item.ItemBody.TheVariants as body
-use Rattle.std.specs.Prelude.{ℕ, Bool, true, false, List}
-use Rattle.markdown_base.specs.Arena.{changed_at}
+use Rattle.std.specs.Prelude.{◌≡◌, ℕ, Bool, true, false, not, ◌&&◌, List, length, Option, Some, None}
+use Rattle.markdown_base.specs.Arena.{changed_at, child_of, sibling_of}
 use Rattle.markdown_base.specs.BlockTree.{item_at}
 use Rattle.markdown_base.specs.Item.{is_open}
 use Rattle.markdown_base.specs.declared.item.Item.{Item}
 use Rattle.markdown_base.specs.declared.item.ItemBody.{ItemBody}
 use Rattle.markdown_base.specs.declared.node.Node.{Node}
+use Rattle.markdown_chains.specs.Places.{IsSameAt}
+use Rattle.markdown_chains.specs.Waiting.{waits_for_pairing}
+use Rattle.markdown_resolver.specs.Rewritten.{begun_item}
 
--- an open body is a Text's
-abbrev pub settled_if : (is_open : Bool) → ItemBody → ItemBody
+-- it is a Text: it is open, and does not wait for pairing
+abbrev pub becomes_text : ItemBody → Bool
+becomes_text b = is_open b && not (waits_for_pairing b)
+
+-- a Text's body where that is so, and else as it was
+abbrev pub settled_if : (becomes_text : Bool) → ItemBody → ItemBody
 settled_if true b = body.Text false
 settled_if false b = b
 
 -- so is the item
 abbrev pub settled_item : Item → Item
-settled_item item = record item { body = settled_if (is_open item.body) item.body }
+settled_item item = record item { body = settled_if (becomes_text item.body) item.body }
 
 -- and that of one node
 abbrev pub settled_at : ℕ → List (Node Item) → List (Node Item)
 settled_at ix nodes = changed_at ix (λ n. record n { item = settled_item (item_at nodes ix) }) nodes
+
+-- the item that a link leads to begins at a byte at the earliest
+abbrev pub begun_from : Option ℕ → ℕ → List (Node Item) → List (Node Item)
+begun_from None i nodes = nodes
+begun_from (Some ix) i nodes = changed_at ix (λ n. record n { item = begun_item i (item_at nodes ix) }) nodes
+
+-- a node has another item, and another follows it; all else is as it was
+pub record IsWritten (old new : List (Node Item)) (ix : ℕ) (item : Item) (next : Option ℕ) : Type 0 where
+  pub size : length new ≡ length old
+  pub item_is : item_at new ix ≡ item
+  pub child_is : child_of new ix ≡ child_of old ix
+  pub next_is : sibling_of new ix ≡ next
+  pub others : (n : ℕ) → (n ≡ ix → ⊥) → IsSameAt old new n

@@ -1,7 +1,7 @@
 //! The laws of what a chain is resolved to, each a function without code: at numbers, which are the nodes of an arena,
 //! and at the one tag of a document's tree.
 ghost use Rattle.std.specs.Prelude.{ℕ, ⊤};
-ghost use Rattle.markdown_resolver.specs.Laws.{QuietLaw, OrderLaw, SettledLaw, BeginLaw, AnswerLaw, WeightLaw, TagLaw};
+ghost use Rattle.markdown_resolver.specs.Laws.{QuietLaw, OrderLaw, SettledLaw, BeginLaw, AnswerLaw, WeightLaw, TagLaw, DocumentLaw, WholeLaw};
 
 /// Resolving a chain in which only runs and quotes are open asks nothing, and is pairing alone.
 pub fn quiet_chain_asks_nothing()
@@ -36,4 +36,14 @@ pub fn resolved_chain_is_no_heavier()
 /// The numbers of nodes say nothing.
 pub fn tags_say_nothing()
     ensures { TagLaw ℕ ⊤ }
+{}
+
+/// The delimiter runs of a well-formed block result are whole where they are read as labels.
+pub fn runs_of_documents_are_whole()
+    ensures { DocumentLaw }
+{}
+
+/// Pass one breaks no delimiter run.
+pub fn runs_stay_whole()
+    ensures { WholeLaw ℕ × WholeLaw ⊤ }
 {}

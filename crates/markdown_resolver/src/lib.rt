@@ -2,5 +2,11 @@
 //! stands.
 #![tactic(auto)]
 
+mod chain_place;
+mod found;
 pub mod laws;
+pub mod links;
+mod markup;
 pub mod resolver;
+mod settling;
+mod spans;

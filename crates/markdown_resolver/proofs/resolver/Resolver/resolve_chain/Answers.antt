@@ -1,75 +1,72 @@
--- One node of the chain after another.
-use Rattle.std.proofs.Common.{ℕ, refl, ap, ◌∙◌}
-use Rattle.std.specs.Prelude.{is_some}
-use Rattle.markdown_chains.specs.Stages.{stage, items_from}
+-- What pass one has read is paired.
+use Rattle.std.proofs.Common.{◌∙◌, ap, refl, arith}
+use Rattle.std.specs.Prelude.{is_some, Some, Result, Ok, Err, IfErr}
+use Rattle.markdown_base.specs.Arena.{Arena}
+use Rattle.markdown_base.specs.declared.item.Item.{Item}
 use Rattle.markdown_chains.specs.Above.{above_cursor}
 use Rattle.markdown_chains.specs.Setting.{rules_from, setting_of}
-use Rattle.markdown_chains.specs.Tables.{tables_of}
+use Rattle.markdown_chains.specs.Stages.{items_from, stage}
 use Rattle.markdown_resolver.specs.declared.resolver.Resolver.{Resolver}
-use Rattle.markdown_chains.specs.declared.work.Work.{Work}
-use Rattle.markdown_resolver.proofs.SettlingLemmas.{node_within, within_settled, ready_next, next_settled, lighter_next, items_next, items_some, items_none, counted_none, counted_more, counted_all, whole_none, whole_more, whole_all}
+use Rattle.markdown_resolver.proofs.PairedLemmas.{read_can_pair, then_pairs, stops_at_once, stops_in}
+use Rattle.markdown_resolver.proofs.WorkLemmas.{AreCounts, ReadCounts, counts_rise}
 use Rattle.markdown_resolver.proofs.resolver.Resolver.resolve_chain.Goals as goal
 
-pub chain-init : goal.chain-init
-chain-init g c =
-    let s = c.args.self.now in
-    record {
-      ready = c.requires.ready;
-      tree = refl;
-      resolver = refl;
-      counted = counted_none _ _;
-      whole = whole_none g.F.BrokenLinkCallback.answers (setting_of s.text.now (rules_from s.options s.tables (is_some s.callback))) c.args.first (stage c.args.tree.now s.tables s.limit s.callback);
-    }
+if_err : {X E : Type 0} {P : Type 0} (r : Result X E) → P → IfErr r (λ fault. P)
+if_err (Ok x) p = tt
+if_err (Err fault) p = p
 
-pub settle_node-requires : goal.settle_node-requires
-settle_node-requires g c =
+pub pair_chain-requires : goal.pair_chain-requires
+pair_chain-requires g c =
     let s = c.args.self.now in
-    node_within s.text.now (tables_of s.tables) c.chain.tree.nodes c.in-Some.ix (rw c.in-Some.is at c.chain.invariant.ready)
+    let rules = rules_from s.options s.tables (is_some s.callback) in
+    let after = c.read_chain.new.self in
+    let can = read_can_pair g.F.BrokenLinkCallback.answers (setting_of s.text.now rules) (above_cursor s.text.now c.args.tree.now) c.args.first (stage c.args.tree.now s.tables s.limit s.callback)
+    (stage c.read_chain.new.tree after.tables after.limit after.callback) c.requires.ready.quiet_below c.in_ok-read_chain.ensures.reads in
+    record { chain = rw c.read_chain.ensures.kept can }
 
-pub next-at-requires : goal.next-at-requires
-next-at-requires g c =
+pub returns-in_err-read_chain-clause-stops : goal.returns-in_err-read_chain-clause-stops
+returns-in_err-read_chain-clause-stops g c =
     let s = c.args.self.now in
-    rw c.settle_node.ensures (within_settled s.text.now (tables_of s.tables) c.chain.tree.nodes c.in-Some.ix (rw c.in-Some.is at c.chain.invariant.ready))
+    let rules = rules_from s.options s.tables (is_some s.callback) in
+    if_err c.from_residual.result
+    (stops_at_once g.F.BrokenLinkCallback.answers (setting_of s.text.now rules) (above_cursor s.text.now c.args.tree.now) c.args.first (stage c.args.tree.now s.tables s.limit s.callback) c.read_chain.new.self.callback
+    (ap (λ (r : Resolver g.row.F.Denot). r.callback) c.read_chain.ensures.kept))
 
-pub chain-smaller : goal.chain-smaller
-chain-smaller g c =
+pub returns-in_err-pair_chain-clause-stops : goal.returns-in_err-pair_chain-clause-stops
+returns-in_err-pair_chain-clause-stops g c =
     let s = c.args.self.now in
-    let ready = rw c.in-Some.is at c.chain.invariant.ready in
-    rw (c.in-Some.is, c.next-at.ensures.value, c.settle_node.ensures, next_settled s.text.now (tables_of s.tables) c.chain.tree.nodes c.in-Some.ix ready)
-    (lighter_next s.text.now (tables_of s.tables) c.chain.tree.nodes c.in-Some.ix ready)
-
-pub chain-preserved : goal.chain-preserved
-chain-preserved g c =
-    let s = c.args.self.now in
-    let i = c.chain.invariant in
-    let ix = c.in-Some.ix in
-    let ready = rw c.in-Some.is at i.ready in
-    let next = next_settled s.text.now (tables_of s.tables) c.chain.tree.nodes ix ready in
-    rw (c.next-at.ensures.value, c.settle_node.ensures, next) (record {
-      ready = ready_next s.text.now (tables_of s.tables) c.chain.tree.nodes ix ready;
-      tree = rw i.tree refl;
-      resolver = rw (c.count_item.ensures, i.resolver) refl;
-      counted = counted_more _ c.chain.self.work.items _ _ _ _ i.counted (ap (items_from c.chain.tree.nodes) c.in-Some.is ∙ items_next s.text.now (tables_of s.tables) c.chain.tree.nodes ix ready) (ap (λ (w : Work). w.items) c.count_item.ensures);
-      whole = whole_more g.F.BrokenLinkCallback.answers (setting_of s.text.now (rules_from s.options s.tables (is_some s.callback))) c.args.first ix (stage c.args.tree.now s.tables s.limit s.callback)
-          (stage c.chain.tree s.tables s.limit s.callback) ready (rw c.in-Some.is at i.whole);
-    })
+    let rules = rules_from s.options s.tables (is_some s.callback) in
+    let after = c.read_chain.new.self in
+    if_err c.from_residual-in_err-pair_chain.result
+    (stops_in g.F.BrokenLinkCallback.answers (setting_of s.text.now rules) (above_cursor s.text.now c.args.tree.now) c.args.first (stage c.args.tree.now s.tables s.limit s.callback)
+    (stage c.read_chain.new.tree after.tables after.limit after.callback) c.in_ok-read_chain.ensures.reads)
 
 pub returns-clause-resolves : goal.returns-clause-resolves
 returns-clause-resolves g c =
     let s = c.args.self.now in
-    let i = c.chain.invariant in
+    let rules = rules_from s.options s.tables (is_some s.callback) in
+    let setting = setting_of s.text.now rules in
+    let above = above_cursor s.text.now c.args.tree.now in
+    let step = g.F.BrokenLinkCallback.answers in
+    let after = c.read_chain.new.self in
+    let old = stage c.args.tree.now s.tables s.limit s.callback in
+    let mid = stage c.read_chain.new.tree after.tables after.limit after.callback in
+    let kept = c.read_chain.ensures.kept in
+    let reads = c.in_ok-read_chain.ensures in
+    let pairs = rw kept at (c.in_ok-pair_chain.ensures.pairs rules (rw kept refl)) in
+    let fits : AreCounts s.work = record { delimiters = omega arith; examined = omega arith } in
+    let read : ReadCounts (items_from old.nodes (Some c.args.first)) s.work after.work = record {
+      items_counted = reads.items;
+      same_delimiters = ap (λ (r : Resolver g.row.F.Denot). r.work.delimiters) kept;
+      same_examined = ap (λ (r : Resolver g.row.F.Denot). r.work.examined) kept;
+      code = reads.code_visits;
+      math = reads.math_visits;
+    } in
     record {
-      tree = i.tree;
-      tables = rw i.resolver refl;
-      footnotes = λ name. rw i.resolver refl;
-      chain = rw i.resolver (whole_all g.F.BrokenLinkCallback.answers (setting_of s.text.now (rules_from s.options s.tables (is_some s.callback))) (above_cursor s.text.now c.args.tree.now) c.args.first c.chain.at (stage c.args.tree.now s.tables s.limit s.callback)
-          (stage c.chain.tree s.tables s.limit s.callback) c.in_default.is i.whole);
+      tree = c.in_ok-pair_chain.ensures.place ∙ ap (λ (t : Arena Item). let u : Arena Item = record t { nodes = c.pair_chain.new.tree.nodes } in u) reads.place;
+      tables = rw kept refl;
+      footnotes = λ name. rw kept refl;
+      chain = then_pairs step setting above c.args.first old mid c.pair_chain.new.tree.nodes c.requires.ready.quiet_below reads.reads pairs;
+      counted = counts_rise step setting above c.args.first old mid s.work after.work c.pair_chain.new.work c.requires.ready.reaches.spelled reads.reads fits read
+          (record { counted = c.pair_chain.ensures.counted; compared = c.in_ok-pair_chain.ensures.examined });
     }
-
-pub returns-clause-counted : goal.returns-clause-counted
-returns-clause-counted g c =
-    let s = c.args.self.now in
-    let i = c.chain.invariant in
-    let items = counted_all s.work.items c.chain.self.work.items _ _ i.counted (ap (items_from c.chain.tree.nodes) c.in_default.is ∙ items_none c.chain.tree.nodes)
-    (items_some s.text.now (tables_of s.tables) c.args.tree.now.nodes c.args.first c.requires.ready) in
-    ap (λ (r : Resolver g.row.F.Denot). r.work) i.resolver ∙ ap (λ (n : ℕ). let w : Work = record s.work { items = n } in w) items

@@ -1,0 +1,323 @@
+-- What a closing bracket becomes is put into the node of its opener, which is a Text by then, with what is below that.
+use Rattle.std.proofs.Common.{◌≡◌, ℕ, zero, suc, ◌+◌, ◌<◌, ◌≤◌, Bool, true, false, List, [], ◌∷◌, ◌++◌, length, Option, Some, None, refl, sym, ap, ◌∙◌, subst, arith, if◌then◌else◌, nat_le}
+use Rattle.std.proofs.lemmas.Bool.Decides.{nat_tests}
+use Rattle.std.specs.Prelude.{IsCharBoundary, is_some}
+use Rattle.std.specs.Option.{option_map}
+use Rattle.markdown_base.specs.Arena.{child_of, sibling_of, changed_at}
+use Rattle.markdown_base.specs.ArenaForest.{Spells, forest_at, links_of}
+use Rattle.markdown_base.specs.ArenaWalk.{Reaches}
+use Rattle.markdown_base.specs.BlockTree.{Numbered, numbered, item_at}
+use Rattle.markdown_base.specs.Forest.{Forest, nil, node, relabelled, roots}
+use Rattle.markdown_base.specs.Item.{is_block, is_open}
+use Rattle.markdown_base.specs.declared.item.Item.{Item}
+use Rattle.markdown_base.specs.declared.item.ItemBody.{ItemBody}
+use Rattle.markdown_base.specs.declared.node.Node.{Node}
+use Rattle.markdown_base.proofs.ArenaForestLemmas.{opens}
+use Rattle.markdown_chains.specs.ChainRest.{past_byte}
+use Rattle.markdown_chains.specs.Document.{Plain, label_of}
+use Rattle.markdown_chains.specs.ItemRules.{StandsBefore}
+use Rattle.markdown_chains.specs.Places.{IsSameAt, IsPlaced, label_at, trees_from}
+use Rattle.markdown_chains.specs.Stages.{weight_in}
+use Rattle.markdown_chains.specs.Tables.{Tables, HasGrown}
+use Rattle.markdown_chains.specs.Totals.{total, same, weight_at}
+use Rattle.markdown_chains.proofs.PlaceLemmas.{some_weight}
+use Rattle.markdown_chains.proofs.TablesLemmas.{same-refl}
+use Rattle.markdown_code.specs.ChainInArena.{LeadsThrough}
+use Rattle.markdown_resolver.specs.Chains.{CanResolve}
+use Rattle.markdown_resolver.specs.ClosedOver.{trees_past, closed_over, over_inside, last_inside, CanClose, CanPutOver, PutsOver, IsEnclosed}
+use Rattle.markdown_resolver.specs.Kept.{IsQuietBelow}
+use Rattle.markdown_resolver.specs.Rewritten.{RunsGoOn, Rewrites, LeavesRest, CanPut, first_past, begun_item, numbered_past_byte}
+use Rattle.markdown_resolver.specs.Settling.{IsWritten, begun_from}
+use Rattle.markdown_resolver.proofs.ChainOrderLemmas.{AllPast, rest_past, leads_kept, leads_left, numbered_left, numbered_past_is}
+use Rattle.markdown_resolver.proofs.ComposeLemmas.{same_trans, Stands, Moves, changes_move, moves_change, moves_none, moves_twice, HeadWritten, HeadMoved, head_moves, head_leaves, after_head, below_kept}
+use Rattle.markdown_resolver.proofs.EncloseLemmas.{OpensAt, opens_at, enclosed_moves, inside_reads, rest_forest, rest_reads, rest_kept, whole_is, spelled_past, spelled_kept, total_parts}
+use Rattle.markdown_resolver.proofs.PastByteLemmas.{tree_same}
+use Rattle.markdown_resolver.proofs.PutFoundLemmas.{closed_head}
+use Rattle.markdown_resolver.proofs.PutLemmas.{quiet_past_byte, few_past_byte, as_many, closed_no_run, leads_begun, no_run_here, run_closed, first_kept, RestPast, rest_past_is}
+
+-- the number of what stands first past a byte depends on the items alone
+first_equal : (old new : List (Node Item)) (i : ℕ) (ns : List ℕ) → ((n : ℕ) → item_at new n ≡ item_at old n) → first_past new i ns ≡ first_past old i ns
+first_equal old new i [] h = refl
+first_equal old new i (n ∷ ns) h = rw (h n, first_equal old new i ns h) refl
+
+-- of numbers past a number those behind others
+past_behind : (nodes : List (Node Item)) (low byte : ℕ) (before after : List ℕ) → AllPast nodes low byte (before ++ after) → AllPast nodes low byte after
+past_behind nodes low byte [] after h = h
+past_behind nodes low byte (n ∷ before) after h = past_behind nodes low byte before after h.1
+
+past_equal : (old new : List (Node Item)) (low byte : ℕ) (ns : List ℕ) → ((n : ℕ) → item_at new n ≡ item_at old n) → AllPast old low byte ns → AllPast new low byte ns
+past_equal old new low byte [] h all = tt
+past_equal old new low byte (n ∷ ns) h all = let p = all.0 in (record { number = p.number; start = rw (h n) p.start }, past_equal old new low byte ns h all.1)
+
+-- a link to a node stays where an item is begun
+next_begun : (nodes : List (Node Item)) (jx : ℕ) (item : Item) (n : ℕ) → sibling_of (changed_at jx (λ m. record m { item = item }) nodes) n ≡ sibling_of nodes n
+next_begun [] jx item n = refl
+next_begun (m ∷ nodes) zero item zero = refl
+next_begun (m ∷ nodes) zero item (suc n) = refl
+next_begun (m ∷ nodes) (suc jx) item zero = refl
+next_begun (m ∷ nodes) (suc jx) item (suc n) = next_begun nodes jx item n
+
+pub next_from : (nodes : List (Node Item)) (l : Option ℕ) (i n : ℕ) → sibling_of (begun_from l i nodes) n ≡ sibling_of nodes n
+next_from nodes None i n = refl
+next_from nodes (Some jx) i n = next_begun nodes jx (begun_item i (item_at nodes jx)) n
+
+-- what is left of a quiet chain is quiet, and has no more items
+quiet_trees : (k : ℕ) (f : Forest Plain) → IsQuietBelow f → IsQuietBelow (trees_past k f)
+quiet_trees zero f h = h
+quiet_trees (suc k) nil h = h
+quiet_trees (suc k) (node a below after) h = quiet_trees k after h.2
+
+few_trees : (k : ℕ) (f : Forest Plain) → length (roots (trees_past k f)) ≤ length (roots f)
+few_trees zero f = omega arith
+few_trees (suc k) nil = omega arith
+few_trees (suc k) (node a below after) = omega (arith, few_trees k after)
+
+-- an item was put into a first node that is not open; what is left of what follows it begins at a byte
+pub record HeadPut (source : List ℕ) (ix i : ℕ) (item : Item) (next : Option ℕ) (nodes mid : List (Node Item)) (tables t : Tables) : Type 0 where
+  pub head : HeadWritten source ix nodes mid tables t
+  pub rest : RestPast source ix i nodes mid tables t next
+  pub item_is : item_at mid ix ≡ item
+  pub next_is : sibling_of mid ix ≡ next
+  pub closed : is_open item.body ≡ false
+  pub ends : item.end ≤ i
+
+pub head_put : (source : List ℕ) (ix i : ℕ) (item : Item) (next : Option ℕ) (nodes mid : List (Node Item)) (tables t : Tables) → HasGrown tables t → Stands source tables nodes (Some ix)
+    → CanPut source tables t item → item.end ≤ i → IsWritten nodes mid ix item next → (byte : ℕ) → AllPast nodes ix byte (roots (forest_at (links_of nodes) (sibling_of nodes ix)))
+    → next ≡ first_past nodes i (roots (forest_at (links_of nodes) (sibling_of nodes ix))) → ((n : ℕ) → next ≡ Some n → (item_at nodes n).start < i → is_open (item_at nodes n).body ≡ false)
+    → IsCharBoundary source i → HeadPut source ix i item next nodes mid tables t
+head_put source ix i item next nodes mid tables t grown s puts ends w byte past link between boundary =
+    let size = w.size in
+    let h = closed_head source ix item nodes mid tables t grown puts.closed puts.lies puts.named puts.slices puts.new_names w.item_is (omega (arith, size)) (λ n l d. w.others n d) in
+    record {
+      head = h;
+      rest = rest_past_is source ix i nodes mid tables t next byte s h link past between boundary;
+      item_is = w.item_is;
+      next_is = w.next_is;
+      closed = puts.closed;
+      ends = ends;
+    }
+
+-- once what is left is rewritten, the first item, with what was below it, stands before that
+pub record HeadStands (source : List ℕ) (ix i : ℕ) (item : Item) (rule : Forest Plain → Forest Plain) (nodes mid new : List (Node Item)) (tables t later : Tables) : Type 0 where
+  pub moved : HeadMoved source ix nodes mid new tables t later
+  pub reads : trees_from source later new (Some ix)
+      ≡ node (label_of source t item) (trees_from source tables nodes (child_of nodes ix)) (rule (past_byte i (trees_from source tables nodes (sibling_of nodes ix))))
+
+pub head_stands : (source : List ℕ) (ix i : ℕ) (item : Item) (next : Option ℕ) (nodes mid : List (Node Item)) (tables t : Tables) → Stands source tables nodes (Some ix)
+    → child_of mid ix ≡ child_of nodes ix → HeadPut source ix i item next nodes mid tables t
+    → (rule : Forest Plain → Forest Plain) (new : List (Node Item)) (later : Tables) → Rewrites source rule next (begun_from next i mid) new t later → HeadStands source ix i item rule nodes mid new tables t later
+head_stands source ix i item next nodes mid tables t s child p rule new later r =
+    let m = moves_twice source (sibling_of nodes ix) next next mid (begun_from next i mid) new t t later p.rest.moves (changes_move source next (begun_from next i mid) new t later r.changes) in
+    let closed : is_open (item_at mid ix).body ≡ false = rw p.item_is p.closed in
+    let kept = below_kept source ix nodes mid new tables t later next s p.head m child (rw closed (some_weight (is_open (item_at nodes ix).body))) in
+    let ends : (item_at mid ix).end ≤ i = rw p.item_is p.ends in
+    let follows = r.changes.before (numbered mid ix) (p.rest.follows (numbered mid ix) refl ends) in
+    let hm = head_moves source ix nodes mid new tables t later s p.head (rw p.next_is m) kept.below (rw p.next_is follows)
+    (no_run_here source (numbered mid ix) (option_map (numbered new) (sibling_of mid ix)) closed) in
+    let after : trees_from source later new (sibling_of mid ix) ≡ rule (past_byte i (trees_from source tables nodes (sibling_of nodes ix))) =
+    ap (λ (l : Option ℕ). trees_from source later new l) p.next_is ∙ r.rewritten ∙ ap rule p.rest.reads in
+    record {
+      moved = hm;
+      reads = hm.trees ∙ tree_same _ _ _ _ _ _ (ap (λ x. label_of source t x) p.item_is) kept.trees after;
+    }
+
+-- nothing is rewritten
+pub rewrites_none : (source : List ℕ) (l : Option ℕ) (nodes : List (Node Item)) (tables : Tables) → Stands source tables nodes l → Rewrites source (λ f. f) l nodes nodes tables tables
+rewrites_none source l nodes tables s = record {
+  changes = moves_change source l nodes nodes tables tables (moves_none source l nodes tables s) (λ a h. h);
+  runs = λ a h. h;
+  rewritten = refl;
+}
+
+-- an item stands where another stood that was not open, and no block
+no_block : (is : Bool) (b : ItemBody) → is_some (if is then Some b else None) ≡ false → is ≡ false
+no_block true b h = cc h
+no_block false b h = refl
+
+pub first_no_block : (source : List ℕ) (tables : Tables) (nodes : List (Node Item)) (ix : ℕ) → CanResolve source tables nodes (Some ix) → is_block (item_at nodes ix).body ≡ false
+first_no_block source tables nodes ix ready =
+    let o = opens (links_of nodes) (IsPlaced source tables nodes) ix ready.reaches in
+    no_block (is_block (item_at nodes ix).body) (item_at nodes ix).body (rw o.here at ready.quiet_below).0
+
+pub before_text : (ix : ℕ) (old new : List (Node Item)) (a : Numbered) → is_block (item_at old ix).body ≡ false → (item_at new ix).start ≡ (item_at old ix).start
+    → StandsBefore a (Some (numbered old ix)) → StandsBefore a (Some (numbered new ix))
+before_text ix old new a plain starts h = λ x y. let p = h x plain in record { ends = rw starts p.ends; numbers = p.numbers }
+
+pub runs_text : (source : List ℕ) (ix : ℕ) (old new : List (Node Item)) → is_open (item_at old ix).body ≡ false → is_open (item_at new ix).body ≡ false → RunsGoOn source old new (Some ix)
+runs_text source ix old new closed closed' = λ a whole.
+    run_closed source a (numbered old ix) (numbered new ix) _ (closed_no_run (item_at old ix).body closed) (closed_no_run (item_at new ix).body closed') whole
+
+-- the closer is not left past a byte
+pub past_closer : (source : List ℕ) (tables : Tables) (nodes : List (Node Item)) (k closer i : ℕ) (after : List ℕ) (f : Forest ℕ) → OpensAt k closer after f → (item_at nodes closer).end ≤ i
+    → past_byte i (trees_past k (relabelled (label_at source tables nodes) f)) ≡ past_byte i (trees_past (suc k) (relabelled (label_at source tables nodes) f))
+past_closer source tables nodes zero closer i after nil o ends = refl
+past_closer source tables nodes zero closer i after (node n below rest) o ends =
+    let is : n ≡ closer = cc (o.is) in
+    let test : nat_le (item_at nodes n).end i ≡ true = (let e : (item_at nodes n).end ≤ i = subst (λ (m : ℕ). (item_at nodes m).end ≤ i) (sym is) ends in grind (arith, nat_tests, e)) in
+    rw test refl
+past_closer source tables nodes (suc k) closer i after nil o ends = refl
+past_closer source tables nodes (suc k) closer i after (node n below rest) o ends =
+    past_closer source tables nodes k closer i after rest (record { below = o.below; is = o.is; follow = o.follow }) ends
+
+-- what is left may be read, and is less, where the chain from the opener on became that
+pub over_leaves : (source : List ℕ) (opener k byte : ℕ) (next : Option ℕ) (old place : List (Node Item)) (tables t : Tables) (f : Forest ℕ) → CanResolve source tables old (Some opener)
+    → forest_at (links_of old) (Some opener) ≡ node opener nil f → Moves source (Some opener) next old place tables t → weight_in place next < weight_in old (Some opener)
+    → trees_from source t place next ≡ past_byte byte (trees_past k (relabelled (label_at source tables old) f)) → LeavesRest source opener next old place t
+over_leaves source opener k byte next old place tables t f ready whole left lighter reads =
+    let chain = relabelled (label_at source tables old) f in
+    let quiet : IsQuietBelow chain = (rw whole at ready.quiet_below).2 in
+    let many = as_many (label_at source t place) (forest_at (links_of place) next) in
+    let many' = as_many (label_at source tables old) f in
+    let read : length (roots (trees_from source t place next)) ≡ length (roots (past_byte byte (trees_past k chain))) = ap (λ (g : Forest Plain). length (roots g)) reads in
+    let few = few_past_byte byte (trees_past k chain) in
+    let few' = few_trees k chain in
+    record {
+      ready = record {
+        reaches = left.stands.reaches;
+        once = left.stands.once;
+        named_once = left.stands.named_once;
+        quiet_below = rw reads (quiet_past_byte byte (trees_past k chain) (quiet_trees k chain quiet));
+      };
+      lighter = lighter;
+      fewer = rw whole (omega (arith, many, many', read, few, few'));
+      of_chain = left.of_chain;
+      more_nodes = left.more_nodes;
+      outside = left.outside;
+    }
+
+-- the links behind the closer lead on past a byte, where the nodes that stand there are as they were
+pub behind_leads : (old mid : List (Node Item)) (opener closer byte : ℕ) (inside after : List ℕ) (next : Option ℕ) (f : Forest ℕ) → roots f ≡ inside ++ closer ∷ after
+    → Spells (links_of old) (sibling_of old opener) f → length old ≤ length mid → ((n : ℕ) → 0 < total (same n) (trees_past (suc (length inside)) f) → IsSameAt old mid n)
+    → first_past old byte after ≡ next → (low : ℕ) (chain : List Numbered) → LeadsThrough old low (sibling_of old closer) chain
+    → LeadsThrough (begun_from next byte mid) low next (numbered_past_byte byte chain)
+behind_leads old mid opener closer byte inside after next f listed spelled size kept first low chain e =
+    let o = opens_at inside after closer f listed in
+    let behind = trees_past (suc (length inside)) f in
+    let at : Spells (links_of old) (Some closer) (node closer o.below (trees_past (suc (length inside)) f)) =
+    rw o.is at (spelled_past old inside after closer (sibling_of old opener) f listed spelled) in
+    let there = spelled_kept old mid (sibling_of old closer) behind size kept at.3 in
+    let leads = leads_kept old mid (sibling_of old closer) behind low chain at.3 size (λ n l some. kept n some) e in
+    let link : first_past mid byte (roots behind) ≡ next =
+    first_kept old mid byte behind (λ n some. (kept n some).item) ∙ ap (λ (ns : List ℕ). first_past old byte ns) o.follow ∙ first in
+    let left : LeadsThrough mid low next (numbered_left byte chain) = rw link at (leads_left mid byte (sibling_of old closer) behind low chain there leads) in
+    rw (numbered_past_is byte chain) (leads_begun mid byte next low (numbered_left byte chain) left)
+
+-- the opener's node stands before what is left
+pub over_numbers : (source : List ℕ) (opener : ℕ) (next : Option ℕ) (place : List (Node Item)) (t : Tables) → Reaches (links_of place) (IsPlaced source t place) (Some opener)
+    → sibling_of place opener ≡ next → roots (forest_at (links_of place) (Some opener)) ≡ opener ∷ roots (forest_at (links_of place) next)
+over_numbers source opener next place t reaches link =
+    let o = opens (links_of place) (IsPlaced source t place) opener reaches in
+    ap (λ (g : Forest ℕ). roots g) o.here ∙ ap (λ (l : Option ℕ). opener ∷ roots (forest_at (links_of place) l)) link
+
+-- the opener's node was written once what stands inside was put below it
+module _ (source : List ℕ) (opener last closer : ℕ) (item : Item) (byte : ℕ) (inside : List ℕ) (next : Option ℕ) (old folded mid : List (Node Item)) (tables t : Tables) (grown : HasGrown tables t)
+    (can : CanClose source tables old opener closer inside byte) (over : CanPutOver source tables t old opener item byte) (is : last_inside opener inside ≡ last)
+    (v : IsEnclosed old folded opener last closer) (link : next ≡ first_past folded byte (roots (forest_at (links_of folded) (Some closer)))) (w : IsWritten folded mid opener item next) where
+  abbrev k : ℕ
+  k = length inside
+
+  abbrev f : Forest ℕ
+  f = forest_at (links_of old) (sibling_of old opener)
+
+  abbrev chain : Forest Plain
+  chain = trees_from source tables old (sibling_of old opener)
+
+  abbrev place : List (Node Item)
+  place = begun_from next byte mid
+
+  opens_there : OpensAt k closer can.after f
+  opens_there = opens_at inside can.after closer f can.follows
+
+  whole_old : forest_at (links_of old) (Some opener) ≡ node opener nil f
+  whole_old = whole_is source tables old folded opener last closer inside byte can is v
+
+  folded_moves : Moves source (Some opener) (Some opener) old folded tables tables
+  folded_moves = enclosed_moves source tables old folded opener last closer inside byte can is v
+
+  rest_roots : roots (forest_at (links_of folded) (sibling_of folded opener)) ≡ closer ∷ can.after
+  rest_roots =
+      ap (λ (l : Option ℕ). roots (forest_at (links_of folded) l)) v.next_is ∙ ap (λ (g : Forest ℕ). roots g) (rest_forest source tables old folded opener last closer inside byte can is v)
+      ∙ ap (λ (g : Forest ℕ). roots g) opens_there.is ∙ ap (λ (ns : List ℕ). closer ∷ ns) opens_there.follow
+
+  rest_all_past : AllPast folded opener (item_at old opener).end (roots (forest_at (links_of folded) (sibling_of folded opener)))
+  rest_all_past =
+      let all : AllPast old opener (item_at old opener).end (inside ++ closer ∷ can.after) = rw can.follows at (rest_past source tables old opener can.ready) in
+      let some = past_equal old folded opener (item_at old opener).end (closer ∷ can.after) v.items (past_behind old opener (item_at old opener).end inside (closer ∷ can.after) all) in
+      rw rest_roots some
+
+  link_on : next ≡ first_past folded byte (roots (forest_at (links_of folded) (sibling_of folded opener)))
+  link_on = link ∙ ap (λ (l : Option ℕ). first_past folded byte (roots (forest_at (links_of folded) l))) (sym v.next_is)
+
+  next_first : first_past old byte can.after ≡ next
+  next_first =
+      let ends = can.closer_ends in
+      let ends' : (item_at folded closer).end ≤ byte = rw (v.items closer) ends in
+      let test : nat_le (item_at folded closer).end byte ≡ true = grind (arith, nat_tests, ends') in
+      let skip : first_past folded byte (closer ∷ can.after) ≡ first_past folded byte can.after = rw test refl in
+      sym (link_on ∙ ap (λ (ns : List ℕ). first_past folded byte ns) rest_roots ∙ skip ∙ first_equal old folded byte can.after v.items)
+
+  puts : HeadPut source opener byte item next folded mid tables t
+  puts =
+      head_put source opener byte item next folded mid tables t grown folded_moves.stands over.puts over.ends w (item_at old opener).end rest_all_past link_on
+      (λ n e. rw (v.items n) (can.between n (next_first ∙ e))) can.boundary
+
+  rest_is : past_byte byte (trees_from source tables folded (sibling_of folded opener)) ≡ past_byte byte (trees_past (suc k) chain)
+  rest_is =
+      ap (λ (l : Option ℕ). past_byte byte (trees_from source tables folded l)) v.next_is
+      ∙ ap (λ (g : Forest Plain). past_byte byte g) (rest_reads source tables old folded opener last closer inside byte can is v)
+      ∙ past_closer source tables old k closer byte can.after f opens_there can.closer_ends
+
+  link_whole : (rule : Forest Plain → Forest Plain) (new : List (Node Item)) (later : Tables) → Rewrites source rule next place new t later
+      → Rewrites source (closed_over k (over_inside source t item) byte rule) (Some opener) old new tables later
+  link_whole rule new later r =
+      let h = head_stands source opener byte item next folded mid tables t folded_moves.stands w.child_is puts rule new later r in
+      let m = moves_twice source (Some opener) (Some opener) (Some opener) old folded new tables tables later folded_moves h.moved.moves in
+      let item_is : item_at new opener ≡ item = h.moved.item ∙ puts.item_is in
+      record {
+        changes = moves_change source (Some opener) old new tables later m
+            (λ a stands. before_text opener old new a (first_no_block source tables old opener can.ready) (rw item_is over.starts) stands);
+        runs = runs_text source opener old new can.opener_closed (rw item_is puts.closed);
+        rewritten = h.reads ∙ tree_same _ _ _ _ _ _ refl (inside_reads source tables old folded opener last closer inside byte can is v) (ap rule rest_is) ∙ rw whole_old refl;
+      }
+
+  left_moves : Moves source (Some opener) next old place tables t
+  left_moves =
+      moves_twice source (Some opener) (Some opener) next old folded place tables tables t folded_moves
+      (moves_twice source (Some opener) (sibling_of folded opener) next folded mid place tables t t (head_leaves source opener folded mid tables t folded_moves.stands puts.head) puts.rest.moves)
+
+  left_reads : trees_from source t place next ≡ past_byte byte (trees_past (suc k) chain)
+  left_reads = puts.rest.reads ∙ rest_is
+
+  link_leaves : LeavesRest source opener next old place t
+  link_leaves =
+      let a = after_head source opener folded mid tables t folded_moves.stands puts.head in
+      let two : 2 ≤ weight_at folded opener = some_weight (is_open (item_at folded opener).body) in
+      let all : weight_in folded (Some opener) ≡ weight_at folded opener + (weight_in folded (child_of folded opener) + weight_in folded (sibling_of folded opener)) =
+      ap (λ (g : Forest ℕ). total (weight_at folded) g) a.here in
+      let rest : weight_in place next ≤ weight_in folded (sibling_of folded opener) = rw (← a.rest.weight) puts.rest.moves.no_heavier in
+      let weight = folded_moves.no_heavier in
+      over_leaves source opener (suc k) byte next old place tables t f can.ready whole_old left_moves (omega (arith, two, all, rest, weight)) left_reads
+
+  behind_same : (n : ℕ) → 0 < total (same n) (trees_past (suc k) f) → IsSameAt old mid n
+  behind_same n l =
+      let one : total (same n) (trees_past k f) ≡ same n closer + (total (same n) opens_there.below + total (same n) (trees_past (suc k) f)) = ap (λ (g : Forest ℕ). total (same n) g) opens_there.is in
+      let parts = total_parts (same n) k f in
+      let once : same n opener + total (same n) f ≤ 1 = (let x = rw whole_old at (can.ready.once n) in omega arith) in
+      same_trans old folded mid n (rest_kept source tables old folded opener last closer inside byte can is v n (omega (arith, one, l)))
+      (w.others n (λ q. let self : same n opener ≡ 1 = subst (λ (m : ℕ). same n m ≡ 1) q (same-refl n) in absurd (omega (arith, once, self, parts, one, l))))
+
+  link_leads : (low : ℕ) (after : List Numbered) → LeadsThrough old low (sibling_of old closer) after → LeadsThrough place low next (numbered_past_byte byte after)
+  link_leads =
+      let o = opens (links_of old) (IsPlaced source tables old) opener can.ready.reaches in
+      let size = v.size in
+      let size' = w.size in
+      behind_leads old mid opener closer byte inside can.after next f can.follows o.after.spelled (omega (arith, size, size')) behind_same next_first
+
+  link_numbers : roots (forest_at (links_of place) (Some opener)) ≡ opener ∷ roots (forest_at (links_of place) next)
+  link_numbers =
+      let r = link_whole (λ g. g) place t (rewrites_none source next place t left_moves.stands) in
+      over_numbers source opener next place t r.changes.reaches (next_from mid next byte opener ∙ w.next_is)
+
+  -- so the item stands for what was found, over what is inside
+  pub link_puts : PutsOver source opener closer inside (over_inside source t item) byte (opener ∷ []) next old place tables t
+  link_puts = record { whole = link_whole; leaves = link_leaves; leads = link_leads; numbers = link_numbers }

@@ -1,0 +1,338 @@
+-- A chain is read where it stands, item by item: what is so of the items that are left.
+use Rattle.std.proofs.Common.{◌≡◌, ℕ, zero, suc, ◌+◌, ◌-◌, ◌^◌, ◌<◌, ◌≤◌, min, Bool, true, false, ◌⊎◌, inr, ⊎_elim, List, [], ◌∷◌, length, take, rules, Option, Some, None, refl, sym, ap, ◌∙◌, subst, arith}
+use Rattle.std.specs.Prelude.{Result, Ok, Err, IfOk, slice_range}
+use Rattle.markdown_base.specs.Arena.{Arena, sibling_of, child_of}
+use Rattle.markdown_base.specs.ArenaForest.{links_of}
+use Rattle.markdown_base.specs.BlockTree.{item_at}
+use Rattle.markdown_base.specs.Forest.{Forest}
+use Rattle.markdown_base.specs.Item.{is_open}
+use Rattle.markdown_base.specs.Questions.{Question, Answer}
+use Rattle.markdown_base.specs.declared.item.Item.{Item}
+use Rattle.markdown_base.specs.declared.item.ItemBody.{ItemBody}
+use Rattle.markdown_base.specs.declared.item.ItemBody.TheVariants as body
+use Rattle.markdown_base.specs.declared.node.Node.{Node}
+use Rattle.markdown_base.proofs.ArenaForestLemmas.{opens, forest_at-none}
+use Rattle.markdown_chains.specs.Above.{Above, above_at, above_cursor, inside_all, inside_item, no_blocks}
+use Rattle.markdown_chains.specs.ChainRest.{open_body}
+use Rattle.markdown_chains.specs.Counts.{risen}
+use Rattle.markdown_chains.specs.Document.{Plain, plain_tags, Shape, leaf, enclosed, plain, backslash_break, unresolved, is_unresolved, shape_of}
+use Rattle.markdown_chains.specs.Places.{IsPlaced, label_at, trees_from}
+use Rattle.markdown_chains.specs.Setting.{Rules, Setting, setting_of}
+use Rattle.markdown_chains.specs.Stages.{Stage, chain_at, items_from, known_at}
+use Rattle.markdown_chains.specs.Tables.{Tables}
+use Rattle.markdown_chains.specs.Waiting.{is_quiet}
+use Rattle.markdown_chains.proofs.PlaceLemmas.{shape-open}
+use Rattle.markdown_chains.proofs.TablesLemmas.{grown-nothing}
+use Rattle.markdown_code.specs.Finds.{nothing, Passed, find, find_by, gfm_footnotes, read_tree}
+use Rattle.markdown_code.specs.SpanClosers.{HoldsFrom, Learned}
+use Rattle.markdown_code.specs.declared.span_text.SpanKind.{SpanKind}
+use Rattle.markdown_delims.proofs.PairingLemmas.{closed_shape}
+use Rattle.markdown_resolver.specs.Chains.{AreAbove, CanResolve, ResolvesFrom}
+use Rattle.markdown_resolver.specs.PassOne.{Outcome, pass_one, read_chain}
+use Rattle.markdown_resolver.specs.Rewritten.{LeavesRest, LooksAt, Puts, ReadsItem, Rewrites, reads_by, settled}
+use Rattle.markdown_resolver.proofs.ChainLeadsLemmas.{chain_leads, holds_next}
+use Rattle.markdown_resolver.proofs.ReadsItemLemmas.{reads_item}
+
+-- the node of a chain's first item is there
+pub node_within : (source : List ℕ) (tables : Tables) (nodes : List (Node Item)) (ix : ℕ)
+    → CanResolve source tables nodes (Some ix) → ix < length nodes
+node_within source tables nodes ix ready =
+    (opens (links_of nodes) (IsPlaced source tables nodes) ix ready.reaches).within
+
+-- what follows the first item may be read too
+pub ready_next : (source : List ℕ) (tables : Tables) (nodes : List (Node Item)) (ix : ℕ)
+    → CanResolve source tables nodes (Some ix) → CanResolve source tables nodes (sibling_of nodes ix)
+ready_next source tables nodes ix ready =
+    let o = opens (links_of nodes) (IsPlaced source tables nodes) ix ready.reaches in
+    record {
+      reaches = o.after;
+      once = λ n. let x = rw o.here at (ready.once n) in omega arith;
+      named_once = λ n. let x = rw o.here at (ready.named_once n) in omega arith;
+      quiet_below = (rw o.here at ready.quiet_below).2;
+    }
+
+-- and has one item less
+pub items_next : (source : List ℕ) (tables : Tables) (nodes : List (Node Item)) (ix : ℕ)
+    → CanResolve source tables nodes (Some ix) → items_from nodes (Some ix) ≡ suc (items_from nodes (sibling_of nodes ix))
+items_next source tables nodes ix ready =
+    rw (opens (links_of nodes) (IsPlaced source tables nodes) ix ready.reaches).here refl
+
+-- a chain has an item
+pub items_some : (source : List ℕ) (tables : Tables) (nodes : List (Node Item)) (ix : ℕ)
+    → CanResolve source tables nodes (Some ix) → 0 < items_from nodes (Some ix)
+items_some source tables nodes ix ready =
+    rw (opens (links_of nodes) (IsPlaced source tables nodes) ix ready.reaches).here (omega arith)
+
+-- nothing is left of a chain that has ended
+pub items_none : (nodes : List (Node Item)) → items_from nodes None ≡ 0
+items_none nodes = rw (forest_at-none (links_of nodes)) refl
+
+-- of all items some were counted, up to the greatest count, and the others follow
+pub record Counted (old now all rest : ℕ) : Type 0 where
+  pub done : ℕ
+  pub is_all : all ≡ done + rest
+  pub count : ((done ≡ 0) × (now ≡ old)) ⊎ (now ≡ min (old + done) (2 ^ 128 - 1))
+
+-- one more was counted, of which there was none or some
+one_more : (old now new done most : ℕ) → new ≡ min (now + 1) most
+    → ((done ≡ 0) × (now ≡ old)) ⊎ (now ≡ min (old + done) most) → new ≡ min (old + suc done) most
+one_more old now new done most e h =
+    ⊎_elim (λ (z : (done ≡ 0) × (now ≡ old)). omega (arith, e, z.0, z.1)) (λ z. omega (arith, e, z)) h
+
+pub counted_more : (old now new all rest more : ℕ) → Counted old now all rest → rest ≡ suc more
+    → new ≡ min (now + 1) (2 ^ 128 - 1) → Counted old new all more
+counted_more old now new all rest more c r e = record {
+  done = suc c.done;
+  is_all = omega (arith, c.is_all, r);
+  count = inr (one_more old now new c.done (2 ^ 128 - 1) e c.count);
+}
+
+-- where the counted ones are all, the count is of all
+all_done : (old now done all most : ℕ) → done ≡ all → 0 < all
+    → ((done ≡ 0) × (now ≡ old)) ⊎ (now ≡ min (old + done) most) → now ≡ min (old + all) most
+all_done old now done all most e l h =
+    ⊎_elim (λ (z : (done ≡ 0) × (now ≡ old)). absurd (omega (arith, e, l, z.0))) (λ z. omega (arith, e, z)) h
+
+-- so in the end all were counted, of which there was one at least
+pub counted_all : (old now all rest : ℕ) → Counted old now all rest → rest ≡ 0 → 0 < all
+    → now ≡ min (old + all) (2 ^ 128 - 1)
+counted_all old now all rest c r l = all_done old now c.done all (2 ^ 128 - 1) (omega (arith, c.is_all, r)) l c.count
+
+-- nothing is found from an item with this body on
+pub record FindsNothing (b : ItemBody) : Type 0 where
+  pub finds : (s : Setting) (above : Above) (a : Plain) (after : Forest Plain) → find_by s above b a after ≡ nothing
+
+-- so it is where it is no opener of code or math and no `<`
+pub finds_nothing : (b : ItemBody) → ((count : ℕ) (escaped : Bool) → b ≡ body.MaybeCode count escaped → ⊥)
+    → ((opens closes : Bool) (context : ℕ) → b ≡ body.MaybeMath opens closes context → ⊥) → (b ≡ body.MaybeHtml → ⊥) → FindsNothing b
+finds_nothing (body.MaybeCode count escaped) code math html = absurd (code count escaped refl)
+finds_nothing (body.MaybeMath opens closes context) code math html = absurd (math opens closes context refl)
+finds_nothing body.MaybeHtml code math html = absurd (html refl)
+finds_nothing other code math html = record { finds = λ s above a after. refl }
+
+-- nor is anything found from a label on that has the shape of such a body
+finds_in_shape : (s : Setting) (above : Above) (a : Plain) (after : Forest Plain) (tables : Tables) (source : List ℕ) (b : ItemBody) → FindsNothing b
+    → find_by s above (open_body (shape_of tables source b)) a after ≡ nothing
+finds_in_shape s above a after tables source b h = by_open (is_open b) refl
+  where
+    closed : (shape : Shape) → is_unresolved shape ≡ false → find_by s above (open_body shape) a after ≡ nothing
+    closed (leaf e origins) h = refl
+    closed (enclosed tag) h = refl
+    closed plain h = refl
+    closed backslash_break h = refl
+    closed (unresolved b) h = cc h
+
+    by_open : (is : Bool) → is_open b ≡ is → find_by s above (open_body (shape_of tables source b)) a after ≡ nothing
+    by_open true e = rw (shape-open tables source b e) (h.finds s above a after)
+    by_open false e = closed (shape_of tables source b) (closed_shape tables source b e)
+
+-- a tree at which nothing is found is settled
+reads_settled : (s : Setting) (above : Above) (a : Plain) (below after : Forest Plain) → find s above a after ≡ nothing
+    → (let r : Passed (Unit {0}) = read_tree s plain_tags above 0 a below after in (r.trees ≡ settled s.text a below) × (r.goes_on ≡ None))
+unfolding read_tree
+reads_settled s above a below after none = by_quiet (is_quiet a.part.shape) refl
+  where
+    by_quiet : (quiet : Bool) → is_quiet a.part.shape ≡ quiet
+        → (let r : Passed (Unit {0}) = read_tree s plain_tags above 0 a below after in (r.trees ≡ settled s.text a below) × (r.goes_on ≡ None))
+    by_quiet true e = rw e (refl, refl)
+    by_quiet false e = rw (e, none) (refl, refl)
+
+-- an item at which nothing is found is read when it is settled
+pub settled_reads : (s : Setting) (above : Above) (ix : ℕ) (next : Option ℕ) (old new : List (Node Item)) (tables : Tables)
+    → CanResolve s.text tables old (Some ix) → FindsNothing (item_at old ix).body
+    → Puts s.text ix (settled s.text) None next old new tables tables → ReadsItem s above ix next old new tables tables
+settled_reads s above ix next old new tables ready nothing_there puts =
+    let item = item_at old ix in
+    let a = label_at s.text tables old ix in
+    let after = trees_from s.text tables old (sibling_of old ix) in
+    let none : find s above a after ≡ nothing = finds_in_shape s above a after tables (slice_range s.text item.start item.end) item.body nothing_there in
+    let reads = reads_settled s above a (trees_from s.text tables old (child_of old ix)) after none in
+    reads_item s above ix (settled s.text) None next old new tables tables ready (record { standing = reads.0; ends = reads.1 }) puts
+
+-- where no search was made, none looked at an item
+pub looks_at_none : (failed : Bool) (visits items items' : ℕ) → visits < 2 ^ 128 → items' < items → LooksAt failed failed visits visits items items'
+looks_at_none failed visits items items' bound fewer = record {
+  more = 0;
+  counted = omega arith;
+  within = omega arith;
+  none = λ e. (refl, e);
+  past = λ e. omega arith;
+}
+
+-- what searches have learned of a chain holds of what is left when an item was read
+pub holds_on : (s : Setting) (above : Above) (kind : SpanKind) (learned : Learned) (ix : ℕ) (next : Option ℕ) (old new : List (Node Item)) (tables tables' : Tables)
+    → CanResolve s.text tables old (Some ix) → ReadsItem s above ix next old new tables tables' → HoldsFrom kind learned old (Some ix) → HoldsFrom kind learned new next
+holds_on s above kind learned ix next old new tables tables' ready reads h =
+    reads.holds kind learned (holds_next kind learned old ix (chain_leads s.text tables old (Some ix) ready) h)
+
+-- an item was read, by the rules of the setting, unless memory was refused
+pub ok_reads : {E : Type 0} (r : Result (Option ℕ) E) (text source : List ℕ) (rules : Rules) (gfm : Bool) (tree : Arena Item) (ix : ℕ) (new : List (Node Item)) (tables tables' : Tables)
+    → text ≡ source → gfm ≡ gfm_footnotes rules.options
+    → IfOk r (λ next. (rules : Rules) → gfm_footnotes rules.options ≡ gfm → ReadsItem (setting_of text rules) (above_cursor text tree) ix next tree.nodes new tables tables')
+    → IfOk r (λ next. ReadsItem (setting_of source rules) (above_cursor source tree) ix next tree.nodes new tables tables')
+ok_reads (Ok next) text source rules gfm tree ix new tables tables' e f h =
+    subst (λ (t : List ℕ). ReadsItem (setting_of t rules) (above_cursor t tree) ix next tree.nodes new tables tables') e (h rules (sym f))
+ok_reads (Err fault) text source rules gfm tree ix new tables tables' e f h = tt
+
+-- then what searches of the other kind have learned holds of what is left
+pub ok_holds : {E : Type 0} (r : Result (Option ℕ) E) (s : Setting) (above : Above) (kind : SpanKind) (learned : Learned) (ix : ℕ) (old new : List (Node Item)) (tables tables' : Tables)
+    → CanResolve s.text tables old (Some ix) → HoldsFrom kind learned old (Some ix) → IfOk r (λ next. ReadsItem s above ix next old new tables tables')
+    → IfOk r (λ next. HoldsFrom kind learned new next)
+ok_holds (Ok next) s above kind learned ix old new tables tables' ready h reads = holds_on s above kind learned ix next old new tables tables' ready reads h
+ok_holds (Err fault) s above kind learned ix old new tables tables' ready h reads = tt
+
+-- and those have looked at no item
+pub ok_looks : {E : Type 0} (r : Result (Option ℕ) E) (s : Setting) (above : Above) (failed : Bool) (visits ix : ℕ) (old new : List (Node Item)) (tables tables' : Tables)
+    → visits < 2 ^ 128 → IfOk r (λ next. ReadsItem s above ix next old new tables tables')
+    → IfOk r (λ next. LooksAt failed failed visits visits (items_from old (Some ix)) (items_from new next))
+ok_looks (Ok next) s above failed visits ix old new tables tables' bound reads =
+    looks_at_none failed visits (items_from old (Some ix)) (items_from new next) bound reads.leaves.fewer
+ok_looks (Err fault) s above failed visits ix old new tables tables' bound reads = tt
+
+-- nodes of a spine stay as they are where an item of a chain below them is read
+pub above_left : (source : List ℕ) (ix : ℕ) (next : Option ℕ) (old new : List (Node Item)) (tables' : Tables) (spine : List ℕ)
+    → LeavesRest source ix next old new tables' → AreAbove source old (Some ix) spine → AreAbove source new next spine
+above_left source ix next old new tables' [] leaves above = tt
+above_left source ix next old new tables' (n ∷ deeper) leaves above =
+    let at = above.0 in (
+      record {
+        within = omega (arith, at.within, leaves.more_nodes);
+        lies = rw (leaves.outside n at.within at.apart).item at.lies;
+        apart = omega (arith, leaves.of_chain n at.within, at.apart);
+      },
+      above_left source ix next old new tables' deeper leaves above.1,
+    )
+
+-- so the blocks above the chain do
+inside_left : (source : List ℕ) (ix : ℕ) (next : Option ℕ) (old new : List (Node Item)) (tables' : Tables) (spine : List ℕ) (outer : Above)
+    → LeavesRest source ix next old new tables' → AreAbove source old (Some ix) spine → inside_all new spine outer ≡ inside_all old spine outer
+inside_left source ix next old new tables' [] outer leaves above = refl
+inside_left source ix next old new tables' (n ∷ deeper) outer leaves above =
+    let at = above.0 in
+    ap (λ (item : Item). inside_all new deeper (inside_item item outer)) (leaves.outside n at.within at.apart).item
+    ∙ inside_left source ix next old new tables' deeper (inside_item (item_at old n) outer) leaves above.1
+
+-- the bytes up to one
+pub up_to : (text : List ℕ) (end : ℕ) → slice_range text 0 end ≡ take end text
+up_to text end = search rules
+
+-- a chain was read where it stands from the node `first` up to the link `at`
+pub record ReadsUpTo (s : Setting) (first : ℕ) (at : Option ℕ) (old now : Arena Item) (tables tables' : Tables) : Type 0 where
+  -- what is left may be read, where the chain stands
+  pub tree : now ≡ record old { nodes = now.nodes }
+  pub ready : CanResolve s.text tables' now.nodes at
+  pub above : AreAbove s.text now.nodes at now.spine
+  pub same_above : above_cursor s.text now ≡ above_cursor s.text old
+  -- once it is read, the whole is
+  pub whole : (nodes : List (Node Item)) (later : Tables) → Rewrites s.text (reads_by s (above_cursor s.text old)) at now.nodes nodes tables' later
+      → Rewrites s.text (reads_by s (above_cursor s.text old)) (Some first) old.nodes nodes tables later
+
+-- none of it was read yet
+pub reads_none : (s : Setting) (first : ℕ) (old : Arena Item) (tables : Tables) → CanResolve s.text tables old.nodes (Some first)
+    → AreAbove s.text old.nodes (Some first) old.spine → ReadsUpTo s first (Some first) old old tables tables
+reads_none s first old tables ready above = record { tree = refl; ready = ready; above = above; same_above = refl; whole = λ nodes later r. r }
+
+-- one item more was read
+pub reads_more : (s s' : Setting) (first ix : ℕ) (next : Option ℕ) (old now new : Arena Item) (tables tables1 tables2 : Tables) → s' ≡ s
+    → ReadsUpTo s first (Some ix) old now tables tables1 → new ≡ record now { nodes = new.nodes }
+    → ReadsItem s' (above_cursor s'.text now) ix next now.nodes new.nodes tables1 tables2 → ReadsUpTo s first next old new tables tables2
+reads_more s s' first ix next old now new tables tables1 tables2 same r e reads' =
+    let reads = subst (λ (x : Setting). ReadsItem x (above_cursor x.text now) ix next now.nodes new.nodes tables1 tables2) same reads' in
+    let leaves = reads.leaves in
+    let spine : new.spine ≡ now.spine = ap (λ (t : Arena Item). t.spine) e in
+    record {
+      tree = e ∙ ap (λ (t : Arena Item). let u : Arena Item = record t { nodes = new.nodes } in u) r.tree;
+      ready = leaves.ready;
+      above = rw spine (above_left s.text ix next now.nodes new.nodes tables2 now.spine leaves r.above);
+      same_above =
+          ap (λ (spine : List ℕ). above_at s.text new.nodes spine) spine
+          ∙ inside_left s.text ix next now.nodes new.nodes tables2 now.spine (no_blocks s.text) leaves r.above
+          ∙ r.same_above;
+      whole = λ nodes later rest. r.whole nodes later (rw r.same_above at (reads.whole nodes later (rw r.same_above rest)));
+    }
+
+-- of a chain that has ended nothing is left to be read
+read_to_end : (s : Setting) (above : Above) (nodes : List (Node Item)) (tables : Tables) → Rewrites s.text (reads_by s above) None nodes nodes tables tables
+unfolding read_chain
+read_to_end s above nodes tables =
+    let e = forest_at-none (links_of nodes) in
+    record {
+      changes = record {
+        reaches = record { spelled = rw e refl; each = rw e tt };
+        once = λ n. rw e (omega arith);
+        of_chain = λ n l. omega arith;
+        more_nodes = omega arith;
+        outside = λ n l z. record { child = refl; next = refl; item = refl };
+        grown = grown-nothing tables;
+        named_once = λ n. rw e (omega arith);
+        named = λ n l. omega arith;
+        before = λ a stands. stands;
+        no_heavier = omega arith;
+      };
+      runs = λ a whole. whole;
+      rewritten = rw e refl;
+    }
+
+-- a chain that was read is resolved by pass one, which asks nothing
+resolves_read : {C : Type 0} (step : C → Question → Option Answer → C → Type 0) (s : Setting) (above : Above) (first : ℕ) (old new : Stage C)
+    → new ≡ record old { nodes = new.nodes; tables = new.tables } → Rewrites s.text (reads_by s above) (Some first) old.nodes new.nodes old.tables new.tables
+    → ResolvesFrom step s.text (pass_one s plain_tags above) (Some first) old new
+unfolding pass_one
+resolves_read {C} step s above first old new e r = record {
+  changes = r.changes;
+  answers = [];
+  questions = [];
+  asked = ap (λ (t : Stage C). t.callback) (sym e);
+  resolves = λ later.
+      ap (λ (f : Forest Plain). let o : Outcome (Unit {0}) = record { questions = []; forest = f; known = known_at old later } in o) (sym r.rewritten)
+      ∙ ap (λ (t : Stage C). let o : Outcome (Unit {0}) = record { questions = []; forest = chain_at s.text new (Some first); known = known_at t later } in o) (sym e);
+}
+
+-- in the end the whole chain was resolved
+pub resolves_all : {C : Type 0} (step : C → Question → Option Answer → C → Type 0) (s : Setting) (first : ℕ) (at : Option ℕ) (tree tree' : Arena Item) (old new : Stage C)
+    → at ≡ None → old.nodes ≡ tree.nodes → new.nodes ≡ tree'.nodes → new ≡ record old { nodes = new.nodes; tables = new.tables }
+    → ReadsUpTo s first at tree tree' old.tables new.tables
+    → ResolvesFrom step s.text (pass_one s plain_tags (above_cursor s.text tree)) (Some first) old new
+resolves_all step s first at tree tree' old new none from to e r =
+    let whole = (rw none at r.whole) tree'.nodes new.tables (read_to_end s (above_cursor s.text tree) tree'.nodes new.tables) in
+    resolves_read step s (above_cursor s.text tree) first old new e (rw (from, to) whole)
+
+-- searches have looked at some items of a chain, of which some are left: at none of those, unless one has failed
+pub record LookedUpTo (failed : Bool) (old now all rest : ℕ) : Type 0 where
+  pub more : ℕ
+  pub counted : now ≡ risen more old
+  pub within : more ≤ all
+  pub past : failed ≡ false → more + rest ≤ all
+
+-- no search was made yet
+pub looked_none : (failed : Bool) (old all : ℕ) → LookedUpTo failed old old all all
+looked_none failed old all = record { more = 0; counted = refl; within = omega arith; past = λ e. omega arith }
+
+-- a count that has risen is the sum, up to the greatest count
+risen_is : (n old : ℕ) → old < 2 ^ 128 → risen n old ≡ min (old + n) (2 ^ 128 - 1)
+risen_is zero old bound = omega arith
+risen_is (suc n) old bound = refl
+
+-- so it is where it has risen twice
+risen_more : (more n old now new : ℕ) → old < 2 ^ 128 → now ≡ risen more old → new ≡ min (now + n) (2 ^ 128 - 1) → new ≡ risen (more + n) old
+risen_more more n old now new bound e h = omega (arith, risen_is more old bound, risen_is (more + n) old bound, e, h)
+
+-- one search more was made, or none
+pub looked_more : (before after : Bool) (old now new all items items' : ℕ) → old < 2 ^ 128 → LookedUpTo before old now all items
+    → LooksAt before after now new items items' → LookedUpTo after old new all items'
+looked_more true after old now new all items items' bound l a =
+    let none = a.none refl in
+    record {
+      more = l.more + a.more;
+      counted = risen_more l.more a.more old now new bound l.counted a.counted;
+      within = omega (arith, l.within, none.0);
+      past = λ e. cc (none.1, e);
+    }
+looked_more false after old now new all items items' bound l a =
+    let past = l.past refl in
+    record {
+      more = l.more + a.more;
+      counted = risen_more l.more a.more old now new bound l.counted a.counted;
+      within = omega (arith, past, a.within);
+      past = λ e. omega (arith, past, a.past e);
+    }

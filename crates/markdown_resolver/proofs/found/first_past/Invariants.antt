@@ -1,0 +1,17 @@
+-- The chain is there from the link on, and the first that ends past the byte is still ahead.
+use Rattle.std.proofs.Common.{◌≡◌}
+use Rattle.markdown_base.specs.ArenaForest.{Spells, forest_at, links_of}
+use Rattle.markdown_base.specs.Forest.{roots}
+use Rattle.markdown_chains.specs.Stages.{items_from}
+use Rattle.markdown_resolver.specs.Rewritten.{first_past}
+use Rattle.markdown_resolver.proofs.found.first_past.Given as goal
+
+abbrev pub invariant-chain : goal.invariant-chain
+invariant-chain l = record {
+  spelled : Spells (links_of l.tree.nodes) l.at (forest_at (links_of l.tree.nodes) l.at);
+  ahead : first_past l.tree.nodes l.end (roots (forest_at (links_of l.tree.nodes) l.fn.first))
+      ≡ first_past l.tree.nodes l.end (roots (forest_at (links_of l.tree.nodes) l.at));
+}
+
+abbrev pub decreases-chain : goal.decreases-chain
+decreases-chain l = items_from l.tree.nodes l.at

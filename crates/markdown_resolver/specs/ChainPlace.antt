@@ -1,0 +1,22 @@
+-- Where a chain stands, as a `ChainPlace` has it: a fact of the representation.
+use Rattle.std.specs.Prelude.{◌≡◌, ℕ, Some}
+use Rattle.std.specs.Str.{IsCharBoundary}
+use Rattle.markdown_base.specs.Arena.{Arena}
+use Rattle.markdown_base.specs.declared.item.Item.{Item}
+use Rattle.markdown_chains.specs.Above.{above_cursor}
+use Rattle.markdown_chains.specs.Tables.{tables_of}
+use Rattle.markdown_resolver.specs.Chains.{AreAbove, CanResolve}
+use Rattle.markdown_resolver.specs.declared.chain_place.ChainPlace.{ChainPlace}
+use Rattle.markdown_spans.specs.Allocations.{Allocated}
+
+-- it is that of the chain at the cursor of a tree
+pub record IsPlaceOf (place : ChainPlace) (tree : Arena Item) : Type 0 where
+  pub block_end : place.block_end ≡ (above_cursor place.text.now tree).block_end
+  pub in_table : place.in_table ≡ (above_cursor place.text.now tree).in_table
+  pub boundary : IsCharBoundary place.text.now place.block_end
+
+-- the item of a node there may be read
+pub record CanReadItem (place : ChainPlace) (tree : Arena Item) (held : Allocated) (ix : ℕ) : Type 0 where
+  pub stands : IsPlaceOf place tree
+  pub ready : CanResolve place.text.now (tables_of held) tree.nodes (Some ix)
+  pub above : AreAbove place.text.now tree.nodes (Some ix) tree.spine

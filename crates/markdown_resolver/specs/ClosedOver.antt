@@ -1,0 +1,112 @@
+-- What a closing bracket becomes, put where it stands: what private contracts say of the nodes from its opener on.
+use Rattle.std.specs.Prelude.{◌≡◌, ℕ, zero, suc, ◌<◌, ◌≤◌, true, false, List, [], ◌∷◌, ◌++◌, Option, Some, None, length}
+use Rattle.std.specs.Str.{IsCharBoundary}
+use Rattle.markdown_base.specs.Arena.{child_of, sibling_of}
+use Rattle.markdown_base.specs.ArenaForest.{links_of, forest_at}
+use Rattle.markdown_base.specs.BlockTree.{Numbered, item_at}
+use Rattle.markdown_base.specs.Forest.{Forest, nil, node, roots}
+use Rattle.markdown_base.specs.Item.{is_open}
+use Rattle.markdown_base.specs.WellFormed.{run_character}
+use Rattle.markdown_base.specs.declared.item.Item.{Item}
+use Rattle.markdown_base.specs.declared.node.Node.{Node}
+use Rattle.markdown_chains.specs.ChainRest.{joined, past}
+use Rattle.markdown_chains.specs.Document.{Plain, label_of}
+use Rattle.markdown_chains.specs.Places.{IsSameAt}
+use Rattle.markdown_chains.specs.Tables.{Tables, Named}
+use Rattle.markdown_chains.specs.Totals.{times_named}
+use Rattle.markdown_code.specs.ChainInArena.{LeadsThrough}
+use Rattle.markdown_resolver.specs.Chains.{CanResolve}
+use Rattle.markdown_resolver.specs.Rewritten.{Rewrites, LeavesRest, CanPut, first_past, numbered_past_byte}
+
+-- the first k trees of a chain, and what follows them
+abbrev pub first_trees : {A : Type 0} → ℕ → Forest A → Forest A
+first_trees zero f = nil
+first_trees (suc k) nil = nil
+first_trees (suc k) (node a below after) = node a below (first_trees k after)
+
+abbrev pub trees_past : {A : Type 0} → ℕ → Forest A → Forest A
+trees_past zero f = f
+trees_past (suc k) nil = nil
+trees_past (suc k) (node a below after) = trees_past k after
+
+-- what stands for an opener and for what is inside
+abbrev pub Enclosing : Type 0
+Enclosing = Plain → (inside : Forest Plain) → Forest Plain
+
+-- trees stand for the first tree of a chain, which is an opener, for the k trees inside, for the `]` behind them and for
+-- what follows it up to a byte; a rule reads what is left
+abbrev pub closed_over : (k : ℕ) → Enclosing → (goes_on : ℕ) → (Forest Plain → Forest Plain) → Forest Plain
+    → Forest Plain
+closed_over k trees goes_on rule nil = nil
+closed_over k trees goes_on rule (node a below after) =
+    joined (trees a (first_trees k after)) (rule (past (Some goes_on) (trees_past (suc k) after)))
+
+-- one item, with what is inside below it; one item without it
+abbrev pub over_inside : List ℕ → Tables → Item → Enclosing
+over_inside source tables item a inside = node (label_of source tables item) inside nil
+
+abbrev pub in_place_of : List ℕ → Tables → Item → Enclosing
+in_place_of source tables item a inside = node (label_of source tables item) nil nil
+
+-- a Text over the first byte of the opener, and an item behind it
+abbrev pub after_mark : List ℕ → Tables → (mark item : Item) → Enclosing
+after_mark source tables mark item a inside =
+    node (label_of source tables mark) nil (node (label_of source tables item) nil nil)
+
+-- the last node inside, or the opener where nothing is
+abbrev pub last_inside : (opener : ℕ) → List ℕ → ℕ
+last_inside opener [] = opener
+last_inside opener (n ∷ inside) = last_inside n inside
+
+-- from an opener on, which is a Text by then, a chain stands with these nodes inside and a `]` behind them: what is found
+-- ends at a byte
+pub record CanClose (source : List ℕ) (tables : Tables) (nodes : List (Node Item)) (opener closer : ℕ) (inside : List ℕ) (byte : ℕ) : Type 0 where
+  pub ready : CanResolve source tables nodes (Some opener)
+  pub opener_closed : is_open (item_at nodes opener).body ≡ false
+  pub childless : child_of nodes opener ≡ None
+  pub after : List ℕ
+  pub follows : roots (forest_at (links_of nodes) (sibling_of nodes opener)) ≡ inside ++ closer ∷ after
+  pub closer_no_run : run_character (item_at nodes closer).body ≡ None
+  pub closer_ends : (item_at nodes closer).end ≤ byte
+  pub boundary : IsCharBoundary source byte
+  -- nothing open stands around that byte
+  pub between : (next : ℕ) → first_past nodes byte after ≡ Some next → (item_at nodes next).start < byte → is_open (item_at nodes next).body ≡ false
+
+-- an item may be put into the node of that opener: it begins where that does, and ends at the byte or before
+pub record CanPutOver (source : List ℕ) (tables tables' : Tables) (nodes : List (Node Item)) (opener : ℕ) (item : Item) (byte : ℕ) : Type 0 where
+  pub puts : CanPut source tables tables' item
+  pub starts : item.start ≡ (item_at nodes opener).start
+  pub ends : item.end ≤ byte
+
+-- two items may be put there: over the opener's first byte, and into the node of the closer, which ends where it does
+pub record CanPutMark (source : List ℕ) (tables tables' : Tables) (nodes : List (Node Item)) (opener closer : ℕ) (mark item : Item) : Type 0 where
+  pub puts_mark : CanPut source tables tables' mark
+  pub puts : CanPut source tables tables' item
+  pub names_nothing : (n : Named) → times_named n mark.body ≡ 0
+  pub starts : mark.start ≡ (item_at nodes opener).start
+  pub in_order : mark.end ≤ item.start
+  pub ends : item.end ≡ (item_at nodes closer).end
+  pub closer_open : is_open (item_at nodes closer).body ≡ true
+
+-- what a `]` becomes was put where it stands; these nodes stand there now
+pub record PutsOver (source : List ℕ) (opener closer : ℕ) (inside : List ℕ) (trees : Enclosing) (goes_on : ℕ) (standing : List ℕ) (next : Option ℕ) (old new : List (Node Item)) (tables tables' : Tables) : Type 0 where
+  -- once what is left is rewritten by a rule, the whole is
+  pub whole : (rule : Forest Plain → Forest Plain) (nodes : List (Node Item)) (later : Tables)
+      → Rewrites source rule next new nodes tables' later
+      → Rewrites source (closed_over (length inside) trees goes_on rule) (Some opener) old nodes tables later
+  pub leaves : LeavesRest source opener next old new tables'
+  -- the links behind the `]` lead on past that byte
+  pub leads : (low : ℕ) (after : List Numbered) → LeadsThrough old low (sibling_of old closer) after
+      → LeadsThrough new low next (numbered_past_byte goes_on after)
+  pub numbers : roots (forest_at (links_of new) (Some opener)) ≡ standing ++ roots (forest_at (links_of new) next)
+
+-- what stands inside went below the opener's node, which the closer follows; no item has changed
+pub record IsEnclosed (old new : List (Node Item)) (opener last closer : ℕ) : Type 0 where
+  pub size : length new ≡ length old
+  pub items : (n : ℕ) → item_at new n ≡ item_at old n
+  pub next_is : sibling_of new opener ≡ Some closer
+  pub none_inside : last ≡ opener → child_of new opener ≡ None
+  pub inside_is : (last ≡ opener → ⊥) → child_of new opener ≡ sibling_of old opener
+  pub last_next : (last ≡ opener → ⊥) → sibling_of new last ≡ None
+  pub last_child : (last ≡ opener → ⊥) → child_of new last ≡ child_of old last
+  pub others : (n : ℕ) → (n ≡ opener → ⊥) → (n ≡ last → ⊥) → IsSameAt old new n

@@ -1,0 +1,43 @@
+-- A code span that is put where its opener stands: what private contracts say of it.
+use Rattle.std.specs.Prelude.{ℕ, ◌<◌, ◌+◌, Bool, true, false, List, length}
+use Rattle.markdown_base.specs.BlockTree.{item_at}
+use Rattle.markdown_base.specs.declared.item.Item.{Item}
+use Rattle.markdown_base.specs.declared.item.ItemBody.{ItemBody}
+use Rattle.markdown_base.specs.declared.item.ItemBody.TheVariants as body
+use Rattle.markdown_base.specs.declared.node.Node.{Node}
+use Rattle.markdown_chains.specs.Tables.{Tables, HasGrown}
+use Rattle.markdown_code.specs.Finds.{is_escaped}
+use Rattle.markdown_resolver.specs.Rewritten.{CanPut, CanPutPair, IsFoundAt, Standing, one, pair}
+
+-- the first backtick of an opener, as a Text
+abbrev pub first_backtick : Item → Item
+first_backtick opener = record { start = opener.start; end = opener.start + 1; body = body.Text false }
+
+-- what stands from an opener to what closes it; and what stands there past that backtick
+abbrev pub span_item : (opener closer : Item) → ItemBody → Item
+span_item opener closer b = record { start = opener.start; end = closer.end; body = b }
+
+abbrev pub span_past_backtick : (opener closer : Item) → ItemBody → Item
+span_past_backtick opener closer b = record { start = opener.start + 1; end = closer.end; body = b }
+
+-- the trees of a code span: where the first backtick is escaped, that is a Text
+abbrev pub code_standing : List ℕ → Tables → (escaped : Bool) → (opener closer : Item) → ItemBody → Standing
+code_standing source tables false opener closer b = one source tables (span_item opener closer b)
+code_standing source tables true opener closer b =
+    pair source tables (first_backtick opener) (span_past_backtick opener closer b)
+
+-- they may be put there
+abbrev pub CanPutSpan : List ℕ → (tables tables' : Tables) → List (Node Item) → (ix closer : ℕ) → ItemBody
+    → (escaped : Bool) → Type 0
+CanPutSpan source tables tables' nodes ix closer b false =
+    CanPut source tables tables' (span_item (item_at nodes ix) (item_at nodes closer) b)
+CanPutSpan source tables tables' nodes ix closer b true =
+    CanPutPair source tables tables' nodes ix closer
+    (first_backtick (item_at nodes ix)) (span_past_backtick (item_at nodes ix) (item_at nodes closer) b)
+
+pub record CanPutCode (source : List ℕ) (tables tables' : Tables) (nodes : List (Node Item)) (ix closer : ℕ) (b : ItemBody) : Type 0 where
+  pub grown : HasGrown tables tables'
+  pub found : IsFoundAt source tables nodes ix (item_at nodes closer).end
+  pub closer_within : closer < length nodes
+  pub opener_within : ix < length nodes
+  pub span : CanPutSpan source tables tables' nodes ix closer b (is_escaped (item_at nodes ix).body)

@@ -1,0 +1,168 @@
+-- A chain of an arena that is rewritten where it stands: what private contracts say of its nodes.
+use Rattle.std.specs.Prelude.{◌≡◌, ℕ, ◌<◌, ◌≤◌, ◌+◌, ◌-◌, ◌^◌, min, max, Bool, true, false, List, [], ◌∷◌, ◌++◌, Option, Some, None, length, if◌then◌else◌, nat_le}
+use Rattle.std.specs.Option.{option_map}
+use Rattle.markdown_base.specs.Arena.{sibling_of}
+use Rattle.markdown_base.specs.ArenaForest.{links_of, forest_at}
+use Rattle.markdown_base.specs.BlockTree.{Numbered, numbered, item_at}
+use Rattle.markdown_base.specs.Forest.{Forest, nil, node, roots}
+use Rattle.markdown_base.specs.Item.{LiesIn, is_block, is_open}
+use Rattle.markdown_base.specs.WellFormed.{RunsAreWhole, run_character}
+use Rattle.markdown_base.specs.declared.item.Item.{Item}
+use Rattle.markdown_base.specs.declared.node.Node.{Node}
+use Rattle.markdown_chains.specs.Above.{Above}
+use Rattle.markdown_chains.specs.ChainRest.{joined, past}
+use Rattle.markdown_chains.specs.Document.{Plain, plain_tags, as_text, label_of}
+use Rattle.markdown_chains.specs.Places.{HasSlices, IsSameAt, trees_from}
+use Rattle.markdown_chains.specs.Setting.{Setting}
+use Rattle.markdown_chains.specs.Stages.{items_from, times_in, weight_in}
+use Rattle.markdown_chains.specs.Tables.{Tables, Named, NamesEntries, number_of, size_for}
+use Rattle.markdown_chains.specs.Totals.{times_named}
+use Rattle.markdown_chains.specs.Waiting.{is_quiet}
+use Rattle.markdown_code.specs.ChainInArena.{LeadsThrough}
+use Rattle.markdown_code.specs.SpanClosers.{HoldsFrom, Learned}
+use Rattle.markdown_code.specs.declared.span_text.SpanKind.{SpanKind}
+use Rattle.markdown_resolver.specs.Chains.{CanResolve, ChangesChain}
+use Rattle.markdown_resolver.specs.PassOne.{read_chain}
+
+-- a run that goes on at a link still does
+abbrev pub RunsGoOn : List ℕ → List (Node Item) → List (Node Item) → Option ℕ → Type 0
+RunsGoOn source nodes nodes' l =
+    (a : Numbered) → RunsAreWhole source a (option_map (numbered nodes) l) → RunsAreWhole source a (option_map (numbered nodes') l)
+
+-- the chain from the link l on was rewritten by a rule that asks nothing, so that it may be the rest of a chain
+pub record Rewrites (source : List ℕ) (rule : Forest Plain → Forest Plain) (l : Option ℕ) (old new : List (Node Item)) (tables tables' : Tables) : Type 0 where
+  pub changes : ChangesChain source l old new tables tables'
+  pub runs : RunsGoOn source old new l
+  pub rewritten : trees_from source tables' new l ≡ rule (trees_from source tables old l)
+
+-- what stands for a tree
+abbrev pub Standing : Type 0
+Standing = Plain → Forest Plain → Forest Plain
+
+-- trees stand for the first tree of a chain and, where something was found, for what follows it up to a byte; a rule reads
+-- what is left
+abbrev pub replaced : Standing → (goes_on : Option ℕ) → (Forest Plain → Forest Plain) → Forest Plain → Forest Plain
+replaced trees goes_on rule nil = nil
+replaced trees goes_on rule (node a below after) = joined (trees a below) (rule (past goes_on after))
+
+-- a Text, unless it is not open or waits for pairing
+abbrev pub text_unless : (is_quiet : Bool) → List ℕ → Standing
+text_unless true source a below = node a below nil
+text_unless false source a below = node (as_text source a) nil nil
+
+abbrev pub settled : List ℕ → Standing
+settled source a below = text_unless (is_quiet a.part.shape) source a below
+
+-- one item; two items; one item with one child
+abbrev pub one : List ℕ → Tables → Item → Standing
+one source tables item a below = node (label_of source tables item) nil nil
+
+abbrev pub pair : List ℕ → Tables → (first second : Item) → Standing
+pair source tables first second a below =
+    node (label_of source tables first) nil (node (label_of source tables second) nil nil)
+
+abbrev pub parent : List ℕ → Tables → (item inside : Item) → Standing
+parent source tables item inside a below =
+    node (label_of source tables item) (node (label_of source tables inside) nil nil) nil
+
+-- an item that begins at a byte at the earliest
+abbrev pub begun_item : ℕ → Item → Item
+begun_item i item = record { start = max item.start i; end = item.end; body = item.body }
+
+-- what is left of a chain past a byte; all of it where nothing was found
+abbrev pub numbered_past_byte : ℕ → List Numbered → List Numbered
+numbered_past_byte i [] = []
+numbered_past_byte i (a ∷ after) =
+    if nat_le a.item.end i then numbered_past_byte i after
+    else record { number = a.number; item = begun_item i a.item } ∷ after
+
+abbrev pub numbered_past : Option ℕ → List Numbered → List Numbered
+numbered_past None after = after
+numbered_past (Some i) after = numbered_past_byte i after
+
+-- the first of some nodes that ends past a byte
+abbrev pub first_past : List (Node Item) → ℕ → List ℕ → Option ℕ
+first_past nodes i [] = None
+first_past nodes i (ix ∷ after) = if nat_le (item_at nodes ix).end i then first_past nodes i after else Some ix
+
+-- the node of an opener, at which something was found that ends at a byte: what is left of the chain may begin there
+pub record IsFoundAt (source : List ℕ) (tables : Tables) (nodes : List (Node Item)) (ix end : ℕ) : Type 0 where
+  pub ready : CanResolve source tables nodes (Some ix)
+  pub was_open : is_open (item_at nodes ix).body ≡ true
+  pub no_run : run_character (item_at nodes ix).body ≡ None
+  -- nothing open stands around that byte
+  pub between : (next : ℕ) → first_past nodes end (roots (forest_at (links_of nodes) (sibling_of nodes ix))) ≡ Some next
+      → (item_at nodes next).start < end → is_open (item_at nodes next).body ≡ false
+
+-- an item may be put into a node: it is done, lies in the text, and names nothing but what is new, a slice where that
+-- has to be one
+pub record CanPut (source : List ℕ) (tables tables' : Tables) (item : Item) : Type 0 where
+  pub closed : is_open item.body ≡ false
+  pub no_block : is_block item.body ≡ false
+  pub lies : LiesIn source item
+  pub named : NamesEntries tables' item.body
+  pub slices : HasSlices source tables' item.body
+  pub new_names : (n : Named) → number_of n < size_for tables n → times_named n item.body ≡ 0
+
+-- the first item of a chain was read where it stands, and the chain goes on at a link
+pub record LeavesRest (source : List ℕ) (ix : ℕ) (next : Option ℕ) (old new : List (Node Item)) (tables' : Tables) : Type 0 where
+  -- what is left may be read; it is lighter, and has fewer items
+  pub ready : CanResolve source tables' new next
+  pub lighter : weight_in new next < weight_in old (Some ix)
+  pub fewer : items_from new next < items_from old (Some ix)
+  -- no node stands in it that did not stand in the chain, and nodes that did not are as they were
+  pub of_chain : (n : ℕ) → n < length old → times_in new next n ≤ times_in old (Some ix) n
+  pub more_nodes : length old ≤ length new
+  pub outside : (n : ℕ) → n < length old → times_in old (Some ix) n ≡ 0 → IsSameAt old new n
+
+-- two items may be put into the nodes of an opener and of what closes it, which follows it and ends where they do
+pub record CanPutPair (source : List ℕ) (tables tables' : Tables) (nodes : List (Node Item)) (ix closer : ℕ) (first second : Item) : Type 0 where
+  pub puts_first : CanPut source tables tables' first
+  pub puts_second : CanPut source tables tables' second
+  pub names_nothing : (n : Named) → times_named n first.body ≡ 0
+  pub starts : first.start ≡ (item_at nodes ix).start
+  pub in_order : first.end ≤ second.start
+  pub ends : second.end ≡ (item_at nodes closer).end
+  pub before : List ℕ
+  pub after : List ℕ
+  pub follows : roots (forest_at (links_of nodes) (sibling_of nodes ix)) ≡ before ++ closer ∷ after
+  pub closer_open : is_open (item_at nodes closer).body ≡ true
+  pub closer_no_run : run_character (item_at nodes closer).body ≡ None
+
+-- an item with one child may be put into the node of an opener
+pub record CanPutParent (source : List ℕ) (tables tables' : Tables) (nodes : List (Node Item)) (ix : ℕ) (item inside : Item) : Type 0 where
+  pub puts : CanPut source tables tables' item
+  pub puts_inside : CanPut source tables tables' inside
+  pub names_nothing : (n : Named) → times_named n inside.body ≡ 0
+  pub starts : item.start ≡ (item_at nodes ix).start
+
+-- trees were put there for what was found from the item on, up to a byte
+pub record Puts (source : List ℕ) (ix : ℕ) (trees : Standing) (goes_on : Option ℕ) (next : Option ℕ) (old new : List (Node Item)) (tables tables' : Tables) : Type 0 where
+  -- once what is left is rewritten by a rule, the whole is
+  pub whole : (rule : Forest Plain → Forest Plain) (nodes : List (Node Item)) (later : Tables)
+      → Rewrites source rule next new nodes tables' later → Rewrites source (replaced trees goes_on rule) (Some ix) old nodes tables later
+  pub leaves : LeavesRest source ix next old new tables'
+  -- the links lead on past that byte
+  pub leads : (low : ℕ) (after : List Numbered) → LeadsThrough old low (sibling_of old ix) after
+      → LeadsThrough new low next (numbered_past goes_on after)
+
+-- what pass one makes of a chain, below the blocks that are open above it
+abbrev pub reads_by : Setting → Above → Forest Plain → Forest Plain
+reads_by s above chain = read_chain s plain_tags above None 0 chain
+
+-- the item was read by pass one
+pub record ReadsItem (s : Setting) (above : Above) (ix : ℕ) (next : Option ℕ) (old new : List (Node Item)) (tables tables' : Tables) : Type 0 where
+  -- once what is left is read, the whole is
+  pub whole : (nodes : List (Node Item)) (later : Tables) → Rewrites s.text (reads_by s above) next new nodes tables' later
+      → Rewrites s.text (reads_by s above) (Some ix) old nodes tables later
+  pub leaves : LeavesRest s.text ix next old new tables'
+  -- what searches have learned of what follows the item is true of what is left
+  pub holds : (kind : SpanKind) (learned : Learned) → HoldsFrom kind learned old (sibling_of old ix) → HoldsFrom kind learned new next
+
+-- a search has looked at some items, or at none once one had failed: at none past what is left, unless it failed
+pub record LooksAt (before after : Bool) (old new items items' : ℕ) : Type 0 where
+  pub more : ℕ
+  pub counted : new ≡ min (old + more) (2 ^ 128 - 1)
+  pub within : more ≤ items
+  pub none : before ≡ true → (more ≡ 0) × (after ≡ true)
+  pub past : after ≡ false → more + items' ≤ items

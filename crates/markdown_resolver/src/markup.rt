@@ -1,0 +1,157 @@
+//! Autolinks and raw HTML in a chain, where it stands.
+ghost use Rattle.std.specs.Prelude.{◌≡◌, ◌==◌, ◌<◌, ℕ, List, Some, false, IfErr, IfOk, IfSome, length, take};
+ghost use Rattle.std.specs.Option.{option_map_or};
+ghost use Rattle.markdown_base.specs.BlockTree.{item_at};
+ghost use Rattle.markdown_base.specs.declared.item.ItemBody.TheVariants as body;
+ghost use Rattle.markdown_chains.specs.Above.{above_cursor};
+ghost use Rattle.markdown_chains.specs.Setting.{Rules, setting_of};
+ghost use Rattle.markdown_chains.specs.Tables.{HasGrown, Tables, tables_of};
+ghost use Rattle.markdown_code.specs.AfterLess.{autolink};
+ghost use Rattle.markdown_code.specs.Finds.{end_of_markup, gfm_footnotes};
+ghost use Rattle.markdown_code.specs.MarkupView.{markup_of};
+ghost use Rattle.markdown_resolver.specs.ChainPlace.{CanReadItem};
+ghost use Rattle.markdown_resolver.specs.MarkupItems.{IsMarkupAt, item_to, standing_for};
+ghost use Rattle.markdown_resolver.specs.Rewritten.{CanPut, IsFoundAt, Puts, ReadsItem, one};
+
+use crate::chain_place::ChainPlace;
+use crate::found::{put_found, put_parent, settle};
+use markdown_base::cow_str::CowStr;
+use markdown_base::fault::Fault;
+use markdown_base::item::{Item, ItemBody};
+use markdown_base::tag::LinkType;
+use markdown_base::tree::Tree;
+use markdown_code::after_less::{MarkupFound, scan_after_less};
+use markdown_code::prefixes::ContainerPrefix;
+use markdown_raw_html::raw_html::RawHtmlScanner;
+use markdown_spans::defs::Allocations;
+use std::alloc::Global;
+
+/// Reads a `<`: an absolute-URI autolink (CommonMark 6.5) or raw HTML (6.6), if one stands there and the next item starts
+/// directly after the `<`; else a Text. The scanner is one of the text up to the block's end: a `<` that does not stand
+/// before that is a Text too.
+pub(crate) fn read_markup<'a>(
+    alloc: Global,
+    tree: &mut Tree<Item>,
+    place: &ChainPlace<'a>,
+    tables: &mut Allocations<'a>,
+    scanner: &mut RawHtmlScanner<'a>,
+    ix: usize,
+) -> Result<Option<usize>, Fault>
+    requires chain { CanReadItem place.now tree.old tables.old ix }
+    requires opener { (item_at tree.old.nodes ix).body ≡ body.MaybeHtml }
+    requires scanner { scanner.old.text.now ≡ take place.now.block_end place.now.text.now }
+    ensures reads { IfOk result (λ next. (rules : Rules) → gfm_footnotes rules.options ≡ place.now.gfm_footnotes
+        → ReadsItem (setting_of place.now.text.now rules) (above_cursor place.now.text.now tree.old) ix next
+        tree.old.nodes tree.new.nodes (tables_of tables.old) (tables_of tables.new)) }
+    ensures place { IfOk result (λ _. tree.new ≡ record tree.old { nodes = tree.new.nodes }) }
+
+    // whatever comes
+    ensures tables { tables.new ≡ record tables.old { cows = tables.new.cows; links = tables.new.links } }
+    ensures scanner { scanner.new.text ≡ scanner.old.text }
+    ensures refused { IfErr result (λ fault. fault ≡ Fault.Memory) }
+{
+    let item = *tree.item(ix);
+    if item.end > place.block_end || !starts_at(tree, tree.next(ix), item.end) {
+        return Ok(settle(tree, ix));
+    }
+    let prefix = ContainerPrefix::new(tree, place.gfm_footnotes);
+    let text = &place.text[..place.block_end];
+    match scan_after_less(alloc, text, item.start, item.end, scanner, &prefix)? {
+        None => Ok(settle(tree, ix)),
+        Some(found) => put_markup(tree, tables, ix, found),
+    }
+}
+
+/// Whether a link leads to an item that starts at a byte.
+fn starts_at(tree: &Tree<Item>, link: Option<usize>, start: usize) -> bool
+    requires { IfSome link (λ ix. ix < length tree.now.nodes) }
+    ensures { result ≡ option_map_or (λ ix. (item_at tree.now.nodes ix).start == start) link false }
+{
+    match link {
+        Some(ix) => tree.item(ix).start == start,
+        None => false,
+    }
+}
+
+/// Puts what was found into the node of its `<`: the link at which the chain goes on.
+fn put_markup<'a>(
+    tree: &mut Tree<Item>,
+    tables: &mut Allocations<'a>,
+    ix: usize,
+    found: MarkupFound<'a>,
+) -> Result<Option<usize>, Fault>
+    requires { (source : List ℕ) × IsMarkupAt source (tables_of tables.old) tree.old.nodes ix (markup_of found) }
+    ensures puts { IfOk result (λ next. (source : List ℕ) (rules : Rules)
+        → IsMarkupAt source (tables_of tables.old) tree.old.nodes ix (markup_of found.entry)
+        → Puts source ix (standing_for source rules (markup_of found.entry)) (Some (end_of_markup (markup_of found.entry))) next
+        tree.old.nodes tree.new.nodes (tables_of tables.old) (tables_of tables.new)) }
+    ensures place { IfOk result (λ _. tree.new ≡ record tree.old { nodes = tree.new.nodes }) }
+
+    // whatever comes
+    ensures tables { tables.new ≡ record tables.old { cows = tables.new.cows; links = tables.new.links } }
+    ensures refused { IfErr result (λ fault. fault ≡ Fault.Memory) }
+{
+    match found {
+        MarkupFound::Autolink(end, uri) => put_autolink(tree, tables, ix, end, uri),
+        MarkupFound::Html(end) => Ok(put_html(tree, ix, end, ItemBody::InlineHtml)),
+        MarkupFound::OwnedHtml(end, tag) => {
+            let number = tables.allocate_cow(CowStr::from(tag))?;
+            Ok(put_html(tree, ix, end, ItemBody::OwnedInlineHtml(number)))
+        }
+    }
+}
+
+/// Puts raw HTML that ends at a byte into the node of its `<`: the link at which the chain goes on.
+fn put_html(tree: &mut Tree<Item>, ix: usize, end: usize, body: ItemBody) -> Option<usize>
+    requires { (source : List ℕ) × (tables : Tables) × (tables' : Tables) × HasGrown tables tables'
+        × IsFoundAt source tables tree.old.nodes ix end × CanPut source tables tables' (item_to tree.old.nodes ix end body) }
+    ensures puts { (source : List ℕ) (tables tables' : Tables) → HasGrown tables tables'
+        → IsFoundAt source tables tree.old.nodes ix end → CanPut source tables tables' (item_to tree.old.nodes ix end body)
+        → Puts source ix (one source tables' (item_to tree.old.nodes ix end body)) (Some end) result tree.old.nodes tree.new.nodes tables tables' }
+    ensures place { tree.new ≡ record tree.old { nodes = tree.new.nodes } }
+{
+    let start = tree.item(ix).start;
+    put_found(tree, ix, Item { start, end, body })
+}
+
+/// Puts an autolink that ends at a byte into the node of its `<`, with its URI as the text below it: the link at which
+/// the chain goes on.
+fn put_autolink<'a>(
+    tree: &mut Tree<Item>,
+    tables: &mut Allocations<'a>,
+    ix: usize,
+    end: usize,
+    uri: &'a str,
+) -> Result<Option<usize>, Fault>
+    requires { (source : List ℕ) × IsMarkupAt source (tables_of tables.old) tree.old.nodes ix (autolink end uri.now) }
+    ensures puts { IfOk result (λ next. (source : List ℕ) (rules : Rules)
+        → IsMarkupAt source (tables_of tables.old) tree.old.nodes ix (autolink end uri.now)
+        → Puts source ix (standing_for source rules (autolink end uri.now)) (Some end) next
+        tree.old.nodes tree.new.nodes (tables_of tables.old) (tables_of tables.new)) }
+    ensures place { IfOk result (λ _. tree.new ≡ record tree.old { nodes = tree.new.nodes }) }
+
+    // whatever comes
+    ensures tables { tables.new ≡ record tables.old { links = tables.new.links } }
+    ensures refused { IfErr result (λ fault. fault ≡ Fault.Memory) }
+{
+    let item = *tree.item(ix);
+    let link = tables.allocate_link(
+        LinkType::Autolink,
+        CowStr::Borrowed(uri),
+        CowStr::Borrowed(""),
+        CowStr::Borrowed(""),
+    )?;
+    let found = Item {
+        start: item.start,
+        end,
+        body: ItemBody::Link(link),
+    };
+    let inside = Item {
+        start: item.end,
+        end: end - 1,
+        body: ItemBody::Text {
+            backslash_escaped: false,
+        },
+    };
+    Ok(put_parent(tree, ix, found, inside)?)
+}

@@ -1,0 +1,44 @@
+//! Items at which nothing is found are settled.
+ghost use Rattle.std.specs.Prelude.{◌≡◌, ◌<◌, length};
+ghost use Rattle.markdown_chains.specs.Waiting.{waits_for_pairing};
+ghost use Rattle.markdown_resolver.specs.Settling.{becomes_text, settled_at};
+
+use markdown_base::item::{Item, ItemBody};
+use markdown_base::tree::Tree;
+
+/// Whether pairing decides on it: a run's character, or a quote.
+fn waits_for_pairing(body: ItemBody) -> bool
+    ensures { result ≡ waits_for_pairing body }
+{
+    match body {
+        ItemBody::MaybeEmphasis(_, _, _) | ItemBody::MaybeSmartQuote(_, _, _) => true,
+        _ => false,
+    }
+}
+
+/// Whether it is a Text where nothing is found: it is open, and does not wait for pairing.
+fn becomes_text(body: ItemBody) -> bool
+    ensures { result ≡ becomes_text body }
+{
+    body.is_open() && !waits_for_pairing(body)
+}
+
+/// Settles the item of a node at which nothing is found: a Text over its range, where it becomes one.
+pub(crate) fn settle_node(tree: &mut Tree<Item>, ix: usize)
+    requires { ix < length tree.old.nodes }
+    ensures { tree.new ≡ record tree.old { nodes = settled_at ix tree.old.nodes } }
+{
+    let item = *tree.item(ix);
+    if becomes_text(item.body) {
+        tree.set_item(
+            ix,
+            Item {
+                start: item.start,
+                end: item.end,
+                body: ItemBody::Text {
+                    backslash_escaped: false,
+                },
+            },
+        );
+    }
+}

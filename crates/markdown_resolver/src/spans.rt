@@ -1,0 +1,215 @@
+//! Code spans and math spans in a chain, where it stands.
+ghost use Rattle.std.specs.Prelude.{◌≡◌, ◌<◌, ◌≤◌, ℕ, Bool, true, List, Some, IfErr, IfOk, length, slice_range};
+ghost use Rattle.std.specs.Option.{option_map_or};
+ghost use Rattle.std.specs.Str.{IsCharBoundary};
+ghost use Rattle.markdown_base.specs.Arena.{sibling_of};
+ghost use Rattle.markdown_base.specs.BlockTree.{item_at};
+ghost use Rattle.markdown_base.specs.CowText.{text_of};
+ghost use Rattle.markdown_base.specs.declared.item.ItemBody.TheVariants as body;
+ghost use Rattle.markdown_chains.specs.Above.{above_cursor};
+ghost use Rattle.markdown_chains.specs.Origins.{IsSlicedOf, origin_of};
+ghost use Rattle.markdown_chains.specs.Setting.{Rules, setting_of};
+ghost use Rattle.markdown_chains.specs.Stages.{items_from};
+ghost use Rattle.markdown_chains.specs.Tables.{Tables, tables_of};
+ghost use Rattle.markdown_code.specs.BlocksAbove.{HasBlocks};
+ghost use Rattle.markdown_code.specs.ChainInArena.{HasChain};
+ghost use Rattle.markdown_code.specs.Closers.{is_dollar};
+ghost use Rattle.markdown_code.specs.CodeText.{span_origin};
+ghost use Rattle.markdown_code.specs.Finds.{gfm_footnotes, is_escaped, text_between};
+ghost use Rattle.markdown_code.specs.MathOpening.{dollar_at};
+ghost use Rattle.markdown_code.specs.SpanClosers.{HoldsFrom, has_failed};
+ghost use Rattle.markdown_resolver.specs.ChainPlace.{CanReadItem, IsPlaceOf};
+ghost use Rattle.markdown_resolver.specs.PutCode.{CanPutCode, code_standing};
+ghost use Rattle.markdown_resolver.specs.Rewritten.{LooksAt, Puts, ReadsItem};
+
+use crate::chain_place::ChainPlace;
+use crate::found::{put_found, put_pair, settle};
+use markdown_base::cow_str::CowStr;
+use markdown_base::fault::Fault;
+use markdown_base::item::{Item, ItemBody};
+use markdown_base::tree::Tree;
+use markdown_code::prefixes::ContainerPrefix;
+use markdown_code::span_closers::SpanClosers;
+use markdown_code::span_text::{SpanKind, span_text};
+use markdown_spans::defs::Allocations;
+use std::alloc::Global;
+
+/// The text of a span that stands from a byte to another.
+fn text_between<'a>(
+    alloc: Global,
+    tree: &Tree<Item>,
+    place: &ChainPlace<'a>,
+    kind: SpanKind,
+    start: usize,
+    end: usize,
+) -> Result<CowStr<'a>, Fault>
+    requires place { IsPlaceOf place.now tree.now }
+    requires above { HasBlocks tree.now }
+    requires ordered { start ≤ end }
+    requires start_boundary { IsCharBoundary place.now.text.now start }
+    requires end_boundary { IsCharBoundary place.now.text.now end }
+    ensures value { IfOk result (λ made. (rules : Rules) → gfm_footnotes rules.options ≡ place.now.gfm_footnotes
+        → text_of made ≡ text_between (setting_of place.now.text.now rules) (above_cursor place.now.text.now tree.now) kind start end) }
+    ensures origin { IfOk result (λ span. origin_of span
+        ≡ span_origin (above_cursor place.now.text.now tree.now).in_table (slice_range place.now.text.now start end)) }
+    ensures slice { IfOk result (λ span. IsSlicedOf place.now.text.now (origin_of span) (text_of span)) }
+    ensures refused { IfErr result (λ fault. fault ≡ Fault.Memory) }
+{
+    let prefix = ContainerPrefix::new(tree, place.gfm_footnotes);
+    Ok(span_text(
+        alloc,
+        &place.text[start..end],
+        kind,
+        place.in_table,
+        &prefix,
+    )?)
+}
+
+/// Where the item of a node ends.
+fn end_of(tree: &Tree<Item>, ix: usize) -> usize
+    requires { ix < length tree.now.nodes }
+    ensures { result ≡ (item_at tree.now.nodes ix).end }
+{
+    tree.item(ix).end
+}
+
+/// Puts a code span into the node of its opener, or, where a backslash stands before that, its first backtick as a Text;
+/// then the span begins after it, and takes the closer's node. The link at which the chain goes on.
+fn put_code(tree: &mut Tree<Item>, ix: usize, closer: usize, body: ItemBody) -> Option<usize>
+    requires { (source : List ℕ) × (tables : Tables) × (tables' : Tables)
+        × CanPutCode source tables tables' tree.old.nodes ix closer body }
+    ensures puts { (source : List ℕ) (tables tables' : Tables) → CanPutCode source tables tables' tree.old.nodes ix closer body
+        → Puts source ix (code_standing source tables' (is_escaped (item_at tree.old.nodes ix).body)
+        (item_at tree.old.nodes ix) (item_at tree.old.nodes closer) body)
+        (Some (item_at tree.old.nodes closer).end) result tree.old.nodes tree.new.nodes tables tables' }
+    ensures place { tree.new ≡ record tree.old { nodes = tree.new.nodes } }
+{
+    let item = *tree.item(ix);
+    let end = end_of(tree, closer);
+    if !is_escaped(item.body) {
+        return put_found(
+            tree,
+            ix,
+            Item {
+                start: item.start,
+                end,
+                body,
+            },
+        );
+    }
+    let backtick = Item {
+        start: item.start,
+        end: item.start + 1,
+        body: ItemBody::Text {
+            backslash_escaped: false,
+        },
+    };
+    let span = Item {
+        start: item.start + 1,
+        end,
+        body,
+    };
+    put_pair(tree, ix, backtick, closer, span)
+}
+
+/// Whether the first backtick of an opener is escaped.
+fn is_escaped(body: ItemBody) -> bool
+    ensures { result ≡ is_escaped body }
+{
+    matches!(body, ItemBody::MaybeCode(_, true))
+}
+
+/// Whether it is a `$`.
+fn is_dollar(body: ItemBody) -> bool
+    ensures { result ≡ is_dollar body }
+{
+    matches!(body, ItemBody::MaybeMath(_, _, _))
+}
+
+/// Where the text of a math span starts: after its opener, or after both where the next item is a `$` too.
+fn math_text_start(tree: &Tree<Item>, ix: usize) -> usize
+    requires { HasChain tree.now.nodes (Some ix) }
+    ensures { result ≡ option_map_or (λ second. (item_at tree.now.nodes second).end)
+        (dollar_at tree.now.nodes (sibling_of tree.now.nodes ix)) (item_at tree.now.nodes ix).end }
+{
+    match tree.next(ix) {
+        Some(second) if is_dollar(tree.item(second).body) => tree.item(second).end,
+        _ => tree.item(ix).end,
+    }
+}
+
+/// Reads a backtick run: a code span, if an item closes it, which goes on at what follows that; else a Text. Where a
+/// backslash stands before it, its first backtick is a Text, and the span takes the closer's node.
+pub(crate) fn read_code<'a>(
+    alloc: Global,
+    tree: &mut Tree<Item>,
+    place: &ChainPlace<'a>,
+    tables: &mut Allocations<'a>,
+    closers: &mut SpanClosers,
+    visits: &mut u128,
+    ix: usize,
+) -> Result<Option<usize>, Fault>
+    requires chain { CanReadItem place.now tree.old tables.old ix }
+    requires opener { (count : ℕ) × (escaped : Bool) × ((item_at tree.old.nodes ix).body ≡ body.MaybeCode count escaped) }
+    requires learned { HoldsFrom SpanKind.Code closers.old tree.old.nodes (Some ix) }
+    ensures reads { IfOk result (λ next. (rules : Rules) → gfm_footnotes rules.options ≡ place.now.gfm_footnotes
+        → ReadsItem (setting_of place.now.text.now rules) (above_cursor place.now.text.now tree.old) ix next
+        tree.old.nodes tree.new.nodes (tables_of tables.old) (tables_of tables.new)) }
+    ensures learned { IfOk result (λ next. HoldsFrom SpanKind.Code closers.new tree.new.nodes next) }
+    ensures looks { IfOk result (λ next. LooksAt (has_failed closers.old) (has_failed closers.new) visits.old visits.new
+        (items_from tree.old.nodes (Some ix)) (items_from tree.new.nodes next)) }
+    ensures place { IfOk result (λ _. tree.new ≡ record tree.old { nodes = tree.new.nodes }) }
+
+    // whatever comes
+    ensures tables { tables.new ≡ record tables.old { cows = tables.new.cows } }
+    ensures refused { IfErr result (λ fault. fault ≡ Fault.Memory) }
+{
+    let Some(closer) = closers.find_code_closer(tree, ix, visits)? else {
+        return Ok(settle(tree, ix));
+    };
+    let item = *tree.item(ix);
+    let close = *tree.item(closer);
+    let text = text_between(alloc, tree, place, SpanKind::Code, item.end, close.start)?;
+    let body = ItemBody::Code(tables.allocate_cow(text)?);
+    Ok(put_code(tree, ix, closer, body))
+}
+
+/// Reads a `$`: a math span, if something closes it, which goes on at what follows that; else a Text.
+pub(crate) fn read_math<'a>(
+    alloc: Global,
+    tree: &mut Tree<Item>,
+    place: &ChainPlace<'a>,
+    tables: &mut Allocations<'a>,
+    closers: &mut SpanClosers,
+    visits: &mut u128,
+    ix: usize,
+) -> Result<Option<usize>, Fault>
+    requires chain { CanReadItem place.now tree.old tables.old ix }
+    requires opener { is_dollar (item_at tree.old.nodes ix).body ≡ true }
+    requires learned { HoldsFrom SpanKind.Math closers.old tree.old.nodes (Some ix) }
+    ensures reads { IfOk result (λ next. (rules : Rules) → gfm_footnotes rules.options ≡ place.now.gfm_footnotes
+        → ReadsItem (setting_of place.now.text.now rules) (above_cursor place.now.text.now tree.old) ix next
+        tree.old.nodes tree.new.nodes (tables_of tables.old) (tables_of tables.new)) }
+    ensures learned { IfOk result (λ next. HoldsFrom SpanKind.Math closers.new tree.new.nodes next) }
+    ensures looks { IfOk result (λ next. LooksAt (has_failed closers.old) (has_failed closers.new) visits.old visits.new
+        (items_from tree.old.nodes (Some ix)) (items_from tree.new.nodes next)) }
+    ensures place { IfOk result (λ _. tree.new ≡ record tree.old { nodes = tree.new.nodes }) }
+
+    // whatever comes
+    ensures tables { tables.new ≡ record tables.old { cows = tables.new.cows } }
+    ensures refused { IfErr result (λ fault. fault ≡ Fault.Memory) }
+{
+    let Some(math) = closers.find_math_closer(tree, ix, visits)? else {
+        return Ok(settle(tree, ix));
+    };
+    let item = *tree.item(ix);
+    let start = math_text_start(tree, ix);
+    let text_end = tree.item(math.closer).start;
+    let text = text_between(alloc, tree, place, SpanKind::Math, start, text_end)?;
+    let found = Item {
+        start: item.start,
+        end: tree.item(math.last).end,
+        body: ItemBody::Math(tables.allocate_cow(text)?, math.display),
+    };
+    Ok(put_found(tree, ix, found))
+}
