@@ -1,5 +1,5 @@
 -- A chain that is resolved in place: what a walk that stands before it has left.
-use Rattle.std.proofs.Common.{suc, ◌+◌, ◌≡◌, ℕ, ◌<◌, ◌≤◌, Bool, true, false, List, [], ◌∷◌, ◌++◌, map, length, Option, Some, refl, ap, sym, ◌∙◌, ⊎_elim, arith, append_assoc}
+use Rattle.std.proofs.Common.{◌+◌, ◌≡◌, ℕ, ◌<◌, ◌≤◌, Bool, true, false, List, [], ◌∷◌, ◌++◌, map, length, Option, Some, refl, ap, sym, ◌∙◌, ⊎_elim, arith, append_assoc}
 use Rattle.std.specs.Prelude.{slice_range}
 use Rattle.std.proofs.lemmas.Bool.{cases_lt}
 use Rattle.std.proofs.lemmas.List.{map-append}
@@ -9,8 +9,8 @@ use Rattle.markdown_base.specs.ArenaForest.{Links, links_of, forest_at}
 use Rattle.markdown_base.specs.ArenaWalk.{AllReach}
 use Rattle.markdown_base.specs.BlockTree.{item_at}
 use Rattle.markdown_base.specs.Questions.{Question, Answer, Answers}
-use Rattle.markdown_inline.specs.Counts.{items_ahead}
-use Rattle.markdown_inline.proofs.CountLemmas.{begins-none, length-relabelled}
+use Rattle.markdown_inline.specs.Counts.{no_chain, counts_ahead}
+use Rattle.markdown_inline.proofs.CountLemmas.{begins-none}
 use Rattle.markdown_chains.specs.Above.{above_at, no_blocks}
 use Rattle.markdown_chains.specs.Setting.{Known, Setting}
 use Rattle.markdown_inline.specs.Elements.{Element, question, Reading, nothing, then_reads}
@@ -21,21 +21,24 @@ use Rattle.markdown_base.specs.declared.item.Item.{Item}
 use Rattle.markdown_base.specs.declared.item.ItemBody.{ItemBody}
 use Rattle.markdown_base.specs.declared.node.Node.{Node}
 use Rattle.markdown_base.proofs.ArenaForestLemmas.{opens}
-use Rattle.markdown_chains.specs.Stages.{items_from, Stage, known_at, chain_at, times_in}
+use Rattle.markdown_chains.specs.Stages.{Stage, known_at, chain_at, times_in}
+use Rattle.markdown_resolver.specs.ChainCounts.{chain_counts}
 use Rattle.markdown_resolver.specs.Chains.{AreAbove, ResolvesFrom, CanResolve, StopsIn}
 use Rattle.markdown_inline.specs.Moves.{BeginsWithEvent}
 use Rattle.markdown_inline.specs.Reading.{opened, settled_reading, then_resolved, chain_reading, reading}
 use Rattle.markdown_inline.specs.Walk.{around, left_of}
 use Rattle.markdown_chains.specs.Places.{label_at, trees_from, IsPlaced}
-use Rattle.markdown_resolver.specs.Resolved.{Resolved, resolved, all_paired}
+use Rattle.markdown_resolver.specs.PassOne.{Outcome}
+use Rattle.markdown_resolver.specs.Resolved.{resolved, all_paired}
 use Rattle.markdown_chains.specs.Document.{plain_tags, Plain, Shape, leaf, enclosed, plain, backslash_break, unresolved, is_unresolved, shape_of}
-use Rattle.markdown_resolver.specs.Kept.{IsSettled, GivesFirst, Begins}
+use Rattle.markdown_chains.specs.Labels.{GivesFirst, Begins}
+use Rattle.markdown_resolver.specs.Kept.{IsSettled}
 use Rattle.markdown_chains.specs.Totals.{same, naming}
 use Rattle.markdown_chains.specs.Tables.{Tables, Named, number_of, size_for}
 use Rattle.markdown_chains.proofs.TablesLemmas.{same-apart, grown-same, grown-longer}
 use Rattle.markdown_chains.proofs.PlaceLemmas.{times-past, named-past, shape-open}
 use Rattle.markdown_inline.specs.WalkTotals.{climbed, left_total, steps_of}
-use Rattle.markdown_inline.specs.Standing.{Stands}
+use Rattle.markdown_inline.specs.Standing.{SpineLies, Stands}
 use Rattle.markdown_inline.proofs.LeftFrameLemmas.{AboveFramed, above_framed}
 use Rattle.markdown_inline.proofs.ReadingLemmas.{reading-settled, opened-open}
 use Rattle.markdown_chains.proofs.TablesLemmas.{same-refl}
@@ -64,7 +67,7 @@ opened-begins plain range inside after whole known h = absurd h
 opened-begins backslash_break range inside after whole known h = record { first = (hard_break, range, []); rest = after known; is = refl }
 opened-begins (unresolved b) range inside after whole known h = absurd h
 
-reading-begins : (f : Forest Plain) (s : Setting) (after : Reading) (known : Known) → Begins f → BeginsWithEvent (settled_reading (all_paired s plain_tags f) after known)
+reading-begins : (f : Forest Plain) (s : Setting) (after : Reading) (known : Known) → Begins f → BeginsWithEvent (settled_reading (all_paired s f) after known)
 reading-begins nil s after known h = absurd h
 reading-begins (node a below later) s after known h = opened-begins a.part.shape a.part.range _ _ _ known h
 
@@ -75,10 +78,9 @@ pub record ChainMoves (s : Setting) (tables tables' : Tables) (nodes nodes' : Li
       ≡ map question questions ++ left_of s tables' nodes' (Some first) spine (now later)
   pub begins : (known : Known) → BeginsWithEvent (left_of s tables' nodes' (Some first) spine known)
   pub falls : steps_of nodes' (Some first) spine < steps_of nodes (Some first) spine
-  -- its items were ahead, and nothing is then
-  pub was_ahead : items_ahead s.text tables nodes (Some first) spine ≡ items_from nodes (Some first)
-  pub some : 0 < items_from nodes (Some first)
-  pub none_ahead : items_ahead s.text tables' nodes' (Some first) spine ≡ 0
+  -- its counts were ahead, and nothing is then
+  pub was_ahead : counts_ahead s tables nodes (Some first) spine ≡ chain_counts s plain_tags (above_at s.text nodes spine) (trees_from s.text tables nodes (Some first))
+  pub none_ahead : counts_ahead s tables' nodes' (Some first) spine ≡ no_chain
 
 -- numbers that stand above are those of nodes, and entries named there are in the tables
 above_within : (k : Links) (p : ℕ → Type 0) (spine : List ℕ) (n : ℕ) → AllReach k p spine → 0 < climbed (same n) (same n) k spine → n < k.size
@@ -94,9 +96,9 @@ above_chain : {C : Type 0} (step : C → Question → Option Answer → C → Ty
     → AboveFramed s old.tables new.tables old.nodes new.nodes spine
 unfolding left_total
 above_chain step s first spine old new w r =
-    above_framed s old.tables new.tables old.nodes new.nodes spine r.more_nodes (grown-longer old.tables new.tables r.grown) w.walk.above w.above_kept
-    (λ n l. r.outside n (above_within (links_of old.nodes) (IsPlaced s.text old.tables old.nodes) spine n w.walk.above l) (omega (arith, w.once n, l)))
-    (λ n l. grown-same old.tables new.tables n r.grown (above_named s.text old.tables old.nodes spine n w.walk.above l))
+    above_framed s old.tables new.tables old.nodes new.nodes spine r.changes.more_nodes (grown-longer old.tables new.tables r.changes.grown) w.walk.above w.above_kept w.spine_lies
+    (λ n l. r.changes.outside n (above_within (links_of old.nodes) (IsPlaced s.text old.tables old.nodes) spine n w.walk.above l) (omega (arith, w.once n, l)))
+    (λ n l. grown-same old.tables new.tables n r.changes.grown (above_named s.text old.tables old.nodes spine n w.walk.above l))
 
 -- the chain stands ready to be resolved
 pub can_resolve : (source : List ℕ) (tables : Tables) (nodes : List (Node Item)) (first : ℕ) (spine : List ℕ)
@@ -112,25 +114,24 @@ can_resolve source tables nodes first spine w e =
       quiet_below = rw o.here ((rw o.here at w.here_kept).0 (ap is_unresolved open_shape));
     }
 
--- the nodes gone into are there, and stand in no chain at hand
-nodes_above : (k : Links) (nodes : List (Node Item)) (p : ℕ → Type 0) (l : Option ℕ) (spine : List ℕ) → k ≡ links_of nodes → AllReach k p spine
-    → ((n : ℕ) → times_in nodes l n + climbed (same n) (same n) k spine ≤ 1) → AreAbove nodes l spine
-nodes_above k nodes p l [] e r h = tt
-nodes_above k nodes p l (ix ∷ deeper) e r h = (
-  rw e at r.0,
-  (let x = h ix in let one = same-refl ix in omega arith),
-  nodes_above k nodes p l deeper e r.2 (λ n. let x = h n in omega arith),
+-- the nodes gone into are there, lie in the text, and stand in no chain at hand
+nodes_above : (source : List ℕ) (k : Links) (nodes : List (Node Item)) (p : ℕ → Type 0) (l : Option ℕ) (spine : List ℕ) → k ≡ links_of nodes → AllReach k p spine → SpineLies source nodes spine
+    → ((n : ℕ) → times_in nodes l n + climbed (same n) (same n) k spine ≤ 1) → AreAbove source nodes l spine
+nodes_above source k nodes p l [] e r lies h = tt
+nodes_above source k nodes p l (ix ∷ deeper) e r lies h = (
+  record { within = rw e at r.0; lies = lies.0; apart = let x = h ix in let one = same-refl ix in omega arith },
+  nodes_above source k nodes p l deeper e r.2 lies.1 (λ n. let x = h n in omega arith),
 )
 
-pub are_above : (source : List ℕ) (tables : Tables) (nodes : List (Node Item)) (first : ℕ) (spine : List ℕ) → Stands source tables nodes (Some first) spine → AreAbove nodes (Some first) spine
+pub are_above : (source : List ℕ) (tables : Tables) (nodes : List (Node Item)) (first : ℕ) (spine : List ℕ) → Stands source tables nodes (Some first) spine → AreAbove source nodes (Some first) spine
 unfolding left_total
-are_above source tables nodes first spine w = nodes_above (links_of nodes) nodes (IsPlaced source tables nodes) (Some first) spine refl w.walk.above w.once
+are_above source tables nodes first spine w = nodes_above source (links_of nodes) nodes (IsPlaced source tables nodes) (Some first) spine refl w.walk.above w.spine_lies w.once
 
 pub moves_chain : {C : Type 0} (step : C → Question → Option Answer → C → Type 0) (s : Setting) (first : ℕ) (spine : List ℕ) (old new : Stage C)
     → Stands s.text old.tables old.nodes (Some first) spine → is_open (item_at old.nodes first).body ≡ true
     → (r : ResolvesFrom step s.text (resolved s plain_tags (above_at s.text old.nodes spine)) (Some first) old new)
     → ChainMoves s old.tables new.tables old.nodes new.nodes first spine (known_at old) (known_at new) r.questions r.answers
-unfolding left_of left_total items_ahead
+unfolding left_of left_total counts_ahead
 moves_chain step s first spine old new w e r =
     let o = opens (links_of old.nodes) (IsPlaced s.text old.tables old.nodes) first w.walk.here in
     let open_shape = shape-open old.tables (slice_range s.text (item_at old.nodes first).start (item_at old.nodes first).end) (item_at old.nodes first).body e in
@@ -144,32 +145,32 @@ moves_chain step s first spine old new w e r =
     let begins : Begins made =
     rw (rw o.here at (r.resolves [])) at (resolved-begins s plain_tags blocks (label_at s.text old.tables old.nodes first) (trees_from s.text old.tables old.nodes (child_of old.nodes first)) (trees_from s.text old.tables old.nodes (sibling_of old.nodes first)) (known_at old (r.answers ++ [])) (ap is_unresolved open_shape)) in
     let before : reading s plain_tags blocks chain after ≡ chain_reading s plain_tags blocks chain after = rw o.here (opened-open (label_at s.text old.tables old.nodes first).part.shape _ _ _ _ (ap is_unresolved open_shape)) in
-    let now : reading s plain_tags (above_at s.text new.nodes spine) made (around s (no_blocks s.text) new.tables new.nodes spine nothing) ≡ settled_reading (all_paired s plain_tags made) after =
+    let now : reading s plain_tags (above_at s.text new.nodes spine) made (around s (no_blocks s.text) new.tables new.nodes spine nothing) ≡ settled_reading (all_paired s made) after =
     rw (above.blocks (no_blocks s.text), above.around (no_blocks s.text) nothing) (reading-settled s blocks made after settled) in
-    let n = opens (links_of new.nodes) (IsPlaced s.text new.tables new.nodes) first r.reaches in
+    let n = opens (links_of new.nodes) (IsPlaced s.text new.tables new.nodes) first r.changes.reaches in
     let item = item_at new.nodes first in
     let closed : is_open item.body ≡ false = gives-closed new.tables (slice_range s.text item.start item.end) item.body (is_open item.body) refl (rw n.here at begins) in
     record {
       stands = record {
-        walk = record { here = r.reaches; above = above.reach };
+        walk = record { here = r.changes.reaches; above = above.reach };
         once = λ n. rw (above.times n) (⊎_elim
-            (λ l. let x = w.once n in let y = r.of_chain n l in omega arith)
-            (λ l. let x = times_above-past (links_of old.nodes) (IsPlaced s.text old.tables old.nodes) spine n w.walk.above l in let y = r.once n in omega arith)
+            (λ l. let x = w.once n in let y = r.changes.of_chain n l in omega arith)
+            (λ l. let x = times_above-past (links_of old.nodes) (IsPlaced s.text old.tables old.nodes) spine n w.walk.above l in let y = r.changes.once n in omega arith)
             (cases_lt n (length old.nodes)));
         named_once = λ n. rw (above.naming n) (⊎_elim
-            (λ l. let x = w.named_once n in let y = r.named n l in omega arith)
-            (λ l. let x = named_above-past s.text old.tables old.nodes spine n w.walk.above l in let y = r.named_once n in omega arith)
+            (λ l. let x = w.named_once n in let y = r.changes.named n l in omega arith)
+            (λ l. let x = named_above-past s.text old.tables old.nodes spine n w.walk.above l in let y = r.changes.named_once n in omega arith)
             (cases_lt (number_of n) (size_for old.tables n)));
         here_kept = IsKept-from_IsSettled made settled;
         above_kept = above.kept;
+        spine_lies = above.lies;
       };
       left = λ later. ap (λ (x : Reading). x (known_at old (r.answers ++ later))) before
           ∙ rw (r.resolves later) (ap (λ (x : Reading). map question r.questions ++ x (known_at new later)) (sym now));
       begins = λ known. rw now (reading-begins made s after known begins);
-      falls = rw (above.steps, closed, e) (let x = r.no_heavier in omega arith);
-      was_ahead = rw (o.here, open_shape) (ap suc (length-relabelled (label_at s.text old.tables old.nodes) (forest_at (links_of old.nodes) (sibling_of old.nodes first))));
-      some = rw o.here (omega arith);
-      none_ahead = begins-none made _ begins;
+      falls = rw (above.steps, closed, e) (let x = r.changes.no_heavier in omega arith);
+      was_ahead = rw (o.here, open_shape) refl;
+      none_ahead = begins-none s _ made _ begins;
     }
 
 -- what is left before a chain, where its first item is open
@@ -186,10 +187,10 @@ before_chain s tables nodes first spine known w e =
     rw o.here (opened-open (label_at s.text tables nodes first).part.shape _ _ _ _ (ap is_unresolved open_shape)) in
     ap (λ (x : Reading). x known) whole
 
-more_questions : (s : Setting) (r : Resolved (Unit {0})) (after : Reading) (questions others : List Question) → r.questions ≡ questions ++ others
+more_questions : (s : Setting) (r : Outcome (Unit {0})) (after : Reading) (questions others : List Question) → r.questions ≡ questions ++ others
     → (es : List Element) × (then_resolved s plain_tags r after ≡ map question questions ++ es)
 more_questions s r after questions others e =
-    (map question others ++ settled_reading (all_paired s plain_tags r.forest) after r.known, rw e (simp (map-append, append_assoc)))
+    (map question others ++ settled_reading (all_paired s r.forest) after r.known, rw e (simp (map-append, append_assoc)))
 
 -- where memory is refused on the way, what was left begins with the questions asked
 pub stops_chain : {C : Type 0} (step : C → Question → Option Answer → C → Type 0) (s : Setting) (first : ℕ) (spine : List ℕ) (old : Stage C) (d : Option C)

@@ -8,12 +8,12 @@ use Rattle.markdown_base.specs.declared.item.Item.{Item}
 use Rattle.markdown_base.specs.declared.node.Node.{Node}
 use Rattle.markdown_chains.specs.Places.{IsSameAt, IsPlaced}
 use Rattle.markdown_inline.specs.Walk.{around, left_of}
-use Rattle.markdown_inline.specs.Counts.{items_around, items_ahead}
+use Rattle.markdown_inline.specs.Counts.{Counting, no_chain, counts_around, counts_ahead}
 use Rattle.markdown_chains.specs.Above.{Above, no_blocks, inside_all}
 use Rattle.markdown_chains.specs.Setting.{Setting}
 use Rattle.markdown_chains.specs.Totals.{same, naming, weight_at}
 use Rattle.markdown_inline.specs.WalkTotals.{climbed, left_total, times_left, named_left}
-use Rattle.markdown_inline.specs.Standing.{AboveKept, Stands}
+use Rattle.markdown_inline.specs.Standing.{AboveKept, SpineLies, Stands}
 use Rattle.markdown_chains.proofs.FrameLemmas.{framed, stay_throughout}
 use Rattle.markdown_chains.proofs.TablesLemmas.{same-refl}
 use Rattle.markdown_chains.specs.Tables.{Tables, Named, IsSameEntry, IsNoShorter}
@@ -22,48 +22,50 @@ use Rattle.markdown_chains.specs.Tables.{Tables, Named, IsSameEntry, IsNoShorter
 pub record AboveFramed (s : Setting) (tables tables' : Tables) (nodes nodes' : List (Node Item)) (spine : List ℕ) : Type 0 where
   pub reach : AllReach (links_of nodes') (IsPlaced s.text tables' nodes') spine
   pub kept : AboveKept s.text tables' nodes' spine
+  pub lies : SpineLies s.text nodes' spine
   pub times : (n : ℕ) → climbed (same n) (same n) (links_of nodes') spine ≡ climbed (same n) (same n) (links_of nodes) spine
   pub naming : (n : Named) → climbed (λ ix. 0) (naming nodes' n) (links_of nodes') spine ≡ climbed (λ ix. 0) (naming nodes n) (links_of nodes) spine
   pub steps : climbed (λ ix. 1) (weight_at nodes') (links_of nodes') spine ≡ climbed (λ ix. 1) (weight_at nodes) (links_of nodes) spine
   pub around : (above : Above) (after : Reading) → around s above tables' nodes' spine after ≡ around s above tables nodes spine after
   pub blocks : (above : Above) → inside_all nodes' spine above ≡ inside_all nodes spine above
-  pub items : (after : ℕ) → items_around s.text tables' nodes' spine after ≡ items_around s.text tables nodes spine after
+  pub ahead : (above : Above) (after : Counting) → counts_around s above tables' nodes' spine after ≡ counts_around s above tables nodes spine after
 
 pub above_framed : (s : Setting) (tables tables' : Tables) (nodes nodes' : List (Node Item)) (spine : List ℕ) → length nodes ≤ length nodes' → IsNoShorter tables tables'
-    → AllReach (links_of nodes) (IsPlaced s.text tables nodes) spine → AboveKept s.text tables nodes spine
+    → AllReach (links_of nodes) (IsPlaced s.text tables nodes) spine → AboveKept s.text tables nodes spine → SpineLies s.text nodes spine
     → ((n : ℕ) → 0 < climbed (same n) (same n) (links_of nodes) spine → IsSameAt nodes nodes' n)
     → ((n : Named) → 0 < climbed (λ ix. 0) (naming nodes n) (links_of nodes) spine → IsSameEntry tables tables' n) → AboveFramed s tables tables' nodes nodes' spine
-above_framed s tables tables' nodes nodes' [] z y r k h t = record { reach = tt; kept = tt; times = λ n. refl; naming = λ n. refl; steps = refl; around = λ above after. refl; blocks = λ above. refl; items = λ after. refl }
-above_framed s tables tables' nodes nodes' (ix ∷ deeper) z y r k h t =
+above_framed s tables tables' nodes nodes' [] z y r k lies h t = record { reach = tt; kept = tt; lies = tt; times = λ n. refl; naming = λ n. refl; steps = refl; around = λ above after. refl; blocks = λ above. refl; ahead = λ above after. refl }
+above_framed s tables tables' nodes nodes' (ix ∷ deeper) z y r k lies h t =
     let at : IsSameAt nodes nodes' ix = h ix (omega (arith, same-refl ix)) in
     let stay = stay_throughout tables tables' nodes nodes' (forest_at (links_of nodes) (sibling_of nodes ix)) y.headings (λ n l. h n (omega (arith, l))) (λ n l. t n (omega (arith, l))) in
     let here = framed s.text tables tables' nodes nodes' (sibling_of nodes ix) z y r.1 stay in
-    let others = above_framed s tables tables' nodes nodes' deeper z y r.2 k.1 (λ n l. h n (omega (arith, l))) (λ n l. t n (omega (arith, l))) in
+    let others = above_framed s tables tables' nodes nodes' deeper z y r.2 k.1 lies.1 (λ n l. h n (omega (arith, l))) (λ n l. t n (omega (arith, l))) in
     record {
       reach = (omega (arith, r.0, z), rw at.next here.reaches, others.reach);
       kept = (rw (at.next, here.trees) k.0, others.kept);
+      lies = (rw at.item lies.0, others.lies);
       times = λ n. rw (at.next, here.forest, others.times n) refl;
       naming = λ n. rw (at.next, here.naming n, others.naming n) refl;
       steps = rw (at.next, here.weight, others.steps) refl;
       around = λ above after. rw (at.next, at.item, here.trees) (others.around _ _);
       blocks = λ above. rw at.item (others.blocks _);
-      items = λ after. rw (at.next, at.item, here.trees) (others.items _);
+      ahead = λ above after. rw (at.next, at.item, here.trees) (others.ahead _ _);
     }
 
 -- what is left of a walk, where all that it leads to stays
 pub record LeftFramed (s : Setting) (tables tables' : Tables) (nodes nodes' : List (Node Item)) (l : Option ℕ) (spine : List ℕ) : Type 0 where
   pub stands : Stands s.text tables' nodes' l spine
   pub left : left_of s tables' nodes' l spine ≡ left_of s tables nodes l spine
-  pub items : items_ahead s.text tables' nodes' l spine ≡ items_ahead s.text tables nodes l spine
+  pub ahead : counts_ahead s tables' nodes' l spine ≡ counts_ahead s tables nodes l spine
 
 pub left_framed : (s : Setting) (tables tables' : Tables) (nodes nodes' : List (Node Item)) (l : Option ℕ) (spine : List ℕ) → length nodes ≤ length nodes' → IsNoShorter tables tables'
     → Stands s.text tables nodes l spine → ((n : ℕ) → 0 < times_left (links_of nodes) l spine n → IsSameAt nodes nodes' n)
     → ((n : Named) → 0 < named_left nodes l spine n → IsSameEntry tables tables' n) → LeftFramed s tables tables' nodes nodes' l spine
-unfolding left_total left_of items_ahead
+unfolding left_total left_of counts_ahead
 left_framed s tables tables' nodes nodes' l spine z y w h t =
     let stay = stay_throughout tables tables' nodes nodes' (forest_at (links_of nodes) l) y.headings (λ n x. h n (omega (arith, x))) (λ n x. t n (omega (arith, x))) in
     let here = framed s.text tables tables' nodes nodes' l z y w.walk.here stay in
-    let above = above_framed s tables tables' nodes nodes' spine z y w.walk.above w.above_kept (λ n x. h n (omega (arith, x))) (λ n x. t n (omega (arith, x))) in
+    let above = above_framed s tables tables' nodes nodes' spine z y w.walk.above w.above_kept w.spine_lies (λ n x. h n (omega (arith, x))) (λ n x. t n (omega (arith, x))) in
     record {
       stands = record {
         walk = record { here = here.reaches; above = above.reach };
@@ -71,7 +73,8 @@ left_framed s tables tables' nodes nodes' l spine z y w h t =
         named_once = λ n. rw (here.naming n, above.naming n) (w.named_once n);
         here_kept = rw here.trees w.here_kept;
         above_kept = above.kept;
+        spine_lies = above.lies;
       };
       left = rw (here.trees, above.blocks (no_blocks s.text), above.around (no_blocks s.text) nothing) refl;
-      items = rw (here.trees, above.items 0) refl;
+      ahead = rw (here.trees, above.blocks (no_blocks s.text), above.ahead (no_blocks s.text) no_chain) refl;
     }

@@ -1,5 +1,5 @@
 -- The steps of a parser, and what they give of what was left.
-use Rattle.std.proofs.Common.{◌≡◌, ℕ, ◌+◌, ◌-◌, ◌^◌, min, Bool, ap, ◌<◌, ◌≤◌, List, [], ◌∷◌, ◌++◌, Option, Some, None, Result, Ok, Err, ◌⊎◌, inl, inr, refl, sym, subst, ◌∙◌, arith, append_assoc}
+use Rattle.std.proofs.Common.{◌≡◌, ℕ, Bool, ap, ◌<◌, ◌≤◌, List, [], ◌∷◌, ◌++◌, Option, Some, None, Result, Ok, Err, ◌⊎◌, inl, inr, refl, sym, subst, ◌∙◌, arith, append_assoc}
 use Rattle.std.specs.Prelude.{is_some}
 use Rattle.std.specs.declared.ops.Range.{Range}
 use Rattle.std.proofs.lemmas.List.{map-append}
@@ -12,12 +12,18 @@ use Rattle.markdown_base.specs.declared.item.Item.{Item}
 use Rattle.markdown_spans.specs.Allocations.{Allocated}
 use Rattle.markdown_spans.specs.Footnotes.{footnote_at}
 use Rattle.std.proofs.Math.Path.{fun_ext}
-use Rattle.markdown_chains.specs.Stages.{stage, known_at, items_from}
+use Rattle.markdown_chains.specs.Counts.{no_counts}
+use Rattle.markdown_chains.specs.Document.{plain_tags}
+use Rattle.markdown_chains.specs.declared.work.Work.{Work}
+use Rattle.markdown_chains.specs.Places.{trees_from}
+use Rattle.markdown_chains.specs.Stages.{stage, known_at}
+use Rattle.markdown_resolver.specs.ChainCounts.{chain_counts}
+use Rattle.markdown_inline.specs.Counts.{Counting}
 use Rattle.markdown_resolver.specs.Chains.{AreAbove, ResolvesChain, CanResolve, StopsIn}
 use Rattle.markdown_inline.specs.Elements.{Placed, Element}
 use Rattle.markdown_inline.specs.Moves.{Leads, Keeps, Gave, GaveEvent, WentOn, Ended, Failed, BeginsWithEvent}
 use Rattle.markdown_inline.specs.NextGives.{NextGives, IsEventOf, IsPlacedOf, GivesItem}
-use Rattle.markdown_inline.specs.ParserLeft.{parser_known, parser_items, parser_work, parser_callback, parser_steps, parser_setting, elements, IsOver}
+use Rattle.markdown_inline.specs.ParserLeft.{parser_known, parser_counts, parser_work, parser_callback, parser_steps, parser_setting, elements, IsOver}
 use Rattle.markdown_chains.specs.Above.{above_cursor}
 use Rattle.markdown_chains.specs.Setting.{Setting, rules_from, setting_of}
 use Rattle.markdown_chains.specs.Tables.{tables_of}
@@ -27,7 +33,7 @@ use Rattle.markdown_inline.specs.declared.walk.Parser.{Parser}
 use Rattle.markdown_chains.proofs.CallbackLemmas.{Asks-append, Asks-some}
 use Rattle.markdown_inline.proofs.ChainLemmas.{ChainMoves, are_above, moves_chain, can_resolve, stops_chain}
 use Rattle.markdown_inline.proofs.CountLemmas.{rises-none, rises-chain}
-use Rattle.markdown_inline.proofs.WalkStepsLemmas.{items_ended, left_of_ended, steps_ended, steps_at_cursor}
+use Rattle.markdown_inline.proofs.WalkStepsLemmas.{counts_ended, left_of_ended, steps_ended, steps_at_cursor}
 
 -- the elements that are left, by a parser's parts
 pub elements-parts : {F : Type 0} (p : Parser F) (answers : Answers)
@@ -48,7 +54,9 @@ pub gave_step : {F : Type 0} (s t : Parser F) (given : List Placed) → SameBut 
     → Went s.resolver.text.now s.tree t.tree s.resolver.tables t.resolver.tables given → Gave s t given
 gave_step s t given k w = record {
   callback = sym k.callback;
-  items = rw k.text w.items;
+  ahead = λ answers.
+      rw (k.text, k.options, k.callback, k.limit, w.tables)
+      (rw w.tables at (w.ahead (rules_from s.resolver.options s.resolver.tables (is_some s.resolver.callback)) (parser_known s answers)));
   work = k.work;
   left = λ later.
       rw (elements-parts s later, elements-parts t later, k.text, k.options, k.callback, k.limit, w.tables)
@@ -79,29 +87,30 @@ leads_gave step s t given g = record { answers = []; questions = []; asked = g.c
 
 pub moved_skip : {F : Type 0} (step : F → Question → Option Answer → F → Type 0) (s t : Parser F) → SameBut s t
     → Went s.resolver.text.now s.tree t.tree s.resolver.tables t.resolver.tables [] → WentOn step s t × (parser_steps t < parser_steps s)
+unfolding leads_gave
 moved_skip step s t k w =
     let g = gave_step s t [] k w in
-    (record { leads = leads_gave step s t [] g; asked = inl g; counts = λ later r. rw (g.items, ← g.work) r }, w.falls)
+    (record { leads = leads_gave step s t [] g; asked = inl g; counts = λ later work r. rw (g.ahead later, ← g.work) r }, w.falls)
 
 -- before a chain a resolver may be called
 pub before_chain : (source : List ℕ) (s : Arena Item) (held : Allocated) (first : ℕ) → TreeStands source (tables_of held) s → IsBefore s first → CanResolve source (tables_of held) s.nodes (Some first)
 before_chain source s held first w b = can_resolve source (tables_of held) s.nodes first s.spine (rw b.cursor at w) b.is_open
 
 -- the nodes gone into stay when it is resolved
-pub above_chain : (source : List ℕ) (s : Arena Item) (held : Allocated) (first : ℕ) → TreeStands source (tables_of held) s → IsBefore s first → AreAbove s.nodes (Some first) s.spine
+pub above_chain : (source : List ℕ) (s : Arena Item) (held : Allocated) (first : ℕ) → TreeStands source (tables_of held) s → IsBefore s first → AreAbove source s.nodes (Some first) s.spine
 above_chain source s held first w b = are_above source (tables_of held) s.nodes first s.spine (rw b.cursor at w)
 
 -- what a resolved chain is for the walk
-chain_moves : {C : Type 0} (step : C → Question → Option Answer → C → Type 0) (g : Setting) (s t : Arena Item) (held held' : Allocated) (first limit limit' : ℕ) (c d : Option C)
-    → TreeStands g.text (tables_of held) s → IsBefore s first → (r : ResolvesChain step g first s t held held' limit limit' c d)
+chain_moves : {C : Type 0} (step : C → Question → Option Answer → C → Type 0) (g : Setting) (s t : Arena Item) (held held' : Allocated) (first limit limit' : ℕ) (c d : Option C) (work work' : Work)
+    → TreeStands g.text (tables_of held) s → IsBefore s first → (r : ResolvesChain step g first s t held held' limit limit' c d work work')
     → ChainMoves g (tables_of held) (tables_of held') s.nodes t.nodes first s.spine (known_at (stage s held limit c)) (known_at (stage t held' limit' d)) r.chain.questions r.chain.answers
-chain_moves step g s t held held' first limit limit' c d w b r =
+chain_moves step g s t held held' first limit limit' c d work work' w b r =
     moves_chain step g first s.spine (stage s held limit c) (stage t held' limit' d) (rw b.cursor at w) b.is_open r.chain
 
-pub stands_chain : {C : Type 0} (step : C → Question → Option Answer → C → Type 0) (g : Setting) (s t : Arena Item) (held held' : Allocated) (first limit limit' : ℕ) (c d : Option C)
-    → TreeStands g.text (tables_of held) s → IsBefore s first → ResolvesChain step g first s t held held' limit limit' c d → TreeStands g.text (tables_of held') t
-stands_chain step g s t held held' first limit limit' c d w b r =
-    rw (r.tree, b.cursor) (chain_moves step g s t held held' first limit limit' c d w b r).stands
+pub stands_chain : {C : Type 0} (step : C → Question → Option Answer → C → Type 0) (g : Setting) (s t : Arena Item) (held held' : Allocated) (first limit limit' : ℕ) (c d : Option C) (work work' : Work)
+    → TreeStands g.text (tables_of held) s → IsBefore s first → ResolvesChain step g first s t held held' limit limit' c d work work' → TreeStands g.text (tables_of held') t
+stands_chain step g s t held held' first limit limit' c d work work' w b r =
+    rw (r.tree, b.cursor) (chain_moves step g s t held held' first limit limit' c d work work' w b r).stands
 
 -- the rules go by the names of footnotes alone, and not by their uses
 setting_kept : {F : Type 0} (s t : Parser F) → t.resolver.text ≡ s.resolver.text → t.resolver.options ≡ s.resolver.options → is_some s.resolver.callback ≡ is_some t.resolver.callback
@@ -119,10 +128,10 @@ setting_kept s t x o some tables names =
 pub moved_chain : {F : Type 0} (step : F → Question → Option Answer → F → Type 0) (s t : Parser F) (first : ℕ) → t.resolver.text ≡ s.resolver.text → t.resolver.options ≡ s.resolver.options
     → TreeStands s.resolver.text.now (tables_of s.resolver.tables) s.tree → IsBefore s.tree first
     → ResolvesChain step (parser_setting s) first s.tree t.tree s.resolver.tables t.resolver.tables s.resolver.limit t.resolver.limit s.resolver.callback t.resolver.callback
-    → t.resolver.work ≡ record s.resolver.work { items = min (s.resolver.work.items + items_from s.tree.nodes (Some first)) (2 ^ 128 - 1) }
+    s.resolver.work t.resolver.work
     → WentOn step s t × (parser_steps t < parser_steps s)
-moved_chain step s t first x o w b q counted =
-    let m = chain_moves step (parser_setting s) s.tree t.tree s.resolver.tables t.resolver.tables first s.resolver.limit t.resolver.limit s.resolver.callback t.resolver.callback w b q in
+moved_chain step s t first x o w b q =
+    let m = chain_moves step (parser_setting s) s.tree t.tree s.resolver.tables t.resolver.tables first s.resolver.limit t.resolver.limit s.resolver.callback t.resolver.callback s.resolver.work t.resolver.work w b q in
     let some : is_some s.resolver.callback ≡ is_some t.resolver.callback = Asks-some step s.resolver.callback t.resolver.callback q.chain.questions q.chain.answers q.chain.asked in
     let now : (later : Answers) → elements t later ≡ left_of (parser_setting s) (tables_of t.resolver.tables) t.tree.nodes (Some first) s.tree.spine (parser_known t later) =
     λ later. elements-parts t later ∙ rw (setting_kept s t x o some q.tables q.footnotes, q.tree, b.cursor) refl in (
@@ -134,10 +143,13 @@ moved_chain step s t first x o w b q counted =
           left = λ later. rw (elements-parts s (q.chain.answers ++ later), b.cursor, now later) (m.left later);
         };
         asked = inr (λ answers. rw (now answers) (m.begins _));
-        counts = λ later r.
-            let before : parser_items s ≡ items_from s.tree.nodes (Some first) = rw b.cursor m.was_ahead in
-            let after : parser_items t ≡ 0 = rw (x, q.tree, b.cursor) m.none_ahead in
-            rw before (rises-chain (items_from s.tree.nodes (Some first)) (parser_work s) (parser_work t) later m.some counted (rw after at r));
+        counts = λ later work r.
+            let known = parser_known s (q.chain.answers ++ later) in
+            let counted = chain_counts (parser_setting s) plain_tags (above_cursor s.resolver.text.now s.tree) (trees_from s.resolver.text.now (tables_of s.resolver.tables) s.tree.nodes (Some first)) known in
+            let before : parser_counts s (q.chain.answers ++ later) ≡ counted = rw b.cursor (ap (λ (c : Counting). c known) m.was_ahead) in
+            let after : parser_counts t later ≡ no_counts =
+            rw (setting_kept s t x o some q.tables q.footnotes, q.tree, b.cursor) (ap (λ (c : Counting). c (parser_known t later)) m.none_ahead) in
+            rw before (rises-chain counted (parser_work s) (parser_work t) work (q.counted later) (rw after at r));
       },
       rw (q.tree, b.cursor) m.falls,
     )
@@ -154,7 +166,7 @@ moved_done s t e same c d = record {
   was = over_ended s e;
   is = over_ended t (rw same e);
   callback = sym c;
-  items = items_ended s.resolver.text.now (tables_of s.resolver.tables) s.tree e;
+  ahead = λ answers. ap (λ (c : Counting). c (parser_known s answers)) (counts_ended (parser_setting s) (tables_of s.resolver.tables) s.tree e);
   work = d;
 }
 
@@ -189,7 +201,7 @@ pub record HasGone {F : Type 0} (step : F → Question → Option Answer → F �
 
 pub gone_nowhere : {F : Type 0} (step : F → Question → Option Answer → F → Type 0) (s : Parser F) → HasGone step s s
 gone_nowhere step s = record {
-  went = record { leads = record { answers = []; questions = []; asked = refl; left = λ later. refl }; asked = inl (record { callback = refl; left = λ later. refl; items = refl; work = refl }); counts = λ later r. r };
+  went = record { leads = record { answers = []; questions = []; asked = refl; left = λ later. refl }; asked = inl (record { callback = refl; left = λ later. refl; ahead = λ answers. refl; work = refl }); counts = λ later work r. r };
   keeps = record { text = refl; definitions = refl };
   over = λ over. over;
   steps = omega arith;
@@ -202,15 +214,17 @@ keeps_more r s t a b = record { text = b.text ∙ a.text; definitions = b.defini
 asked_more : {F : Type 0} (r s t : Parser F) → Gave r s [] ⊎ ((answers : Answers) → BeginsWithEvent (elements s answers)) → Gave s t [] ⊎ ((answers : Answers) → BeginsWithEvent (elements t answers))
     → Gave r t [] ⊎ ((answers : Answers) → BeginsWithEvent (elements t answers))
 asked_more r s t a (inr b) = inr b
-asked_more r s t (inl a) (inl b) = inl (record { callback = a.callback ∙ b.callback; left = λ later. a.left later ∙ b.left later; items = a.items ∙ b.items; work = b.work ∙ a.work })
+asked_more r s t (inl a) (inl b) = inl (record { callback = a.callback ∙ b.callback; left = λ later. a.left later ∙ b.left later; ahead = λ answers. a.ahead answers ∙ b.ahead answers; work = b.work ∙ a.work })
 asked_more r s t (inr a) (inl b) = inr (λ answers. rw (← b.left answers) (a answers))
 
 pub gone_on : {F : Type 0} (step : F → Question → Option Answer → F → Type 0) (r s t : Parser F) → HasGone step r s → WentOn step s t → Keeps s t → parser_steps t < parser_steps s → HasGone step r t
+unfolding leads_on
 gone_on step r s t g w k l = record {
   went = record {
     leads = leads_on step (parser_callback r) (parser_callback s) (parser_callback t) (elements r) (elements s) (elements t) [] g.went.leads w.leads;
     asked = asked_more r s t g.went.asked w.asked;
-    counts = λ later x. g.went.counts later (w.counts later x);
+    counts = λ later work x.
+        rw (append_assoc g.went.leads.answers w.leads.answers later) (g.went.counts (w.leads.answers ++ later) work (w.counts later work x));
   };
   keeps = keeps_more r s t g.keeps k;
   over = λ over. absurd (no_step s t l (g.over over));
@@ -231,11 +245,15 @@ advances_none step s t u g e k =
     let q = none_quiet s t e.was.left g.went.asked in
     let keeps = keeps_more s t u g.keeps k in
     record {
-      gives = record { none_left = λ answers. q.left answers ∙ e.was.left answers; callback = sym (q.callback ∙ e.callback); over = e.is };
+      gives = record {
+        none_left = λ answers. q.left answers ∙ e.was.left answers;
+        callback = sym (q.callback ∙ e.callback);
+        over = e.is;
+        counts = λ answers. rises-none (parser_counts s answers) (parser_work s) (parser_work u) (q.ahead answers ∙ e.ahead answers) (e.work ∙ q.work);
+      };
       text = keeps.text;
       definitions = keeps.definitions;
       stays = λ over. (refl, e.is);
-      work = g.went.counts (parser_work u) (rises-none (parser_items t) (parser_work t) (parser_work u) e.items e.work);
     }
 
 pub advances_fault : {F : Type 0} (step : F → Question → Option Answer → F → Type 0) (s t u : Parser F) → HasGone step s t → Failed step t u → Keeps t u → Advances step s (Some (Err Memory)) u
@@ -256,11 +274,11 @@ advances_fault step s t u g f k =
       text = keeps.text;
       definitions = keeps.definitions;
       stays = λ over. absurd (omega (arith, f.more, (g.over over).steps));
-      work = tt;
     }
 
 pub advances_event : {F : Type 0} (step : F → Question → Option Answer → F → Type 0) (s t u : Parser F) (e : Event) (range : Range ℕ) → HasGone step s t → GaveEvent t u e range → Keeps t u
     → parser_steps u < parser_steps t → Advances step s (Some (Ok (e, range))) u
+unfolding leads_on leads_gave
 advances_event step s t u e range g w k f =
     let l = leads_on step (parser_callback s) (parser_callback t) (parser_callback u) (elements s) (elements t) (elements u) (w.placed ∷ []) g.went.leads (leads_gave step t u (w.placed ∷ []) w.gave) in
     let keeps = keeps_more s t u g.keeps k in
@@ -272,16 +290,18 @@ advances_event step s t u e range g w k f =
         placed = w.placed;
         is_item = subst (λ (source : List ℕ). IsPlacedOf source (e, range) w.placed) g.keeps.text w.is_item;
         left = l.left;
+        counts = λ later.
+            rw (append_assoc g.went.leads.answers [] later)
+            (g.went.counts later (parser_work u) (rises-none (parser_counts t later) (parser_work t) (parser_work u) (w.gave.ahead later) w.gave.work));
       };
       text = keeps.text;
       definitions = keeps.definitions;
       stays = λ over. absurd (no_step t u f (g.over over));
-      work = g.went.counts (parser_work u) (rises-none (parser_items t) (parser_work t) (parser_work u) w.gave.items w.gave.work);
     }
 
 -- an event with its range is an event
 pub without_range : {F : Type 0} (step : F → Question → Option Answer → F → Type 0) (s : Parser F) (e : Event × Range ℕ) (t : Parser F) → GivesItem step IsPlacedOf s e t → GivesItem step IsEventOf s e.0 t
-without_range step s e t g = record { questions = g.questions; answers = g.answers; asked = g.asked; placed = g.placed; is_item = g.is_item.is_event; left = g.left }
+without_range step s e t g = record { questions = g.questions; answers = g.answers; asked = g.asked; placed = g.placed; is_item = g.is_item.is_event; left = g.left; counts = g.counts }
 
 -- a refusal ends the walk, which was not over
 pub steps_failed : {F : Type 0} (step : F → Question → Option Answer → F → Type 0) (s t u : Parser F) → HasGone step s t → Failed step t u → parser_steps u < parser_steps s

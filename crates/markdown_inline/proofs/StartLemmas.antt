@@ -32,8 +32,8 @@ use Rattle.markdown_spans.specs.Blocks.{block_text, block_options, block_tree, b
 use Rattle.markdown_spans.specs.declared.blocks.Blocks.{Blocks}
 use Rattle.markdown_inline.specs.ParserLeft.{elements, rules_of, reading_of, expansion_limit, ReadsBlocks, ReadsText}
 use Rattle.markdown_inline.specs.Walk.{left_of}
-use Rattle.markdown_chains.specs.Places.{label_at, trees_from, IsPlaced}
-use Rattle.markdown_chains.specs.Document.{label_of, document}
+use Rattle.markdown_chains.specs.Places.{label_at, trees_from, IsPlaced, HasSlices}
+use Rattle.markdown_chains.specs.Document.{block_of, label_of, document}
 use Rattle.markdown_chains.specs.Setting.{Rules, rules_from, use_count, uses_of}
 use Rattle.markdown_resolver.specs.Kept.{IsQuiet, IsQuietBelow, IsKept}
 use Rattle.markdown_chains.specs.Totals.{total, same, same_as, naming}
@@ -67,6 +67,12 @@ no_link : (b : ItemBody) → is_resolved b ≡ false → link_named b ≡ None
 no_link (body.Link ix) r = cc r
 no_link (body.Image ix) r = cc r
 no_link other r = refl
+
+-- nor code or math, of which the text would be a slice
+unresolved_slices : (source : List ℕ) (tables : Tables) (b : ItemBody) → is_resolved b ≡ false → HasSlices source tables b
+unresolved_slices source tables (body.Code ix) r = cc r
+unresolved_slices source tables (body.Math ix display) r = cc r
+unresolved_slices source tables other r = tt
 
 entries_named : (parts : BlockParts) (b : ItemBody) → PartsAreNamed (counts_of parts) b → is_resolved b ≡ false → NamesEntries (tables_at_start parts) b
 entries_named parts b p r = record { text = p.text; link = rw (no_link b r) tt; alignments = p.alignments; attributes = p.attributes }
@@ -117,6 +123,7 @@ each_placed source counts tables nodes l (node ix below after) s w named =
       record {
         lies = k.ranges_lie_in;
         named = named.0;
+        slices = unresolved_slices source tables (item_at nodes ix).body k.nothing_resolved;
         keeps = rw (following_root nodes (sibling_of nodes ix) after s.3) (record {
           in_order = in_order_from source counts (numbered nodes ix) (relabelled (numbered nodes) after) k.nothing_resolved w.2 k.inline_in_order;
           markup_is_there = k.markup_is_there;
@@ -145,6 +152,10 @@ and_right : (a b : Bool) → (a && b) ≡ true → b ≡ true
 and_right true b h = h
 and_right false b h = cc h
 
+-- an inline item is no block
+inline_no_block : (b : ItemBody) → is_inline b ≡ true → is_some (block_of b) ≡ false
+inline_no_block b h = rw h refl
+
 -- inline items have no children
 abbrev Childless : Forest Numbered → Type 0
 Childless f = Throughout (λ a below after. IsTrue (is_childless a.item.body) → below ≡ nil) f
@@ -154,6 +165,7 @@ quiet_inline : (source : List ℕ) (tables : Tables) (nodes : List (Node Item)) 
 quiet_inline source tables nodes nil c h = tt
 quiet_inline source tables nodes (node ix below after) c h =
     let here = and_left (is_inline (item_at nodes ix).body) (all_inline (relabelled (numbered nodes) after)) h in (
+      inline_no_block (item_at nodes ix).body here,
       nothing_below source tables nodes below (c.0 (childless-inline (item_at nodes ix).body here)),
       quiet_inline source tables nodes after c.2 (and_right (is_inline (item_at nodes ix).body) (all_inline (relabelled (numbered nodes) after)) h),
     )
@@ -193,6 +205,7 @@ starts_stands source nodes parts w =
       named_once = λ n. omega (arith, starts_once source nodes parts n w placed);
       here_kept = kept_from source tables nodes f childless inline_only (λ o. cc (o, w.top_is_closed));
       above_kept = tt;
+      spine_lies = tt;
     }
 
 some_if : {A : Type 0} (a : A) (b : Bool) → is_some (if b then Some a else None) ≡ b

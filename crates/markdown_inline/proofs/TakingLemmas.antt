@@ -22,11 +22,12 @@ use Rattle.markdown_base.specs.declared.item.ItemBody.{ItemBody}
 use Rattle.markdown_base.specs.declared.tag.Alignment.{Alignment}
 use Rattle.markdown_base.specs.declared.tag.HeadingLevel.{HeadingLevel}
 use Rattle.markdown_spans.specs.Allocations.{Allocated, LinkParts, LeavesEmptyCow, LeavesEmptyLink, LeavesEmptyAlignment}
+use Rattle.markdown_chains.specs.Origins.{IsSlicedOf, origin_at, origin_of}
 use Rattle.markdown_chains.specs.Document.{leaf, sliced, made}
 use Rattle.markdown_chains.specs.Tables.{Tables, Named, some_text, some_link, some_alignments, text_at, link_at, link_view, link_named, alignments_at, attributes_at, attributes_view, size_for, tables_of, NamesEntries, IsSameEntry}
 use Rattle.markdown_chains.specs.Totals.{same, times_named}
 use Rattle.markdown_chains.proofs.TablesLemmas.{same_entry-refl}
-use Rattle.markdown_inline.specs.Slices.{texts_of}
+use Rattle.markdown_inline.specs.Slices.{texts_of, IsFrom}
 use Rattle.markdown_inline.specs.WalkSteps.{OpensWith, TakesOnly}
 
 -- an entry that is read
@@ -34,6 +35,22 @@ pub text_at-read : (cows : List CowStr) (n : ℕ) (c : CowStr) → n < length co
 text_at-read [] n c l e = absurd (omega (arith, l))
 text_at-read (d ∷ cows) zero c l e = ap text_of (sym e)
 text_at-read (d ∷ cows) (suc n) c l e = text_at-read cows n c (omega (arith, l)) e
+
+pub origin_at-read : (cows : List CowStr) (n : ℕ) (c : CowStr) → n < length cows → c ≡ get_or cows n c → origin_at cows n ≡ origin_of c
+origin_at-read [] n c l e = absurd (omega (arith, l))
+origin_at-read (d ∷ cows) zero c l e = ap origin_of (sym e)
+origin_at-read (d ∷ cows) (suc n) c l e = origin_at-read cows n c (omega (arith, l)) e
+
+-- which comes from where the table says
+from_itself : (source : List ℕ) (c : CowStr) → IsSlicedOf source (origin_of c) (text_of c) → IsFrom source (origin_of c) c
+from_itself source (Borrowed slice) h = h refl
+from_itself source other h = tt
+
+pub is_from : (source : List ℕ) (cows : List CowStr) (n : ℕ) (c : CowStr) → n < length cows → c ≡ get_or cows n c → IsSlicedOf source (origin_at cows n) (text_at cows n)
+    → IsFrom source (origin_at cows n) c
+is_from source cows n c l e h =
+    let origin = origin_at-read cows n c l e in
+    rw origin (from_itself source c (rw (origin, text_at-read cows n c l e) at h))
 
 pub link_at-read : (links : List LinkParts) (n : ℕ) (c : LinkParts) → n < length links → c ≡ get_or links n c → link_at links n ≡ link_view c
 link_at-read [] n c l e = absurd (omega (arith, l))
@@ -67,6 +84,13 @@ text_at-set (d ∷ cows) zero (suc m) c h = refl
 text_at-set (d ∷ cows) (suc n) zero c h = refl
 text_at-set (d ∷ cows) (suc n) (suc m) c h = text_at-set cows n m c h
 
+origin_at-set : (cows : List CowStr) (n m : ℕ) (c : CowStr) → same m n ≡ 0 → origin_at (set cows n c) m ≡ origin_at cows m
+origin_at-set [] n m c h = refl
+origin_at-set (d ∷ cows) zero zero c h = cc h
+origin_at-set (d ∷ cows) zero (suc m) c h = refl
+origin_at-set (d ∷ cows) (suc n) zero c h = refl
+origin_at-set (d ∷ cows) (suc n) (suc m) c h = origin_at-set cows n m c h
+
 link_at-set : (links : List LinkParts) (n m : ℕ) (c : LinkParts) → same m n ≡ 0 → link_at (set links n c) m ≡ link_at links m
 link_at-set [] n m c h = refl
 link_at-set (d ∷ links) zero zero c h = cc h
@@ -90,7 +114,7 @@ takes_nothing body held = record { tables = refl; longer = record { sizes = λ n
 
 -- the text that a body names was taken
 text_others : (tables : Tables) (b : ItemBody) (ix : ℕ) (left : CowStr) (n : Named) → text_named b ≡ Some ix → times_named n b ≡ 0 → IsSameEntry tables (record tables { cows = set tables.cows ix left }) n
-text_others tables b ix left (some_text n) e h = text_at-set tables.cows ix n left (rw e at h)
+text_others tables b ix left (some_text n) e h = let apart = rw e at h in (text_at-set tables.cows ix n left apart, origin_at-set tables.cows ix n left apart)
 text_others tables b ix left (some_link n) e h = refl
 text_others tables b ix left (some_alignments n) e h = refl
 
@@ -108,7 +132,7 @@ takes_text b held held' ix e l = rw l.others (record {
 
 -- the link was
 link_others : (tables : Tables) (b : ItemBody) (ix : ℕ) (left : LinkParts) (n : Named) → link_named b ≡ Some ix → times_named n b ≡ 0 → IsSameEntry tables (record tables { links = set tables.links ix left }) n
-link_others tables b ix left (some_text n) e h = refl
+link_others tables b ix left (some_text n) e h = (refl, refl)
 link_others tables b ix left (some_link n) e h = link_at-set tables.links ix n left (rw e at h)
 link_others tables b ix left (some_alignments n) e h = refl
 
@@ -127,7 +151,7 @@ takes_link b held held' ix e l = rw l.others (record {
 -- the alignments were
 alignments_others : (tables : Tables) (b : ItemBody) (ix : ℕ) (left : Vec Alignment Global) (n : Named) → alignments_named b ≡ Some ix → times_named n b ≡ 0
     → IsSameEntry tables (record tables { alignments = set tables.alignments ix left }) n
-alignments_others tables b ix left (some_text n) e h = refl
+alignments_others tables b ix left (some_text n) e h = (refl, refl)
 alignments_others tables b ix left (some_link n) e h = refl
 alignments_others tables b ix left (some_alignments n) e h = alignments_at-set tables.alignments ix n left (rw e at h)
 
@@ -151,7 +175,7 @@ pub opens_slice : (source : List ℕ) (range : Range ℕ) (view : List ℕ → E
 opens_slice source range view e c (slice, is, over) viewed texts = rw is (record {
   origins = sliced ∷ [];
   is_leaf = rw (viewed (Borrowed slice), over) refl;
-  texts = rw (texts (Borrowed slice)) ((range, over), tt);
+  texts = rw (texts (Borrowed slice)) (∣ (range, over) ∣₁, tt);
 })
 
 -- an event of one text that is named, and is taken
@@ -162,4 +186,15 @@ opens_made source cows n view e c within read viewed texts = record {
   origins = made ∷ [];
   is_leaf = rw (viewed c, text_at-read cows n c within read) refl;
   texts = rw (texts c) (tt, tt);
+}
+
+-- so is the text of a span, which is a slice of the source where the table says so
+pub opens_span : (source : List ℕ) (cows : List CowStr) (n : ℕ) (view : List ℕ → EventView) (e : CowStr → Event) (c : CowStr) → n < length cows → c ≡ get_or cows n c
+    → IsSlicedOf source (origin_at cows n) (text_at cows n)
+    → ((d : CowStr) → event_view (e d) ≡ view (text_of d)) → ((d : CowStr) → texts_of (e d) ≡ d ∷ [])
+    → OpensWith source (leaf (view (text_at cows n)) (origin_at cows n ∷ [])) (e c)
+opens_span source cows n view e c within read slice viewed texts = record {
+  origins = origin_at cows n ∷ [];
+  is_leaf = rw (viewed c, text_at-read cows n c within read) refl;
+  texts = rw (texts c) (is_from source cows n c within read slice, tt);
 }

@@ -7,17 +7,19 @@ use Rattle.markdown_base.specs.ArenaForest.{Links, links_of, forest_at}
 use Rattle.markdown_base.specs.ArenaWalk.{Reaches, AllReach}
 use Rattle.markdown_base.specs.BlockTree.{item_at}
 use Rattle.markdown_inline.specs.Elements.{Placed, Reading, event, nothing, then_reads}
-use Rattle.markdown_inline.specs.Counts.{items_around, items_ahead, first_items, unless_ended, LeavesAhead}
-use Rattle.markdown_inline.proofs.CountLemmas.{items_around-snoc, event-none}
+use Rattle.markdown_inline.specs.Counts.{Counting, no_chain, counts_around, counts_ahead, first_counts, unless_ended, LeavesAhead}
+use Rattle.markdown_inline.proofs.CountLemmas.{counts_around-snoc, event-none}
 use Rattle.markdown_chains.specs.Above.{Above, no_blocks, inside_item, inside_all, above_at}
 use Rattle.markdown_chains.specs.Setting.{Known, Setting}
 use Rattle.std.specs.declared.ops.Range.{Range}
 use Rattle.markdown_base.specs.Event.{EventView, TagView, start, end_of, hard_break}
-use Rattle.markdown_base.specs.Item.{range_of, is_open}
+use Rattle.markdown_base.specs.Item.{LiesIn, range_of, is_open}
 use Rattle.markdown_base.specs.declared.item.Item.{Item}
 use Rattle.markdown_base.specs.declared.item.ItemBody.{ItemBody}
 use Rattle.markdown_base.specs.declared.node.Node.{Node}
 use Rattle.markdown_base.proofs.ArenaForestLemmas.{opens, forest_at-none}
+use Rattle.markdown_base.proofs.ArenaLemmas.{All-front}
+use Rattle.markdown_base.proofs.ForestLemmas.{All-append}
 use Rattle.markdown_inline.specs.Reading.{opened, reading}
 use Rattle.markdown_inline.specs.Walk.{ended, around, left_of, closing}
 use Rattle.markdown_chains.specs.Places.{label_at, trees_from, IsPlaced}
@@ -32,7 +34,7 @@ use Rattle.markdown_chains.proofs.PlaceLemmas.{some_weight}
 pub record Moves (s : Setting) (tables : Tables) (nodes : List (Node Item)) (l : Option ℕ) (spine : List ℕ) (m : Option ℕ) (deeper : List ℕ) (given : List Placed) : Type 0 where
   pub stands : Stands s.text tables nodes m deeper
   pub left : (known : Known) → left_of s tables nodes l spine known ≡ map event given ++ left_of s tables nodes m deeper known
-  pub items : LeavesAhead given (items_ahead s.text tables nodes l spine) (items_ahead s.text tables nodes m deeper)
+  pub ahead : (known : Known) → LeavesAhead given (counts_ahead s tables nodes l spine known) (counts_ahead s tables nodes m deeper known)
   pub falls : steps_of nodes m deeper < steps_of nodes l spine
 
 one_once : (waits : Bool) → one_if waits ≤ 1
@@ -121,7 +123,7 @@ reads-event (unresolved b) range inside after whole e origins h = cc h
 pub moves_on : (s : Setting) (tables : Tables) (nodes : List (Node Item)) (ix : ℕ) (spine : List ℕ) (e : EventView) (origins : List Origin)
     → Stands s.text tables nodes (Some ix) spine → event_of_shape (label_at s.text tables nodes ix).part.shape ≡ Some (e, origins)
     → Moves s tables nodes (Some ix) spine (sibling_of nodes ix) spine ((e, range_of (item_at nodes ix), origins) ∷ [])
-unfolding left_of left_total items_ahead
+unfolding left_of left_total counts_ahead
 moves_on s tables nodes ix spine e origins w h =
     let o = opens (links_of nodes) (IsPlaced s.text tables nodes) ix w.walk.here in
     let two = some_weight (is_open (item_at nodes ix).body) in
@@ -132,9 +134,10 @@ moves_on s tables nodes ix spine e origins w h =
         named_once = λ n. let x = rw o.here at (w.named_once n) in omega arith;
         here_kept = (rw o.here at w.here_kept).2;
         above_kept = w.above_kept;
+        spine_lies = w.spine_lies;
       };
       left = λ known. rw o.here (ap (λ (r : Reading). r known) (reads-event (label_at s.text tables nodes ix).part.shape _ _ _ _ e origins h));
-      items = rw o.here (event-none (label_at s.text tables nodes ix).part.shape _ _ e origins h);
+      ahead = λ known. rw o.here (ap (λ (c : Counting). c known) (event-none (label_at s.text tables nodes ix).part.shape _ _ e origins h));
       falls = let waits = waits_once nodes (sibling_of nodes ix) in rw o.here (omega arith);
     }
 
@@ -158,7 +161,7 @@ moves_past_in source tables nodes ix spine n w =
 pub moves_in : (s : Setting) (tables : Tables) (nodes : List (Node Item)) (ix : ℕ) (spine : List ℕ) (tag : TagView)
     → Stands s.text tables nodes (Some ix) spine → (label_at s.text tables nodes ix).part.shape ≡ enclosed tag
     → Moves s tables nodes (Some ix) spine (child_of nodes ix) (spine ++ ix ∷ []) ((start tag, range_of (item_at nodes ix), []) ∷ [])
-unfolding left_of left_total items_ahead
+unfolding left_of left_total counts_ahead
 moves_in s tables nodes ix spine tag w h =
     let o = opens (links_of nodes) (IsPlaced s.text tables nodes) ix w.walk.here in
     let kept = rw o.here at w.here_kept in
@@ -171,9 +174,10 @@ moves_in s tables nodes ix spine tag w h =
         named_once = λ n. rw (climbed-snoc (λ ix. 0) (naming nodes n) (links_of nodes) spine ix) (let x = rw o.here at (w.named_once n) in omega arith);
         here_kept = kept.1;
         above_kept = AboveKept-snoc s.text tables nodes spine ix w.above_kept (kept.2, tt);
+        spine_lies = All-append (λ n. LiesIn s.text (item_at nodes n)) spine (ix ∷ []) w.spine_lies (o.holds.lies, tt);
       };
       left = λ known. rw (o.here, around-snoc s (no_blocks s.text) tables nodes spine ix nothing, inside_all-snoc nodes spine ix (no_blocks s.text), c, h) refl;
-      items = rw (o.here, h) refl;
+      ahead = λ known. rw (o.here, h) refl;
       falls = let waits = waits_once nodes (child_of nodes ix) in rw (o.here, climbed-snoc (λ ix. 1) (weight_at nodes) (links_of nodes) spine ix) (omega arith);
     }
 
@@ -181,7 +185,7 @@ moves_in s tables nodes ix spine tag w h =
 pub moves_in_plain : (s : Setting) (tables : Tables) (nodes : List (Node Item)) (ix : ℕ) (spine : List ℕ)
     → Stands s.text tables nodes (Some ix) spine → (label_at s.text tables nodes ix).part.shape ≡ plain
     → Moves s tables nodes (Some ix) spine (child_of nodes ix) (spine ++ ix ∷ []) []
-unfolding left_of left_total items_ahead
+unfolding left_of left_total counts_ahead
 moves_in_plain s tables nodes ix spine w h =
     let o = opens (links_of nodes) (IsPlaced s.text tables nodes) ix w.walk.here in
     let kept = rw o.here at w.here_kept in
@@ -194,9 +198,10 @@ moves_in_plain s tables nodes ix spine w h =
         named_once = λ n. rw (climbed-snoc (λ ix. 0) (naming nodes n) (links_of nodes) spine ix) (let x = rw o.here at (w.named_once n) in omega arith);
         here_kept = kept.1;
         above_kept = AboveKept-snoc s.text tables nodes spine ix w.above_kept (kept.2, tt);
+        spine_lies = All-append (λ n. LiesIn s.text (item_at nodes n)) spine (ix ∷ []) w.spine_lies (o.holds.lies, tt);
       };
       left = λ known. rw (o.here, around-snoc s (no_blocks s.text) tables nodes spine ix nothing, inside_all-snoc nodes spine ix (no_blocks s.text), c, h) refl;
-      items = rw (o.here, items_around-snoc s.text tables nodes spine ix 0, c, h) refl;
+      ahead = λ known. rw (o.here, counts_around-snoc s (no_blocks s.text) tables nodes spine ix no_chain, inside_all-snoc nodes spine ix (no_blocks s.text), c, h) refl;
       falls = let waits = waits_once nodes (child_of nodes ix) in rw (o.here, climbed-snoc (λ ix. 1) (weight_at nodes) (links_of nodes) spine ix) (omega arith);
     }
 
@@ -204,9 +209,9 @@ moves_in_plain s tables nodes ix spine w h =
 pub moves_out : (s : Setting) (tables : Tables) (nodes : List (Node Item)) (ix : ℕ) (spine : List ℕ) (given : List Placed)
     → Stands s.text tables nodes None (spine ++ ix ∷ [])
     → ((after : Reading) (known : Known) → ended (closing (item_at nodes ix).body) (range_of (item_at nodes ix)) after known ≡ map event given ++ after known)
-    → ((after : ℕ) → LeavesAhead given (unless_ended (closing (item_at nodes ix).body) after) after)
+    → ((after : Counting) (known : Known) → LeavesAhead given (unless_ended (closing (item_at nodes ix).body) after known) (after known))
     → Moves s tables nodes None (spine ++ ix ∷ []) (sibling_of nodes ix) spine given
-unfolding left_of left_total items_ahead
+unfolding left_of left_total counts_ahead
 moves_out s tables nodes ix spine given w h a =
     record {
       stands = record {
@@ -215,9 +220,10 @@ moves_out s tables nodes ix spine given w h a =
         named_once = λ n. let x = rw (climbed-snoc (λ ix. 0) (naming nodes n) (links_of nodes) spine ix) at (w.named_once n) in omega arith;
         here_kept = (AboveKept-last s.text tables nodes spine ix w.above_kept).0;
         above_kept = AboveKept-front s.text tables nodes spine ix w.above_kept;
+        spine_lies = All-front (λ n. LiesIn s.text (item_at nodes n)) spine ix w.spine_lies;
       };
       left = λ known. rw (forest_at-none (links_of nodes), around-snoc s (no_blocks s.text) tables nodes spine ix nothing) (h (reading s plain_tags (above_at s.text nodes spine) (trees_from s.text tables nodes (sibling_of nodes ix)) (around s (no_blocks s.text) tables nodes spine nothing)) known);
-      items = rw (forest_at-none (links_of nodes), items_around-snoc s.text tables nodes spine ix 0) (a (first_items (trees_from s.text tables nodes (sibling_of nodes ix)) (items_around s.text tables nodes spine 0)));
+      ahead = λ known. rw (forest_at-none (links_of nodes), counts_around-snoc s (no_blocks s.text) tables nodes spine ix no_chain) (a (first_counts s plain_tags (above_at s.text nodes spine) (trees_from s.text tables nodes (sibling_of nodes ix)) (counts_around s (no_blocks s.text) tables nodes spine no_chain)) known);
       falls = let waits = waits_once nodes (sibling_of nodes ix) in rw (forest_at-none (links_of nodes), climbed-snoc (λ ix. 1) (weight_at nodes) (links_of nodes) spine ix) (omega arith);
     }
 
@@ -248,4 +254,5 @@ stands-end source tables nodes =
       named_once = λ n. rw e (omega arith);
       here_kept = rw e tt;
       above_kept = tt;
+      spine_lies = tt;
     }

@@ -13,8 +13,8 @@ use Rattle.markdown_base.specs.declared.node.Node.{Node}
 use Rattle.markdown_base.specs.declared.tag.TagEnd.{TagEnd}
 use Rattle.markdown_base.proofs.ArenaForestLemmas.{opens}
 use Rattle.markdown_spans.specs.Allocations.{Allocated}
-use Rattle.markdown_inline.specs.Counts.{items_ahead, tree_items, unless_ended, LeavesAhead}
-use Rattle.markdown_inline.proofs.CountLemmas.{items-end}
+use Rattle.markdown_inline.specs.Counts.{Counting, no_chain, counts_ahead, tree_counts, unless_ended, LeavesAhead}
+use Rattle.markdown_inline.proofs.CountLemmas.{counts-end}
 use Rattle.markdown_inline.specs.Walk.{ended, left_of, closing}
 use Rattle.markdown_chains.specs.Totals.{same, naming}
 use Rattle.markdown_inline.specs.WalkTotals.{named_left}
@@ -38,11 +38,11 @@ any_rules = record { options = record { 0 = 0 }; definitions = []; is_footnote =
 taken_after : (source : List ℕ) (nodes : List (Node Item)) (ix : ℕ) (held held' : Allocated) (m : Option ℕ) (deeper : List ℕ) (rules : Rules)
     → TakesOnly (item_at nodes ix).body held held' → ((n : Named) → naming nodes n ix + named_left nodes m deeper n ≤ 1) → Stands source (tables_of held) nodes m deeper
     → Stands source (tables_of held') nodes m deeper × (left_of (setting_of source rules) (tables_of held') nodes m deeper ≡ left_of (setting_of source rules) (tables_of held) nodes m deeper)
-    × (items_ahead source (tables_of held') nodes m deeper ≡ items_ahead source (tables_of held) nodes m deeper)
+    × (counts_ahead (setting_of source rules) (tables_of held') nodes m deeper ≡ counts_ahead (setting_of source rules) (tables_of held) nodes m deeper)
 taken_after source nodes ix held held' m deeper rules t past w =
     let f = left_framed (setting_of source rules) (tables_of held) (tables_of held') nodes nodes m deeper (omega arith) t.longer w (λ n l. record { child = refl; next = refl; item = refl })
     (λ n l. t.others n (let x = past n in omega arith)) in
-    (f.stands, f.left, f.items)
+    (f.stands, f.left, f.ahead)
 
 went : (source : List ℕ) (s t : Arena Item) (held held' : Allocated) (ix : ℕ) (m : Option ℕ) (deeper : List ℕ) (given : List Placed)
     → s.cursor ≡ Some ix → t ≡ record s { cursor = m; spine = deeper } → TakesOnly (item_at s.nodes ix).body held held'
@@ -51,7 +51,7 @@ went : (source : List ℕ) (s t : Arena Item) (held held' : Allocated) (ix : ℕ
 went source s t held held' ix m deeper given a c k past mv =
     rw (c, a) (record {
       stands = (taken_after source s.nodes ix held held' m deeper any_rules k past (mv any_rules).stands).0;
-      items = rw (taken_after source s.nodes ix held held' m deeper any_rules k past (mv any_rules).stands).2 (mv any_rules).items;
+      ahead = λ rules known. rw (taken_after source s.nodes ix held held' m deeper rules k past (mv rules).stands).2 ((mv rules).ahead known);
       tables = k.tables;
       left = λ rules known. rw (taken_after source s.nodes ix held held' m deeper rules k past (mv rules).stands).1 ((mv rules).left known);
       falls = (mv any_rules).falls;
@@ -99,24 +99,24 @@ went_in_plain source s t held held' ix item w a h sh k c =
 
 went_out : (source : List ℕ) (s t : Arena Item) (held : Allocated) (ix : ℕ) (up : List ℕ) (given : List Placed) → TreeStands source (tables_of held) s → s.cursor ≡ None → s.spine ≡ up ++ ix ∷ []
     → ((after : Reading) (known : Known) → ended (closing (item_at s.nodes ix).body) (range_of (item_at s.nodes ix)) after known ≡ map event given ++ after known)
-    → ((after : ℕ) → LeavesAhead given (unless_ended (closing (item_at s.nodes ix).body) after) after)
+    → ((after : Counting) (known : Known) → LeavesAhead given (unless_ended (closing (item_at s.nodes ix).body) after known) (after known))
     → t ≡ record s { spine = up; cursor = sibling_of s.nodes ix } → Went source s t held held given
 went_out source s t held ix up given w a sp cl ahead c =
     let st = stands_at source (tables_of held) s None (up ++ ix ∷ []) a sp w in
     let mv = λ (rules : Rules). moves_out (setting_of source rules) (tables_of held) s.nodes ix up given st cl ahead in
-    rw (c, a, sp) (record { stands = (mv any_rules).stands; tables = refl; left = λ rules known. (mv rules).left known; items = (mv any_rules).items; falls = (mv any_rules).falls })
+    rw (c, a, sp) (record { stands = (mv any_rules).stands; tables = refl; left = λ rules known. (mv rules).left known; ahead = λ rules known. (mv rules).ahead known; falls = (mv any_rules).falls })
 
 -- out of a node that gives an End
 pub went_out_end : (source : List ℕ) (s t : Arena Item) (held : Allocated) (ix : ℕ) (item : Item) (up : List ℕ) (e : TagEnd) → TreeStands source (tables_of held) s → s.cursor ≡ None → s.spine ≡ up ++ ix ∷ []
     → item ≡ item_at s.nodes ix → closing item.body ≡ Some e → t ≡ record s { spine = up; cursor = sibling_of s.nodes ix } → Went source s t held held ((end e, range_of item, []) ∷ [])
 went_out_end source s t held ix item up e w a sp h cl c =
-    rw h (went_out source s t held ix up ((end e, range_of (item_at s.nodes ix), []) ∷ []) w a sp (λ after known. rw (rw h at cl) refl) (λ after. rw (rw h at cl) refl) c)
+    rw h (went_out source s t held ix up ((end e, range_of (item_at s.nodes ix), []) ∷ []) w a sp (λ after known. rw (rw h at cl) refl) (λ after known. rw (rw h at cl) refl) c)
 
 -- out of a node that gives none
 pub went_out_plain : (source : List ℕ) (s t : Arena Item) (held : Allocated) (ix : ℕ) (item : Item) (up : List ℕ) → TreeStands source (tables_of held) s → s.cursor ≡ None → s.spine ≡ up ++ ix ∷ []
     → item ≡ item_at s.nodes ix → closing item.body ≡ None → t ≡ record s { spine = up; cursor = sibling_of s.nodes ix } → Went source s t held held []
 went_out_plain source s t held ix item up w a sp h cl c =
-    went_out source s t held ix up [] w a sp (λ after known. rw (rw h at cl) refl) (λ after. rw (rw h at cl) refl) c
+    went_out source s t held ix up [] w a sp (λ after known. rw (rw h at cl) refl) (λ after known. rw (rw h at cl) refl) c
 
 -- a walk that is over has nothing left, and stays over
 pub left_of_ended : (s : Setting) (tables : Tables) (t : Arena Item) → HasEnded t → (known : Known) → tree_left s tables t known ≡ []
@@ -125,8 +125,8 @@ left_of_ended s tables t e known = rw (e.cursor, e.spine) (left_of-end s tables 
 pub stands_ended : (source : List ℕ) (tables : Tables) (t : Arena Item) → HasEnded t → TreeStands source tables t
 stands_ended source tables t e = rw (e.cursor, e.spine) (stands-end source tables t.nodes)
 
-pub items_ended : (source : List ℕ) (tables : Tables) (t : Arena Item) → HasEnded t → tree_items source tables t ≡ 0
-items_ended source tables t e = rw (e.cursor, e.spine) (items-end source tables t.nodes)
+pub counts_ended : (s : Setting) (tables : Tables) (t : Arena Item) → HasEnded t → tree_counts s tables t ≡ no_chain
+counts_ended s tables t e = rw (e.cursor, e.spine) (counts-end s tables t.nodes)
 
 pub steps_ended : (t : Arena Item) → HasEnded t → tree_steps t ≡ 0
 steps_ended t e = rw (e.cursor, e.spine) (steps-end t.nodes)

@@ -7,9 +7,10 @@ use Rattle.markdown_base.specs.declared.event.Event.{Event}
 use Rattle.markdown_spans.specs.Callback.{Asks}
 use Rattle.markdown_inline.specs.Elements.{Placed, Element, question, event}
 use Rattle.markdown_chains.specs.declared.work.Work.{Work}
-use Rattle.markdown_inline.specs.Counts.{LeavesAhead, WorkRises}
+use Rattle.markdown_chains.specs.Counts.{no_counts, WorkRises}
+use Rattle.markdown_inline.specs.Counts.{LeavesAhead}
 use Rattle.markdown_inline.specs.NextGives.{IsPlacedOf}
-use Rattle.markdown_inline.specs.ParserLeft.{parser_text, parser_callback, parser_steps, parser_definitions, parser_work, parser_items, elements, IsOver}
+use Rattle.markdown_inline.specs.ParserLeft.{parser_text, parser_callback, parser_steps, parser_definitions, parser_work, parser_counts, elements, IsOver}
 use Rattle.markdown_inline.specs.declared.walk.Parser.{Parser}
 use Rattle.markdown_inline.specs.declared.walk.Move.{Move}
 
@@ -36,22 +37,23 @@ pub record Keeps {F : Type 0} (s t : Parser F) : Type 0 where
 pub record Gave {F : Type 0} (s t : Parser F) (given : List Placed) : Type 0 where
   pub callback : parser_callback s ≡ parser_callback t
   pub left : (later : Answers) → elements s later ≡ map event given ++ elements t later
-  pub items : LeavesAhead given (parser_items s) (parser_items t)
+  pub ahead : (answers : Answers) → LeavesAhead given (parser_counts s answers) (parser_counts t answers)
   pub work : parser_work t ≡ parser_work s
 
 -- from s to t the walk went on and gave nothing; where it asked, an event comes next
 pub record WentOn {F : Type 0} (step : F → Question → Option Answer → F → Type 0) (s t : Parser F) : Type 0 where
   pub leads : Leads step (parser_callback s) (parser_callback t) (elements s) (elements t) []
   pub asked : Gave s t [] ⊎ ((answers : Answers) → BeginsWithEvent (elements t answers))
-  -- and the counts have risen so that what rises from t on rises from s on
-  pub counts : (later : Work) → WorkRises (parser_items t) (parser_work t) later → WorkRises (parser_items s) (parser_work s) later
+  -- and the counts have risen so that what rises from t on rises from s on, for the answers that were given
+  pub counts : (later : Answers) (work : Work) → WorkRises (parser_counts t later) (parser_work t) work
+      → WorkRises (parser_counts s (leads.answers ++ later)) (parser_work s) work
 
 -- the walk was over, and is
 pub record Ended {F : Type 0} (s t : Parser F) : Type 0 where
   pub was : IsOver s
   pub is : IsOver t
   pub callback : parser_callback s ≡ parser_callback t
-  pub items : parser_items s ≡ 0
+  pub ahead : (answers : Answers) → parser_counts s answers ≡ no_counts
   pub work : parser_work t ≡ parser_work s
 
 -- memory was refused, and the walk is over: the callback went by these questions, with which what was left

@@ -1,5 +1,5 @@
 -- What a call of `next` gives of what was left of a parser.
-use Rattle.std.specs.Prelude.{◌≡◌, ℕ, List, [], ◌∷◌, ◌++◌, map, Option, None, Result, MatchOption, MatchResult, ⊤}
+use Rattle.std.specs.Prelude.{◌≡◌, ℕ, List, [], ◌∷◌, ◌++◌, map, Option, None, Result, MatchOption, MatchResult}
 use Rattle.std.specs.declared.ops.Range.{Range}
 use Rattle.markdown_base.specs.Event.{event_view}
 use Rattle.markdown_base.specs.Questions.{Question, Answer, Answers}
@@ -7,9 +7,9 @@ use Rattle.markdown_base.specs.declared.event.Event.{Event}
 use Rattle.markdown_base.specs.declared.fault.Fault.{Fault}
 use Rattle.markdown_base.specs.declared.fault.Fault.TheVariants.{Memory}
 use Rattle.markdown_spans.specs.Callback.{Asks}
-use Rattle.markdown_inline.specs.Counts.{WorkRises}
+use Rattle.markdown_chains.specs.Counts.{WorkRises}
 use Rattle.markdown_inline.specs.Elements.{Placed, Element, question, event}
-use Rattle.markdown_inline.specs.ParserLeft.{parser_text, parser_definitions, parser_callback, elements, parser_items, parser_work, IsOver}
+use Rattle.markdown_inline.specs.ParserLeft.{parser_text, parser_definitions, parser_callback, elements, parser_counts, parser_work, IsOver}
 use Rattle.markdown_inline.specs.Slices.{texts_of, AreFrom}
 use Rattle.markdown_inline.specs.declared.walk.Parser.{Parser}
 
@@ -24,7 +24,8 @@ pub record IsPlacedOf (source : List ℕ) (e : Event × Range ℕ) (placed : Pla
   pub range : placed.1 ≡ e.1
 
 -- From s to t an item was given: the callback went by these questions and answers, and, whatever answers
--- follow, what was left is these questions, the event that the item is, and then what is left now.
+-- follow, what was left is these questions, the event that the item is, and then what is left now. The counts rose by
+-- those of the chain that was resolved, if one was.
 pub record GivesItem {F I : Type 0} (step : F → Question → Option Answer → F → Type 0) (is_of : List ℕ → I → Placed → Type 0)
     (s : Parser F) (item : I) (t : Parser F) : Type 0 where
   pub questions : List Question
@@ -33,9 +34,10 @@ pub record GivesItem {F I : Type 0} (step : F → Question → Option Answer →
   pub placed : Placed
   pub is_item : is_of (parser_text s) item placed
   pub left : (later : Answers) → elements s (answers ++ later) ≡ map question questions ++ event placed ∷ elements t later
+  pub counts : (later : Answers) → WorkRises (parser_counts s (answers ++ later)) (parser_work s) (parser_work t)
 
 -- an error came, which is one of memory: the callback went by these questions, with which what was left
--- begins, and these answers; and the walk is over
+-- begins, and these answers; and the walk is over. What it leaves of the counts is not said.
 pub record GivesError {F : Type 0} (step : F → Question → Option Answer → F → Type 0) (s : Parser F) (fault : Fault) (t : Parser F) : Type 0 where
   pub memory : fault ≡ Memory
   pub questions : List Question
@@ -44,17 +46,12 @@ pub record GivesError {F : Type 0} (step : F → Question → Option Answer → 
   pub begins : (later : Answers) → (others : List Element) × (elements s (answers ++ later) ≡ map question questions ++ others)
   pub over : IsOver t
 
--- None came: nothing was left, nothing was asked, and the walk is over
+-- None came: nothing was left, nothing was asked, and the walk is over. The counts rose as at an event.
 pub record GivesNone {F : Type 0} (s t : Parser F) : Type 0 where
   pub none_left : (answers : Answers) → elements s answers ≡ []
   pub callback : parser_callback t ≡ parser_callback s
   pub over : IsOver t
-
--- the counts rise by those of the chain that was resolved, if one was; what an error leaves of them is not said
-abbrev pub CountsRise : {F I : Type 0} → Parser F → Option (Result I Fault) → Parser F → Type 0
-CountsRise s r t =
-    let rises = WorkRises (parser_items s) (parser_work s) (parser_work t) in
-    MatchOption r rises (λ item. MatchResult item (λ e. rises) (λ fault. ⊤))
+  pub counts : (answers : Answers) → WorkRises (parser_counts s answers) (parser_work s) (parser_work t)
 
 -- the whole: beside this the text and its definitions stay, and where the walk is over None comes, and it stays over
 pub record NextGives {F I : Type 0} (step : F → Question → Option Answer → F → Type 0) (is_of : List ℕ → I → Placed → Type 0)
@@ -63,4 +60,3 @@ pub record NextGives {F I : Type 0} (step : F → Question → Option Answer →
   pub text : parser_text t ≡ parser_text s
   pub definitions : parser_definitions t ≡ parser_definitions s
   pub stays : IsOver s → (r ≡ None) × IsOver t
-  pub work : CountsRise s r t

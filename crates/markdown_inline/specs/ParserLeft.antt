@@ -11,7 +11,8 @@ use Rattle.markdown_spans.specs.Folding.{is_match}
 use Rattle.markdown_spans.specs.declared.blocks.Blocks.{Blocks}
 use Rattle.markdown_chains.specs.Above.{no_blocks}
 use Rattle.markdown_chains.specs.Document.{plain_tags, document}
-use Rattle.markdown_inline.specs.Counts.{tree_items}
+use Rattle.markdown_chains.specs.Counts.{ChainCounts}
+use Rattle.markdown_inline.specs.Counts.{tree_counts}
 use Rattle.markdown_inline.specs.Elements.{Element, nothing}
 use Rattle.markdown_inline.specs.Reading.{reading}
 use Rattle.markdown_chains.specs.Setting.{Rules, Setting, Known, rules_from, setting_of, uses_of}
@@ -63,10 +64,6 @@ parser_callback p = p.resolver.callback
 abbrev pub parser_work : {F : Type 0} → Parser F → Work
 parser_work p = p.resolver.work
 
--- how many items the chain has that it resolves before its next event; 0 where it resolves none
-abbrev pub parser_items : {F : Type 0} → Parser F → ℕ
-parser_items p = tree_items p.resolver.text.now (tables_of p.resolver.tables) p.tree
-
 -- what the rules of its chains go by
 abbrev pub parser_setting : {F : Type 0} → Parser F → Setting
 parser_setting p = setting_of p.resolver.text.now (rules_from p.resolver.options p.resolver.tables (is_some p.resolver.callback))
@@ -74,6 +71,10 @@ parser_setting p = setting_of p.resolver.text.now (rules_from p.resolver.options
 -- what is known to the chain that comes next, where these answers are to come
 abbrev pub parser_known : {F : Type 0} → Parser F → Answers → Known
 parser_known p answers = record { limit = p.resolver.limit; answers = answers; uses = uses_of p.resolver.tables.footdefs }
+
+-- the counts of the chain that it resolves before its next event, for these answers; none where it resolves none
+abbrev pub parser_counts : {F : Type 0} → Parser F → Answers → ChainCounts
+parser_counts p answers = tree_counts (parser_setting p) (tables_of p.resolver.tables) p.tree (parser_known p answers)
 
 -- the elements that are left of it
 unfoldable pub elements : {F : Type 0} → Parser F → Answers → List Element

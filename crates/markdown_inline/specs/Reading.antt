@@ -6,7 +6,8 @@ use Rattle.markdown_base.specs.Event.{start, end, end_of, hard_break}
 use Rattle.markdown_base.specs.Forest.{Forest, nil, node}
 use Rattle.markdown_chains.specs.Document.{Tags, Shape, leaf, enclosed, plain, backslash_break, unresolved, Label}
 use Rattle.markdown_inline.specs.Elements.{Element, question, Reading, then_reads}
-use Rattle.markdown_resolver.specs.Resolved.{Resolved, resolved, all_paired}
+use Rattle.markdown_resolver.specs.PassOne.{Outcome}
+use Rattle.markdown_resolver.specs.Resolved.{resolved, all_paired}
 use Rattle.markdown_chains.specs.Above.{Above, inside_label}
 use Rattle.markdown_chains.specs.Setting.{Setting}
 
@@ -26,8 +27,8 @@ settled_reading (node a below later) after =
     opened a.part.shape a.part.range (λ inner. settled_reading below inner) (settled_reading later after) (settled_reading later after)
 
 -- the questions of a chain, the forest that it is resolved to, and what comes after it, with what is known then
-abbrev pub then_resolved : {A : Type 0} → Setting → Tags A → Resolved A → Reading → List Element
-then_resolved s tags r after = map question r.questions ++ settled_reading (all_paired s tags r.forest) after r.known
+abbrev pub then_resolved : {A : Type 0} → Setting → Tags A → Outcome A → Reading → List Element
+then_resolved s tags r after = map question r.questions ++ settled_reading (all_paired s r.forest) after r.known
 
 abbrev pub chain_reading : {A : Type 0} → Setting → Tags A → Above → Forest (Label A) → Reading → Reading
 chain_reading s tags above chain after known = then_resolved s tags (resolved s tags above chain known) after

@@ -14,4 +14,4 @@ use Rattle.markdown_resolver.specs.Resolved.{resolved, all_paired}
 abbrev pub ReadingLaw : Type 0
 ReadingLaw = (s : Setting) (above : Above) (chain : Forest Plain) (known : Known) (after : Reading) → IsQuietBelow chain
     → reading s plain_tags above (resolved s plain_tags above chain known).forest after
-    ≡ settled_reading (all_paired s plain_tags (resolved s plain_tags above chain known).forest) after
+    ≡ settled_reading (all_paired s (resolved s plain_tags above chain known).forest) after

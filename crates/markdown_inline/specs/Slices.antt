@@ -1,15 +1,14 @@
 -- Texts of events that are slices of the source.
 use Rattle.markdown_base.specs.declared.event.Event.TheVariants as step
-use Rattle.std.specs.Prelude.{◌≡◌, ℕ, List, [], ◌∷◌, slice_range}
-use Rattle.std.specs.declared.ops.Range.{Range}
+use Rattle.std.specs.Prelude.{ℕ, List, [], ◌∷◌}
 use Rattle.markdown_base.specs.declared.cow_str.CowStr.{CowStr}
 use Rattle.markdown_base.specs.declared.cow_str.CowStr.TheVariants.{Borrowed}
 use Rattle.markdown_base.specs.declared.event.Event.{Event}
-use Rattle.markdown_chains.specs.Document.{Origin, sliced, made}
+use Rattle.markdown_chains.specs.Origins.{Origin, sliced, made, StandsIn}
 
 -- a text is borrowed, and is the source's bytes over some range
 abbrev pub IsSliceOf : List ℕ → CowStr → Type 0
-IsSliceOf source (Borrowed slice) = (range : Range ℕ) × (slice.now ≡ slice_range source range.start range.end)
+IsSliceOf source (Borrowed slice) = StandsIn source slice.now
 IsSliceOf source owned = ⊥
 
 -- the texts of an event that is one leaf

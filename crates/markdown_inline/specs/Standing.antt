@@ -2,10 +2,13 @@
 use Rattle.std.specs.Prelude.{ℕ, ◌≤◌, List, [], ◌∷◌, Option, ⊤}
 use Rattle.std.specs.Coded.{Unit-prop}
 use Rattle.std.proofs.Props.{props}
+use Rattle.std.specs.List.{AllByRecursion, AllByRecursion-prop}
 use Rattle.markdown_base.specs.Arena.{sibling_of}
 use Rattle.markdown_base.specs.ArenaForest.{links_of}
 use Rattle.markdown_base.specs.ArenaWalk.{IsWalk, IsWalk-prop}
+use Rattle.markdown_base.specs.BlockTree.{item_at}
 use Rattle.markdown_base.specs.Forest.{Forest, nil, node}
+use Rattle.markdown_base.specs.Item.{LiesIn, LiesIn-prop}
 use Rattle.markdown_base.specs.declared.item.Item.{Item}
 use Rattle.markdown_base.specs.declared.node.Node.{Node}
 use Rattle.markdown_chains.specs.Document.{Label}
@@ -19,14 +22,19 @@ abbrev pub AboveKept : List ℕ → Tables → List (Node Item) → List ℕ →
 AboveKept source tables nodes [] = ⊤
 AboveKept source tables nodes (ix ∷ deeper) = IsKept (trees_from source tables nodes (sibling_of nodes ix)) × AboveKept source tables nodes deeper
 
+-- the nodes of a spine lie in the text
+abbrev pub SpineLies : List ℕ → List (Node Item) → List ℕ → Type 0
+SpineLies source nodes spine = AllByRecursion (λ ix. LiesIn source (item_at nodes ix)) spine
+
 -- a walk stands at a link below the nodes of a spine: in what is left each item is placed, no node stands twice,
--- no entry is named twice, and below the items of an open chain nothing asks
+-- no entry is named twice, below the items of an open chain nothing asks, and what was gone into lies in the text
 pub record Stands (source : List ℕ) (tables : Tables) (nodes : List (Node Item)) (l : Option ℕ) (spine : List ℕ) : Type 0 where
   pub walk : IsWalk (links_of nodes) (IsPlaced source tables nodes) l spine
   pub once : (n : ℕ) → times_left (links_of nodes) l spine n ≤ 1
   pub named_once : (n : Named) → named_left nodes l spine n ≤ 1
   pub here_kept : IsKept (trees_from source tables nodes l)
   pub above_kept : AboveKept source tables nodes spine
+  pub spine_lies : SpineLies source nodes spine
 
 IsQuiet-prop : {A : Type 0} (f : Forest (Label A)) → IsProp (IsQuiet f)
 IsQuiet-prop nil = Unit-prop
@@ -37,7 +45,7 @@ IsQuiet-prop (node a below after) =
 
 IsQuietBelow-prop : {A : Type 0} (f : Forest (Label A)) → IsProp (IsQuietBelow f)
 IsQuietBelow-prop nil = Unit-prop
-IsQuietBelow-prop (node a below after) = let inside = IsQuiet-prop below in let behind = IsQuietBelow-prop after in hlevel
+IsQuietBelow-prop (node a below after) = let inside = IsQuiet-prop below in let behind = IsQuietBelow-prop after in hlevel props
 
 IsKept-prop : {A : Type 0} (f : Forest (Label A)) → IsProp (IsKept f)
 IsKept-prop nil = Unit-prop
@@ -59,4 +67,5 @@ Stands-prop source tables nodes l spine =
     let walk = IsWalk-prop (links_of nodes) (IsPlaced source tables nodes) (IsPlaced-prop source tables nodes) l spine in
     let here = IsKept-prop (trees_from source tables nodes l) in
     let above = AboveKept-prop source tables nodes spine in
+    let lies = AllByRecursion-prop (λ ix. LiesIn source (item_at nodes ix)) (λ ix. LiesIn-prop source (item_at nodes ix)) spine in
     hlevel props

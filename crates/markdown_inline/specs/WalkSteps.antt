@@ -20,7 +20,7 @@ use Rattle.markdown_inline.specs.Standing.{Stands}
 use Rattle.markdown_chains.specs.Totals.{times_named}
 use Rattle.markdown_chains.specs.Tables.{Tables, Named, tables_of, IsSameEntry, IsNoShorter}
 use Rattle.markdown_inline.specs.WalkTotals.{steps_of}
-use Rattle.markdown_inline.specs.Counts.{tree_items, LeavesAhead}
+use Rattle.markdown_inline.specs.Counts.{tree_counts, LeavesAhead}
 use Rattle.markdown_inline.specs.Walk.{left_of, closing}
 use Rattle.markdown_inline.specs.declared.bodies.Opening.{Opening}
 use Rattle.markdown_inline.specs.declared.step.Step.{Step}
@@ -71,7 +71,8 @@ pub record Went (source : List ℕ) (s t : Arena Item) (held held' : Allocated) 
   pub left : (rules : Rules) (known : Known) → tree_left (setting_of source rules) (tables_of held) s known
       ≡ map event given ++ tree_left (setting_of source rules) (tables_of held') t known
   pub falls : tree_steps t < tree_steps s
-  pub items : LeavesAhead given (tree_items source (tables_of held) s) (tree_items source (tables_of held') t)
+  pub ahead : (rules : Rules) (known : Known) → LeavesAhead given (tree_counts (setting_of source rules) (tables_of held) s known)
+      (tree_counts (setting_of source rules) (tables_of held') t known)
 
 -- a step gave this event over this range
 pub record Gives (source : List ℕ) (s t : Arena Item) (held held' : Allocated) (e : Event) (range : Range ℕ) : Type 0 where

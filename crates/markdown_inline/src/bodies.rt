@@ -6,6 +6,7 @@ ghost use Rattle.markdown_base.specs.CowText.{text_of};
 ghost use Rattle.markdown_base.specs.Item.{LiesIn, is_open};
 ghost use Rattle.markdown_spans.specs.Allocations.{HasLink, LeavesEmptyLink};
 ghost use Rattle.markdown_chains.specs.Document.{container_of, math, other_shape, shape_of};
+ghost use Rattle.markdown_chains.specs.Places.{HasSlices};
 ghost use Rattle.markdown_chains.specs.Tables.{NamesEntries, link_at, tables_of};
 ghost use Rattle.markdown_inline.specs.Slices.{texts_of};
 ghost use Rattle.markdown_inline.specs.WalkSteps.{ClosesTo, OpensTo, TakesOnly};
@@ -41,6 +42,7 @@ pub fn open_item<'a>(
     requires lies { LiesIn text.now item }
     requires settled { is_open item.body ≡ false }
     requires named { NamesEntries (tables_of tables.old) item.body }
+    requires slices { HasSlices text.now (tables_of tables.old) item.body }
     ensures opens { IfOk result (OpensTo text.entry.now (shape_of (tables_of tables.old) (slice_range text.entry.now item.start item.end) item.body)) }
     ensures taken { IfOk result (λ _. TakesOnly item.body tables.old tables.new) }
     ensures refused { OnErr result (tables.new ≡ tables.old) }
@@ -87,6 +89,7 @@ fn open_other<'a>(text: &'a str, tables: &mut Allocations<'a>, item: Item) -> Op
     requires lies { LiesIn text.now item }
     requires settled { is_open item.body ≡ false }
     requires named { NamesEntries (tables_of tables.old) item.body }
+    requires slices { HasSlices text.now (tables_of tables.old) item.body }
     ensures opens { OpensTo text.entry.now (other_shape (tables_of tables.old) (slice_range text.entry.now item.start item.end) item.body) result }
     ensures taken { TakesOnly item.body tables.old tables.new }
 {

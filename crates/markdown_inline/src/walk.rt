@@ -10,6 +10,8 @@ use markdown_base::item::Item;
 use markdown_base::options::Options;
 use markdown_base::tree::Tree;
 use markdown_chains::work::Work;
+use markdown_code::span_closers::SpanClosers;
+use markdown_delims::open_runs::OpenRuns;
 use markdown_resolver::resolver::Resolver;
 use markdown_spans::blocks::{Blocks, Fault};
 use markdown_spans::defs::{Allocations, BrokenLinkCallback, DefaultBrokenLinkCallback, RefDefs};
@@ -221,12 +223,16 @@ impl<'input, F: BrokenLinkCallback<'input>> Parser<'input, F> {
             alloc,
             tree,
             resolver: Resolver {
+                alloc,
                 text,
                 options,
                 tables,
                 limit: text.len().max(100000),
                 callback,
                 work: Work::none(),
+                code_closers: SpanClosers::new(alloc),
+                math_closers: SpanClosers::new(alloc),
+                open_runs: OpenRuns::new(alloc),
             },
         })
     }

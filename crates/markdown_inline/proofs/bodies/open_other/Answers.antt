@@ -3,8 +3,9 @@ use Rattle.markdown_base.specs.declared.event.Event.TheVariants as step
 use Rattle.std.proofs.Common.{[], ◌∷◌, refl}
 use Rattle.markdown_base.specs.Event.{text, code, html, inline_html, footnote_reference}
 use Rattle.markdown_base.specs.Item.{range_of}
+use Rattle.markdown_chains.specs.Origins.{origin_at}
 use Rattle.markdown_chains.specs.Document.{made}
-use Rattle.markdown_inline.proofs.TakingLemmas.{opens_made, opens_slice, text_at-read, alignments_at-read, takes_text, takes_link, takes_alignments}
+use Rattle.markdown_inline.proofs.TakingLemmas.{is_from, opens_made, opens_slice, opens_span, text_at-read, alignments_at-read, takes_text, takes_link, takes_alignments}
 use Rattle.markdown_inline.proofs.bodies.open_other.Goals as goal
 
 pub returns-in-Text-clause-opens : goal.returns-in-Text-clause-opens
@@ -28,7 +29,9 @@ returns-in-SynthesizeText-clause-taken c = rw c.in-SynthesizeText.is (takes_text
 
 pub returns-in-Code-clause-opens : goal.returns-in-Code-clause-opens
 returns-in-Code-clause-opens c =
-    rw c.in-Code.is (opens_made c.args.text.now c.args.tables.now.cows c.in-Code.ix.0 code step.Code c.take_cow-in-Code.result (rw c.in-Code.is at c.requires.named).text c.take_cow-in-Code.ensures.taken (λ d. refl) (λ d. refl))
+    rw c.in-Code.is
+    (opens_span c.args.text.now c.args.tables.now.cows c.in-Code.ix.0 code step.Code c.take_cow-in-Code.result (rw c.in-Code.is at c.requires.named).text c.take_cow-in-Code.ensures.taken
+    (rw c.in-Code.is at c.requires.slices) (λ d. refl) (λ d. refl))
 
 pub returns-in-Code-clause-taken : goal.returns-in-Code-clause-taken
 returns-in-Code-clause-taken c = rw c.in-Code.is (takes_text _ c.args.tables.now c.take_cow-in-Code.new.self c.in-Code.ix refl c.take_cow-in-Code.ensures.left)
@@ -73,8 +76,16 @@ returns-in-Image-clause-taken c = rw c.in-Image.is (takes_link _ c.args.tables.n
 
 pub returns-in-Math-clause-opens : goal.returns-in-Math-clause-opens
 returns-in-Math-clause-opens c =
-    let read = text_at-read c.args.tables.now.cows c.in-Math.ix.0 c.take_cow-in-Math.result (rw c.in-Math.is at c.requires.named).text c.take_cow-in-Math.ensures.taken in
-    record { origins = made ∷ []; is_leaf = rw (c.in-Math.is, c.math_event.ensures.event, read) refl; texts = rw c.math_event.ensures.text (tt, tt) }
+    let cows = c.args.tables.now.cows in
+    let ix = c.in-Math.ix.0 in
+    let within = (rw c.in-Math.is at c.requires.named).text in
+    let taken = c.take_cow-in-Math.ensures.taken in
+    let read = text_at-read cows ix c.take_cow-in-Math.result within taken in
+    record {
+      origins = origin_at cows ix ∷ [];
+      is_leaf = rw (c.in-Math.is, c.math_event.ensures.event, read) refl;
+      texts = rw c.math_event.ensures.text (is_from c.args.text.now cows ix c.take_cow-in-Math.result within taken (rw c.in-Math.is at c.requires.slices), tt);
+    }
 
 pub returns-in-Math-clause-taken : goal.returns-in-Math-clause-taken
 returns-in-Math-clause-taken c = rw c.in-Math.is (takes_text _ c.args.tables.now c.take_cow-in-Math.new.self c.in-Math.ix refl c.take_cow-in-Math.ensures.left)

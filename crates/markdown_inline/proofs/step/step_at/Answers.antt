@@ -18,6 +18,9 @@ open_item-requires-clause-lies c = rw (c.item-item.ensures no_item) (cursor_plac
 pub open_item-requires-clause-named : goal.open_item-requires-clause-named
 open_item-requires-clause-named c = rw (c.item-item.ensures no_item) (cursor_placed c.args.text.now (tables_of c.args.tables.now) c.args.tree.now c.args.ix c.requires.stands c.requires.at_ix).named
 
+pub open_item-requires-clause-slices : goal.open_item-requires-clause-slices
+open_item-requires-clause-slices c = rw (c.item-item.ensures no_item) (cursor_placed c.args.text.now (tables_of c.args.tables.now) c.args.tree.now c.args.ix c.requires.stands c.requires.at_ix).slices
+
 pub returns-in-Leaf-clause-given : goal.returns-in-Leaf-clause-given
 returns-in-Leaf-clause-given c =
     let opened = rw c.in-Leaf.is at c.in_ok-opening.ensures.opens in

@@ -29,7 +29,7 @@ invariant_of-self-in-Ok g c =
     let s = c.args.self.now in
     record {
       stands = rw c.in-Ok.ensures.text (stands_chain g.F.BrokenLinkCallback.answers (parser_setting s) s.tree c.resolve_chain.new.tree s.resolver.tables c.resolve_chain.new.self.tables c.in-Ok-Chain.first
-          s.resolver.limit c.resolve_chain.new.self.limit s.resolver.callback c.resolve_chain.new.self.callback
+          s.resolver.limit c.resolve_chain.new.self.limit s.resolver.callback c.resolve_chain.new.self.callback s.resolver.work c.resolve_chain.new.self.work
           s.stands h.0 (rw (h.1, h.2) at c.in-Ok.ensures.resolves));
     }
 
@@ -60,7 +60,6 @@ pub returns-in-Ok-clause-moves : goal.returns-in-Ok-clause-moves
 returns-in-Ok-clause-moves g c =
     let h = rw c.in-Ok-Chain.field-0-is at c.in-Ok-Chain.ensures.given in
     moved_chain g.F.BrokenLinkCallback.answers c.args.self.now _ c.in-Ok-Chain.first c.in-Ok.ensures.text c.in-Ok.ensures.options c.args.self.now.stands h.0 (rw (h.1, h.2) at c.in-Ok.ensures.resolves)
-    (rw h.1 at c.in-Ok.ensures.counted)
 
 pub returns-in-Err-resolve_chain-clause-moves : goal.returns-in-Err-resolve_chain-clause-moves
 returns-in-Err-resolve_chain-clause-moves g c =
