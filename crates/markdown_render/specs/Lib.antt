@@ -1,4 +1,5 @@
 -- what contracts speak of
 pub mod Rendering
+pub mod Words
 pub mod Outcome
 pub mod Merged

@@ -3,3 +3,4 @@
 
 pub mod merged;
 pub mod run;
+mod words;

@@ -1,13 +1,17 @@
 //! The program, over any reader and two writers.
-ghost use Rattle.std.specs.Prelude.{◌≡◌, ◌≢◌, ◌≤◌, ◌<◌, ◌⊎◌, ℕ, List, length, string_bytes};
+ghost use Rattle.std.specs.Prelude.{◌≡◌, ◌≢◌, ◌≤◌, ◌⊎◌, ℕ, List, map, None, string_bytes};
 ghost use Rattle.std.specs.Prelude.{Result, IfOk, IfErr, IfSome, OnOk};
 ghost use Rattle.std.specs.Str.{IsUtf8};
 ghost use Rattle.std.specs.IoError.{error_kind};
 ghost use Rattle.std.specs.Io.KnownBytes.{Appends};
+ghost use Rattle.markdown_inline.specs.ParserLeft.{no_options};
 ghost use Rattle.markdown_render.specs.Rendering.{IsRenderingOf};
+ghost use Rattle.markdown_render.specs.Words.{turned_on};
 ghost use Rattle.markdown_render.specs.Outcome.{status_of, Leaves};
 ghost use Rattle.markdown_render.specs.declared.run.Failure.{Failure};
 
+use crate::words::options_of;
+use markdown_base::options::Options;
 use markdown_inline::walk::Parser;
 use markdown_out::html::push_html;
 use markdown_spans::blocks::Fault;
@@ -77,13 +81,13 @@ fn read_text<R: Read>(alloc: Global, input: &mut R) -> Result<String, Failure>
     }
 }
 
-/// The HTML of a text, with no extension.
-fn rendered(alloc: Global, text: &str) -> Result<String, Failure>
-    ensures html { IfOk result (λ html. IsRenderingOf text.now (string_bytes html)) }
+/// The HTML of a text with these options.
+fn rendered(alloc: Global, text: &str, options: Options) -> Result<String, Failure>
+    ensures html { IfOk result (λ html. IsRenderingOf text.now options (string_bytes html)) }
     ensures failed { IfErr result (λ failure. (fault : Fault) × (failure ≡ Failure.Fault fault)) }
 {
     let mut html = String::new(alloc);
-    let parser = Parser::new(alloc, text)?;
+    let parser = Parser::new_ext(alloc, text, options)?;
     push_html(alloc, &mut html, parser)?;
     Ok(html)
 }
@@ -100,19 +104,24 @@ fn print<W: Write>(out: &mut W, html: &str) -> Result<(), Failure>
         .map_err(|error| failure_of(error, Failure::WriteFailed))
 }
 
-/// Reads all of `input`, renders it and writes the HTML to `out`.
+/// Reads all of `input`, renders it with these options and writes the HTML to `out`.
 ///
 /// # Errors
 ///
 /// What failed first. Where writing failed, or memory was refused, nothing is said of what `out` has then; else it is
 /// as it was.
-pub fn convert<R: Read, W: Write>(alloc: Global, input: &mut R, out: &mut W) -> Result<(), Failure>
-    ensures leaves { Leaves W.contents (R.remaining input.old) out.old out.new result }
+pub fn convert<R: Read, W: Write>(
+    alloc: Global,
+    options: Options,
+    input: &mut R,
+    out: &mut W,
+) -> Result<(), Failure>
+    ensures leaves { Leaves W.contents (R.remaining input.old) options out.old out.new result }
     ensures not_text { IfSome (R.remaining input.old) (λ bytes.
         (IsUtf8 bytes → ⊥) → (result ≢ Ok tt) × (out.new ≡ out.old)) }
 {
     let text = read_text(alloc, input)?;
-    let html = rendered(alloc, text.as_str())?;
+    let html = rendered(alloc, text.as_str(), options)?;
     print(out, html.as_str())
 }
 
@@ -133,9 +142,9 @@ pub fn report<E: Write>(outcome: Result<(), Failure>, err: &mut E) -> u8
 }
 
 /// Reads all of `input` as Markdown and writes its HTML to `out`: what `convert` does, whose outcome `report` tells.
-/// Every word is an option that is not known. Answers the exit status: 0 where all was written; 2 where there is a
-/// word, and nothing is read or written then; else 1. What failed is said on `err`, in one line. Where that can't be
-/// written the status is the same.
+/// Each word turns on an option. Answers the exit status: 0 where all was written; 2 where a word is unknown, and
+/// nothing is read or written then; else 1. What failed is said on `err`, in one line. Where that can't be written the
+/// status is the same.
 pub fn run<R: Read, W: Write, E: Write>(
     alloc: Global,
     words: &[String],
@@ -143,23 +152,26 @@ pub fn run<R: Read, W: Write, E: Write>(
     out: &mut W,
     err: &mut E,
 ) -> u8
-    // A word is found before anything else.
-    ensures words { 0 < length words.now → (result ≡ 2) × (out.new ≡ out.old) × (input.new ≡ input.old) }
+    // An unknown word is found before anything else.
+    ensures words { turned_on (map string_bytes words.now) no_options ≡ None
+        → (result ≡ 2) × (out.new ≡ out.old) × (input.new ≡ input.old) }
 
     // Without one the status follows from what came of reading, rendering and writing.
-    ensures outcome { length words.now ≡ 0 → (outcome : Result (Unit {0}) Failure)
-        × (result ≡ status_of outcome) × Leaves W.contents (R.remaining input.old) out.old out.new outcome }
-    ensures status { length words.now ≡ 0 → result ≤ 1 }
-    ensures not_text { length words.now ≡ 0 → IfSome (R.remaining input.old) (λ bytes.
-        (IsUtf8 bytes → ⊥) → (result ≡ 1) × (out.new ≡ out.old)) }
-    ensures printed { result ≡ 0 → IfSome (R.remaining input.old) (λ bytes.
-        (html : List ℕ) × IsRenderingOf bytes html × Appends (W.contents out.old) (W.contents out.new) html) }
+    ensures outcome { IfSome (turned_on (map string_bytes words.now) no_options) (λ options. (outcome : Result (Unit {0}) Failure)
+        × (result ≡ status_of outcome) × Leaves W.contents (R.remaining input.old) options out.old out.new outcome) }
+    ensures status { IfSome (turned_on (map string_bytes words.now) no_options) (λ options. result ≤ 1) }
+    ensures not_text { IfSome (turned_on (map string_bytes words.now) no_options) (λ options.
+        IfSome (R.remaining input.old) (λ bytes. (IsUtf8 bytes → ⊥) → (result ≡ 1) × (out.new ≡ out.old))) }
+    ensures printed { result ≡ 0 → IfSome (turned_on (map string_bytes words.now) no_options) (λ options.
+        IfSome (R.remaining input.old) (λ bytes.
+        (html : List ℕ) × IsRenderingOf bytes options html × Appends (W.contents out.old) (W.contents out.new) html)) }
     ensures quiet { result ≡ 0 → err.new ≡ err.old }
 {
-    if let Some(word) = words.first() {
-        let _ = writeln!(err, "unknown option: {word}");
-        return 2;
+    match options_of(words) {
+        Ok(options) => report(convert(alloc, options, input, out), err),
+        Err(word) => {
+            let _ = writeln!(err, "unknown option: {word}");
+            2
+        }
     }
-    let outcome = convert(alloc, input, out);
-    report(outcome, err)
 }

@@ -4,5 +4,5 @@ use Rattle.markdown_render.proofs.run.rendered.Goals as goal
 
 pub returns-clause-html : goal.returns-clause-html
 returns-clause-html c =
-    rendering _ c.args.text.now _ _ c.in_ok-parser.parser c.utf8.text c.new-html.ensures.bytes c.in_ok-parser.ensures.left
+    rendering _ c.args.text.now _ _ c.args.options c.in_ok-parser.parser c.utf8.text c.new-html.ensures.bytes c.in_ok-parser.ensures.left
     c.in_ok-parser.ensures.callback c.in_ok-push_html.ensures.ok
