@@ -13,7 +13,7 @@ use Rattle.markdown_base.specs.Forest.{nil, node}
 use Rattle.markdown_base.specs.Item.{LiesIn, is_open, is_inline, is_childless, is_resolved, is_tight_paragraph, is_unplaced, text_named, alignments_named, attributes_named}
 use Rattle.markdown_base.specs.WellFormed.{BlocksAreSettled, ChainsAreKept, MarkupIsThere, StandsOverMarkup, run_character, PartCounts, PartsAreNamed}
 use Rattle.markdown_base.proofs.WellFormedLemmas.{HasMore}
-use Rattle.markdown_builder.specs.Bodies.{is_leaf, is_plain_block, IsParent, is_settled}
+use Rattle.markdown_builder.specs.Bodies.{is_leaf, is_plain_block, is_settled}
 use Rattle.markdown_builder.specs.BuilderRules.{ItemFits, NamesNew}
 
 -- a body that names nothing
@@ -24,63 +24,70 @@ pub record IsPlain (b : ItemBody) : Type 0 where
   pub texts : text_named b ≡ None
   pub alignments : alignments_named b ≡ None
   pub attributes : attributes_named b ≡ None
+  pub loose : is_tight_paragraph b ≡ false
 
 pub plain : {b : ItemBody} → is_resolved b ≡ false → run_character b ≡ None → is_unplaced b ≡ false → text_named b ≡ None → alignments_named b ≡ None
-    → attributes_named b ≡ None → IsPlain b
-plain unresolved no_run placed texts alignments attributes = record {
+    → attributes_named b ≡ None → is_tight_paragraph b ≡ false → IsPlain b
+plain unresolved no_run placed texts alignments attributes loose = record {
   unresolved = unresolved;
   no_run = no_run;
   placed = placed;
   texts = texts;
   alignments = alignments;
   attributes = attributes;
+  loose = loose;
 }
 
 -- blocks that are opened as they are are plain
 pub block_plain : (b : ItemBody) → is_plain_block b ≡ true → IsPlain b
-block_plain body.Paragraph h = plain refl refl refl refl refl refl
-block_plain (body.Heading level None) h = plain refl refl refl refl refl refl
-block_plain body.IndentCodeBlock h = plain refl refl refl refl refl refl
-block_plain body.HtmlBlock h = plain refl refl refl refl refl refl
-block_plain (body.BlockQuote kind) h = plain refl refl refl refl refl refl
-block_plain (body.List tight marker first) h = plain refl refl refl refl refl refl
-block_plain (body.ListItem indent) h = plain refl refl refl refl refl refl
-block_plain (body.MetadataBlock kind) h = plain refl refl refl refl refl refl
-block_plain (body.DefinitionList tight) h = plain refl refl refl refl refl refl
-block_plain body.DefinitionListTitle h = plain refl refl refl refl refl refl
-block_plain (body.DefinitionListDefinition indent) h = plain refl refl refl refl refl refl
-block_plain body.TableHead h = plain refl refl refl refl refl refl
-block_plain body.TableRow h = plain refl refl refl refl refl refl
-block_plain body.TableCell h = plain refl refl refl refl refl refl
+block_plain body.Paragraph h = plain refl refl refl refl refl refl refl
+block_plain (body.Heading level None) h = plain refl refl refl refl refl refl refl
+block_plain body.IndentCodeBlock h = plain refl refl refl refl refl refl refl
+block_plain body.HtmlBlock h = plain refl refl refl refl refl refl refl
+block_plain (body.BlockQuote kind) h = plain refl refl refl refl refl refl refl
+block_plain (body.List tight marker first) h = plain refl refl refl refl refl refl refl
+block_plain (body.ListItem indent) h = plain refl refl refl refl refl refl refl
+block_plain (body.MetadataBlock kind) h = plain refl refl refl refl refl refl refl
+block_plain (body.DefinitionList tight) h = plain refl refl refl refl refl refl refl
+block_plain body.DefinitionListTitle h = plain refl refl refl refl refl refl refl
+block_plain (body.DefinitionListDefinition indent) h = plain refl refl refl refl refl refl refl
+block_plain body.TableHead h = plain refl refl refl refl refl refl refl
+block_plain body.TableRow h = plain refl refl refl refl refl refl refl
+block_plain body.TableCell h = plain refl refl refl refl refl refl refl
 block_plain other h = cc (h)
 
 -- and may have children
-pub block_parent : (b : ItemBody) → is_plain_block b ≡ true → IsParent b
-block_parent body.Paragraph h = record { inline = refl; childless = refl }
-block_parent (body.Heading level None) h = record { inline = refl; childless = refl }
-block_parent body.IndentCodeBlock h = record { inline = refl; childless = refl }
-block_parent body.HtmlBlock h = record { inline = refl; childless = refl }
-block_parent (body.BlockQuote kind) h = record { inline = refl; childless = refl }
-block_parent (body.List tight marker first) h = record { inline = refl; childless = refl }
-block_parent (body.ListItem indent) h = record { inline = refl; childless = refl }
-block_parent (body.MetadataBlock kind) h = record { inline = refl; childless = refl }
-block_parent (body.DefinitionList tight) h = record { inline = refl; childless = refl }
-block_parent body.DefinitionListTitle h = record { inline = refl; childless = refl }
-block_parent (body.DefinitionListDefinition indent) h = record { inline = refl; childless = refl }
-block_parent body.TableHead h = record { inline = refl; childless = refl }
-block_parent body.TableRow h = record { inline = refl; childless = refl }
-block_parent body.TableCell h = record { inline = refl; childless = refl }
+pub block_parent : (b : ItemBody) → is_plain_block b ≡ true → is_childless b ≡ false
+block_parent body.Paragraph h = refl
+block_parent (body.Heading level None) h = refl
+block_parent body.IndentCodeBlock h = refl
+block_parent body.HtmlBlock h = refl
+block_parent (body.BlockQuote kind) h = refl
+block_parent (body.List tight marker first) h = refl
+block_parent (body.ListItem indent) h = refl
+block_parent (body.MetadataBlock kind) h = refl
+block_parent (body.DefinitionList tight) h = refl
+block_parent body.DefinitionListTitle h = refl
+block_parent (body.DefinitionListDefinition indent) h = refl
+block_parent body.TableHead h = refl
+block_parent body.TableRow h = refl
+block_parent body.TableCell h = refl
 block_parent other h = cc (h)
+
+-- what may have children is not inline
+pub parent_not_inline : (b : ItemBody) → is_childless b ≡ false → is_inline b ≡ false
+parent_not_inline body.Rule h = refl
+parent_not_inline other h = h
 
 -- settled inline items are plain
 pub settled_plain : (b : ItemBody) → is_settled b ≡ true → IsPlain b
-settled_plain (body.TaskListMarker done) h = plain refl refl refl refl refl refl
-settled_plain body.InlineHtml h = plain refl refl refl refl refl refl
-settled_plain body.Html h = plain refl refl refl refl refl refl
-settled_plain (body.SynthesizeChar c) h = plain refl refl refl refl refl refl
-settled_plain (body.Text escaped) h = plain refl refl refl refl refl refl
-settled_plain body.SoftBreak h = plain refl refl refl refl refl refl
-settled_plain (body.HardBreak backslash) h = plain refl refl refl refl refl refl
+settled_plain (body.TaskListMarker done) h = plain refl refl refl refl refl refl refl
+settled_plain body.InlineHtml h = plain refl refl refl refl refl refl refl
+settled_plain body.Html h = plain refl refl refl refl refl refl refl
+settled_plain (body.SynthesizeChar c) h = plain refl refl refl refl refl refl refl
+settled_plain (body.Text escaped) h = plain refl refl refl refl refl refl refl
+settled_plain body.SoftBreak h = plain refl refl refl refl refl refl refl
+settled_plain (body.HardBreak backslash) h = plain refl refl refl refl refl refl refl
 settled_plain other h = cc (h)
 
 -- and inline
@@ -190,6 +197,7 @@ pub record MayBePlaced (few many : PartCounts) (b : ItemBody) : Type 0 where
   pub named : PartsAreNamed many b
   pub texts : IfSome (text_named b) (λ ix. few.texts ≤ ix)
   pub alignments : IfSome (alignments_named b) (λ ix. few.alignments ≤ ix)
+  pub loose : is_tight_paragraph b ≡ false
 
 -- no parts are lost
 pub same_parts : (counts : PartCounts) → HasMore counts counts
@@ -209,6 +217,7 @@ plain_placed counts b p = record {
   };
   texts = no_name (text_named b) (λ ix. counts.texts ≤ ix) p.texts;
   alignments = no_name (alignments_named b) (λ ix. counts.alignments ≤ ix) p.alignments;
+  loose = p.loose;
 }
 
 -- a block with nothing below it is settled where it may stand in the tree
@@ -242,6 +251,7 @@ pub record NamesText (b : ItemBody) (ix : ℕ) : Type 0 where
   pub text : text_named b ≡ Some ix
   pub alignments : alignments_named b ≡ None
   pub attributes : attributes_named b ≡ None
+  pub loose : is_tight_paragraph b ≡ false
 
 -- the newest text may be named
 pub text_placed : (few many : PartCounts) (b : ItemBody) (ix : ℕ) → ix ≡ few.texts → one_text_more few many → NamesText b ix → MayBePlaced few many b
@@ -257,19 +267,20 @@ text_placed few many b ix e more n = record {
   };
   texts = rw n.text (omega (arith, e));
   alignments = no_name (alignments_named b) (λ ix. few.alignments ≤ ix) n.alignments;
+  loose = n.loose;
 }
 
 pub fenced_names : (ix : CowIndex) → NamesText (body.FencedCodeBlock ix) ix.0
 fenced_names ix =
-    record { unresolved = refl; no_run = refl; placed = refl; text = refl; alignments = refl; attributes = refl }
+    record { unresolved = refl; no_run = refl; placed = refl; text = refl; alignments = refl; attributes = refl; loose = refl }
 
 pub footnote_names : (ix : CowIndex) → NamesText (body.FootnoteDefinition ix) ix.0
 footnote_names ix =
-    record { unresolved = refl; no_run = refl; placed = refl; text = refl; alignments = refl; attributes = refl }
+    record { unresolved = refl; no_run = refl; placed = refl; text = refl; alignments = refl; attributes = refl; loose = refl }
 
 pub synthesized_names : (ix : CowIndex) → NamesText (body.SynthesizeText ix) ix.0
 synthesized_names ix =
-    record { unresolved = refl; no_run = refl; placed = refl; text = refl; alignments = refl; attributes = refl }
+    record { unresolved = refl; no_run = refl; placed = refl; text = refl; alignments = refl; attributes = refl; loose = refl }
 
 -- the newest alignments may be named by a table
 pub table_placed : (few many : PartCounts) (ix : AlignmentIndex) → ix.0 ≡ few.alignments → many.alignments ≡ few.alignments + 1 → many.texts ≡ few.texts
@@ -282,6 +293,7 @@ table_placed few many ix e alignments texts attributes = record {
   named = record { text = tt; alignments = omega (arith, e, alignments); attributes = tt };
   texts = tt;
   alignments = omega (arith, e);
+  loose = refl;
 }
 
 -- the newest attributes may be named by a heading
@@ -295,8 +307,9 @@ heading_placed few many level ix e attributes texts alignments = record {
   named = record { text = tt; alignments = tt; attributes = (omega (arith, e, attributes), omega (arith, e)) };
   texts = tt;
   alignments = tt;
+  loose = refl;
 }
 
 -- a thematic break is plain
 pub rule_plain : IsPlain body.Rule
-rule_plain = plain refl refl refl refl refl refl
+rule_plain = plain refl refl refl refl refl refl refl

@@ -1,6 +1,6 @@
 -- What each call of a builder keeps, by what its caller sees.
-use Rattle.std.specs.Prelude.{slice_index}
-use Rattle.std.proofs.Common.{◌≡◌, ℕ, ◌+◌, ◌-◌, ◌<◌, ◌≤◌, List, [], ◌∷◌, ◌++◌, Some, None, Bool, true, false, length, refl, sym, ap, ◌∙◌, subst, arith, ◌⊎◌, ⊎_elim}
+use Rattle.std.specs.Prelude.{slice_index, slice_get, IfSome}
+use Rattle.std.proofs.Common.{◌≡◌, ℕ, suc, ◌+◌, ◌-◌, ◌<◌, ◌≤◌, List, [], ◌∷◌, ◌++◌, Option, Some, None, Bool, true, false, length, refl, sym, ap, ◌∙◌, subst, arith, ◌⊎◌, ⊎_elim}
 use Rattle.std.specs.Str.{IsCharBoundary}
 use Rattle.std.proofs.lemmas.Str.{IsCharBoundary-after_ascii}
 use Rattle.markdown_base.specs.declared.block_parts.LinkDef.{LinkDef}
@@ -11,18 +11,19 @@ use Rattle.markdown_base.specs.declared.item.ItemBody.{ItemBody}
 use Rattle.markdown_base.specs.declared.item.ItemBody.TheVariants as body
 use Rattle.markdown_base.specs.declared.node.Node.{Node}
 use Rattle.markdown_base.specs.Arena.{Arena, appended, changed_at}
+use Rattle.markdown_base.specs.Item.{is_childless}
 use Rattle.markdown_base.specs.WellFormed.{PartCounts, source_of, is_delimiter}
 use Rattle.markdown_builder.specs.declared.open_block.OpenBlock.{OpenBlock}
-use Rattle.markdown_builder.specs.Bodies.{is_leaf, is_plain_block, is_settled, mark_byte, IsParent}
-use Rattle.markdown_builder.specs.BuilderView.{BuilderView, IsWhite, IsRunOf, follows_run, LastHasBody}
-use Rattle.markdown_builder.specs.Standing.{State, seen, with_item, AreOpen, IsSound}
-use Rattle.markdown_builder.specs.TreeSteps.{LastRenamed, texts_appended, run_marked}
-use Rattle.markdown_builder.proofs.BodiesLemmas.{item_over, MayBePlaced, plain_placed, placed_fits, placed_new, block_plain, block_parent, settled_plain, settled_inline, settled_markup, rule_plain, plain, one_text_more, text_placed, synthesized_names}
+use Rattle.markdown_builder.specs.Bodies.{is_leaf, is_plain_block, is_settled, mark_byte}
+use Rattle.markdown_builder.specs.BuilderView.{BuilderView, IsWhite, IsRunOf, follows_run, innermost_block, LastHasBody, LastBegins}
+use Rattle.markdown_builder.specs.Standing.{State, seen, open_item, with_item, AreOpen, IsSound}
+use Rattle.markdown_builder.specs.TreeSteps.{Tightens, texts_appended, run_marked}
+use Rattle.markdown_builder.proofs.BodiesLemmas.{item_over, MayBePlaced, plain_placed, placed_fits, placed_new, block_plain, block_parent, settled_plain, settled_inline, settled_markup, rule_plain, plain, one_text_more, NamesText, text_placed, synthesized_names}
 use Rattle.markdown_builder.proofs.MarkLemmas.{mark_facts, one_source, two_source, run_source, run_boundary}
 use Rattle.markdown_builder.proofs.RunMarkLemmas.{delimiter_ascii, run_sound}
 use Rattle.markdown_builder.proofs.RunStepLemmas.{TextsStand, texts_stand}
 use Rattle.markdown_builder.proofs.StepLemmas.{skipped, added, after_item, opened, opened_alone, after_opening, more_parts, closed, defined}
-use Rattle.markdown_builder.proofs.WrittenLemmas.{changed}
+use Rattle.markdown_builder.proofs.WrittenLemmas.{StandsClosed, tightens_keeps, changed, begun_later}
 
 -- `skip`
 pub skip_keeps : {s : State} (now : BuilderView) (to : ℕ) → IsSound s → seen s ≡ now → now.at ≤ to → IsCharBoundary now.text to
@@ -34,17 +35,29 @@ skip_keeps {s} now to k e =
 
 -- a block that goes into the tree with its parts
 pub placed_keeps : {s : State} (now : BuilderView) (many : PartCounts) (b : ItemBody) → IsSound s → seen s ≡ now → now.leaf ≡ false → MayBePlaced s.counts many b
-    → IsParent b → IsSound (after_opening s many b)
+    → is_childless b ≡ false → IsSound (after_opening s many b)
 placed_keeps {s} now many b k e outside placed parent = opened s many b k (ap (λ (v : BuilderView). v.leaf) e ∙ outside) placed parent
 
 -- a block whose parts were pushed, and that was not gone into
 pub refused_keeps : {s : State} (now : BuilderView) (many : PartCounts) (b : ItemBody) (tree : Arena Item) → IsSound s → seen s ≡ now → now.leaf ≡ false
-    → MayBePlaced s.counts many b → IsParent b → (tree ≡ s.tree) ⊎ (tree ≡ appended s.tree (item_over s.at s.at b))
+    → MayBePlaced s.counts many b → is_childless b ≡ false → (tree ≡ s.tree) ⊎ (tree ≡ appended s.tree (item_over s.at s.at b))
     → IsSound (record s { counts = many; tree = tree })
 refused_keeps {s} now many b tree k e outside placed parent =
     ⊎_elim (λ (q : tree ≡ s.tree). subst (λ (t : Arena Item). IsSound (record s { counts = many; tree = t })) (sym q) (more_parts s many placed.more k))
     (λ (q : tree ≡ appended s.tree (item_over s.at s.at b)). subst (λ (t : Arena Item). IsSound (record s { counts = many; tree = t })) (sym q)
     (opened_alone s many b s.run k (ap (λ (v : BuilderView). v.leaf) e ∙ outside) placed parent))
+
+-- a block that names the text which was pushed: it goes into the tree
+pub named_keeps : {s : State} (now : BuilderView) (many : PartCounts) (b : ItemBody) (ix : CowIndex) → IsSound s → seen s ≡ now → now.leaf ≡ false
+    → ix.0 ≡ s.counts.texts → one_text_more s.counts many → NamesText b ix.0 → is_childless b ≡ false → IsSound (after_opening s many b)
+named_keeps {s} now many b ix k e outside n more names parent = placed_keeps now many b k e outside (text_placed s.counts many b ix.0 n more names) parent
+
+-- or it was not gone into
+pub named_refused : {s : State} (now : BuilderView) (many : PartCounts) (b : ItemBody) (ix : CowIndex) (tree : Arena Item) → IsSound s → seen s ≡ now → now.leaf ≡ false
+    → ix.0 ≡ s.counts.texts → one_text_more s.counts many → NamesText b ix.0 → is_childless b ≡ false
+    → (tree ≡ s.tree) ⊎ (tree ≡ appended s.tree (item_over s.at s.at b)) → IsSound (record s { counts = many; tree = tree })
+named_refused {s} now many b ix tree k e outside n more names parent =
+    refused_keeps now many b tree k e outside (text_placed s.counts many b ix.0 n more names) parent
 
 -- `open`
 pub open_keeps : {s : State} (now : BuilderView) (b : ItemBody) → IsSound s → seen s ≡ now → is_plain_block b ≡ true → now.leaf ≡ false
@@ -63,7 +76,7 @@ inline_keeps {s} now end b k e h =
     let placed = plain_placed s.counts b (settled_plain b h) in
     added s s.counts end b None k placed.more
     (placed_fits s.text s.counts s.counts s.at end b placed (settled_markup b (source_of s.text (item_over s.at end b)) h) (record { ordered = low; start = k.stands.boundary; end = boundary }))
-    (placed_new s.counts s.counts s.at end b placed) (settled_inline b h ∙ sym within) placed.no_run)
+    (placed_new s.counts s.counts s.at end b placed) (settled_inline b h ∙ sym within) placed.no_run placed.loose)
 
 -- a spine that open blocks stand on ends with a number
 spine_last : (nodes : List (Node Item)) (spine : List ℕ) (blocks : List OpenBlock) (block : OpenBlock) → AreOpen nodes spine (blocks ++ block ∷ [])
@@ -99,7 +112,7 @@ rule_keeps {s} now end k e =
     (λ outside low boundary. let placed = plain_placed s.counts body.Rule rule_plain in
     added s s.counts end body.Rule None k placed.more
     (placed_fits s.text s.counts s.counts s.at end body.Rule placed tt (record { ordered = low; start = k.stands.boundary; end = boundary }))
-    (placed_new s.counts s.counts s.at end body.Rule placed) (sym outside) refl)
+    (placed_new s.counts s.counts s.at end body.Rule placed) (sym outside) refl refl)
 
 -- `synthesize`
 pub synthesize_keeps : {s : State} (now : BuilderView) (many : PartCounts) (end : ℕ) (ix : CowIndex) → IsSound s → seen s ≡ now → ix.0 ≡ s.counts.texts
@@ -109,7 +122,7 @@ synthesize_keeps {s} now many end ix k e n more =
     (λ within low boundary. let placed = text_placed s.counts many (body.SynthesizeText ix) ix.0 n more (synthesized_names ix) in
     added s many end (body.SynthesizeText ix) None k placed.more
     (placed_fits s.text s.counts many s.at end (body.SynthesizeText ix) placed tt (record { ordered = low; start = k.stands.boundary; end = boundary }))
-    (placed_new s.counts many s.at end (body.SynthesizeText ix) placed) (sym within) refl)
+    (placed_new s.counts many s.at end (body.SynthesizeText ix) placed) (sym within) refl refl)
 
 -- a text that was pushed, and is not named
 pub pushed_keeps : {s : State} (many : PartCounts) → IsSound s → one_text_more s.counts many → IsSound (record s { counts = many })
@@ -126,7 +139,7 @@ mark_keeps {s} now b k e =
     added s s.counts (s.at + 1) b None k placed.more
     (placed_fits s.text s.counts s.counts s.at (s.at + 1) b placed (rw (one_source s.text s.at low) m.markup)
     (record { ordered = omega arith; start = k.stands.boundary; end = IsCharBoundary-after_ascii s.text s.at k.utf8 low m.ascii }))
-    (placed_new s.counts s.counts s.at (s.at + 1) b placed) (m.inline ∙ sym within) m.plain.no_run)
+    (placed_new s.counts s.counts s.at (s.at + 1) b placed) (m.inline ∙ sym within) m.plain.no_run m.plain.loose)
 
 -- `image`
 pub image_keeps : {s : State} (now : BuilderView) → IsSound s → seen s ≡ now → now.leaf ≡ true → now.at + 1 < length now.text
@@ -134,13 +147,13 @@ pub image_keeps : {s : State} (now : BuilderView) → IsSound s → seen s ≡ n
 image_keeps {s} now k e =
     subst (λ (v : BuilderView). v.leaf ≡ true → v.at + 1 < length v.text → slice_index v.text v.at ≡ 33 → slice_index v.text (v.at + 1) ≡ 91
     → IsSound (after_item s s.counts (s.at + 2) body.MaybeImage None)) e (λ within low first second.
-    let placed = plain_placed s.counts body.MaybeImage (plain refl refl refl refl refl refl) in
+    let placed = plain_placed s.counts body.MaybeImage (plain refl refl refl refl refl refl refl) in
     let end : IsCharBoundary s.text ((s.at + 1) + 1) = IsCharBoundary-after_ascii s.text (s.at + 1) k.utf8 low (omega (arith, second)) in
     let two : (s.at + 1) + 1 ≡ s.at + 2 = omega arith in
     added s s.counts (s.at + 2) body.MaybeImage None k placed.more
     (placed_fits s.text s.counts s.counts s.at (s.at + 2) body.MaybeImage placed (two_source s.text s.at low ∙ rw (first, second) refl)
     (record { ordered = omega arith; start = k.stands.boundary; end = subst (λ (p : ℕ). IsCharBoundary s.text p) two end }))
-    (placed_new s.counts s.counts s.at (s.at + 2) body.MaybeImage placed) (sym within) refl)
+    (placed_new s.counts s.counts s.at (s.at + 2) body.MaybeImage placed) (sym within) refl refl)
 
 -- `backticks`
 pub backticks_keeps : {s : State} (now : BuilderView) (end : ℕ) (escaped : Bool) → IsSound s → seen s ≡ now → now.leaf ≡ true → IsRunOf 96 now.text now.at end
@@ -148,11 +161,11 @@ pub backticks_keeps : {s : State} (now : BuilderView) (end : ℕ) (escaped : Boo
 backticks_keeps {s} now end escaped k e =
     subst (λ (v : BuilderView). v.leaf ≡ true → IsRunOf 96 v.text v.at end → IsSound (after_item s s.counts end (body.MaybeCode (end - s.at) escaped) None)) e
     (λ within run. let b = body.MaybeCode (end - s.at) escaped in
-    let placed = plain_placed s.counts b (plain refl refl refl refl refl refl) in
+    let placed = plain_placed s.counts b (plain refl refl refl refl refl refl refl) in
     added s s.counts end b None k placed.more
     (placed_fits s.text s.counts s.counts s.at end b placed (run_source s.text s.at end 96 run, omega (arith, run.more))
     (record { ordered = omega (arith, run.more); start = k.stands.boundary; end = run_boundary s.text s.at end 96 k.utf8 run (omega arith) end run.more (omega arith) }))
-    (placed_new s.counts s.counts s.at end b placed) (sym within) refl)
+    (placed_new s.counts s.counts s.at end b placed) (sym within) refl refl)
 
 -- `run`: what it asks for
 pub record RunMayCome (now : BuilderView) (byte end : ℕ) : Type 0 where
@@ -197,21 +210,6 @@ define_keeps {s} now to d k e =
     subst (λ (v : BuilderView). v.at ≤ to → IsCharBoundary v.text to → slice_index v.text v.at ≡ 91 → d.1.span ≡ record { start = s.at; end = to }
     → IsSound (record s { definitions = s.definitions ++ d ∷ []; at = to })) e (defined s to d k)
 
--- `change`
-pub change_keeps : {s : State} (now : BuilderView) (b : ItemBody) (start : ℕ) (blocks : List OpenBlock) (new : Arena Item) → IsSound s → seen s ≡ now
-    → is_plain_block b ≡ true → is_leaf b ≡ now.leaf → LastRenamed s.blocks blocks start b
-    → ((outer : List ℕ) (ix : ℕ) → s.tree.spine ≡ outer ++ ix ∷ []
-    → new ≡ record s.tree { nodes = changed_at ix (λ m. record m { item = item_over start start b }) s.tree.nodes })
-    → IsSound (record s { tree = new; blocks = blocks })
-change_keeps {s} now b start blocks new k e h leaf r write =
-    let l = innermost_open s r.outer r.block k r.was in
-    let p = block_plain b h in
-    let whole : blocks ≡ r.outer ++ record { start = r.block.start; body = b } ∷ [] = r.now ∙ rw r.begins refl in
-    let tree : new ≡ with_item s.tree l.1 (item_over r.block.start r.block.start b) = write l.0 l.1 l.2 ∙ rw r.begins refl in
-    rw (whole, tree)
-    (changed s l.0 r.outer l.1 r.block b k r.was l.2 (leaf ∙ sym (ap (λ (v : BuilderView). v.leaf) e)) (plain_placed s.counts b p) p.texts p.alignments
-    (block_parent b h))
-
 -- two lists that end with a block are one
 last_same : (xs ys : List OpenBlock) (x y : OpenBlock) → xs ++ x ∷ [] ≡ ys ++ y ∷ [] → (xs ≡ ys) × (x ≡ y)
 last_same [] [] x y e = (refl, cc (e))
@@ -225,9 +223,72 @@ last_same (z ∷ xs) (w ∷ ys) x y e =
     let r = last_same xs ys x y tail in
     (rw (head, r.0) refl, r.1)
 
--- the block that is renamed is the innermost
-pub renamed_last : (old new seen_before : List OpenBlock) (start : ℕ) (b : ItemBody) → old ≡ seen_before → LastRenamed old new start b
-    → LastHasBody seen_before new b
-renamed_last old new seen_before start b e r outer block h =
-    let both = last_same r.outer outer r.block block (sym r.was ∙ (e ∙ h)) in
-    r.now ∙ rw (r.begins, ← both.0, ← both.1) refl
+-- where a block is the innermost, the open blocks end with it
+pub record EndsWith (blocks : List OpenBlock) (block : OpenBlock) : Type 0 where
+  pub outer : List OpenBlock
+  pub whole : blocks ≡ outer ++ block ∷ []
+
+pub ends_with : (blocks : List OpenBlock) (block : OpenBlock) → Some block ≡ innermost_block blocks → EndsWith blocks block
+ends_with [] block e = cc (e)
+ends_with (b ∷ []) block e = record { outer = []; whole = ap (λ (x : OpenBlock). x ∷ []) (cc (e)) }
+ends_with (b ∷ c ∷ blocks) block e =
+    let next : length (b ∷ c ∷ blocks) - 1 ≡ suc (length blocks) = omega arith in
+    let same : length blocks ≡ length (c ∷ blocks) - 1 = omega arith in
+    let inner : Some block ≡ innermost_block (c ∷ blocks) = e ∙ (ap (λ (n : ℕ). slice_get (b ∷ c ∷ blocks) n) next ∙ ap (λ (n : ℕ). slice_get (c ∷ blocks) n) same) in
+    let r = ends_with (c ∷ blocks) block inner in
+    record { outer = b ∷ r.outer; whole = ap (λ (x : List OpenBlock). b ∷ x) r.whole }
+
+-- what is written where the innermost block is replaced
+abbrev pub IsRewritten : Arena Item → Arena Item → OpenBlock → Type 0
+IsRewritten old new block = (outer : List ℕ) (ix : ℕ) → old.spine ≡ outer ++ ix ∷ [] → new ≡ with_item old ix (open_item block)
+
+abbrev pub IsReplaced : List OpenBlock → List OpenBlock → OpenBlock → Type 0
+IsReplaced old new block = (outer : List OpenBlock) (last : OpenBlock) → old ≡ outer ++ last ∷ [] → new ≡ outer ++ block ∷ []
+
+-- `change`
+pub change_keeps : {s : State} (now : BuilderView) (inner : OpenBlock) (b : ItemBody) (blocks : List OpenBlock) (new : Arena Item) → IsSound s → seen s ≡ now
+    → is_plain_block b ≡ true → is_leaf b ≡ now.leaf → Some inner ≡ innermost_block s.blocks → IsReplaced s.blocks blocks (record inner { body = b })
+    → IsRewritten s.tree new (record inner { body = b }) → IsSound (record s { tree = new; blocks = blocks })
+change_keeps {s} now inner b blocks new k e h leaf last replace write =
+    let r = ends_with s.blocks inner last in
+    let l = innermost_open s r.outer inner k r.whole in
+    let p = block_plain b h in
+    rw (replace r.outer inner r.whole, write l.0 l.1 l.2)
+    (changed s l.0 r.outer l.1 inner b k r.whole l.2 (leaf ∙ sym (ap (λ (v : BuilderView). v.leaf) e)) (plain_placed s.counts b p) p.texts p.alignments
+    (block_parent b h))
+
+-- it has the other body
+pub body_changed : (old new : List OpenBlock) (inner : OpenBlock) (b : ItemBody) → Some inner ≡ innermost_block old → IsReplaced old new (record inner { body = b })
+    → LastHasBody old new b
+body_changed old new inner b last replace outer block h =
+    let r = ends_with old inner last in
+    let same = last_same r.outer outer inner block (sym r.whole ∙ h) in
+    replace outer block h ∙ rw same.1 refl
+
+-- `begin_later`
+pub begin_later_keeps : {s : State} (now : BuilderView) (inner : OpenBlock) (start : ℕ) (blocks : List OpenBlock) (new : Arena Item) → IsSound s → seen s ≡ now
+    → start ≤ now.at → IsCharBoundary now.text start → IfSome (innermost_block now.blocks) (λ block. IsWhite now.text block.start start)
+    → Some inner ≡ innermost_block s.blocks → IsReplaced s.blocks blocks (record inner { start = start })
+    → IsRewritten s.tree new (record inner { start = start }) → IsSound (record s { tree = new; blocks = blocks })
+begin_later_keeps {s} now inner start blocks new k e low boundary white last replace write =
+    subst (λ (v : BuilderView). start ≤ v.at → IsCharBoundary v.text start → IfSome (innermost_block v.blocks) (λ block. IsWhite v.text block.start start)
+    → IsSound (record s { tree = new; blocks = blocks })) e (λ here between behind.
+    let r = ends_with s.blocks inner last in
+    let l = innermost_open s r.outer inner k r.whole in
+    rw (replace r.outer inner r.whole, write l.0 l.1 l.2)
+    (begun_later s l.0 r.outer l.1 inner start k r.whole l.2 here between
+    (subst (λ (o : Option OpenBlock). IfSome o (λ block. IsWhite s.text block.start start)) (sym last) behind))) low boundary white
+
+-- it begins there
+pub start_changed : (old new : List OpenBlock) (inner : OpenBlock) (start : ℕ) → Some inner ≡ innermost_block old → IsReplaced old new (record inner { start = start })
+    → LastBegins old new start
+start_changed old new inner start last replace outer block h =
+    let r = ends_with old inner last in
+    let same = last_same r.outer outer inner block (sym r.whole ∙ h) in
+    replace outer block h ∙ rw same.1 refl
+
+-- `finish`
+pub finish_keeps : {s : State} (now : BuilderView) (new : Arena Item) → IsSound s → seen s ≡ now → now.blocks ≡ [] → Tightens s.tree new
+    → StandsClosed (record s { tree = new })
+finish_keeps {s} now new k e closed steps =
+    tightens_keeps s new (record { closed = ap (λ (v : BuilderView). v.blocks) e ∙ closed; stands = k.stands; runs = k.runs }) steps

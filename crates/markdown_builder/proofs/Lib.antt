@@ -7,6 +7,7 @@ pub mod RunLemmas
 pub mod FormedLemmas
 pub mod StandingLemmas
 pub mod StepLemmas
+pub mod TightLemmas
 pub mod WrittenLemmas
 pub mod RunStepLemmas
 pub mod RunMarkLemmas

@@ -70,19 +70,19 @@ quote_ascii quote h = grind (arith, nat_tests)
 
 pub mark_facts : (b : ItemBody) (byte : ℕ) → mark_byte b ≡ Some byte → IsMark b byte
 mark_facts (body.MaybeMath opens closes context) byte h =
-    let e : byte ≡ 36 = cc (h) in record { plain = plain refl refl refl refl refl refl; inline = refl; ascii = omega (arith, e); markup = rw e refl }
+    let e : byte ≡ 36 = cc (h) in record { plain = plain refl refl refl refl refl refl refl; inline = refl; ascii = omega (arith, e); markup = rw e refl }
 mark_facts (body.MaybeSmartQuote quote opens closes) byte h =
     let q = quote_is ((quote == 34) || (quote == 39)) quote byte h in
     record {
-      plain = plain refl refl refl refl refl refl;
+      plain = plain refl refl refl refl refl refl refl;
       inline = refl;
       ascii = omega (arith, q.0, quote_ascii quote q.1);
       markup = (rw q.0 refl, rw q.1 refl);
     }
 mark_facts body.MaybeHtml byte h =
-    let e : byte ≡ 60 = cc (h) in record { plain = plain refl refl refl refl refl refl; inline = refl; ascii = omega (arith, e); markup = rw e refl }
+    let e : byte ≡ 60 = cc (h) in record { plain = plain refl refl refl refl refl refl refl; inline = refl; ascii = omega (arith, e); markup = rw e refl }
 mark_facts body.MaybeLinkOpen byte h =
-    let e : byte ≡ 91 = cc (h) in record { plain = plain refl refl refl refl refl refl; inline = refl; ascii = omega (arith, e); markup = rw e refl }
+    let e : byte ≡ 91 = cc (h) in record { plain = plain refl refl refl refl refl refl refl; inline = refl; ascii = omega (arith, e); markup = rw e refl }
 mark_facts (body.MaybeLinkClose reference) byte h =
-    let e : byte ≡ 93 = cc (h) in record { plain = plain refl refl refl refl refl refl; inline = refl; ascii = omega (arith, e); markup = rw e refl }
+    let e : byte ≡ 93 = cc (h) in record { plain = plain refl refl refl refl refl refl refl; inline = refl; ascii = omega (arith, e); markup = rw e refl }
 mark_facts other byte h = cc (h)

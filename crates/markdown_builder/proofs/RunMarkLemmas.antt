@@ -10,20 +10,22 @@ use Rattle.markdown_base.specs.Arena.{Arena, sibling_of}
 use Rattle.markdown_base.specs.ArenaForest.{links_of}
 use Rattle.markdown_base.specs.ArenaRules.{next_at}
 use Rattle.markdown_base.specs.BlockTree.{Numbered, item_at, numbered}
-use Rattle.markdown_base.specs.Item.{is_inline}
+use Rattle.markdown_base.specs.Coverage.{is_inside}
+use Rattle.markdown_base.specs.Item.{range_of, is_inline}
 use Rattle.markdown_base.specs.WellFormed.{RunCharacter, run_character, is_delimiter, byte_of, EndsRun, RunGoesOn, StandsInRun, RunsAreWhole}
 use Rattle.markdown_builder.specs.declared.open_block.OpenBlock.{OpenBlock}
 use Rattle.markdown_builder.specs.BuilderView.{IsRunOf, follows_run}
 use Rattle.markdown_builder.specs.Rising.{link_of}
 use Rattle.markdown_builder.specs.BuilderRules.{ItemFits, MayReplace, KeepsRuns}
-use Rattle.markdown_builder.specs.Standing.{State, with_item, IsOpenAt, AreOpen, Stands, LastRun, IsSound}
+use Rattle.markdown_builder.specs.Standing.{State, with_item, IsOpenAt, AreOpen, Stands, LastRun, NoneTight, IsSound}
 use Rattle.markdown_builder.specs.TreeSteps.{byte_text, texts_appended, run_item, run_marked}
-use Rattle.markdown_builder.proofs.BodiesLemmas.{settled_alone}
+use Rattle.markdown_builder.proofs.BodiesLemmas.{settled_alone, parent_not_inline}
 use Rattle.markdown_builder.proofs.NodeWriteLemmas.{Writes, item_writes}
 use Rattle.markdown_builder.proofs.RunLemmas.{at_number, character_replaced, runs_rewritten}
 use Rattle.markdown_builder.proofs.RunStepLemmas.{MayPrecede, TextsStand, texts_stand}
 use Rattle.markdown_builder.proofs.StandingLemmas.{open_written}
 use Rattle.markdown_builder.proofs.WrittenLemmas.{written, all_true}
+use Rattle.markdown_builder.proofs.StepLemmas.{none_tight_written}
 
 -- a character of runs is ASCII
 pub delimiter_ascii : (byte : ℕ) → is_delimiter byte ≡ true → byte < 128
@@ -33,6 +35,7 @@ delimiter_ascii byte h = grind (arith, nat_tests)
 pub record RunStands (s : State) (byte end : ℕ) (opens closes : Bool) (texts : Arena Item) (count : ℕ) (t : Arena Item) : Type 0 where
   pub stands : Stands (record s { tree = t; at = end; run = Some byte })
   pub runs : KeepsRuns s.text t.nodes
+  pub loose : NoneTight t.nodes
   pub size : length t.nodes ≡ length texts.nodes
   pub cursor : t.cursor ≡ texts.cursor
   pub links : (d : Bool) (i : ℕ) → link_of (links_of t.nodes) d i ≡ link_of (links_of texts.nodes) d i
@@ -61,7 +64,7 @@ text_not_open : (nodes : List (Node Item)) (n a start : ℕ) (b : OpenBlock) →
 text_not_open nodes n a start b was z q =
     let inline : is_inline b.body ≡ true = sym (ap (λ (y : Item). is_inline y.body) q.item)
     ∙ (ap (λ (m : ℕ). is_inline (item_at nodes m).body) z ∙ ap (λ (y : Item). is_inline y.body) was) in
-    let none = q.parent.inline in cc (inline, none)
+    let none = parent_not_inline b.body q.parent in cc (inline, none)
 
 -- a character of another byte ends a run
 byte_ends : (text : List ℕ) (byte : ℕ) (a c : Numbered) → byte_of text c.item ≡ byte → (byte == byte_of text a.item) ≡ false → EndsRun text a (Some c)
@@ -155,14 +158,15 @@ one_marked s byte end total opens closes t old m rooted run delimiter whole p r 
       goes_on = goes_on s byte end total opens closes t old m run whole p r low;
     } in
     record {
-      stands = written here n x s.blocks r.stands (omega (arith, first, rooted)) in_old fits replaces (sym (ap (λ (y : Item). y.start) was))
-          (sym (ap (λ (y : Item). y.end) was)) blocks r.stands.leaves refl r.stands.begun;
+      stands = written here n x s.blocks r.stands (omega (arith, first, rooted)) in_old fits replaces
+          (λ q i. subst (λ (y : Item). is_inside q (range_of y) ≡ true) was i) blocks r.stands.leaves r.stands.covered r.stands.begun;
       runs = runs_rewritten s.text old.nodes new n x r.stands.nodes.rising w (λ i e h.
           let rise = r.stands.nodes.rising.rises false i n e in
           let stays : item_at old.nodes i ≡ item_at t.nodes i = r.others i (omega (arith, rise.0, p.size, low)) in
           let may : MayPrecede s.text byte (item_at old.nodes i) =
           subst (λ (y : Item). MayPrecede s.text byte y) (sym stays) (p.before i n first (sym (r.links false i) ∙ e)) in
           before_run s.text byte (numbered old.nodes i) (numbered old.nodes n) (at_number n x) no_run same may h) whole_here r.runs;
+      loose = none_tight_written old.nodes new n x w r.loose refl;
       size = w.size ∙ r.size;
       cursor = r.cursor;
       links = λ d i. w.all_links d i ∙ r.links d i;
@@ -183,6 +187,7 @@ run_stands s byte end total opens closes t zero rooted run delimiter whole p low
   stands = subst (λ (a : ℕ). Stands (record s { tree = t; at = a; run = Some byte })) whole
       (stands_with_run (record s { tree = t; at = s.at + total }) (Some byte) p.sound.stands);
   runs = p.sound.runs;
+  loose = p.sound.loose;
   size = refl;
   cursor = refl;
   links = λ d i. refl;
@@ -214,4 +219,5 @@ run_sound s byte end total opens closes k leaf run delimiter other whole =
       runs = r.runs;
       last_run = subst (λ (o : Option ℕ). LastRun s.text t.nodes o (Some byte)) (sym cursor)
           (subst (λ (y : Item). IfSome (run_character y.body) (λ c. Some byte ≡ Some (byte_of s.text y))) (sym item) (ap (λ (b : ℕ). Some b) same));
+      loose = r.loose;
     }

@@ -60,7 +60,7 @@ texts_stand s byte end (suc count) k leaf run ascii other low =
     let here : State = record s { tree = t; at = s.at + count } in
     let b = body.Text false in
     let x : Item = byte_text (s.at + count) in
-    let placed = plain_placed s.counts b (plain refl refl refl refl refl refl) in
+    let placed = plain_placed s.counts b (plain refl refl refl refl refl refl refl) in
     let fits = placed_fits s.text s.counts s.counts (s.at + count) (s.at + count + 1) b placed tt (record {
       ordered = omega arith;
       start = p.sound.stands.boundary;
@@ -75,7 +75,7 @@ texts_stand s byte end (suc count) k leaf run ascii other low =
     record {
       sound = let e : s.at + count + 1 ≡ s.at + suc count = omega arith in
           subst (λ (to : ℕ). IsSound (record s { tree = appended t x; at = to })) e
-          (added here s.counts (s.at + count + 1) b s.run p.sound placed.more fits names (sym leaf) refl);
+          (added here s.counts (s.at + count + 1) b s.run p.sound placed.more fits names (sym leaf) refl refl);
       size = omega (arith, g.size, p.size);
       texts = λ n lo hi. ⊎_elim (λ (h : n < length t.nodes). g.old_items n h ∙ p.texts n lo h)
           (λ (h : length t.nodes ≤ n). let q : n ≡ length t.nodes = omega (arith, h, hi, g.size) in

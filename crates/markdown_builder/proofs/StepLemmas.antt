@@ -17,20 +17,20 @@ use Rattle.markdown_base.specs.ArenaForest.{links_of}
 use Rattle.markdown_base.specs.ArenaRules.{next_at}
 use Rattle.markdown_base.specs.BlockTree.{item_at, numbered}
 use Rattle.markdown_base.specs.Coverage.{is_inside}
-use Rattle.markdown_base.specs.Item.{range_of, is_inline, is_childless, text_named, alignments_named}
+use Rattle.markdown_base.specs.Item.{range_of, is_inline, is_childless, is_tight_paragraph, text_named, alignments_named}
 use Rattle.markdown_base.specs.WellFormed.{source_of, PartCounts, run_character, RunsAreWhole}
 use Rattle.markdown_base.proofs.ArenaLemmas.{innermost-snoc, All-snoc, All-front, All-last}
 use Rattle.markdown_base.proofs.ForestLemmas.{All-weaker}
 use Rattle.markdown_base.proofs.WellFormedLemmas.{HasMore}
 use Rattle.markdown_builder.specs.declared.open_block.OpenBlock.{OpenBlock}
-use Rattle.markdown_builder.specs.Bodies.{is_leaf, IsParent}
+use Rattle.markdown_builder.specs.Bodies.{is_leaf}
 use Rattle.markdown_builder.specs.BuilderView.{IsWhite}
 use Rattle.markdown_builder.specs.Rising.{link_of, IsOnTop, place_down, place_at}
 use Rattle.markdown_builder.specs.BuilderRules.{ItemFits, NamesNew, MayReplace, KeepsNodes}
-use Rattle.markdown_builder.specs.Standing.{State, open_item, entered, AreOpen, OnlyLastIsLeaf, IsTopPlace, IsUnderTop, is_in_definition, covered_to, AreCovered, IsSound}
-use Rattle.markdown_builder.proofs.BodiesLemmas.{item_over, MayBePlaced, placed_fits, placed_new, block_markup, block_no_run, chain_of_one}
-use Rattle.markdown_builder.proofs.BuilderRulesLemmas.{same_or_not, fits_more, write_keeps}
-use Rattle.markdown_builder.proofs.NodeWriteLemmas.{Writes, item_writes}
+use Rattle.markdown_builder.specs.Standing.{State, open_item, entered, AreOpen, OnlyLastIsLeaf, IsTopPlace, IsUnderTop, is_in_definition, covered_to, AreCovered, NoneTight, IsSound}
+use Rattle.markdown_builder.proofs.BodiesLemmas.{item_over, MayBePlaced, placed_fits, placed_new, block_markup, block_no_run, chain_of_one, parent_not_inline}
+use Rattle.markdown_builder.proofs.BuilderRulesLemmas.{same_or_not, same_item, fits_more, write_keeps}
+use Rattle.markdown_builder.proofs.NodeWriteLemmas.{Grows, Writes, item_writes}
 use Rattle.markdown_builder.proofs.RunLemmas.{runs_appended, runs_written}
 use Rattle.markdown_builder.proofs.StandingLemmas.{appended_fits, IsInnermost, open_snoc, open_unsnoc, open_written, top_stays, not_inside, inside, covered_stays}
 
@@ -39,6 +39,23 @@ pub either_passes : (a b : Bool) → (a ≡ true) ⊎ IsTrue b → IsTrue (a || 
 either_passes true b h = refl
 either_passes false true h = refl
 either_passes false false h = ⊎_elim (λ (e : false ≡ true). cc (e)) (λ (e : IsTrue false). cc (e)) h
+
+-- ---- tight paragraphs
+
+-- with a new item that is no tight paragraph none is tight
+none_tight_grown : (old new : List (Node Item)) (down : Bool) (at : ℕ) (x : Item) → Grows old new down at x → NoneTight old
+    → is_tight_paragraph x.body ≡ false → NoneTight new
+none_tight_grown old new down at x g k h i = ⊎_elim
+    (λ (e : i ≡ length old). ap (λ (m : ℕ). is_tight_paragraph (item_at new m).body) e ∙ (ap (λ (y : Item). is_tight_paragraph y.body) g.new_item ∙ h))
+    (λ (n : i ≡ length old → ⊥). ap (λ (y : Item). is_tight_paragraph y.body) (same_item old new down at x g i n) ∙ k i)
+    (same_or_not i (length old))
+
+-- nor with one that is written
+pub none_tight_written : (old new : List (Node Item)) (at : ℕ) (x : Item) → Writes old new at x → NoneTight old → is_tight_paragraph x.body ≡ false → NoneTight new
+none_tight_written old new at x w k h i = ⊎_elim
+    (λ (e : i ≡ at). ap (λ (m : ℕ). is_tight_paragraph (item_at new m).body) e ∙ (ap (λ (y : Item). is_tight_paragraph y.body) w.new_item ∙ h))
+    (λ (n : i ≡ at → ⊥). ap (λ (y : Item). is_tight_paragraph y.body) (w.old_items i n) ∙ k i)
+    (same_or_not i at)
 
 -- ---- the beginning
 
@@ -99,6 +116,7 @@ begun text counts tree utf8 e = subst (λ (t : Arena Item). IsSound (beginning t
   };
   runs = λ i. no_run_at i;
   last_run = tt;
+  loose = λ i. ap is_tight_paragraph (root_item i);
 })
   where
     no_run_at : (i : ℕ) → RunsAreWhole text (numbered root_nodes i) (next_at root_nodes i)
@@ -108,7 +126,7 @@ begun text counts tree utf8 e = subst (λ (t : Arena Item). IsSound (beginning t
 -- ---- a step over bytes
 
 -- what is covered up to a place is covered over white space behind it
-covered_white : (text : List ℕ) (nodes : List (Node Item)) (definitions : List (CowStr × LinkDef)) (from to : ℕ) → AreCovered text nodes definitions from
+pub covered_white : (text : List ℕ) (nodes : List (Node Item)) (definitions : List (CowStr × LinkDef)) (from to : ℕ) → AreCovered text nodes definitions from
     → IsWhite text from to → AreCovered text nodes definitions to
 covered_white text nodes definitions from to c w p l dark =
     ⊎_elim (λ (h : p < from). c p h dark) (λ (h : from ≤ p). let q = w p h l in cc (q, dark)) (cases_lt p from)
@@ -135,6 +153,7 @@ moved s to definitions k low boundary covered brackets = record {
   };
   runs = k.runs;
   last_run = k.last_run;
+  loose = k.loose;
 }
 
 -- bytes are stepped over: white space, where no block is open
@@ -168,8 +187,8 @@ after_item s many to b run = record s { counts = many; tree = appended s.tree (i
 -- an item that has no children is appended
 pub added : (s : State) (many : PartCounts) (to : ℕ) (b : ItemBody) (run : Option ℕ) → IsSound s → HasMore s.counts many
     → ItemFits s.text many (item_over s.at to b) → NamesNew s.counts (item_over s.at to b) → is_inline b ≡ s.leaf → run_character b ≡ None
-    → IsSound (after_item s many to b run)
-added s many to b run k more fits names kind no_run =
+    → is_tight_paragraph b ≡ false → IsSound (after_item s many to b run)
+added s many to b run k more fits names kind no_run loose =
     let x : Item = item_over s.at to b in
     let a = appended_fits s many x k.stands more fits names kind (omega arith) in
     let low : s.at ≤ to = fits.ranges_lie_in.ordered in
@@ -194,6 +213,7 @@ added s many to b run k more fits names kind no_run =
       runs = runs_appended s.text s.tree.nodes (appended s.tree x).nodes (place_down s.tree.cursor) (place_at s.tree.spine s.tree.cursor) x k.stands.nodes.rising
           a.grows k.stands.free no_run k.runs;
       last_run = rw none tt;
+      loose = none_tight_grown s.tree.nodes (appended s.tree x).nodes (place_down s.tree.cursor) (place_at s.tree.spine s.tree.cursor) x a.grows k.loose loose;
     }
 
 -- ---- a block is opened
@@ -221,14 +241,14 @@ after_opening s many b =
     record s { counts = many; tree = entered s.tree (open_item block); blocks = s.blocks ++ block ∷ []; leaf = is_leaf b; run = None }
 
 -- a block is appended and gone into
-pub opened : (s : State) (many : PartCounts) (b : ItemBody) → IsSound s → s.leaf ≡ false → MayBePlaced s.counts many b → IsParent b
+pub opened : (s : State) (many : PartCounts) (b : ItemBody) → IsSound s → s.leaf ≡ false → MayBePlaced s.counts many b → is_childless b ≡ false
     → IsSound (after_opening s many b)
 opened s many b k outside placed parent =
     let block : OpenBlock = record { start = s.at; body = b } in
     let x : Item = open_item block in
     let n = length s.tree.nodes in
-    let fits = placed_fits s.text s.counts many s.at s.at b placed (block_markup b (source_of s.text (item_over s.at s.at b)) parent.inline) (record { ordered = omega arith; start = k.stands.boundary; end = k.stands.boundary }) in
-    let a = appended_fits s many x k.stands placed.more fits (placed_new s.counts many s.at s.at b placed) (parent.inline ∙ sym outside) (omega arith) in
+    let fits = placed_fits s.text s.counts many s.at s.at b placed (block_markup b (source_of s.text (item_over s.at s.at b)) (parent_not_inline b parent)) (record { ordered = omega arith; start = k.stands.boundary; end = k.stands.boundary }) in
+    let a = appended_fits s many x k.stands placed.more fits (placed_new s.counts many s.at s.at b placed) ((parent_not_inline b parent) ∙ sym outside) (omega arith) in
     let i = innermost-snoc s.tree.spine n in
     let new = (appended s.tree x).nodes in
     let below : child_of new n ≡ None = a.free true in
@@ -238,7 +258,7 @@ opened s many b k outside placed parent =
         nodes = a.nodes;
         low = rw i (omega (arith, a.grows.size));
         free = rw i (a.free true);
-        fits = λ y e l. rw (i, a.grows.new_item) (record { kind = e; chains_are_kept = chain_of_one b (record { number = length new; item = y }) parent.childless });
+        fits = λ y e l. rw (i, a.grows.new_item) (record { kind = e; chains_are_kept = chain_of_one b (record { number = length new; item = y }) parent });
         are_open = open_snoc new n block s.tree.spine s.blocks a.are_open a.behind (record {
           positive = k.stands.nodes.rooted;
           low = omega (arith, a.grows.size);
@@ -257,15 +277,16 @@ opened s many b k outside placed parent =
       runs = runs_appended s.text s.tree.nodes new (place_down s.tree.cursor) (place_at s.tree.spine s.tree.cursor) x k.stands.nodes.rising
           a.grows k.stands.free placed.no_run k.runs;
       last_run = tt;
+      loose = none_tight_grown s.tree.nodes new (place_down s.tree.cursor) (place_at s.tree.spine s.tree.cursor) x a.grows k.loose placed.loose;
     })
 
 -- a block is appended alone
-pub opened_alone : (s : State) (many : PartCounts) (b : ItemBody) (run : Option ℕ) → IsSound s → s.leaf ≡ false → MayBePlaced s.counts many b → IsParent b
+pub opened_alone : (s : State) (many : PartCounts) (b : ItemBody) (run : Option ℕ) → IsSound s → s.leaf ≡ false → MayBePlaced s.counts many b → is_childless b ≡ false
     → IsSound (after_item s many s.at b run)
 opened_alone s many b run k outside placed parent =
     added s many s.at b run k placed.more
-    (placed_fits s.text s.counts many s.at s.at b placed (block_markup b (source_of s.text (item_over s.at s.at b)) parent.inline) (record { ordered = omega arith; start = k.stands.boundary; end = k.stands.boundary }))
-    (placed_new s.counts many s.at s.at b placed) (parent.inline ∙ sym outside) placed.no_run
+    (placed_fits s.text s.counts many s.at s.at b placed (block_markup b (source_of s.text (item_over s.at s.at b)) (parent_not_inline b parent)) (record { ordered = omega arith; start = k.stands.boundary; end = k.stands.boundary }))
+    (placed_new s.counts many s.at s.at b placed) ((parent_not_inline b parent) ∙ sym outside) placed.no_run placed.loose
 
 -- with more parts all stands as before
 pub more_parts : (s : State) (many : PartCounts) → HasMore s.counts many → IsSound s → IsSound (record s { counts = many })
@@ -295,6 +316,7 @@ more_parts s many more k = record {
   };
   runs = k.runs;
   last_run = k.last_run;
+  loose = k.loose;
 }
 
 -- ---- a block is closed
@@ -380,8 +402,8 @@ closed s spine blocks n block k whole split =
     let start : block.start ≤ at = All-last (λ b. b.start ≤ at) blocks block begun_all in
     let fit : ItemFits s.text s.counts (open_item block) = subst (λ (y : Item). ItemFits s.text s.counts y) h.item (k.stands.nodes.items n h.positive h.low) in
     let nodes : KeepsNodes s.text s.counts made = write_keeps s.text s.counts old made n x k.stands.nodes w h.positive
-    (closed_fits s.text s.counts block.body block.start at h.parent.inline start k.stands.boundary fit)
-    (rw h.item (block_replaces (open_item block) x h.parent.inline h.parent.inline refl refl (λ t e. e) (λ t e. e))) in
+    (closed_fits s.text s.counts block.body block.start at (parent_not_inline block.body h.parent) start k.stands.boundary fit)
+    (rw h.item (block_replaces (open_item block) x (parent_not_inline block.body h.parent) (parent_not_inline block.body h.parent) refl refl (λ t e. e) (λ t e. e))) in
     let links : (d : Bool) (i j : ℕ) → link_of (links_of old) d i ≡ Some j → link_of (links_of made) d i ≡ Some j = λ d i j q. w.all_links d i ∙ q in
     let opens : AreOpen made spine blocks =
     open_written (λ t. t < n) old made n x w (λ t b l q z. absurd (omega (arith, z, l))) spine blocks o.above o.others in
@@ -389,7 +411,7 @@ closed s spine blocks n block k whole split =
     let top : IsTopPlace made spine (Some n) = top_closed old made spine n links top_was in
     let covered_was : AreCovered s.text old s.definitions (covered_to (blocks ++ block ∷ []) at) =
     subst (λ (y : List OpenBlock). AreCovered s.text old s.definitions (covered_to y at)) whole k.stands.covered in
-    let none : run_character x.body ≡ None = block_no_run block.body h.parent.inline in
+    let none : run_character x.body ≡ None = block_no_run block.body (parent_not_inline block.body h.parent) in
     let none_was : run_character (item_at old n).body ≡ None = ap (λ (y : Item). run_character y.body) h.item ∙ none in
     let none_now : run_character (item_at made n).body ≡ None = ap (λ (y : Item). run_character y.body) w.new_item ∙ none in
     record {
@@ -398,7 +420,7 @@ closed s spine blocks n block k whole split =
         nodes = nodes;
         low = omega (arith, h.low, w.size);
         free = w.all_links false n ∙ h.last;
-        fits = λ y q l. rw w.new_item (record { kind = q ∙ sym h.parent.inline; inline_in_order = λ z v. let i = h.parent.inline in cc (z, i) });
+        fits = λ y q l. rw w.new_item (record { kind = q ∙ sym (parent_not_inline block.body h.parent); inline_in_order = λ z v. let i = (parent_not_inline block.body h.parent) in cc (z, i) });
         are_open = opens;
         leaves = leaves_closed blocks block s.leaf (subst (λ (y : List OpenBlock). OnlyLastIsLeaf y s.leaf) whole k.stands.leaves);
         behind = o.above;
@@ -419,6 +441,7 @@ closed s spine blocks n block k whole split =
       };
       runs = runs_written s.text old made n x k.stands.nodes.rising w none_was none k.runs;
       last_run = rw none_now tt;
+      loose = none_tight_written old made n x w k.loose (ap (λ (y : Item). is_tight_paragraph y.body) (sym h.item) ∙ k.loose n);
     }
 
 -- ---- definitions

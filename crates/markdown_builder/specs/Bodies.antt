@@ -1,8 +1,7 @@
 -- Which bodies a builder places, and by which of its calls.
-use Rattle.std.specs.Prelude.{◌≡◌, ℕ, Bool, true, false, cond, ◌==◌, ◌||◌, Option, Some, None}
+use Rattle.std.specs.Prelude.{ℕ, Bool, true, false, cond, ◌==◌, ◌||◌, Option, Some, None}
 use Rattle.markdown_base.specs.declared.item.ItemBody.{ItemBody}
 use Rattle.markdown_base.specs.declared.item.ItemBody.TheVariants as body
-use Rattle.markdown_base.specs.Item.{is_inline, is_childless}
 
 -- a block in which inline items stand, and nothing else
 abbrev pub is_leaf : ItemBody → Bool
@@ -34,11 +33,6 @@ is_plain_block body.TableHead = true
 is_plain_block body.TableRow = true
 is_plain_block body.TableCell = true
 is_plain_block other = false
-
--- a block that may have children
-pub record IsParent (b : ItemBody) : Type 0 where
-  pub inline : is_inline b ≡ false
-  pub childless : is_childless b ≡ false
 
 -- an inline item that is appended as it is: it is settled, and names no part
 abbrev pub is_settled : ItemBody → Bool

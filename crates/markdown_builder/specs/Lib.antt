@@ -1,6 +1,7 @@
 -- what contracts speak of
 pub mod Bodies
 pub mod BuilderView
+pub mod Tightness
 -- facts of a representation
 pub mod Rising
 pub mod BuilderRules

@@ -11,10 +11,10 @@ use Rattle.markdown_base.specs.Arena.{Arena, appended, changed_at, child_of}
 use Rattle.markdown_base.specs.ArenaForest.{links_of}
 use Rattle.markdown_base.specs.BlockTree.{item_at, numbered}
 use Rattle.markdown_base.specs.Coverage.{is_inside}
-use Rattle.markdown_base.specs.Item.{range_of, is_inline}
+use Rattle.markdown_base.specs.Item.{range_of, is_inline, is_childless, is_tight_paragraph}
 use Rattle.markdown_base.specs.WellFormed.{PartCounts, run_character, byte_of}
 use Rattle.markdown_builder.specs.declared.open_block.OpenBlock.{OpenBlock}
-use Rattle.markdown_builder.specs.Bodies.{is_leaf, IsParent}
+use Rattle.markdown_builder.specs.Bodies.{is_leaf}
 use Rattle.markdown_builder.specs.BuilderView.{BuilderView}
 use Rattle.markdown_builder.specs.Rising.{link_of, IsOnTop, place_down, place_at}
 use Rattle.markdown_builder.specs.BuilderRules.{LinkFits, KeepsNodes, KeepsRuns}
@@ -55,7 +55,7 @@ pub record IsOpenAt (nodes : List (Node Item)) (s : ℕ) (block : OpenBlock) : T
   pub low : s < length nodes
   pub last : (links_of nodes).next s ≡ None
   pub item : item_at nodes s ≡ open_item block
-  pub parent : IsParent block.body
+  pub parent : is_childless block.body ≡ false
 
 -- the blocks gone into are the open ones, and their numbers rise
 abbrev pub AreOpen : List (Node Item) → List ℕ → List OpenBlock → Type 0
@@ -117,9 +117,14 @@ abbrev pub LastRun : List ℕ → List (Node Item) → Option ℕ → Option ℕ
 LastRun text nodes cursor run =
     IfSome cursor (λ c. IfSome (run_character (item_at nodes c).body) (λ r. run ≡ Some (byte_of text (item_at nodes c))))
 
+-- no paragraph is tight yet
+abbrev pub NoneTight : List (Node Item) → Type 0
+NoneTight nodes = (i : ℕ) → is_tight_paragraph (item_at nodes i).body ≡ false
+
 -- what a builder keeps
 pub record IsSound (s : State) : Type 0 where
   pub utf8 : IsUtf8 s.text
   pub stands : Stands s
   pub runs : KeepsRuns s.text s.tree.nodes
   pub last_run : LastRun s.text s.tree.nodes s.tree.cursor s.run
+  pub loose : NoneTight s.tree.nodes

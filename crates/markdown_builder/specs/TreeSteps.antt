@@ -1,25 +1,19 @@
 -- What a builder does to its tree in several steps: tight paragraphs, and the characters of a delimiter run.
-use Rattle.std.specs.Prelude.{◌≡◌, ℕ, zero, suc, ◌+◌, ◌-◌, ◌<◌, Bool, false, List, [], ◌∷◌, ◌++◌, length}
+use Rattle.std.specs.Prelude.{◌≡◌, ℕ, zero, suc, ◌+◌, ◌-◌, ◌<◌, ◌⊎◌, Bool, true, false, List, length}
 use Rattle.markdown_base.specs.declared.item.Item.{Item}
 use Rattle.markdown_base.specs.declared.item.ItemBody.{ItemBody}
 use Rattle.markdown_base.specs.declared.item.ItemBody.TheVariants as body
+use Rattle.markdown_base.specs.declared.node.Node.{Node}
 use Rattle.markdown_base.specs.Arena.{Arena, appended}
+use Rattle.markdown_base.specs.ArenaForest.{links_of}
 use Rattle.markdown_base.specs.BlockTree.{item_at}
-use Rattle.markdown_builder.specs.declared.open_block.OpenBlock.{OpenBlock}
+use Rattle.markdown_builder.specs.Rising.{link_of}
 use Rattle.markdown_builder.specs.Standing.{with_item}
 
--- the last block, which begins at a place, has another body
-pub record LastRenamed (old new : List OpenBlock) (start : ℕ) (b : ItemBody) : Type 0 where
-  pub outer : List OpenBlock
-  pub block : OpenBlock
-  pub was : old ≡ outer ++ block ∷ []
-  pub begins : start ≡ block.start
-  pub now : new ≡ outer ++ record { start = start; body = b } ∷ []
-
--- a paragraph with bytes in it
-pub record IsFilledParagraph (item : Item) : Type 0 where
-  pub body : item.body ≡ body.Paragraph
-  pub filled : item.start < item.end
+-- a paragraph that is not tight
+abbrev pub is_paragraph : ItemBody → Bool
+is_paragraph body.Paragraph = true
+is_paragraph other = false
 
 -- a paragraph made tight
 abbrev pub tight : Item → Item
@@ -28,8 +22,25 @@ tight item = record { start = item.start; end = item.end; body = body.TightParag
 -- paragraphs are made tight, one after another
 pub data Tightens (old : Arena Item) : Arena Item → Type 0 where
   none_tight : Tightens old old
-  one_tight : (tree : Arena Item) (number : ℕ) → Tightens old tree → number < length tree.nodes → IsFilledParagraph (item_at tree.nodes number)
+  one_tight : (tree : Arena Item) (number : ℕ) → Tightens old tree → number < length tree.nodes → is_paragraph (item_at tree.nodes number).body ≡ true
       → Tightens old (with_item tree number (tight (item_at tree.nodes number)))
+
+-- a paragraph with a number of a set is tight now
+pub record Tightened (S : ℕ → Type 0) (old new : List (Node Item)) (p : ℕ) : Type 0 where
+  pub inside : S p
+  pub was : (item_at old p).body ≡ body.Paragraph
+  pub now : item_at new p ≡ tight (item_at old p)
+
+-- the paragraphs with the numbers of a set are tight now, but for those that are left, and all else is as it was
+pub record MadeTight (S Left : ℕ → Type 0) (old new : List (Node Item)) : Type 0 where
+  pub size : length new ≡ length old
+  pub links : (d : Bool) (i : ℕ) → link_of (links_of new) d i ≡ link_of (links_of old) d i
+  pub made : (p : ℕ) → S p → Left p ⊎ ((item_at new p).body ≡ body.Paragraph → ⊥)
+  pub kept : (p : ℕ) → (item_at new p ≡ item_at old p) ⊎ Tightened S old new p
+
+-- all of them are
+abbrev pub MakesTight : (ℕ → Type 0) → List (Node Item) → List (Node Item) → Type 0
+MakesTight S old new = MadeTight S (λ p. ⊥) old new
 
 -- a Text over one byte
 abbrev pub byte_text : ℕ → Item

@@ -3,8 +3,8 @@ ghost use Rattle.std.specs.Prelude.{◌≡◌};
 ghost use Rattle.markdown_builder.specs.Bodies.{is_leaf};
 
 use crate::open_block::OpenBlock;
-use crate::tight::tighten_items;
-use crate::tree_steps::{append_texts, enter, leave, mark_run, push_text, rename_last, rewrite};
+use crate::tight::tighten_lists;
+use crate::tree_steps::{append_texts, enter, leave, mark_run, push_text, replace_last, rewrite};
 use markdown_base::block_parts::{BlockParts, HeadingAttributes, LinkDef};
 use markdown_base::cow_str::CowStr;
 use markdown_base::index::{AlignmentIndex, HeadingIndex};
@@ -52,14 +52,15 @@ impl<'a> Model for Builder<'a> {
 }
 
 impl<'a> Builder<'a> {
-    ghost use Rattle.std.specs.Prelude.{◌≡◌, ℕ, ◌+◌, ◌≤◌, ◌<◌, ◌++◌, ◌∷◌, [], true, false, Some, None, length, slice_index, slice_get, IfOk, MatchOption};
+    ghost use Rattle.std.specs.Prelude.{◌≡◌, ℕ, ◌+◌, ◌≤◌, ◌<◌, ◌++◌, ◌∷◌, [], true, false, Some, None, length, slice_index, slice_get, IfOk, IfSome, MatchOption};
     ghost use Rattle.std.specs.Str.{IsCharBoundary};
     ghost use Rattle.markdown_base.specs.declared.item.ItemBody.TheVariants as variant;
     ghost use Rattle.markdown_base.specs.Coverage.{Covers};
     ghost use Rattle.markdown_base.specs.WellFormed.{IsWellFormed, is_delimiter};
     ghost use Rattle.markdown_builder.specs.declared.open_block.OpenBlock.{OpenBlock};
     ghost use Rattle.markdown_builder.specs.Bodies.{is_leaf, is_plain_block, is_settled, mark_byte};
-    ghost use Rattle.markdown_builder.specs.BuilderView.{IsWhite, IsRunOf, follows_run, Opens, LastHasBody};
+    ghost use Rattle.markdown_builder.specs.BuilderView.{IsWhite, IsRunOf, follows_run, innermost_block, Opens, LastHasBody, LastBegins};
+    ghost use Rattle.markdown_builder.specs.Tightness.{TightInTightLists};
 
     /// Nothing is made yet.
     pub fn new(alloc: Global, text: &'a str) -> Result<Builder<'a>, AllocError>
@@ -183,12 +184,8 @@ impl<'a> Builder<'a> {
         ensures { IfOk result (λ _. (ix : _) × Opens self.old self.new (variant.FencedCodeBlock ix)) }
     {
         let ix = push_text(&mut self.cows, info)?;
-        enter(
-            &mut self.tree,
-            &mut self.blocks,
-            self.at,
-            ItemBody::FencedCodeBlock(ix),
-        )?;
+        let body = ItemBody::FencedCodeBlock(ix);
+        enter(&mut self.tree, &mut self.blocks, self.at, body)?;
         self.leaf = true;
         self.run = None;
         Ok(())
@@ -201,12 +198,8 @@ impl<'a> Builder<'a> {
     {
         self.footnotes.push(listed)?;
         let ix = push_text(&mut self.cows, name)?;
-        enter(
-            &mut self.tree,
-            &mut self.blocks,
-            self.at,
-            ItemBody::FootnoteDefinition(ix),
-        )?;
+        let body = ItemBody::FootnoteDefinition(ix);
+        enter(&mut self.tree, &mut self.blocks, self.at, body)?;
         self.leaf = false;
         self.run = None;
         Ok(())
@@ -223,12 +216,8 @@ impl<'a> Builder<'a> {
     {
         self.headings.push(attributes)?;
         let ix = HeadingIndex(self.headings.len());
-        enter(
-            &mut self.tree,
-            &mut self.blocks,
-            self.at,
-            ItemBody::Heading(level, Some(ix)),
-        )?;
+        let body = ItemBody::Heading(level, Some(ix));
+        enter(&mut self.tree, &mut self.blocks, self.at, body)?;
         self.leaf = true;
         self.run = None;
         Ok(())
@@ -241,12 +230,8 @@ impl<'a> Builder<'a> {
     {
         let ix = AlignmentIndex(self.alignments.len());
         self.alignments.push(alignments)?;
-        enter(
-            &mut self.tree,
-            &mut self.blocks,
-            self.at,
-            ItemBody::Table(ix),
-        )?;
+        let body = ItemBody::Table(ix);
+        enter(&mut self.tree, &mut self.blocks, self.at, body)?;
         self.leaf = false;
         self.run = None;
         Ok(())
@@ -259,22 +244,31 @@ impl<'a> Builder<'a> {
         ensures same { self.new ≡ record self.old { blocks = self.new.blocks } }
         ensures changed { LastHasBody self.old.blocks self.new.blocks body }
     {
-        if let Some(start) = rename_last(&mut self.blocks, body) {
-            let item = Item {
-                start,
-                end: start,
+        if let Some(open) = self.blocks.last() {
+            let block = OpenBlock {
+                start: open.start,
                 body,
             };
-            rewrite(&mut self.tree, item);
+            replace_last(&mut self.blocks, block);
+            rewrite(&mut self.tree, block);
         }
     }
 
-    /// Makes the paragraphs tight that stand directly in the items of a list, where it was closed last.
-    pub fn tighten(&mut self)
-        ensures { self.new ≡ self.old }
+    /// Lets the innermost open block begin at a later place, behind white space. What stands in it stays.
+    pub fn begin_later(&mut self, start: usize)
+        requires low { start ≤ self.old.at }
+        requires boundary { IsCharBoundary self.old.text start }
+        requires white { IfSome (innermost_block self.old.blocks) (λ block. IsWhite self.old.text block.start start) }
+        ensures same { self.new ≡ record self.old { blocks = self.new.blocks } }
+        ensures begins { LastBegins self.old.blocks self.new.blocks start }
     {
-        if let Some(list) = self.tree.cur() {
-            tighten_items(&mut self.tree, list);
+        if let Some(open) = self.blocks.last() {
+            let block = OpenBlock {
+                start,
+                body: open.body,
+            };
+            replace_last(&mut self.blocks, block);
+            rewrite(&mut self.tree, block);
         }
     }
 
@@ -402,13 +396,17 @@ impl<'a> Builder<'a> {
         Ok(())
     }
 
-    /// What was made, when the whole text is read and all blocks are closed.
+    /// What was made, when the whole text is read and all blocks are closed. The paragraphs directly in the items of
+    /// tight lists are made tight.
     pub fn finish(self) -> (Tree<Item>, BlockParts<'a>)
         requires closed { self.blocks ≡ [] }
         requires read { self.at ≡ length self.text }
         ensures formed { IsWellFormed self.entry.text result.0.nodes result.1 }
         ensures covered { Covers self.entry.text result.0.nodes result.1 }
+        ensures tight { TightInTightLists result.0.nodes }
     {
+        let mut tree = self.tree;
+        tighten_lists(&mut tree);
         let parts = BlockParts {
             definitions: self.definitions,
             footnotes: self.footnotes,
@@ -416,7 +414,7 @@ impl<'a> Builder<'a> {
             alignments: self.alignments,
             headings: self.headings,
         };
-        (self.tree, parts)
+        (tree, parts)
     }
 }
 

@@ -1,16 +1,18 @@
-//! The paragraphs of a tight list (CommonMark 5.3).
-ghost use Rattle.std.specs.Prelude.{◌≡◌, ◌<◌, true, length, IfSome};
-ghost use Rattle.markdown_base.specs.declared.item.ItemBody.TheVariants as variant;
-ghost use Rattle.markdown_base.specs.Arena.{Arena};
+//! The paragraphs of tight lists (CommonMark 5.3).
+ghost use Rattle.std.specs.Prelude.{◌≡◌, ◌<◌, length, IfSome};
 ghost use Rattle.markdown_base.specs.declared.item.Item.{Item};
-ghost use Rattle.markdown_builder.specs.TreeSteps.{Tightens};
+ghost use Rattle.markdown_base.specs.Arena.{Arena};
+ghost use Rattle.markdown_base.specs.ArenaForest.{links_of};
+ghost use Rattle.markdown_builder.specs.Rising.{AreRising};
+ghost use Rattle.markdown_builder.specs.Tightness.{is_tight_list, IsInChain, IsInItemOf, IsInTightList};
+ghost use Rattle.markdown_builder.specs.TreeSteps.{is_paragraph, Tightens, MakesTight};
 
 use markdown_base::item::{Item, ItemBody};
 use markdown_base::tree::Tree;
 
-/// Whether a body is a paragraph's.
+/// Whether a body is that of a paragraph which is not tight.
 fn is_paragraph(body: ItemBody) -> bool
-    ensures { result ≡ true → body ≡ variant.Paragraph }
+    ensures { result ≡ is_paragraph body }
 {
     match body {
         ItemBody::Paragraph => true,
@@ -18,14 +20,14 @@ fn is_paragraph(body: ItemBody) -> bool
     }
 }
 
-/// Makes a node tight, if it is a paragraph with bytes in it.
+/// Makes a node tight, if it is a paragraph.
 fn tighten(tree: &mut Tree<Item>, number: usize)
     requires { number < length tree.old.nodes }
-    ensures count { length tree.new.nodes ≡ length tree.old.nodes }
-    ensures tightens { (first : Arena Item) → Tightens first tree.old → Tightens first tree.new }
+    ensures steps { (first : Arena Item) → Tightens first tree.old → Tightens first tree.new }
+    ensures makes { MakesTight (λ p. p ≡ number) tree.old.nodes tree.new.nodes }
 {
     let item = *tree.item(number);
-    if is_paragraph(item.body) && item.start < item.end {
+    if is_paragraph(item.body) {
         let tight = Item {
             start: item.start,
             end: item.end,
@@ -35,39 +37,54 @@ fn tighten(tree: &mut Tree<Item>, number: usize)
     }
 }
 
-/// Makes the paragraphs from a node on tight, as they stand side by side.
+/// Makes the paragraphs tight that stand side by side from a node on.
 fn tighten_siblings(tree: &mut Tree<Item>, first: Option<usize>)
-    requires { IfSome first (λ number. number < length tree.old.nodes) }
-    ensures count { length tree.new.nodes ≡ length tree.old.nodes }
-    ensures tightens { (first : Arena Item) → Tightens first tree.old → Tightens first tree.new }
+    requires rising { AreRising (links_of tree.old.nodes) }
+    requires within { IfSome first (λ number. number < length tree.old.nodes) }
+    ensures steps { (start : Arena Item) → Tightens start tree.old → Tightens start tree.new }
+    ensures makes { MakesTight (λ p. IsInChain tree.old.nodes first p) tree.old.nodes tree.new.nodes }
 {
     let mut link = first;
-    // no chain is longer than the tree
-    'siblings: for _ in 0..tree.len() {
-        match link {
-            Some(number) => {
-                tighten(tree, number);
-                link = tree.next(number);
-            }
-            None => return,
-        }
+    'siblings: while let Some(number) = link {
+        tighten(tree, number);
+        link = tree.next(number);
     }
 }
 
-/// Makes the paragraphs directly in the items of a list tight.
-pub fn tighten_items(tree: &mut Tree<Item>, list: usize)
-    requires { list < length tree.old.nodes }
-    ensures { Tightens tree.old tree.new }
+/// Makes the paragraphs tight that stand directly in the items of a list.
+fn tighten_items(tree: &mut Tree<Item>, list: usize)
+    requires rising { AreRising (links_of tree.old.nodes) }
+    requires within { list < length tree.old.nodes }
+    ensures steps { (start : Arena Item) → Tightens start tree.old → Tightens start tree.new }
+    ensures makes { MakesTight (λ p. IsInItemOf tree.old.nodes list p) tree.old.nodes tree.new.nodes }
 {
     let mut link = tree.child(list);
-    'items: for _ in 0..tree.len() {
-        match link {
-            Some(item) => {
-                let first = tree.child(item);
-                tighten_siblings(tree, first);
-                link = tree.next(item);
-            }
-            None => return,
+    'items: while let Some(item) = link {
+        let first = tree.child(item);
+        tighten_siblings(tree, first);
+        link = tree.next(item);
+    }
+}
+
+/// Whether a body is that of a tight list.
+fn is_tight_list(body: ItemBody) -> bool
+    ensures { result ≡ is_tight_list body }
+{
+    match body {
+        ItemBody::List(tight, _, _) => tight,
+        _ => false,
+    }
+}
+
+/// Makes the paragraphs tight that stand directly in the items of tight lists.
+pub fn tighten_lists(tree: &mut Tree<Item>)
+    requires { AreRising (links_of tree.old.nodes) }
+    ensures steps { Tightens tree.old tree.new }
+    ensures makes { MakesTight (IsInTightList tree.old.nodes) tree.old.nodes tree.new.nodes }
+{
+    'lists: for number in 0..tree.len() {
+        if is_tight_list(tree.item(number).body) {
+            tighten_items(tree, number);
         }
     }
 }

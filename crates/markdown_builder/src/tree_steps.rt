@@ -1,8 +1,9 @@
 //! What a builder does to its tree, a step at a time.
-ghost use Rattle.std.specs.Prelude.{◌≡◌, ℕ, ◌+◌, ◌-◌, ◌<◌, ◌≤◌, ◌⊎◌, List, ◌++◌, ◌∷◌, [], Some, length, IfOk, IfSome, IfNone, OnErr};
+ghost use Rattle.std.specs.Prelude.{◌≡◌, ℕ, ◌+◌, ◌-◌, ◌<◌, ◌≤◌, ◌⊎◌, List, ◌++◌, ◌∷◌, [], Some, length, IfOk, OnErr};
 ghost use Rattle.markdown_base.specs.Arena.{appended, changed_at};
-ghost use Rattle.markdown_builder.specs.Standing.{entered};
-ghost use Rattle.markdown_builder.specs.TreeSteps.{LastRenamed, texts_appended, run_marked};
+ghost use Rattle.markdown_builder.specs.Standing.{entered, open_item, with_item};
+ghost use Rattle.markdown_builder.specs.TreeSteps.{texts_appended, run_marked};
+ghost use Rattle.markdown_builder.specs.declared.open_block.OpenBlock.{OpenBlock};
 
 use crate::open_block::OpenBlock;
 use markdown_base::cow_str::CowStr;
@@ -58,28 +59,28 @@ pub fn leave(tree: &mut Tree<Item>, item: Item)
     }
 }
 
-/// Writes the item of the node gone into last.
-pub fn rewrite(tree: &mut Tree<Item>, item: Item)
-    ensures { (outer : List ℕ) (ix : ℕ) → tree.old.spine ≡ outer ++ ix ∷ [] → tree.new ≡ record tree.old { nodes = changed_at ix (λ n. record n { item = item }) tree.old.nodes } }
+/// Writes the item of the node gone into last: that of an open block.
+pub fn rewrite(tree: &mut Tree<Item>, block: OpenBlock)
+    ensures { (outer : List ℕ) (ix : ℕ) → tree.old.spine ≡ outer ++ ix ∷ [] → tree.new ≡ with_item tree.old ix (open_item block) }
 {
+    let item = Item {
+        start: block.start,
+        end: block.start,
+        body: block.body,
+    };
     match tree.peek_up() {
         Some(number) => tree.set_item(number, item),
         None => {}
     }
 }
 
-/// Gives the last block another body, and answers where it begins.
-pub fn rename_last(blocks: &mut Vec<OpenBlock>, body: ItemBody) -> Option<usize>
-    ensures none { IfNone result ((blocks.old.items ≡ []) × (blocks.new.items ≡ blocks.old.items)) }
-    ensures renamed { IfSome result (λ start. LastRenamed blocks.old.items blocks.new.items start body) }
+/// Puts a block in the place of the last one.
+pub fn replace_last(blocks: &mut Vec<OpenBlock>, block: OpenBlock)
+    requires { 0 < length blocks.old.items }
+    ensures { (outer : List OpenBlock) (last : OpenBlock) → blocks.old.items ≡ outer ++ last ∷ [] → blocks.new.items ≡ outer ++ block ∷ [] }
 {
-    let depth = blocks.len();
-    if depth == 0 {
-        return None;
-    }
-    let start = blocks[depth - 1].start;
-    blocks[depth - 1] = OpenBlock { start, body };
-    Some(start)
+    let last = blocks.len() - 1;
+    blocks[last] = block;
 }
 
 /// Adds a text, and answers its number.

@@ -1,15 +1,22 @@
--- What was made is well formed, and covers the text.
+-- What was made is well formed, covers the text, and has its tight paragraphs.
 use Rattle.std.proofs.Common.{refl}
 use Rattle.markdown_builder.proofs.FormedLemmas.{keeps_formed}
 use Rattle.markdown_builder.proofs.CoveredLemmas.{covers_at_end}
+use Rattle.markdown_builder.proofs.TightLemmas.{tight_in_tight_lists}
+use Rattle.markdown_builder.proofs.CallLemmas.{finish_keeps}
 use Rattle.markdown_builder.proofs.builder.Builder.finish.Goals as goal
+
+pub tighten_lists-requires : goal.tighten_lists-requires
+tighten_lists-requires c = c.self.invariant.stands.nodes.rising
 
 pub returns-clause-formed : goal.returns-clause-formed
 returns-clause-formed c =
-    rw (← c.self.view_is) (keeps_formed c.self.inside.text.now c.self.inside.tree.nodes _ c.self.invariant.stands.nodes c.self.invariant.runs)
+    let k = finish_keeps c.args.self c.tighten_lists.new.tree c.self.invariant c.self.view_is c.requires.closed c.tighten_lists.ensures.steps in
+    rw (← c.self.view_is) (keeps_formed c.self.inside.text.now c.tighten_lists.new.tree.nodes _ k.stands.nodes k.runs)
 
 pub returns-clause-covered : goal.returns-clause-covered
 returns-clause-covered c =
+    let k = finish_keeps c.args.self c.tighten_lists.new.tree c.self.invariant c.self.view_is c.requires.closed c.tighten_lists.ensures.steps in
     covers_at_end c.args.self
     (record {
       definitions = c.self.inside.definitions;
@@ -17,4 +24,7 @@ returns-clause-covered c =
       cows = c.self.inside.cows;
       alignments = c.self.inside.alignments;
       headings = c.self.inside.headings;
-    }) c.self.invariant c.self.view_is refl c.requires.closed c.requires.read
+    }) k.stands c.self.view_is refl c.requires.closed c.requires.read
+
+pub returns-clause-tight : goal.returns-clause-tight
+returns-clause-tight c = tight_in_tight_lists c.self.inside.tree.nodes c.tighten_lists.new.tree.nodes c.self.invariant.loose c.tighten_lists.ensures.makes

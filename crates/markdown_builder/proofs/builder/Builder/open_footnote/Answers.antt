@@ -1,25 +1,22 @@
 -- The block is gone into, or stands alone, or only its text was kept.
 use Rattle.std.proofs.Common.{refl}
 use Rattle.markdown_base.specs.declared.item.ItemBody.TheVariants as body
-use Rattle.markdown_builder.proofs.BodiesLemmas.{text_placed, footnote_names}
-use Rattle.markdown_builder.proofs.CallLemmas.{placed_keeps, refused_keeps}
+use Rattle.markdown_builder.proofs.BodiesLemmas.{footnote_names}
+use Rattle.markdown_builder.proofs.CallLemmas.{named_keeps, named_refused}
 use Rattle.markdown_builder.proofs.builder.Builder.open_footnote.Goals as goal
 
 pub invariant_of-self-in_err-enter : goal.invariant_of-self-in_err-enter
 invariant_of-self-in_err-enter c =
     let ix = c.in_ok-ix.ix in
     rw c.in_err-enter.ensures.stays
-    (refused_keeps c.args.self.now _ (body.FootnoteDefinition ix) c.enter.new.tree c.self.invariant c.self.view_is c.requires
-    (text_placed _ _ (body.FootnoteDefinition ix) ix.0 c.in_ok-ix.ensures.number (c.in_ok-ix.ensures.more, refl, refl) (footnote_names ix))
-    (record { inline = refl; childless = refl }) c.in_err-enter.ensures.refused)
+    (named_refused c.args.self.now _ (body.FootnoteDefinition ix) ix c.enter.new.tree c.self.invariant c.self.view_is c.requires c.in_ok-ix.ensures.number
+    (c.in_ok-ix.ensures.more, refl, refl) (footnote_names ix) refl c.in_err-enter.ensures.refused)
 
 pub invariant_of-self-2 : goal.invariant_of-self-2
 invariant_of-self-2 c =
     let ix = c.in_ok-ix.ix in
     rw (c.in_ok-enter.ensures.entered, c.in_ok-enter.ensures.opened)
-    (placed_keeps c.args.self.now _ (body.FootnoteDefinition ix) c.self.invariant c.self.view_is c.requires
-    (text_placed _ _ (body.FootnoteDefinition ix) ix.0 c.in_ok-ix.ensures.number (c.in_ok-ix.ensures.more, refl, refl) (footnote_names ix))
-    (record { inline = refl; childless = refl }))
+    (named_keeps c.args.self.now _ (body.FootnoteDefinition ix) ix c.self.invariant c.self.view_is c.requires c.in_ok-ix.ensures.number (c.in_ok-ix.ensures.more, refl, refl) (footnote_names ix) refl)
 
 pub returns : goal.returns
 returns c = rw (← c.self.view_is) (c.in_ok-ix.ix, rw c.in_ok-enter.ensures.opened refl)

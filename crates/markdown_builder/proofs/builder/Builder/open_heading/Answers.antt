@@ -14,7 +14,7 @@ invariant_of-self-in_err-enter c =
     let last : ix.0 ≡ length c.push.new.self.items = omega (arith, c.len.ensures, c.push.new.self.ok.0) in
     rw c.in_err-enter.ensures.stays
     (refused_keeps c.args.self.now _ (body.Heading c.args.level (Some ix)) c.enter.new.tree c.self.invariant c.self.view_is c.requires (heading_placed _ _ c.args.level ix last more refl refl)
-    (record { inline = refl; childless = refl }) c.in_err-enter.ensures.refused)
+    refl c.in_err-enter.ensures.refused)
 
 pub invariant_of-self-2 : goal.invariant_of-self-2
 invariant_of-self-2 c =
@@ -23,7 +23,7 @@ invariant_of-self-2 c =
     let last : ix.0 ≡ length c.push.new.self.items = omega (arith, c.len.ensures, c.push.new.self.ok.0) in
     rw (c.in_ok-enter.ensures.entered, c.in_ok-enter.ensures.opened)
     (placed_keeps c.args.self.now _ (body.Heading c.args.level (Some ix)) c.self.invariant c.self.view_is c.requires (heading_placed _ _ c.args.level ix last more refl refl)
-    (record { inline = refl; childless = refl }))
+    refl)
 
 pub returns : goal.returns
 returns c = rw (← c.self.view_is) (record { 0 = c.len.result }, rw c.in_ok-enter.ensures.opened refl)

@@ -1,0 +1,43 @@
+-- At first all are left; one after another is made tight.
+use Rattle.markdown_builder.specs.Tightness.{IsInChain}
+use Rattle.markdown_builder.proofs.TightLemmas.{all_left, leads_to, sibling_step, siblings_done}
+use Rattle.markdown_builder.proofs.tight.tighten_siblings.Goals as goal
+
+pub siblings-init : goal.siblings-init
+siblings-init c = record {
+  steps = λ start t. t;
+  left = record {
+    makes = all_left (λ p. IsInChain c.args.tree.now.nodes c.args.first p) c.args.tree.now.nodes;
+    inside = λ p q. q;
+    within = c.requires.within;
+  };
+}
+
+pub tighten-requires : goal.tighten-requires
+tighten-requires c =
+    let l = c.siblings.invariant.left in
+    leads_to c.args.tree.now.nodes c.siblings.tree.nodes c.siblings.link c.in-Some.number l.makes.size l.within c.in-Some.is
+
+pub next-link-requires : goal.next-link-requires
+next-link-requires c =
+    let l = c.siblings.invariant.left in
+    let low = leads_to c.args.tree.now.nodes c.siblings.tree.nodes c.siblings.link c.in-Some.number l.makes.size l.within c.in-Some.is in
+    rw c.tighten.ensures.makes.size low
+
+pub siblings-smaller : goal.siblings-smaller
+siblings-smaller c =
+    (sibling_step c.args.tree.now.nodes c.siblings.tree.nodes c.tighten.new.tree.nodes c.args.first c.siblings.link c.next-link.result c.in-Some.number
+    c.requires.rising c.siblings.invariant.left c.in-Some.is c.tighten.ensures.makes c.next-link.ensures.value).1
+
+pub siblings-preserved : goal.siblings-preserved
+siblings-preserved c = record {
+  steps = λ start t. c.tighten.ensures.steps start (c.siblings.invariant.steps start t);
+  left = (sibling_step c.args.tree.now.nodes c.siblings.tree.nodes c.tighten.new.tree.nodes c.args.first c.siblings.link c.next-link.result c.in-Some.number
+      c.requires.rising c.siblings.invariant.left c.in-Some.is c.tighten.ensures.makes c.next-link.ensures.value).0;
+}
+
+pub returns : goal.returns
+returns c = record {
+  steps = λ start t. c.siblings.invariant.steps start t;
+  makes = siblings_done c.args.tree.now.nodes c.siblings.tree.nodes c.args.first c.siblings.link c.siblings.invariant.left c.in_default.not-Some;
+}
