@@ -1,6 +1,6 @@
 -- Which delimiters can open, and which can close, by the characters around them (CommonMark 6.2).
 use Rattle.std.specs.Prelude.{ℕ, Bool, true, false, not, ◌==◌, ◌&&◌, ◌||◌, List, Option, Some, None, reverse}
-use Rattle.std.specs.Prelude.{slice_get, slice_range}
+use Rattle.std.specs.Prelude.{length, slice_get, slice_range}
 use Rattle.std.specs.Char.{is_whitespace, is_ascii_punctuation}
 use Rattle.std.specs.Str.{chars}
 use Rattle.markdown_items.specs.declared.flanking.Flags.{Flags}
@@ -9,9 +9,10 @@ use Rattle.markdown_items.specs.declared.flanking.Flags.{Flags}
 abbrev pub character_before : List ℕ → ℕ → ℕ → Option ℕ
 character_before text start at = slice_get (reverse (chars (slice_range text start at))) 0
 
--- the character at a place in a line's content that stops before `end`: none at its end
-abbrev pub character_after : List ℕ → ℕ → ℕ → Option ℕ
-character_after text at end = slice_get (chars (slice_range text at end)) 0
+-- the character at a place in the text: none at its end. Behind a line's content stands its line ending, or what the
+-- content leaves out, as the backslash of a hard break.
+abbrev pub character_after : List ℕ → ℕ → Option ℕ
+character_after text at = slice_get (chars (slice_range text at (length text))) 0
 
 -- Unicode white space (CommonMark 2.1), which a line ending is too
 abbrev pub is_white : Option ℕ → Bool

@@ -55,14 +55,14 @@ unfoldable pub run_at : Line → List ℕ → ℕ → Found
 run_at line text at =
     let stop = run_end text at line.end in
     run_found stop (run_flags line.extensions (slice_index text at) (stop - at)
-    (character_before text line.start at) (character_after text stop line.end))
+    (character_before text line.start at) (character_after text stop))
 
 -- a `$` or a quotation mark, where it is more than text
 unfoldable pub mark_at : Line → List ℕ → ℕ → Found
 mark_at line text at =
     let byte = slice_index text at in
     let before = character_before text line.start at in
-    let after = character_after text (at + 1) line.end in
+    let after = character_after text (at + 1) in
     if (byte == 36) && line.extensions.math then found.Mark (math_mark before after)
     else if ((byte == 39) || (byte == 34)) && line.extensions.quotes then found.Mark (quote_mark byte before after)
     else found.Text (at + 1)

@@ -16,17 +16,15 @@ pub fn character_before(text: &str, start: usize, at: usize) -> Option<char>
     last
 }
 
-/// The character at `at` in a line's content that stops before `end`: none at its end.
-pub fn character_after(text: &str, at: usize, end: usize) -> Option<char>
-    requires ordered { at ≤ end }
-    requires at { IsCharBoundary text.now at }
-    requires end { IsCharBoundary text.now end }
-    ensures { result ≡ character_after text.now at end }
+/// The character at `at`: none at the text's end. It may stand behind the line's content.
+pub fn character_after(text: &str, at: usize) -> Option<char>
+    requires { IsCharBoundary text.now at }
+    ensures { result ≡ character_after text.now at }
 {
-    text[at..end].chars().next()
+    text[at..].chars().next()
 }
 
-/// Whether it is Unicode white space; what stands around a line's content is a line ending.
+/// Whether it is Unicode white space; around a text stand line endings, and before a line's content one.
 pub fn is_white(character: Option<char>) -> bool
     ensures { result ≡ is_white character }
 {

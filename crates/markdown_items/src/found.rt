@@ -117,7 +117,7 @@ fn find_run(text: &str, line: Line, at: usize) -> Found
 {
     let stop = run_end(text, at, line.end);
     let before = character_before(text, line.start, at);
-    let after = character_after(text, stop, line.end);
+    let after = character_after(text, stop);
     let byte = text.as_bytes()[at];
     match run_flags(line.extensions, byte, stop - at, before, after) {
         Some(flags) => Found::Run(stop, flags),
@@ -134,7 +134,7 @@ fn find_mark(text: &str, line: Line, at: usize) -> Found
 {
     let byte = text.as_bytes()[at];
     let before = character_before(text, line.start, at);
-    let after = character_after(text, at + 1, line.end);
+    let after = character_after(text, at + 1);
     match byte {
         b'$' if line.extensions.math => Found::Mark(math_mark(before, after)),
         b'\'' | b'"' if line.extensions.quotes => Found::Mark(quote_mark(byte, before, after)),
