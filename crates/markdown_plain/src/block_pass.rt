@@ -1,12 +1,13 @@
 //! The block pass, line by line: which open blocks go on, which blocks begin, and what a lazy line goes on with
 //! (CommonMark, appendix on parsing).
-ghost use Rattle.std.specs.Prelude.{◌≡◌, IfOk};
+ghost use Rattle.std.specs.Prelude.{◌≡◌, [], length, IfOk};
 ghost use Rattle.markdown_base.specs.Coverage.{Covers};
 ghost use Rattle.markdown_base.specs.WellFormed.{IsWellFormed};
+ghost use Rattle.markdown_builder.specs.Tightness.{TightInTightLists};
 
 use crate::containers::{Reached, reach};
 use crate::pass::{LeafKind, Pass};
-use crate::placing::{close_all, step_to, step_to_end};
+use crate::placing::Placing;
 use markdown_base::block_parts::BlockParts;
 use markdown_base::item::Item;
 use markdown_base::options::Options;
@@ -31,15 +32,17 @@ struct Rest {
     depth: usize,
     /// before this byte no thematic break begins in this line
     unbroken: usize,
+    /// whether a paragraph goes on here unless a block begins
+    in_paragraph: bool,
 }
 
 impl<'a> Pass<'a> {
     /// Reads a line.
     fn read_line(&mut self, line: Line) -> Result<(), AllocError>
-        ensures { IfOk result (λ _. self.new.builder.text ≡ self.old.builder.text) }
+        ensures { IfOk result (λ _. self.new.placing.builder.text ≡ self.old.placing.builder.text) }
     {
         let reached = reach(self, line);
-        if reached.all && self.builder.is_in_leaf() && self.goes_on(line, reached)? {
+        if reached.all && self.placing.is_in_leaf() && self.goes_on(line, reached)? {
             self.placed = line.next;
             self.looseness.see_content();
             return Ok(());
@@ -47,15 +50,13 @@ impl<'a> Pass<'a> {
         if reached.content >= line.stop {
             return self.read_blank(line, reached);
         }
-        self.read_rest(
-            Rest {
-                line,
-                place: reached.place,
-                depth: reached.depth,
-                unbroken: 0,
-            },
-            reached.all,
-        )?;
+        self.read_rest(Rest {
+            line,
+            place: reached.place,
+            depth: reached.depth,
+            unbroken: 0,
+            in_paragraph: reached.all && self.has_paragraph(),
+        })?;
         self.placed = line.next;
         self.looseness.see_content();
         Ok(())
@@ -63,7 +64,7 @@ impl<'a> Pass<'a> {
 
     /// Adds a line to the code or HTML block that is open, if it goes on in it. Answers whether it does.
     fn goes_on(&mut self, line: Line, reached: Reached) -> Result<bool, AllocError>
-        ensures { IfOk result (λ _. self.new.builder.text ≡ self.old.builder.text) }
+        ensures { IfOk result (λ _. self.new.placing.builder.text ≡ self.old.placing.builder.text) }
     {
         let blank = reached.content >= line.stop;
         match self.leaf {
@@ -75,7 +76,7 @@ impl<'a> Pass<'a> {
                 self.add_html(kind, line, reached.place)?;
             }
             LeafKind::Indented => {
-                let before = read_space(self.builder.text(), reached.place, line.stop, 4);
+                let before = read_space(self.placing.text(), reached.place, line.stop, 4);
                 if blank || before.columns < 4 {
                     return Ok(false);
                 }
@@ -87,10 +88,10 @@ impl<'a> Pass<'a> {
 
     /// Reads a line that is blank for the innermost blocks that go on in it.
     fn read_blank(&mut self, line: Line, reached: Reached) -> Result<(), AllocError>
-        ensures { IfOk result (λ _. self.new.builder.text ≡ self.old.builder.text) }
+        ensures { IfOk result (λ _. self.new.placing.builder.text ≡ self.old.placing.builder.text) }
     {
         let in_code = match self.leaf {
-            LeafKind::Indented => self.builder.is_in_leaf(),
+            LeafKind::Indented => self.placing.is_in_leaf(),
             _ => false,
         };
         if in_code && reached.all {
@@ -99,38 +100,37 @@ impl<'a> Pass<'a> {
             self.close_down(reached.depth)?;
         }
         self.looseness.see_blank(reached.quoted);
-        if !is_white(bytes_of(self.builder.text(), line.start, line.stop)) {
+        if !is_white(bytes_of(self.placing.text(), line.start, line.stop)) {
             self.placed = line.next;
         }
         Ok(())
     }
 
     /// Reads what the open containers left of a line: opens blocks as long as some begin.
-    fn read_rest(&mut self, rest: Rest, all: bool) -> Result<(), AllocError>
-        ensures { IfOk result (λ _. self.new.builder.text ≡ self.old.builder.text) }
+    fn read_rest(&mut self, rest: Rest) -> Result<(), AllocError>
+        ensures { IfOk result (λ _. self.new.placing.builder.text ≡ self.old.placing.builder.text) }
     {
         let mut here = Some(rest);
-        let mut in_paragraph = all && self.has_paragraph();
-        'blocks: for _ in rest.line.start..rest.line.next {
+        // each container takes a byte of the line, and what is left behind the last one is read too
+        'blocks: for _ in rest.line.start..rest.line.next.saturating_add(1) {
             let Some(inside) = here else {
                 break;
             };
-            here = self.read_block(inside, in_paragraph)?;
-            in_paragraph = false;
+            here = self.read_block(inside)?;
         }
         Ok(())
     }
 
     /// Reads the block that begins here. Answers what is left of the line inside it, if it is a container.
-    fn read_block(&mut self, rest: Rest, in_paragraph: bool) -> Result<Option<Rest>, AllocError>
-        ensures { IfOk result (λ _. self.new.builder.text ≡ self.old.builder.text) }
+    fn read_block(&mut self, rest: Rest) -> Result<Option<Rest>, AllocError>
+        ensures { IfOk result (λ _. self.new.placing.builder.text ≡ self.old.placing.builder.text) }
     {
-        let text = self.builder.text();
+        let text = self.placing.text();
         let stop = rest.line.stop;
         let before = read_space(text, rest.place, stop, 4);
         let at = before.behind.at;
         if content_start(text, at, stop) == stop {
-            step_to(&mut self.builder, rest.line.next);
+            self.placing.step_to(rest.line.next);
             return Ok(None);
         }
         if before.columns == 4 {
@@ -141,17 +141,17 @@ impl<'a> Pass<'a> {
             b'>' => self.read_quote(rest, before),
             b'#' => self.read_atx(rest, at),
             b'`' | b'~' => self.read_fence(rest, before),
-            b'<' => self.read_html(rest, at, in_paragraph),
+            b'<' => self.read_html(rest, before),
             b'[' => self.read_bracket(rest, before),
-            b'=' | b'-' | b'_' | b'*' | b'+' => self.read_line_of_marks(rest, before, in_paragraph),
-            b'0'..=b'9' => self.read_item(rest, before, in_paragraph),
+            b'=' | b'-' | b'_' | b'*' | b'+' => self.read_line_of_marks(rest, before),
+            b'0'..=b'9' => self.read_item(rest, before),
             _ => self.read_text(rest, at),
         }
     }
 
     /// Reads a line that is no other block's beginning.
     fn read_text(&mut self, rest: Rest, at: usize) -> Result<Option<Rest>, AllocError>
-        ensures { IfOk result (λ _. self.new.builder.text ≡ self.old.builder.text) }
+        ensures { IfOk result (λ _. self.new.placing.builder.text ≡ self.old.placing.builder.text) }
     {
         self.add_text(rest.line, at, rest.depth)?;
         Ok(None)
@@ -159,7 +159,7 @@ impl<'a> Pass<'a> {
 
     /// Reads a line that is indented: code, but in a paragraph.
     fn read_indented(&mut self, rest: Rest, before: Space) -> Result<(), AllocError>
-        ensures { IfOk result (λ _. self.new.builder.text ≡ self.old.builder.text) }
+        ensures { IfOk result (λ _. self.new.placing.builder.text ≡ self.old.placing.builder.text) }
     {
         if self.has_paragraph() {
             return self.add_text(rest.line, before.behind.at, rest.depth);
@@ -175,12 +175,13 @@ impl<'a> Pass<'a> {
             place,
             depth: self.depth(),
             unbroken: rest.unbroken,
+            in_paragraph: false,
         })
     }
 
     /// Reads the marker of a block quote.
     fn read_quote(&mut self, rest: Rest, before: Space) -> Result<Option<Rest>, AllocError>
-        ensures { IfOk result (λ _. self.new.builder.text ≡ self.old.builder.text) }
+        ensures { IfOk result (λ _. self.new.placing.builder.text ≡ self.old.placing.builder.text) }
     {
         self.make_room(rest.depth)?;
         let place = self.open_quote(rest.line, before.behind)?;
@@ -189,9 +190,9 @@ impl<'a> Pass<'a> {
 
     /// Reads a line that begins with a `#`.
     fn read_atx(&mut self, rest: Rest, at: usize) -> Result<Option<Rest>, AllocError>
-        ensures { IfOk result (λ _. self.new.builder.text ≡ self.old.builder.text) }
+        ensures { IfOk result (λ _. self.new.placing.builder.text ≡ self.old.placing.builder.text) }
     {
-        let Some(heading) = atx_heading(self.builder.text(), at, rest.line.stop) else {
+        let Some(heading) = atx_heading(self.placing.text(), at, rest.line.stop) else {
             return self.read_text(rest, at);
         };
         self.make_room(rest.depth)?;
@@ -201,9 +202,9 @@ impl<'a> Pass<'a> {
 
     /// Reads a line that begins with a backtick or a tilde.
     fn read_fence(&mut self, rest: Rest, before: Space) -> Result<Option<Rest>, AllocError>
-        ensures { IfOk result (λ _. self.new.builder.text ≡ self.old.builder.text) }
+        ensures { IfOk result (λ _. self.new.placing.builder.text ≡ self.old.placing.builder.text) }
     {
-        let text = self.builder.text();
+        let text = self.placing.text();
         let at = before.behind.at;
         let byte = byte_at(text, at).unwrap_or(0);
         let found = opening_fence(text, at, rest.line.stop, byte, before.columns);
@@ -216,16 +217,13 @@ impl<'a> Pass<'a> {
     }
 
     /// Reads a line that begins with a `<`.
-    fn read_html(
-        &mut self,
-        rest: Rest,
-        at: usize,
-        in_paragraph: bool,
-    ) -> Result<Option<Rest>, AllocError>
-        ensures { IfOk result (λ _. self.new.builder.text ≡ self.old.builder.text) }
+    fn read_html(&mut self, rest: Rest, before: Space) -> Result<Option<Rest>, AllocError>
+        ensures { IfOk result (λ _. self.new.placing.builder.text ≡ self.old.placing.builder.text) }
     {
-        let text = self.builder.text();
-        let in_paragraph = in_paragraph || self.has_paragraph();
+        let text = self.placing.text();
+        let at = before.behind.at;
+        // also where the paragraph would go on lazily
+        let in_paragraph = self.has_paragraph();
         let Some(kind) = html_kind(self.alloc, text, at, rest.line.stop, in_paragraph)? else {
             return self.read_text(rest, at);
         };
@@ -236,7 +234,7 @@ impl<'a> Pass<'a> {
 
     /// Reads a line that begins with a `[`.
     fn read_bracket(&mut self, rest: Rest, before: Space) -> Result<Option<Rest>, AllocError>
-        ensures { IfOk result (λ _. self.new.builder.text ≡ self.old.builder.text) }
+        ensures { IfOk result (λ _. self.new.placing.builder.text ≡ self.old.placing.builder.text) }
     {
         let here = before.behind;
         match self.open_footnote(rest.line, here, rest.depth)? {
@@ -246,69 +244,52 @@ impl<'a> Pass<'a> {
     }
 
     /// Reads a line that begins with a character of underlines, thematic breaks and bullet list markers.
-    fn read_line_of_marks(
-        &mut self,
-        rest: Rest,
-        before: Space,
-        in_paragraph: bool,
-    ) -> Result<Option<Rest>, AllocError>
-        ensures { IfOk result (λ _. self.new.builder.text ≡ self.old.builder.text) }
+    fn read_line_of_marks(&mut self, rest: Rest, before: Space) -> Result<Option<Rest>, AllocError>
+        ensures { IfOk result (λ _. self.new.placing.builder.text ≡ self.old.placing.builder.text) }
     {
-        let content = bytes_of(self.builder.text(), before.behind.at, rest.line.stop);
-        let Some(level) = setext_underline(content) else {
-            return self.read_break(rest, before, in_paragraph);
-        };
-        if !in_paragraph {
-            return self.read_break(rest, before, false);
+        if !rest.in_paragraph {
+            return self.read_break(rest, before);
         }
+        let content = bytes_of(self.placing.text(), before.behind.at, rest.line.stop);
+        let Some(level) = setext_underline(content) else {
+            return self.read_break(rest, before);
+        };
         if self.end_paragraph(Some((level, rest.line)))? {
             return Ok(None);
         }
-        self.read_break(rest, before, false)
+        let mut rest = rest;
+        rest.in_paragraph = false;
+        self.read_break(rest, before)
     }
 
     /// Reads a line that may be a thematic break, and else may begin with a list marker.
-    fn read_break(
-        &mut self,
-        rest: Rest,
-        before: Space,
-        in_paragraph: bool,
-    ) -> Result<Option<Rest>, AllocError>
-        ensures { IfOk result (λ _. self.new.builder.text ≡ self.old.builder.text) }
+    fn read_break(&mut self, rest: Rest, before: Space) -> Result<Option<Rest>, AllocError>
+        ensures { IfOk result (λ _. self.new.placing.builder.text ≡ self.old.placing.builder.text) }
     {
         let at = before.behind.at;
         if at < rest.unbroken {
-            return self.read_item(rest, before, in_paragraph);
+            return self.read_item(rest, before);
         }
-        match thematic_break(bytes_of(self.builder.text(), at, rest.line.stop)) {
+        match thematic_break(bytes_of(self.placing.text(), at, rest.line.stop)) {
             Ok(()) => {
                 self.make_room(rest.depth)?;
                 self.add_thematic_break(rest.line, at)?;
                 Ok(None)
             }
             Err(length) => {
-                let rest = Rest {
-                    line: rest.line,
-                    place: rest.place,
-                    depth: rest.depth,
-                    unbroken: at.saturating_add(length),
-                };
-                self.read_item(rest, before, in_paragraph)
+                let mut rest = rest;
+                rest.unbroken = at.saturating_add(length);
+                self.read_item(rest, before)
             }
         }
     }
 
     /// Reads a line that may begin with a list marker.
-    fn read_item(
-        &mut self,
-        rest: Rest,
-        before: Space,
-        in_paragraph: bool,
-    ) -> Result<Option<Rest>, AllocError>
-        ensures { IfOk result (λ _. self.new.builder.text ≡ self.old.builder.text) }
+    fn read_item(&mut self, rest: Rest, before: Space) -> Result<Option<Rest>, AllocError>
+        ensures { IfOk result (λ _. self.new.placing.builder.text ≡ self.old.placing.builder.text) }
     {
         let at = before.behind.at;
-        let found = list_marker(self.builder.text(), at, rest.line.stop, in_paragraph);
+        let found = list_marker(self.placing.text(), at, rest.line.stop, rest.in_paragraph);
         let Some(marker) = found else {
             return self.read_text(rest, at);
         };
@@ -318,9 +299,9 @@ impl<'a> Pass<'a> {
 
     /// Reads the lines of the text.
     fn read_lines(&mut self) -> Result<(), AllocError>
-        ensures { IfOk result (λ _. self.new.builder.text ≡ self.old.builder.text) }
+        ensures { IfOk result (λ _. self.new.placing.builder.text ≡ self.old.placing.builder.text) }
     {
-        let text = self.builder.text();
+        let text = self.placing.text();
         let mut from = 0;
         'lines: while from < text.as_bytes().len() {
             let line = line_from(text, from);
@@ -329,6 +310,20 @@ impl<'a> Pass<'a> {
         }
         self.close_down(0)
     }
+}
+
+/// A text's blocks, all of them placed and closed.
+fn place_all<'a>(alloc: Global, text: &'a str, options: Options) -> Result<Placing<'a>, AllocError>
+    ensures text { IfOk result (λ made. made.builder.text ≡ text.now) }
+    ensures closed { IfOk result (λ made. made.builder.blocks ≡ []) }
+    ensures read { IfOk result (λ made. made.builder.at ≡ length text.now) }
+{
+    let mut pass = Pass::new(alloc, text, options)?;
+    pass.read_lines()?;
+    let mut placing = pass.into_placing();
+    placing.close_all();
+    placing.step_to_end()?;
+    Ok(placing)
 }
 
 /// The tree of a text's blocks, and the parts that its items name.
@@ -354,11 +349,17 @@ pub fn blocks<'a>(
 ) -> Result<(Tree<Item>, BlockParts<'a>), AllocError>
     ensures formed { IfOk result (λ made. IsWellFormed text.now made.0.nodes made.1) }
     ensures covered { IfOk result (λ made. Covers text.now made.0.nodes made.1) }
+    ensures tight { IfOk result (λ made. TightInTightLists made.0.nodes) }
 {
-    let mut pass = Pass::new(alloc, text, options)?;
-    pass.read_lines()?;
-    let mut builder = pass.into_builder();
-    close_all(&mut builder);
-    step_to_end(&mut builder)?;
+    let Placing {
+        builder,
+        misfits: _,
+    } = place_all(alloc, text, options)?;
     Ok(builder.finish())
+}
+
+/// How many calls the block pass asked of its builder that did not fit where they came, so that nothing was made: none,
+/// as tests over many texts show. An error says that memory was refused.
+pub fn misfits(alloc: Global, text: &str, options: Options) -> Result<usize, AllocError> {
+    Ok(place_all(alloc, text, options)?.misfits)
 }

@@ -3,7 +3,6 @@
 ghost use Rattle.std.specs.Prelude.{◌≡◌, ◌≤◌, IfOk};
 
 use crate::pass::{Pass, innermost};
-use crate::placing::{open_block, open_note, step_to};
 use bitflags::Flags;
 use markdown_base::cow_str::CowStr;
 use markdown_base::item::ItemBody;
@@ -31,7 +30,7 @@ pub struct Reached {
     pub quoted: usize,
 }
 
-/// Whether a body is a container's, a list's aside.
+/// Whether a body is a container's; lists count as such.
 fn is_container(body: ItemBody) -> bool {
     match body {
         ItemBody::BlockQuote(_) | ItemBody::List(_, _, _) | ItemBody::ListItem(_) => true,
@@ -87,7 +86,7 @@ fn past_container(
     line: Line,
     reached: Reached,
 ) -> Option<Place> {
-    let text = pass.builder.text();
+    let text = pass.placing.text();
     let blank = reached.content >= line.stop;
     match body {
         ItemBody::BlockQuote(_) => past_quote(text, reached.place, line.stop),
@@ -130,8 +129,8 @@ fn behind_container(
 
 /// How far the open containers go on in a line.
 pub fn reach(pass: &Pass<'_>, line: Line) -> Reached {
-    let text = pass.builder.text();
-    let blocks = pass.builder.open_blocks();
+    let text = pass.placing.text();
+    let blocks = pass.placing.open_blocks();
     let mut reached = Reached {
         depth: 0,
         all: true,
@@ -199,11 +198,11 @@ fn footnote_label<'a>(
 impl<'a> Pass<'a> {
     /// Opens a block quote whose marker stands here, and goes behind it.
     pub fn open_quote(&mut self, line: Line, here: Place) -> Result<Place, AllocError>
-        ensures { IfOk result (λ _. self.new.builder.text ≡ self.old.builder.text) }
+        ensures { IfOk result (λ _. self.new.placing.builder.text ≡ self.old.placing.builder.text) }
     {
-        step_to(&mut self.builder, here.at);
-        open_block(&mut self.builder, ItemBody::BlockQuote(None))?;
-        Ok(read_space(self.builder.text(), here.past(1), line.stop, 1).behind)
+        self.placing.step_to(here.at);
+        self.placing.open_block(ItemBody::BlockQuote(None))?;
+        Ok(read_space(self.placing.text(), here.past(1), line.stop, 1).behind)
     }
 
     /// Opens an item whose marker stands behind the space before it, and the list if none goes on; goes to
@@ -215,37 +214,37 @@ impl<'a> Pass<'a> {
         marker: ListMarker,
         depth: usize,
     ) -> Result<Place, AllocError>
-        ensures { IfOk result (λ _. self.new.builder.text ≡ self.old.builder.text) }
+        ensures { IfOk result (λ _. self.new.placing.builder.text ≡ self.old.placing.builder.text) }
     {
         self.close_down(depth)?;
         self.open_list(marker, before.behind.at)?;
         let behind = before.behind.past(marker.width);
-        let content = item_content(self.builder.text(), behind, line.stop);
+        let content = item_content(self.placing.text(), behind, line.stop);
         let indent = before
             .columns
             .saturating_add(marker.width)
             .saturating_add(content.columns);
-        step_to(&mut self.builder, before.behind.at);
-        open_block(&mut self.builder, ItemBody::ListItem(indent))?;
+        self.placing.step_to(before.behind.at);
+        self.placing.open_block(ItemBody::ListItem(indent))?;
         self.looseness.open_item();
         Ok(content.behind)
     }
 
     /// Opens a list for an item, where the innermost open block is none of the same kind.
     fn open_list(&mut self, marker: ListMarker, at: usize) -> Result<(), AllocError>
-        ensures { IfOk result (λ _. self.new.builder.text ≡ self.old.builder.text) }
+        ensures { IfOk result (λ _. self.new.placing.builder.text ≡ self.old.placing.builder.text) }
     {
-        if let Some(ItemBody::List(_, character, _)) = innermost(&self.builder) {
+        if let Some(ItemBody::List(_, character, _)) = innermost(&self.placing) {
             if character == marker.character {
-                self.looseness.add_child(self.builder.open_blocks());
+                self.looseness.add_child(self.placing.open_blocks());
                 return Ok(());
             }
             self.close_block();
         }
-        self.looseness.add_child(self.builder.open_blocks());
-        step_to(&mut self.builder, at);
+        self.looseness.add_child(self.placing.open_blocks());
+        self.placing.step_to(at);
         let list = ItemBody::List(true, marker.character, marker.first);
-        open_block(&mut self.builder, list)?;
+        self.placing.open_block(list)?;
         self.looseness.open_list()
     }
 
@@ -256,19 +255,19 @@ impl<'a> Pass<'a> {
         here: Place,
         depth: usize,
     ) -> Result<Option<Place>, AllocError>
-        ensures { IfOk result (λ _. self.new.builder.text ≡ self.old.builder.text) }
+        ensures { IfOk result (λ _. self.new.placing.builder.text ≡ self.old.placing.builder.text) }
     {
         if !self.options.contains(Options::ENABLE_FOOTNOTES) {
             return Ok(None);
         }
-        let content = part_of(self.builder.text(), here.at, line.stop);
+        let content = part_of(self.placing.text(), here.at, line.stop);
         let Some((label, width)) = footnote_label(self.alloc, content)? else {
             return Ok(None);
         };
         self.make_room(depth)?;
-        step_to(&mut self.builder, here.at);
+        self.placing.step_to(here.at);
         let listed = label.try_clone(self.alloc)?;
-        open_note(&mut self.builder, label, listed)?;
+        self.placing.open_note(label, listed)?;
         Ok(Some(here.past(width)))
     }
 }

@@ -9,4 +9,4 @@ mod paragraph;
 mod pass;
 mod placing;
 
-pub use block_pass::blocks;
+pub use block_pass::{blocks, misfits};

@@ -2,11 +2,10 @@
 ghost use Rattle.std.specs.Prelude.{◌≡◌, IfOk};
 
 use crate::pass::Pass;
-use crate::placing::{add_definition, add_inline, add_items, close, open_block, step_to};
+use crate::placing::Placing;
 use markdown_base::item::ItemBody;
 use markdown_base::options::Options;
 use markdown_base::tag::HeadingLevel;
-use markdown_builder::builder::Builder;
 use markdown_lines::atx_heading::trimmed_length;
 use markdown_lines::bytes::{byte_at, bytes_of, content_start};
 use markdown_lines::definition::read_definition;
@@ -19,12 +18,12 @@ use std::alloc::{AllocError, Global};
 /// none.
 fn take_definition<'a>(
     alloc: Global,
-    builder: &mut Builder<'a>,
+    placing: &mut Placing<'a>,
     lines: &[HeldLine],
 ) -> Result<usize, AllocError>
-    ensures { IfOk result (λ _. builder.new.text ≡ builder.old.text) }
+    ensures { IfOk result (λ _. placing.new.builder.text ≡ placing.old.builder.text) }
 {
-    let text = builder.text();
+    let text = placing.text();
     let Some(first) = lines.first() else {
         return Ok(0);
     };
@@ -35,25 +34,25 @@ fn take_definition<'a>(
         return Ok(0);
     };
     let taken = found.lines;
-    step_to(builder, first.start);
-    add_definition(builder, found)?;
+    placing.step_to(first.start);
+    placing.add_definition(found)?;
     Ok(taken)
 }
 
 /// Takes the definitions at the beginning of a paragraph's lines. Answers how many lines they take.
 fn take_definitions<'a>(
     alloc: Global,
-    builder: &mut Builder<'a>,
+    placing: &mut Placing<'a>,
     lines: &[HeldLine],
 ) -> Result<usize, AllocError>
-    ensures { IfOk result (λ _. builder.new.text ≡ builder.old.text) }
+    ensures { IfOk result (λ _. placing.new.builder.text ≡ placing.old.builder.text) }
 {
     let mut taken = 0;
     'definitions: for _ in 0..lines.len() {
         if taken >= lines.len() {
             break;
         }
-        let more = take_definition(alloc, builder, &lines[taken..])?;
+        let more = take_definition(alloc, placing, &lines[taken..])?;
         if more == 0 {
             break;
         }
@@ -64,53 +63,53 @@ fn take_definitions<'a>(
 
 /// Appends a line after which the paragraph goes on, and the break behind it.
 fn add_broken_line(
-    builder: &mut Builder<'_>,
+    placing: &mut Placing<'_>,
     line: HeldLine,
     options: Options,
 ) -> Result<(), AllocError>
-    ensures { IfOk result (λ _. builder.new.text ≡ builder.old.text) }
+    ensures { IfOk result (λ _. placing.new.builder.text ≡ placing.old.builder.text) }
 {
-    let text = builder.text();
+    let text = placing.text();
     if line.stop < line.start || !text.is_char_boundary(line.stop) {
         return Ok(());
     }
     let between = line_break(text, line.start, line.stop);
-    add_items(builder, between.text_end, options)?;
-    step_to(builder, between.start);
-    add_inline(builder, between.body, line.next)
+    placing.add_items(between.text_end, options)?;
+    placing.step_to(between.start);
+    placing.add_inline(between.body, line.next)
 }
 
 /// Appends the last line.
 fn add_last_line(
-    builder: &mut Builder<'_>,
+    placing: &mut Placing<'_>,
     line: HeldLine,
     options: Options,
 ) -> Result<(), AllocError>
-    ensures { IfOk result (λ _. builder.new.text ≡ builder.old.text) }
+    ensures { IfOk result (λ _. placing.new.builder.text ≡ placing.old.builder.text) }
 {
-    let content = bytes_of(builder.text(), line.start, line.stop);
+    let content = bytes_of(placing.text(), line.start, line.stop);
     let end = line.start.saturating_add(trimmed_length(content));
-    add_items(builder, end, options)?;
-    step_to(builder, line.next);
+    placing.add_items(end, options)?;
+    placing.step_to(line.next);
     Ok(())
 }
 
 /// Appends the lines from a number on of the paragraph or heading that is open.
 fn add_lines(
-    builder: &mut Builder<'_>,
+    placing: &mut Placing<'_>,
     lines: &[HeldLine],
     from: usize,
     options: Options,
 ) -> Result<(), AllocError>
-    ensures { IfOk result (λ _. builder.new.text ≡ builder.old.text) }
+    ensures { IfOk result (λ _. placing.new.builder.text ≡ placing.old.builder.text) }
 {
     'lines: for number in from..lines.len() {
         let line = lines[number];
-        step_to(builder, line.start);
+        placing.step_to(line.start);
         if number == lines.len() - 1 {
-            add_last_line(builder, line, options)?;
+            add_last_line(placing, line, options)?;
         } else {
-            add_broken_line(builder, line, options)?;
+            add_broken_line(placing, line, options)?;
         }
     }
     Ok(())
@@ -118,29 +117,29 @@ fn add_lines(
 
 /// Places lines from a number on as a paragraph, or as a heading that ends with the line of its underline.
 fn place_paragraph(
-    builder: &mut Builder<'_>,
+    placing: &mut Placing<'_>,
     lines: &[HeldLine],
     from: usize,
     heading: Option<(HeadingLevel, Line)>,
     options: Options,
 ) -> Result<(), AllocError>
-    ensures { IfOk result (λ _. builder.new.text ≡ builder.old.text) }
+    ensures { IfOk result (λ _. placing.new.builder.text ≡ placing.old.builder.text) }
 {
     if let Some(first) = lines.get(from) {
-        step_to(builder, first.start);
+        placing.step_to(first.start);
     }
     match heading {
         Some((level, underline)) => {
-            open_block(builder, ItemBody::Heading(level, None))?;
-            add_lines(builder, lines, from, options)?;
-            step_to(builder, underline.next);
+            placing.open_block(ItemBody::Heading(level, None))?;
+            add_lines(placing, lines, from, options)?;
+            placing.step_to(underline.next);
         }
         None => {
-            open_block(builder, ItemBody::Paragraph)?;
-            add_lines(builder, lines, from, options)?;
+            placing.open_block(ItemBody::Paragraph)?;
+            add_lines(placing, lines, from, options)?;
         }
     }
-    close(builder);
+    placing.close();
     Ok(())
 }
 
@@ -148,13 +147,13 @@ impl<'a> Pass<'a> {
     /// Begins a paragraph with what is left of a line, where the blocks outside it are so many of those that
     /// are open; or goes on with the one that is open.
     pub fn add_text(&mut self, line: Line, at: usize, depth: usize) -> Result<(), AllocError>
-        ensures { IfOk result (λ _. self.new.builder.text ≡ self.old.builder.text) }
+        ensures { IfOk result (λ _. self.new.placing.builder.text ≡ self.old.placing.builder.text) }
     {
         if !self.has_paragraph() {
             self.make_room(depth)?;
         }
         let held = HeldLine {
-            start: content_start(self.builder.text(), at, line.stop),
+            start: content_start(self.placing.text(), at, line.stop),
             stop: line.stop,
             next: line.next,
             owed: 0,
@@ -169,12 +168,12 @@ impl<'a> Pass<'a> {
         &mut self,
         heading: Option<(HeadingLevel, Line)>,
     ) -> Result<bool, AllocError>
-        ensures { IfOk result (λ _. self.new.builder.text ≡ self.old.builder.text) }
+        ensures { IfOk result (λ _. self.new.placing.builder.text ≡ self.old.placing.builder.text) }
     {
-        let taken = take_definitions(self.alloc, &mut self.builder, &self.lines)?;
+        let taken = take_definitions(self.alloc, &mut self.placing, &self.lines)?;
         let left = taken < self.lines.len();
         if left {
-            place_paragraph(&mut self.builder, &self.lines, taken, heading, self.options)?;
+            place_paragraph(&mut self.placing, &self.lines, taken, heading, self.options)?;
         }
         self.lines.clear();
         Ok(left)

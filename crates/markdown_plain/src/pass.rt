@@ -2,10 +2,9 @@
 ghost use Rattle.std.specs.Prelude.{◌≡◌, IfOk};
 
 use crate::looseness::Looseness;
-use crate::placing::{close, step_to};
+use crate::placing::Placing;
 use markdown_base::item::ItemBody;
 use markdown_base::options::Options;
-use markdown_builder::builder::Builder;
 use markdown_lines::fence::Fence;
 use markdown_lines::held_line::HeldLine;
 use markdown_lines::html_kind::HtmlKind;
@@ -28,7 +27,7 @@ pub enum LeafKind {
 pub struct Pass<'a> {
     pub alloc: Global,
     pub options: Options,
-    pub builder: Builder<'a>,
+    pub placing: Placing<'a>,
     /// the lines of the open paragraph; in an indented code block blank ones, with which it may go on
     pub lines: Vec<HeldLine>,
     /// the kind of the code or HTML block opened last
@@ -41,12 +40,12 @@ pub struct Pass<'a> {
 impl<'a> Pass<'a> {
     /// Nothing is read yet.
     pub fn new(alloc: Global, text: &'a str, options: Options) -> Result<Pass<'a>, AllocError>
-        ensures { IfOk result (λ made. made.builder.text ≡ text.now) }
+        ensures { IfOk result (λ made. made.placing.builder.text ≡ text.now) }
     {
         Ok(Pass {
             alloc,
             options,
-            builder: Builder::new(alloc, text)?,
+            placing: Placing::new(alloc, text)?,
             lines: Vec::new(alloc),
             leaf: LeafKind::Indented,
             looseness: Looseness::new(alloc),
@@ -55,25 +54,25 @@ impl<'a> Pass<'a> {
     }
 
     /// What was built.
-    pub fn into_builder(self) -> Builder<'a>
-        ensures { result ≡ self.entry.builder }
+    pub fn into_placing(self) -> Placing<'a>
+        ensures { result ≡ self.entry.placing }
     {
-        self.builder
+        self.placing
     }
 
     /// Whether a paragraph is open.
     pub fn has_paragraph(&self) -> bool {
-        !self.builder.is_in_leaf() && !self.lines.is_empty()
+        !self.placing.is_in_leaf() && !self.lines.is_empty()
     }
 
     /// How many blocks are open.
     pub fn depth(&self) -> usize {
-        self.builder.open_blocks().len()
+        self.placing.open_blocks().len()
     }
 
     /// Whether the innermost open block is a list.
     fn is_in_list(&self) -> bool {
-        match innermost(&self.builder) {
+        match innermost(&self.placing) {
             Some(ItemBody::List(_, _, _)) => true,
             _ => false,
         }
@@ -81,24 +80,24 @@ impl<'a> Pass<'a> {
 
     /// Closes the innermost open block, of which the last line was read.
     pub fn close_block(&mut self)
-        ensures { self.new.builder.text ≡ self.old.builder.text }
+        ensures { self.new.placing.builder.text ≡ self.old.placing.builder.text }
     {
-        match innermost(&self.builder) {
+        match innermost(&self.placing) {
             Some(ItemBody::List(_, character, first)) => {
                 let loose = self.looseness.close_list();
-                close_list(&mut self.builder, character, first, loose);
+                close_list(&mut self.placing, character, first, loose);
             }
             Some(ItemBody::BlockQuote(_)) => {
-                step_to(&mut self.builder, self.placed);
-                close(&mut self.builder);
+                self.placing.step_to(self.placed);
+                self.placing.close();
             }
-            _ => close(&mut self.builder),
+            _ => self.placing.close(),
         }
     }
 
     /// Ends the open leaf, and closes the open blocks down to so many.
     pub fn close_down(&mut self, depth: usize) -> Result<(), AllocError>
-        ensures { IfOk result (λ _. self.new.builder.text ≡ self.old.builder.text) }
+        ensures { IfOk result (λ _. self.new.placing.builder.text ≡ self.old.placing.builder.text) }
     {
         self.end_leaf()?;
         'blocks: for _ in depth..self.depth() {
@@ -109,23 +108,23 @@ impl<'a> Pass<'a> {
 
     /// Closes down to so many blocks, and the list that is then the innermost one, for a block that is no item.
     pub fn make_room(&mut self, depth: usize) -> Result<(), AllocError>
-        ensures { IfOk result (λ _. self.new.builder.text ≡ self.old.builder.text) }
+        ensures { IfOk result (λ _. self.new.placing.builder.text ≡ self.old.placing.builder.text) }
     {
         self.close_down(depth)?;
         if self.is_in_list() {
             self.close_block();
         }
-        self.looseness.add_child(self.builder.open_blocks());
+        self.looseness.add_child(self.placing.open_blocks());
         Ok(())
     }
 
     /// Ends the leaf that is open: what is held back of it is placed, or was no part of it.
     pub fn end_leaf(&mut self) -> Result<(), AllocError>
-        ensures { IfOk result (λ _. self.new.builder.text ≡ self.old.builder.text) }
+        ensures { IfOk result (λ _. self.new.placing.builder.text ≡ self.old.placing.builder.text) }
     {
-        if self.builder.is_in_leaf() {
+        if self.placing.is_in_leaf() {
             self.lines.clear();
-            close(&mut self.builder);
+            self.placing.close();
         } else if !self.lines.is_empty() {
             self.end_paragraph(None)?;
         }
@@ -134,22 +133,19 @@ impl<'a> Pass<'a> {
 }
 
 /// The body of the innermost open block.
-pub fn innermost(builder: &Builder<'_>) -> Option<ItemBody> {
-    match builder.open_blocks().last() {
+pub fn innermost(placing: &Placing<'_>) -> Option<ItemBody> {
+    match placing.open_blocks().last() {
         Some(block) => Some(block.body),
         None => None,
     }
 }
 
 /// Closes the innermost open block, a list that is loose or not.
-fn close_list(builder: &mut Builder<'_>, character: u8, first: u64, loose: bool)
-    ensures { builder.new.text ≡ builder.old.text }
+fn close_list(placing: &mut Placing<'_>, character: u8, first: u64, loose: bool)
+    ensures { placing.new.builder.text ≡ placing.old.builder.text }
 {
-    if loose && !builder.is_in_leaf() {
-        builder.change(ItemBody::List(false, character, first));
+    if loose {
+        placing.change(ItemBody::List(false, character, first));
     }
-    builder.close();
-    if !loose {
-        builder.tighten();
-    }
+    placing.close();
 }

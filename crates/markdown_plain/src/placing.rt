@@ -1,203 +1,305 @@
 //! What the pass asks of its builder, each call where it fits: places lie ahead and between characters, inline
-//! items stand in a leaf, and blocks outside of one.
-ghost use Rattle.std.specs.Prelude.{◌≡◌, ◌≤◌, [], true, length, slice_index, IfOk};
-ghost use Rattle.std.specs.Str.{IsCharBoundary};
-ghost use Rattle.markdown_builder.specs.Bodies.{is_plain_block, is_settled};
+//! items stand in a leaf, and blocks outside of one. A call that does not fit is counted, and nothing is made then:
+//! the tests show that none is.
+ghost use Rattle.std.specs.Prelude.{◌≡◌};
 
 use markdown_base::cow_str::CowStr;
 use markdown_base::item::ItemBody;
 use markdown_base::options::Options;
 use markdown_builder::builder::Builder;
+use markdown_builder::open_block::OpenBlock;
 use markdown_items::items;
 use markdown_lines::definition::Definition;
 use markdown_lines::line::next_content;
-use std::alloc::AllocError;
+use std::alloc::{AllocError, Global};
 
-/// Whether a place lies ahead, between characters.
-fn is_ahead(builder: &Builder<'_>, to: usize) -> bool
-    ensures low { result ≡ true → builder.now.at ≤ to }
-    ensures boundary { result ≡ true → IsCharBoundary builder.now.text to }
-{
-    builder.at() <= to && builder.text().is_char_boundary(to)
+/// A builder, and how many of the calls asked of it did not fit.
+#[derive(Drop)]
+pub struct Placing<'a> {
+    pub builder: Builder<'a>,
+    pub misfits: usize,
 }
 
-/// Steps on to a place. Where no block is open, only white space lies before it.
-pub fn step_to(builder: &mut Builder<'_>, to: usize)
-    ensures { builder.new.text ≡ builder.old.text }
-{
-    if !is_ahead(builder, to) {
-        return;
-    }
-    if !builder.open_blocks().is_empty() {
-        builder.skip(to);
-        return;
-    }
-    match next_content(builder.text(), builder.at()) {
-        Some(content) if content < to => builder.skip(content),
-        _ => builder.skip(to),
-    }
-}
+impl<'a> Placing<'a> {
+    ghost use Rattle.std.specs.Prelude.{◌≡◌, ◌≤◌, [], true, false, length, slice_index, IfOk, IfSome};
+    ghost use Rattle.std.specs.Str.{IsCharBoundary};
+    ghost use Rattle.markdown_builder.specs.Bodies.{is_leaf, is_plain_block, is_settled};
+    ghost use Rattle.markdown_builder.specs.BuilderView.{IsWhite, innermost_block};
 
-/// Opens a block here.
-pub fn open_block(builder: &mut Builder<'_>, body: ItemBody) -> Result<(), AllocError>
-    requires { is_plain_block body ≡ true }
-    ensures { IfOk result (λ _. builder.new.text ≡ builder.old.text) }
-{
-    if builder.is_in_leaf() {
-        return Ok(());
+    /// Nothing is made yet.
+    pub fn new(alloc: Global, text: &'a str) -> Result<Placing<'a>, AllocError>
+        ensures { IfOk result (λ made. made.builder.text ≡ text.now) }
+    {
+        Ok(Placing {
+            builder: Builder::new(alloc, text)?,
+            misfits: 0,
+        })
     }
-    builder.open(body)?;
-    Ok(())
-}
 
-/// Opens a fenced code block here.
-pub fn open_code<'a>(builder: &mut Builder<'a>, info: CowStr<'a>) -> Result<(), AllocError>
-    ensures { IfOk result (λ _. builder.new.text ≡ builder.old.text) }
-{
-    if builder.is_in_leaf() {
-        drop(info);
-        return Ok(());
+    /// The text.
+    pub fn text(&self) -> &'a str
+        ensures { result.now ≡ self.now.builder.text }
+    {
+        self.builder.text()
     }
-    builder.open_fenced(info)?;
-    Ok(())
-}
 
-/// Opens a footnote definition here.
-pub fn open_note<'a>(
-    builder: &mut Builder<'a>,
-    name: CowStr<'a>,
-    listed: CowStr<'a>,
-) -> Result<(), AllocError>
-    ensures { IfOk result (λ _. builder.new.text ≡ builder.old.text) }
-{
-    if builder.is_in_leaf() {
-        drop(name);
-        drop(listed);
-        return Ok(());
+    /// The open blocks, the outermost first.
+    pub fn open_blocks(&self) -> &[OpenBlock]
+        ensures { result.now ≡ self.now.builder.blocks }
+    {
+        self.builder.open_blocks()
     }
-    builder.open_footnote(name, listed)?;
-    Ok(())
-}
 
-/// Appends a settled inline item up to a place.
-pub fn add_inline(builder: &mut Builder<'_>, body: ItemBody, end: usize) -> Result<(), AllocError>
-    requires { is_settled body ≡ true }
-    ensures { IfOk result (λ _. builder.new.text ≡ builder.old.text) }
-{
-    if !builder.is_in_leaf() || !is_ahead(builder, end) {
-        return Ok(());
+    /// Whether the innermost open block is a leaf.
+    pub fn is_in_leaf(&self) -> bool
+        ensures { result ≡ self.now.builder.leaf }
+    {
+        self.builder.is_in_leaf()
     }
-    builder.inline(body, end)?;
-    Ok(())
-}
 
-/// Appends the columns that a cut tab owes here.
-pub fn add_owed(builder: &mut Builder<'_>, owed: usize) -> Result<(), AllocError>
-    ensures { IfOk result (λ _. builder.new.text ≡ builder.old.text) }
-{
-    let spaces = match owed {
-        0 => return Ok(()),
-        1 => " ",
-        2 => "  ",
-        _ => "   ",
-    };
-    if !builder.is_in_leaf() {
-        return Ok(());
+    /// A call does not fit.
+    fn miss(&mut self)
+        ensures { self.new.builder ≡ self.old.builder }
+    {
+        self.misfits = self.misfits.saturating_add(1);
     }
-    let here = builder.at();
-    builder.synthesize(CowStr::Borrowed(spaces), here)?;
-    Ok(())
-}
 
-/// Appends the inline items of a line's content up to a place.
-pub fn add_items(builder: &mut Builder<'_>, end: usize, options: Options) -> Result<(), AllocError>
-    ensures { IfOk result (λ _. builder.new.text ≡ builder.old.text) }
-{
-    if !builder.is_in_leaf() || !is_ahead(builder, end) {
-        return Ok(());
+    /// Whether a place lies ahead, between characters.
+    fn is_ahead(&self, to: usize) -> bool
+        ensures low { result ≡ true → self.now.builder.at ≤ to }
+        ensures boundary { result ≡ true → IsCharBoundary self.now.builder.text to }
+    {
+        self.builder.at() <= to && self.builder.text().is_char_boundary(to)
     }
-    items(builder, end, options)?;
-    Ok(())
-}
 
-/// Appends a thematic break up to a place.
-pub fn add_rule(builder: &mut Builder<'_>, end: usize) -> Result<(), AllocError>
-    ensures { IfOk result (λ _. builder.new.text ≡ builder.old.text) }
-{
-    if builder.is_in_leaf() || !is_ahead(builder, end) {
-        return Ok(());
+    /// Steps on to a place. Where no block is open, only white space lies before it.
+    pub fn step_to(&mut self, to: usize)
+        ensures { self.new.builder.text ≡ self.old.builder.text }
+    {
+        if !self.is_ahead(to) {
+            self.miss();
+            return;
+        }
+        if !self.builder.open_blocks().is_empty() {
+            self.builder.skip(to);
+            return;
+        }
+        match next_content(self.builder.text(), self.builder.at()) {
+            Some(content) if content < to => {
+                self.builder.skip(content);
+                self.miss();
+            }
+            _ => self.builder.skip(to),
+        }
     }
-    builder.rule(end)?;
-    Ok(())
-}
 
-/// Whether a `[` stands here.
-fn is_at_bracket(builder: &Builder<'_>) -> bool
-    ensures { result ≡ true → slice_index builder.now.text builder.now.at ≡ 91 }
-{
-    let bytes = builder.text().as_bytes();
-    let at = builder.at();
-    at < bytes.len() && bytes[at] == b'['
-}
-
-/// Adds a link reference definition whose `[ stands here.
-pub fn add_definition<'a>(
-    builder: &mut Builder<'a>,
-    found: Definition<'a>,
-) -> Result<(), AllocError>
-    ensures { IfOk result (λ _. builder.new.text ≡ builder.old.text) }
-{
-    let Definition {
-        label,
-        destination,
-        title,
-        end,
-        lines: _,
-    } = found;
-    if !is_at_bracket(builder) || !is_ahead(builder, end) {
-        drop(label);
-        drop(destination);
-        drop(title);
-        return Ok(());
+    /// Opens a block here.
+    pub fn open_block(&mut self, body: ItemBody) -> Result<(), AllocError>
+        requires { is_plain_block body ≡ true }
+        ensures { IfOk result (λ _. self.new.builder.text ≡ self.old.builder.text) }
+    {
+        if self.builder.is_in_leaf() {
+            self.miss();
+            return Ok(());
+        }
+        self.builder.open(body)?;
+        Ok(())
     }
-    builder.define(label, destination, title, end)?;
-    Ok(())
-}
 
-/// Closes the innermost open block, which ends here.
-pub fn close(builder: &mut Builder<'_>)
-    ensures { builder.new.text ≡ builder.old.text }
-{
-    builder.close();
-}
-
-/// Closes all open blocks.
-pub fn close_all(builder: &mut Builder<'_>)
-    ensures text { builder.new.text ≡ builder.old.text }
-    ensures closed { builder.new.blocks ≡ [] }
-{
-    'blocks: while !builder.open_blocks().is_empty() {
-        builder.close();
+    /// Opens a fenced code block here.
+    pub fn open_code(&mut self, info: CowStr<'a>) -> Result<(), AllocError>
+        ensures { IfOk result (λ _. self.new.builder.text ≡ self.old.builder.text) }
+    {
+        if self.builder.is_in_leaf() {
+            self.miss();
+            drop(info);
+            return Ok(());
+        }
+        self.builder.open_fenced(info)?;
+        Ok(())
     }
-}
 
-/// Goes over what is left of the text, where no block is open: white space, once all lines were read.
-pub fn step_to_end(builder: &mut Builder<'_>) -> Result<(), AllocError>
-    requires { builder.old.blocks ≡ [] }
-    ensures text { IfOk result (λ _. builder.new.text ≡ builder.old.text) }
-    ensures closed { IfOk result (λ _. builder.new.blocks ≡ []) }
-    ensures read { IfOk result (λ _. builder.new.at ≡ length builder.old.text) }
-{
-    let text = builder.text();
-    let end = text.as_bytes().len();
-    if next_content(text, builder.at()).is_none() {
-        builder.skip(end);
-        return Ok(());
+    /// Opens a footnote definition here.
+    pub fn open_note(&mut self, name: CowStr<'a>, listed: CowStr<'a>) -> Result<(), AllocError>
+        ensures { IfOk result (λ _. self.new.builder.text ≡ self.old.builder.text) }
+    {
+        if self.builder.is_in_leaf() {
+            self.miss();
+            drop(name);
+            drop(listed);
+            return Ok(());
+        }
+        self.builder.open_footnote(name, listed)?;
+        Ok(())
     }
-    // every line was placed, so nothing else is left
-    if builder.is_in_leaf() {
-        builder.inline(ItemBody::Html, end)
-    } else {
-        builder.rule(end)
+
+    /// Where the content of the innermost open block begins, if that is behind us.
+    fn content_of_block(&self) -> Option<usize>
+        ensures low { IfSome result (λ content. content ≤ self.now.builder.at) }
+        ensures boundary { IfSome result (λ content. IsCharBoundary self.now.builder.text content) }
+        ensures white { IfSome result (λ content. IfSome (innermost_block self.now.builder.blocks) (λ block.
+            IsWhite self.now.builder.text block.start content)) }
+    {
+        let text = self.builder.text();
+        let start = self.builder.open_blocks().last()?.start;
+        if !text.is_char_boundary(start) {
+            return None;
+        }
+        let content = next_content(text, start)?;
+        if content <= self.builder.at() {
+            Some(content)
+        } else {
+            None
+        }
+    }
+
+    /// Lets the innermost open block begin at its first content byte, though its first item begins before.
+    pub fn begin_at_content(&mut self)
+        ensures { self.new.builder.text ≡ self.old.builder.text }
+    {
+        match self.content_of_block() {
+            Some(content) => self.builder.begin_later(content),
+            None => self.miss(),
+        }
+    }
+
+    /// Gives the innermost open block, which is no leaf, another body.
+    pub fn change(&mut self, body: ItemBody)
+        requires block { is_plain_block body ≡ true }
+        requires outside { is_leaf body ≡ false }
+        ensures { self.new.builder.text ≡ self.old.builder.text }
+    {
+        if self.builder.is_in_leaf() {
+            self.miss();
+            return;
+        }
+        self.builder.change(body);
+    }
+
+    /// Appends a settled inline item up to a place.
+    pub fn add_inline(&mut self, body: ItemBody, end: usize) -> Result<(), AllocError>
+        requires { is_settled body ≡ true }
+        ensures { IfOk result (λ _. self.new.builder.text ≡ self.old.builder.text) }
+    {
+        if !self.builder.is_in_leaf() || !self.is_ahead(end) {
+            self.miss();
+            return Ok(());
+        }
+        self.builder.inline(body, end)?;
+        Ok(())
+    }
+
+    /// Appends the columns that a cut tab owes here.
+    pub fn add_owed(&mut self, owed: usize) -> Result<(), AllocError>
+        ensures { IfOk result (λ _. self.new.builder.text ≡ self.old.builder.text) }
+    {
+        let spaces = match owed {
+            0 => return Ok(()),
+            1 => " ",
+            2 => "  ",
+            _ => "   ",
+        };
+        if !self.builder.is_in_leaf() {
+            self.miss();
+            return Ok(());
+        }
+        let here = self.builder.at();
+        self.builder.synthesize(CowStr::Borrowed(spaces), here)?;
+        Ok(())
+    }
+
+    /// Appends the inline items of a line's content up to a place.
+    pub fn add_items(&mut self, end: usize, options: Options) -> Result<(), AllocError>
+        ensures { IfOk result (λ _. self.new.builder.text ≡ self.old.builder.text) }
+    {
+        if !self.builder.is_in_leaf() || !self.is_ahead(end) {
+            self.miss();
+            return Ok(());
+        }
+        items(&mut self.builder, end, options)?;
+        Ok(())
+    }
+
+    /// Appends a thematic break up to a place.
+    pub fn add_rule(&mut self, end: usize) -> Result<(), AllocError>
+        ensures { IfOk result (λ _. self.new.builder.text ≡ self.old.builder.text) }
+    {
+        if self.builder.is_in_leaf() || !self.is_ahead(end) {
+            self.miss();
+            return Ok(());
+        }
+        self.builder.rule(end)?;
+        Ok(())
+    }
+
+    /// Whether a `[` stands here.
+    fn is_at_bracket(&self) -> bool
+        ensures { result ≡ true → slice_index self.now.builder.text self.now.builder.at ≡ 91 }
+    {
+        let bytes = self.builder.text().as_bytes();
+        let at = self.builder.at();
+        at < bytes.len() && bytes[at] == b'['
+    }
+
+    /// Adds a link reference definition whose `[` stands here.
+    pub fn add_definition(&mut self, found: Definition<'a>) -> Result<(), AllocError>
+        ensures { IfOk result (λ _. self.new.builder.text ≡ self.old.builder.text) }
+    {
+        let Definition {
+            label,
+            destination,
+            title,
+            end,
+            lines: _,
+        } = found;
+        if !self.is_at_bracket() || !self.is_ahead(end) {
+            self.miss();
+            drop(label);
+            drop(destination);
+            drop(title);
+            return Ok(());
+        }
+        self.builder.define(label, destination, title, end)?;
+        Ok(())
+    }
+
+    /// Closes the innermost open block, which ends here.
+    pub fn close(&mut self)
+        ensures { self.new.builder.text ≡ self.old.builder.text }
+    {
+        self.builder.close();
+    }
+
+    /// Closes all open blocks.
+    pub fn close_all(&mut self)
+        ensures text { self.new.builder.text ≡ self.old.builder.text }
+        ensures closed { self.new.builder.blocks ≡ [] }
+    {
+        'blocks: while !self.builder.open_blocks().is_empty() {
+            self.builder.close();
+            self.miss();
+        }
+    }
+
+    /// Goes over what is left of the text, where no block is open: white space, once all lines were read.
+    pub fn step_to_end(&mut self) -> Result<(), AllocError>
+        requires { self.old.builder.blocks ≡ [] }
+        ensures text { IfOk result (λ _. self.new.builder.text ≡ self.old.builder.text) }
+        ensures closed { IfOk result (λ _. self.new.builder.blocks ≡ []) }
+        ensures read { IfOk result (λ _. self.new.builder.at ≡ length self.old.builder.text) }
+    {
+        let text = self.builder.text();
+        let end = text.as_bytes().len();
+        if next_content(text, self.builder.at()).is_none() {
+            self.builder.skip(end);
+            return Ok(());
+        }
+        // every line was placed, so nothing else is left
+        self.miss();
+        if self.builder.is_in_leaf() {
+            self.builder.inline(ItemBody::Html, end)
+        } else {
+            self.builder.rule(end)
+        }
     }
 }

@@ -3,4 +3,4 @@ use Rattle.std.proofs.Common.{◌≡◌}
 use Rattle.markdown_plain.proofs.paragraph.add_lines.Given as goal
 
 abbrev pub invariant-lines : goal.invariant-lines
-invariant-lines l = l.builder.text ≡ l.fn.builder.text
+invariant-lines l = l.placing.builder.text ≡ l.fn.placing.builder.text

@@ -3,4 +3,4 @@ use Rattle.std.proofs.Common.{◌≡◌}
 use Rattle.markdown_plain.proofs.paragraph.take_definitions.Given as goal
 
 abbrev pub invariant-definitions : goal.invariant-definitions
-invariant-definitions l = l.builder.text ≡ l.fn.builder.text
+invariant-definitions l = l.placing.builder.text ≡ l.fn.placing.builder.text

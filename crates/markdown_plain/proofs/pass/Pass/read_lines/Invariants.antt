@@ -4,8 +4,8 @@ use Rattle.markdown_plain.proofs.pass.Pass.read_lines.Given as goal
 
 abbrev pub invariant-lines : goal.invariant-lines
 invariant-lines l = record {
-  same : l.self.builder.text ≡ l.fn.self.builder.text;
-  text : l.text ≡ l.fn.self.builder.text;
+  same : l.self.placing.builder.text ≡ l.fn.self.placing.builder.text;
+  text : l.text ≡ l.fn.self.placing.builder.text;
 }
 
 abbrev pub decreases-lines : goal.decreases-lines

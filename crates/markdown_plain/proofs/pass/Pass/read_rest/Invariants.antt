@@ -3,4 +3,4 @@ use Rattle.std.proofs.Common.{◌≡◌}
 use Rattle.markdown_plain.proofs.pass.Pass.read_rest.Given as goal
 
 abbrev pub invariant-blocks-2 : goal.invariant-blocks-2
-invariant-blocks-2 l = l.self.builder.text ≡ l.fn.self.builder.text
+invariant-blocks-2 l = l.self.placing.builder.text ≡ l.fn.self.placing.builder.text
