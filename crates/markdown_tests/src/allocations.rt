@@ -19,10 +19,8 @@ fn heading<'a>(alloc: Global, id: &'a str) -> HeadingAttributes<'a> {
 
 /// Allocations with one text and one heading's attributes.
 fn one_of_each<'a>(alloc: Global) -> Result<Allocations<'a>, Fault> {
-    let mut cows = Vec::new(alloc);
-    cows.push(CowStr::from("first"))?;
-    let mut headings = Vec::new(alloc);
-    headings.push(heading(alloc, "h1"))?;
+    let cows = vec![in alloc; CowStr::from("first")]?;
+    let headings = vec![in alloc; heading(alloc, "h1")]?;
     let mut parts = no_parts(alloc);
     parts.cows = cows;
     parts.headings = headings;

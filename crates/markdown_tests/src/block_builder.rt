@@ -1,5 +1,8 @@
 //! What the calls of the block builder make: a tight list, a paragraph that becomes a heading, parts by number,
 //! delimiter runs.
+ghost use Rattle.std.specs.Prelude.{◌≡◌, false};
+ghost use Rattle.std.specs.Str.{IsCharBoundary};
+
 use crate::block_rules::is_well_formed;
 use crate::builders::{item, text};
 use markdown_base::cow_str::CowStr;
@@ -7,6 +10,7 @@ use markdown_base::item::{Item, ItemBody};
 use markdown_base::tag::HeadingLevel;
 use markdown_builder::builder::Builder;
 use markdown_builder::run_end;
+use std::alloc::AllocError;
 use std::test::Fail;
 
 /// Closes so many blocks.
@@ -16,15 +20,24 @@ fn close_blocks(builder: &mut Builder<'_>, count: u8) {
     }
 }
 
-#[test]
-fn a_closed_list_is_made_tight(rt: HostRuntime) -> Result<(), Fail> {
-    let mut builder = Builder::new(rt.alloc(), "- a\n")?;
+/// Opens a tight list with an item in which a paragraph stands, up to the end of the text.
+fn open_tight_list(builder: &mut Builder<'_>) -> Result<(), AllocError>
+    requires outside { builder.old.leaf ≡ false }
+    requires fresh { builder.old.at ≡ 0 }
+    requires last { IsCharBoundary builder.old.text 4 }
+{
     builder.open(ItemBody::List(true, b'-', 0))?;
     builder.open(ItemBody::ListItem(2))?;
     builder.open(ItemBody::Paragraph)?;
     builder.skip(4);
+    Ok(())
+}
+
+#[test]
+fn paragraphs_of_a_tight_list_are_tight(rt: HostRuntime) -> Result<(), Fail> {
+    let mut builder = Builder::new(rt.alloc(), "- a\n")?;
+    open_tight_list(&mut builder)?;
     close_blocks(&mut builder, 3);
-    builder.tighten();
     assert!(rt; builder.open_blocks().is_empty());
     assert_eq!(rt; builder.at(), builder.text().as_bytes().len());
     let (tree, _parts) = builder.finish();

@@ -1,10 +1,11 @@
 //! The block pass on small texts, and the items of a line.
 use crate::builders::text;
-use markdown_base::item::ItemBody;
+use markdown_base::item::{Item, ItemBody};
 use markdown_base::options::Options;
+use markdown_base::tree::Tree;
 use markdown_builder::builder::Builder;
 use markdown_items::items;
-use markdown_plain::blocks;
+use markdown_plain::{blocks, misfits};
 use std::alloc::{AllocError, Global};
 use std::test::Fail;
 
@@ -20,10 +21,8 @@ fn name_of(body: ItemBody) -> &'static str {
     }
 }
 
-/// The items of a text's blocks in preorder, each with how deep it stands and its range.
-fn listed(alloc: Global, text: &str) -> Result<String, AllocError> {
-    let (mut tree, _parts) = blocks(alloc, text, Options::ENABLE_GFM)?;
-    let mut list = String::new(alloc);
+/// Lists the items of a tree in preorder, each with how deep it stands and its range.
+fn push_items(alloc: Global, list: &mut String, tree: &mut Tree<Item>) -> Result<(), AllocError> {
     tree.reset();
     for _ in 0..10000 {
         if let Some(ix) = tree.cur() {
@@ -39,6 +38,17 @@ fn listed(alloc: Global, text: &str) -> Result<String, AllocError> {
             break;
         }
     }
+    Ok(())
+}
+
+/// The items of a text's blocks.
+fn listed(alloc: Global, text: &str) -> Result<String, AllocError> {
+    let (mut tree, parts) = blocks(alloc, text, Options::ENABLE_GFM)?;
+    let mut list = String::new(alloc);
+    let done = push_items(alloc, &mut list, &mut tree);
+    drop(tree);
+    drop(parts);
+    done?;
     Ok(list)
 }
 
@@ -123,5 +133,86 @@ fn a_line_is_one_text(rt: HostRuntime) -> Result<(), Fail> {
     assert_eq!(rt; tree.len(), 3);
     assert_eq!(rt; *tree.item(2), text(6, 11));
     assert_eq!(rt; parts.cows.len(), 0);
+    Ok(())
+}
+
+/// The pieces of random documents: what begins blocks, goes on with them and ends them.
+const PIECES: [&str; 48] = [
+    "\n",
+    "\n",
+    "\n",
+    "\n",
+    "\r\n",
+    "\r",
+    "\n\n",
+    " ",
+    " ",
+    "  ",
+    "    ",
+    "\t",
+    "a",
+    "b c",
+    "é",
+    "\u{a0}",
+    "> ",
+    ">",
+    "- ",
+    "+ ",
+    "* ",
+    "1. ",
+    "2) ",
+    "-",
+    "***",
+    "---",
+    "===",
+    "# ",
+    "## ",
+    "```",
+    "~~~",
+    "`",
+    "<div>",
+    "<b>",
+    "<!-- ",
+    "-->",
+    "<?",
+    "<![CDATA[",
+    "[a]: ",
+    "[^a]: ",
+    "[",
+    "]",
+    "/u",
+    "'t'",
+    "\"",
+    "\\",
+    "&amp;",
+    "*b*",
+];
+
+/// The next of numbers that come in the same order on each run.
+fn next_number(seed: &mut u64) -> u64 {
+    *seed = (*seed % 2147483648 * 1103515245 + 12345) % 2147483648;
+    *seed / 65536
+}
+
+/// A document of 24 pieces.
+fn random_text(alloc: Global, seed: &mut u64) -> Result<String, AllocError> {
+    let mut text = String::new(alloc);
+    for _ in 0..24 {
+        let number = next_number(seed) as usize % PIECES.len();
+        text.push_str(PIECES[number])?;
+    }
+    Ok(text)
+}
+
+#[test]
+fn each_call_fits(rt: HostRuntime) -> Result<(), Fail> {
+    let mut seed = 1;
+    for _ in 0..1000 {
+        let text = random_text(rt.alloc(), &mut seed)?;
+        for options in [Options::ENABLE_FOOTNOTES, Options::ENABLE_OLD_FOOTNOTES] {
+            let count = misfits(rt.alloc(), text.as_str(), options)?;
+            assert_eq!(rt; count, 0, "{text:?}");
+        }
+    }
     Ok(())
 }

@@ -9,17 +9,20 @@ use markdown_base::tag::{
     Alignment, BlockQuoteKind, CodeBlockKind, HeadingLevel, LinkType, MetadataBlockKind, Tag,
     TagEnd,
 };
-use std::alloc::{AllocError, Global};
+use std::alloc::AllocError;
 use std::test::Fail;
 
-fn ends_match(pairs: &[(Tag<'_>, TagEnd)]) -> bool {
-    pairs.iter().all(|(tag, end)| tag.to_end() == *end)
+/// Whether a tag has this end.
+fn ends_with(tag: Tag<'_>, end: TagEnd) -> bool {
+    let found = tag.to_end();
+    drop(tag);
+    found == end
 }
 
-fn block_tags<'a>(alloc: Global) -> Result<Vec<(Tag<'a>, TagEnd)>, AllocError> {
-    let mut pairs = Vec::new(alloc);
-    pairs.push((Tag::Paragraph, TagEnd::Paragraph))?;
-    pairs.push((
+#[test]
+fn each_block_has_its_end(rt: HostRuntime) {
+    let alloc = rt.alloc();
+    let heading = ends_with(
         Tag::Heading {
             level: HeadingLevel::H2,
             id: None,
@@ -27,74 +30,64 @@ fn block_tags<'a>(alloc: Global) -> Result<Vec<(Tag<'a>, TagEnd)>, AllocError> {
             attrs: Vec::new(alloc),
         },
         TagEnd::Heading(HeadingLevel::H2),
-    ))?;
-    pairs.push((
-        Tag::BlockQuote(Some(BlockQuoteKind::Tip)),
-        TagEnd::BlockQuote(Some(BlockQuoteKind::Tip)),
-    ))?;
-    pairs.push((Tag::CodeBlock(CodeBlockKind::Indented), TagEnd::CodeBlock))?;
-    pairs.push((
-        Tag::CodeBlock(CodeBlockKind::Fenced(CowStr::from("c"))),
-        TagEnd::CodeBlock,
-    ))?;
-    pairs.push((Tag::HtmlBlock, TagEnd::HtmlBlock))?;
-    pairs.push((Tag::List(Some(3)), TagEnd::List(true)))?;
-    pairs.push((Tag::List(None), TagEnd::List(false)))?;
-    pairs.push((Tag::Item, TagEnd::Item))?;
-    pairs.push((
-        Tag::FootnoteDefinition(CowStr::from("n")),
-        TagEnd::FootnoteDefinition,
-    ))?;
-    pairs.push((Tag::DefinitionList, TagEnd::DefinitionList))?;
-    pairs.push((Tag::DefinitionListTitle, TagEnd::DefinitionListTitle))?;
-    pairs.push((
-        Tag::DefinitionListDefinition,
-        TagEnd::DefinitionListDefinition,
-    ))?;
-    pairs.push((
-        Tag::MetadataBlock(MetadataBlockKind::YamlStyle),
-        TagEnd::MetadataBlock(MetadataBlockKind::YamlStyle),
-    ))?;
-    Ok(pairs)
-}
-
-fn other_tags<'a>(alloc: Global) -> Result<Vec<(Tag<'a>, TagEnd)>, AllocError> {
-    let mut pairs = Vec::new(alloc);
-    let alignments = vec![in alloc; Alignment::Left, Alignment::None]?;
-    pairs.push((Tag::Table(alignments), TagEnd::Table))?;
-    pairs.push((Tag::TableHead, TagEnd::TableHead))?;
-    pairs.push((Tag::TableRow, TagEnd::TableRow))?;
-    pairs.push((Tag::TableCell, TagEnd::TableCell))?;
-    pairs.push((Tag::Emphasis, TagEnd::Emphasis))?;
-    pairs.push((Tag::Strong, TagEnd::Strong))?;
-    pairs.push((Tag::Strikethrough, TagEnd::Strikethrough))?;
-    pairs.push((Tag::Superscript, TagEnd::Superscript))?;
-    pairs.push((Tag::Subscript, TagEnd::Subscript))?;
-    pairs.push((
-        Tag::Link {
-            link_type: LinkType::WikiLink { has_pothole: true },
-            dest_url: CowStr::from("d"),
-            title: CowStr::from(""),
-            id: CowStr::from(""),
-        },
-        TagEnd::Link,
-    ))?;
-    pairs.push((
-        Tag::Image {
-            link_type: LinkType::Inline,
-            dest_url: CowStr::from("d"),
-            title: CowStr::from(""),
-            id: CowStr::from(""),
-        },
-        TagEnd::Image,
-    ))?;
-    Ok(pairs)
+    );
+    let tip = Some(BlockQuoteKind::Tip);
+    let yaml = MetadataBlockKind::YamlStyle;
+    let fenced = CodeBlockKind::Fenced(CowStr::Borrowed("c"));
+    let ended = [
+        heading,
+        ends_with(Tag::Paragraph, TagEnd::Paragraph),
+        ends_with(Tag::BlockQuote(tip), TagEnd::BlockQuote(tip)),
+        ends_with(Tag::CodeBlock(CodeBlockKind::Indented), TagEnd::CodeBlock),
+        ends_with(Tag::CodeBlock(fenced), TagEnd::CodeBlock),
+        ends_with(Tag::HtmlBlock, TagEnd::HtmlBlock),
+        ends_with(Tag::List(Some(3)), TagEnd::List(true)),
+        ends_with(Tag::List(None), TagEnd::List(false)),
+        ends_with(Tag::Item, TagEnd::Item),
+        ends_with(
+            Tag::FootnoteDefinition(CowStr::Borrowed("n")),
+            TagEnd::FootnoteDefinition,
+        ),
+        ends_with(Tag::DefinitionList, TagEnd::DefinitionList),
+        ends_with(Tag::DefinitionListTitle, TagEnd::DefinitionListTitle),
+        ends_with(
+            Tag::DefinitionListDefinition,
+            TagEnd::DefinitionListDefinition,
+        ),
+        ends_with(Tag::MetadataBlock(yaml), TagEnd::MetadataBlock(yaml)),
+    ];
+    assert_eq!(rt; ended, [true; 14]);
 }
 
 #[test]
-fn each_start_has_its_end(rt: HostRuntime) -> Result<(), Fail> {
-    assert!(rt; ends_match(&block_tags(rt.alloc())?));
-    assert!(rt; ends_match(&other_tags(rt.alloc())?));
+fn each_other_start_has_its_end(rt: HostRuntime) -> Result<(), Fail> {
+    let alignments = vec![in rt.alloc(); Alignment::Left, Alignment::None]?;
+    let link = Tag::Link {
+        link_type: LinkType::WikiLink { has_pothole: true },
+        dest_url: CowStr::Borrowed("d"),
+        title: CowStr::Borrowed(""),
+        id: CowStr::Borrowed(""),
+    };
+    let image = Tag::Image {
+        link_type: LinkType::Inline,
+        dest_url: CowStr::Borrowed("d"),
+        title: CowStr::Borrowed(""),
+        id: CowStr::Borrowed(""),
+    };
+    let ended = [
+        ends_with(Tag::Table(alignments), TagEnd::Table),
+        ends_with(link, TagEnd::Link),
+        ends_with(image, TagEnd::Image),
+        ends_with(Tag::TableHead, TagEnd::TableHead),
+        ends_with(Tag::TableRow, TagEnd::TableRow),
+        ends_with(Tag::TableCell, TagEnd::TableCell),
+        ends_with(Tag::Emphasis, TagEnd::Emphasis),
+        ends_with(Tag::Strong, TagEnd::Strong),
+        ends_with(Tag::Strikethrough, TagEnd::Strikethrough),
+        ends_with(Tag::Superscript, TagEnd::Superscript),
+        ends_with(Tag::Subscript, TagEnd::Subscript),
+    ];
+    assert_eq!(rt; ended, [true; 11]);
     Ok(())
 }
 

@@ -27,6 +27,7 @@ mod code;
 mod line_items;
 #[cfg(test)]
 mod look_ups;
+pub mod notes;
 #[cfg(test)]
 mod texts;
 #[cfg(test)]

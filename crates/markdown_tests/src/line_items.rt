@@ -1,11 +1,63 @@
 //! The items of a line: what each text becomes, by the rules of inlines (CommonMark 2.4, 2.5, 6.2) and the options.
+ghost use Rattle.std.specs.Prelude.{◌≡◌, ◌≤◌, false, length, IfOk};
+ghost use Rattle.std.specs.Str.{IsCharBoundary};
+
 use crate::block_rules::is_well_formed;
-use markdown_base::item::ItemBody;
+use markdown_base::item::{Item, ItemBody};
 use markdown_base::options::Options;
+use markdown_base::tree::Tree;
 use markdown_builder::builder::Builder;
 use markdown_items::items;
 use std::alloc::{AllocError, Global};
+use std::process::Abort;
 use std::test::Fail;
+
+/// An item and its range.
+fn row_of(alloc: Global, item: Item) -> Result<String, AllocError> {
+    match item.body {
+        ItemBody::Text {
+            backslash_escaped: false,
+        } => format!(in alloc; "Text {}..{};", item.start, item.end),
+        ItemBody::Text {
+            backslash_escaped: true,
+        } => format!(in alloc; "Escaped {}..{};", item.start, item.end),
+        body => format!(in alloc; "{body:?} {}..{};", item.start, item.end),
+    }
+}
+
+/// The items of a tree from the third on, each with its range.
+fn rows_of(alloc: Global, tree: &Tree<Item>) -> Result<String, AllocError> {
+    let mut list = String::new(alloc);
+    for ix in 2..tree.len() {
+        let row = row_of(alloc, *tree.item(ix))?;
+        let done = list.push_str(row.as_str());
+        drop(row);
+        done?;
+    }
+    Ok(list)
+}
+
+/// Places a paragraph over a text, with the items of the part from `start` up to `end`.
+fn place(
+    builder: &mut Builder<'_>,
+    start: usize,
+    end: usize,
+    options: Options,
+) -> Result<(), AllocError>
+    requires outside { builder.old.leaf ≡ false }
+    requires fresh { builder.old.at ≡ 0 }
+    requires low { start ≤ end }
+    requires first { IsCharBoundary builder.old.text start }
+    requires last { IsCharBoundary builder.old.text end }
+    ensures read { IfOk result (λ _. builder.new.at ≡ length builder.new.text) }
+{
+    builder.open(ItemBody::Paragraph)?;
+    builder.skip(start);
+    items(builder, end, options)?;
+    builder.skip(builder.text().as_bytes().len());
+    builder.close();
+    Ok(())
+}
 
 /// The items of the part of a text from `start` up to `end`, each with its range.
 fn part_listed(
@@ -15,34 +67,20 @@ fn part_listed(
     end: usize,
     options: Options,
 ) -> Result<String, AllocError> {
-    let mut list = String::new(alloc);
     if !text.is_char_boundary(start) || !text.is_char_boundary(end) || start > end {
-        return Ok(list);
+        return Ok(String::new(alloc));
     }
     let mut builder = Builder::new(alloc, text)?;
-    builder.open(ItemBody::Paragraph)?;
-    builder.skip(start);
-    items(&mut builder, end, options)?;
-    builder.skip(text.as_bytes().len());
-    builder.close();
+    place(&mut builder, start, end, options)?;
     if !builder.open_blocks().is_empty() {
-        return Ok(list);
+        drop(builder);
+        return Ok(String::new(alloc));
     }
-    let (tree, _parts) = builder.finish();
-    for ix in 2..tree.len() {
-        let item = *tree.item(ix);
-        let row = match item.body {
-            ItemBody::Text {
-                backslash_escaped: false,
-            } => format!(in alloc; "Text {}..{};", item.start, item.end)?,
-            ItemBody::Text {
-                backslash_escaped: true,
-            } => format!(in alloc; "Escaped {}..{};", item.start, item.end)?,
-            body => format!(in alloc; "{body:?} {}..{};", item.start, item.end)?,
-        };
-        list.push_str(row.as_str())?;
-    }
-    Ok(list)
+    let (tree, parts) = builder.finish();
+    let rows = rows_of(alloc, &tree);
+    drop(tree);
+    drop(parts);
+    rows
 }
 
 /// The items of a whole text as one line.
@@ -50,131 +88,129 @@ fn listed(alloc: Global, text: &str, options: Options) -> Result<String, AllocEr
     part_listed(alloc, text, 0, text.as_bytes().len(), options)
 }
 
-#[test]
-fn delimiter_runs(rt: HostRuntime) -> Result<(), Fail> {
-    for (text, want) in [
-        ("", ""),
-        ("hello world", "Text 0..11;"),
-        (
-            "*a*",
-            "MaybeEmphasis(1, true, false) 0..1;Text 1..2;MaybeEmphasis(1, false, true) 2..3;",
-        ),
-        (
-            "**a__",
-            "MaybeEmphasis(2, true, false) 0..1;MaybeEmphasis(1, true, false) 1..2;Text 2..3;\
-            MaybeEmphasis(2, false, true) 3..4;MaybeEmphasis(1, false, true) 4..5;",
-        ),
-        (
-            "*_a",
-            "MaybeEmphasis(1, true, false) 0..1;MaybeEmphasis(1, true, false) 1..2;Text 2..3;",
-        ),
-        (
-            "a*b",
-            "Text 0..1;MaybeEmphasis(1, true, true) 1..2;Text 2..3;",
-        ),
-        ("a_b", "Text 0..3;"),
-        ("a__b_c", "Text 0..6;"),
-        ("* a", "Text 0..3;"),
-        ("a ** b *", "Text 0..8;"),
-        (
-            "a._b",
-            "Text 0..2;MaybeEmphasis(1, true, false) 2..3;Text 3..4;",
-        ),
-        (
-            "a_.b",
-            "Text 0..1;MaybeEmphasis(1, false, true) 1..2;Text 2..4;",
-        ),
-        (
-            "._.",
-            "Text 0..1;MaybeEmphasis(1, true, true) 1..2;Text 2..3;",
-        ),
-        (
-            "a*\"b",
-            "Text 0..1;MaybeEmphasis(1, false, true) 1..2;Text 2..4;",
-        ),
-        ("*\u{a0}a", "Text 0..4;"),
-        ("*\u{2003}a", "Text 0..5;"),
-        (
-            "é*é",
-            "Text 0..2;MaybeEmphasis(1, true, true) 2..3;Text 3..5;",
-        ),
-        // punctuation outside of ASCII is none
-        (
-            "a*“",
-            "Text 0..1;MaybeEmphasis(1, true, true) 1..2;Text 2..5;",
-        ),
-        ("a+b=c.", "Text 0..6;"),
-    ] {
-        assert_eq!(rt;
-            listed(rt.alloc(), text, Options::ENABLE_GFM)?.as_str(),
-            want,
-            "{text:?}"
-        );
+/// Each text has these items, with GFM's options.
+fn compare(rt: &(impl Abort + AllocGlobal), rows: &[(&str, &str)]) -> Result<(), Fail> {
+    let alloc = rt.alloc();
+    for (text, want) in rows {
+        let list = listed(alloc, text, Options::ENABLE_GFM)?;
+        assert_eq!(rt; list.as_str(), *want, "{text:?}");
     }
     Ok(())
+}
+
+#[test]
+fn delimiter_runs(rt: HostRuntime) -> Result<(), Fail> {
+    compare(
+        &rt,
+        &[
+            ("", ""),
+            ("hello world", "Text 0..11;"),
+            (
+                "*a*",
+                "MaybeEmphasis(1, true, false) 0..1;Text 1..2;MaybeEmphasis(1, false, true) 2..3;",
+            ),
+            (
+                "**a__",
+                "MaybeEmphasis(2, true, false) 0..1;MaybeEmphasis(1, true, false) 1..2;Text 2..3;\
+            MaybeEmphasis(2, false, true) 3..4;MaybeEmphasis(1, false, true) 4..5;",
+            ),
+            (
+                "*_a",
+                "MaybeEmphasis(1, true, false) 0..1;MaybeEmphasis(1, true, false) 1..2;Text 2..3;",
+            ),
+            (
+                "a*b",
+                "Text 0..1;MaybeEmphasis(1, true, true) 1..2;Text 2..3;",
+            ),
+            ("a_b", "Text 0..3;"),
+            ("a__b_c", "Text 0..6;"),
+            ("* a", "Text 0..3;"),
+            ("a ** b *", "Text 0..8;"),
+            (
+                "a._b",
+                "Text 0..2;MaybeEmphasis(1, true, false) 2..3;Text 3..4;",
+            ),
+            (
+                "a_.b",
+                "Text 0..1;MaybeEmphasis(1, false, true) 1..2;Text 2..4;",
+            ),
+            (
+                "._.",
+                "Text 0..1;MaybeEmphasis(1, true, true) 1..2;Text 2..3;",
+            ),
+            (
+                "a*\"b",
+                "Text 0..1;MaybeEmphasis(1, false, true) 1..2;Text 2..4;",
+            ),
+            ("*\u{a0}a", "Text 0..4;"),
+            ("*\u{2003}a", "Text 0..5;"),
+            (
+                "é*é",
+                "Text 0..2;MaybeEmphasis(1, true, true) 2..3;Text 3..5;",
+            ),
+            // punctuation outside of ASCII is none
+            (
+                "a*“",
+                "Text 0..1;MaybeEmphasis(1, true, true) 1..2;Text 2..5;",
+            ),
+            ("a+b=c.", "Text 0..6;"),
+        ],
+    )
 }
 
 #[test]
 fn escapes_and_code(rt: HostRuntime) -> Result<(), Fail> {
-    for (text, want) in [
-        ("\\*a*", "Escaped 1..3;MaybeEmphasis(1, false, true) 3..4;"),
-        (
-            "\\**a",
-            "Escaped 1..2;MaybeEmphasis(1, true, false) 2..3;Text 3..4;",
-        ),
-        ("a\\\\b", "Text 0..1;Escaped 2..4;"),
-        ("a\\b\\é", "Text 0..6;"),
-        ("a\\", "Text 0..2;"),
-        ("\\", "Text 0..1;"),
-        ("\\\\\\", "Escaped 1..3;"),
-        ("\\!\\[", "Escaped 1..2;Escaped 3..4;"),
-        ("*\\*", "MaybeEmphasis(1, true, false) 0..1;Escaped 2..3;"),
-        (
-            "`a``",
-            "MaybeCode(1, false) 0..1;Text 1..2;MaybeCode(2, false) 2..4;",
-        ),
-        (
-            "\\`a\\``",
-            "MaybeCode(1, true) 1..2;Text 2..3;MaybeCode(2, true) 4..6;",
-        ),
-        ("\\\\`", "Escaped 1..2;MaybeCode(1, false) 2..3;"),
-    ] {
-        assert_eq!(rt;
-            listed(rt.alloc(), text, Options::ENABLE_GFM)?.as_str(),
-            want,
-            "{text:?}"
-        );
-    }
-    Ok(())
+    compare(
+        &rt,
+        &[
+            ("\\*a*", "Escaped 1..3;MaybeEmphasis(1, false, true) 3..4;"),
+            (
+                "\\**a",
+                "Escaped 1..2;MaybeEmphasis(1, true, false) 2..3;Text 3..4;",
+            ),
+            ("a\\\\b", "Text 0..1;Escaped 2..4;"),
+            ("a\\b\\é", "Text 0..6;"),
+            ("a\\", "Text 0..2;"),
+            ("\\", "Text 0..1;"),
+            ("\\\\\\", "Escaped 1..3;"),
+            ("\\!\\[", "Escaped 1..2;Escaped 3..4;"),
+            ("*\\*", "MaybeEmphasis(1, true, false) 0..1;Escaped 2..3;"),
+            (
+                "`a``",
+                "MaybeCode(1, false) 0..1;Text 1..2;MaybeCode(2, false) 2..4;",
+            ),
+            (
+                "\\`a\\``",
+                "MaybeCode(1, true) 1..2;Text 2..3;MaybeCode(2, true) 4..6;",
+            ),
+            ("\\\\`", "Escaped 1..2;MaybeCode(1, false) 2..3;"),
+        ],
+    )
 }
 
 #[test]
 fn brackets_and_entities(rt: HostRuntime) -> Result<(), Fail> {
-    for (text, want) in [
-        (
-            "[a]",
-            "MaybeLinkOpen 0..1;Text 1..2;MaybeLinkClose(true) 2..3;",
-        ),
-        ("![]", "MaybeImage 0..2;MaybeLinkClose(true) 2..3;"),
-        ("!a![", "Text 0..2;MaybeImage 2..4;"),
-        ("a!", "Text 0..2;"),
-        ("[[", "MaybeLinkOpen 0..1;MaybeLinkOpen 1..2;"),
-        ("a<b>", "Text 0..1;MaybeHtml 1..2;Text 2..4;"),
-        (
-            "a&amp;b&#65;",
-            "Text 0..1;SynthesizeText(CowIndex(0)) 1..6;Text 6..7;SynthesizeText(CowIndex(1)) 7..12;",
-        ),
-        ("&copy;&amp", "Text 0..10;"),
-        ("&&gt;", "Text 0..1;SynthesizeText(CowIndex(0)) 1..5;"),
-        ("~a~ ^b^ 'c' \"d\" $e$", "Text 0..19;"),
-    ] {
-        assert_eq!(rt;
-            listed(rt.alloc(), text, Options::ENABLE_GFM)?.as_str(),
-            want,
-            "{text:?}"
-        );
-    }
-    Ok(())
+    compare(
+        &rt,
+        &[
+            (
+                "[a]",
+                "MaybeLinkOpen 0..1;Text 1..2;MaybeLinkClose(true) 2..3;",
+            ),
+            ("![]", "MaybeImage 0..2;MaybeLinkClose(true) 2..3;"),
+            ("!a![", "Text 0..2;MaybeImage 2..4;"),
+            ("a!", "Text 0..2;"),
+            ("[[", "MaybeLinkOpen 0..1;MaybeLinkOpen 1..2;"),
+            ("a<b>", "Text 0..1;MaybeHtml 1..2;Text 2..4;"),
+            (
+                "a&amp;b&#65;",
+                "Text 0..1;SynthesizeText(CowIndex(0)) 1..6;Text 6..7;SynthesizeText(CowIndex(1)) 7..12;",
+            ),
+            ("&copy;&amp", "Text 0..10;"),
+            ("&&gt;", "Text 0..1;SynthesizeText(CowIndex(0)) 1..5;"),
+            ("~a~ ^b^ 'c' \"d\" $e$", "Text 0..19;"),
+        ],
+    )
 }
 
 #[test]
@@ -230,10 +266,17 @@ fn a_line_is_read_alone(rt: HostRuntime) -> Result<(), Fail> {
     for (text, start, end, want) in [
         ("hello world", 6, 11, "Text 6..11;"),
         (
-            "x*a*y",
+            "x*a* y",
             1,
             4,
             "MaybeEmphasis(1, true, false) 1..2;Text 2..3;MaybeEmphasis(1, false, true) 3..4;",
+        ),
+        // the backslash of a hard break is the character behind the run
+        (
+            "(_\\\nb_",
+            0,
+            2,
+            "Text 0..1;MaybeEmphasis(1, true, true) 1..2;",
         ),
         (
             "\\*a",
