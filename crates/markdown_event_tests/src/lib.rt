@@ -5,8 +5,6 @@
 #[cfg(test)]
 mod block_events;
 #[cfg(test)]
-mod chains;
-#[cfg(test)]
 mod escapes;
 #[cfg(test)]
 mod events;
@@ -16,8 +14,6 @@ mod html;
 mod merged;
 #[cfg(test)]
 mod merges;
-#[cfg(test)]
-mod notes;
 #[cfg(test)]
 mod parser;
 #[cfg(test)]

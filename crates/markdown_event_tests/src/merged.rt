@@ -1,7 +1,6 @@
 //! Parsers under merges and adapters, and what is written of them.
 ghost use Rattle.std.specs.Iterator.{IsFinite};
 
-use crate::notes::notes_of;
 use markdown_base::cow_str::CowStr;
 use markdown_base::event::Event;
 use markdown_base::fault::Fault;
@@ -10,6 +9,7 @@ use markdown_out::html::push_html;
 use markdown_out::laws::a_mapped_iterator_can_be_merged;
 use markdown_out::merge::{TextMergeStream, TextMergeWithOffset};
 use markdown_render::merged::{merged_html, offsets_can_be_merged};
+use markdown_tests::notes::notes_of;
 use std::alloc::Global;
 use std::ops::Range;
 use std::test::Fail;

@@ -1,7 +1,6 @@
 //! What parsers give, with ample memory.
 ghost use Rattle.std.specs.Prelude.{◌≡◌, ◌+◌, ◌%◌, ◌^◌};
 
-use crate::notes::notes_of;
 use bitflags::Flags;
 use markdown_base::cow_str::CowStr;
 use markdown_base::event::Event;
@@ -18,6 +17,7 @@ use markdown_spans::defs::{
     BoxedCallback, BrokenLink, BrokenLinkCallback, Closure, DefaultBrokenLinkCallback,
 };
 use markdown_tests::builders::{append_block, item, no_parts, text, tree_of};
+use markdown_tests::notes::notes_of;
 use std::alloc::{AllocError, Global};
 use std::ops::Range;
 use std::test::Fail;

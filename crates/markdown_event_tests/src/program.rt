@@ -59,7 +59,7 @@ fn prints_html(rt: HostRuntime) -> Result<(), Fail> {
         ("a\nb", "0 <p>a\nb</p>\n"),
         ("a  \nb", "0 <p>a<br />\nb</p>\n"),
         ("a\\\nb\n\nc", "0 <p>a<br />\nb</p>\n<p>c</p>\n"),
-        ("a<b>&\"", "0 <p>a&lt;b&gt;&amp;\"</p>\n"),
+        ("a<b>&\"", "0 <p>a<b>&amp;\"</p>\n"),
     ];
     for (input, wanted) in rows {
         let found = printed(rt.alloc(), &[], &mut input.as_bytes())?;
@@ -68,7 +68,7 @@ fn prints_html(rt: HostRuntime) -> Result<(), Fail> {
     Ok(())
 }
 
-/// Two words, of which none is known.
+/// Two words, of which the second is unknown.
 fn two_words(alloc: Global) -> Result<Vec<String>, Fail> {
     let mut words = Vec::new(alloc);
     words.push(String::from_str(alloc, "tables")?)?;
@@ -83,7 +83,7 @@ fn says_what_failed(rt: HostRuntime) -> Result<(), Fail> {
     let found = printed(alloc, &[], &mut bad)?;
     assert_eq!(rt; found.as_str(), "1 input is not UTF-8\n");
     let found = printed(alloc, &two_words(alloc)?, &mut NoReader)?;
-    assert_eq!(rt; found.as_str(), "2 unknown option: tables\n");
+    assert_eq!(rt; found.as_str(), "2 unknown option: nosuch\n");
     let found = printed(alloc, &[], &mut NoReader)?;
     assert_eq!(rt; found.as_str(), "1 read failed\n");
     let found = said(alloc, &[], &mut "a".as_bytes(), &mut NoWriter)?;
