@@ -1,0 +1,12 @@
+//! Tests of what no clause says of chains of inline items, through parsers: a module for each topic. They stand apart from
+//! the libraries, so that no library is proved a second time with its tests.
+#![tactic(auto)]
+
+#[cfg(test)]
+mod chains;
+#[cfg(test)]
+mod pairing;
+#[cfg(test)]
+mod rows;
+#[cfg(test)]
+mod spans;
