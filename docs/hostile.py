@@ -1,0 +1,94 @@
+"""Hostile texts for benchmarks, the same on each run: `hostile.py KIND BYTES` prints one of about so many bytes."""
+import sys
+
+
+def growing(size):
+    """Items, each nested in the one before."""
+    text, indent = "", 0
+    while len(text) < size:
+        text += " " * indent + "* a\n"
+        indent += 2
+    return text
+
+
+def rising(size):
+    """Backtick runs, each one longer than the one before."""
+    text, count = "", 1
+    while len(text) < size:
+        text += "`" * count + "a"
+        count += 1
+    return text
+
+
+REPEATED = {
+    "quotes": ">",
+    "markers": "- ",
+    "items": "- a\n",
+    "brackets": "[",
+    "definitions": "[a]: ",
+    "definition-lines": "[a]: b\n",
+    "backticks": "`",
+    "backtick-lines": "```a`\n",
+    "less-thans": "<",
+    "tag-lines": "<a\n",
+    "spaces": " ",
+    "tabs": " \t",
+    "tab-lines": " \t \ta\n",
+    "quote-lines": "> a\n",
+    "underlines": "a\n===\n",
+    "stars": "*",
+    "marks": "* - + ",
+    "breaks": "- * _ ",
+    "blank-lines": "\n",
+    "titles": "[a]: b 'c\n",
+    "labels": "[a\n",
+    "ampersands": "&",
+    "escapes": "\\",
+    "openers": "*a ",
+    "strong": "a**",
+    "mixed-runs": "*_",
+    "words": "*a_a",
+    "tildes-and-carets": "~a^",
+    "quotation-marks": "'a\" ",
+    "long-openers": "**a *b",
+    "either": "_a *",
+    "dollars": "$",
+    "dollar-words": "$a ",
+    "braced-dollars": "{$a}",
+    "declarations": "<!",
+    "lettered-declarations": "<!A ",
+    "comments": "<!--",
+    "sections": "<![CDATA[",
+    "instructions": "<?",
+    "open-tags": "<a ",
+    "attributes": "<a b='",
+    "ticked-words": "`a",
+    "escaped-ticks": "\\``a",
+    "addresses": "<ab:",
+}
+
+
+def main():
+    kind, size = sys.argv[1], int(sys.argv[2])
+    if kind == "growing":
+        text = growing(size)
+    elif kind == "rising-backticks":
+        text = rising(size)
+    elif kind == "blank-list":
+        text = "- a\n" + "\n" * size + "- b\n"
+    elif kind == "blank-items":
+        text = "- a\n\n" * (size // 5)
+    elif kind == "markers-end":
+        text = "- " * (size // 2) + "a\n"
+    elif kind == "quotes-end":
+        text = ">" * size + "a\n" * 2
+    elif kind == "fenced-blank":
+        text = "    a\n" + "\n" * size
+    elif kind == "fence":
+        text = "- ```\n" + "a\n" * (size // 2)
+    else:
+        text = REPEATED[kind] * (size // len(REPEATED[kind]))
+    sys.stdout.write(text)
+
+
+main()
