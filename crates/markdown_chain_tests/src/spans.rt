@@ -38,10 +38,7 @@ fn code(rt: HostRuntime) -> Result<(), Fail> {
             ("` foo `` bar `", "<code>foo `` bar</code>"),
             ("*foo`*`", "*foo<code>*</code>"),
             ("[not a `link](/foo`)", "[not a <code>link](/foo</code>)"),
-            (
-                "`<a href=\"`\">`",
-                "<code>&lt;a href=\"</code>\"&gt;`",
-            ),
+            ("`<a href=\"`\">`", "<code>&lt;a href=\"</code>\"&gt;`"),
             ("<a href=\"`\">`", "<a href=\"`\">`"),
             (
                 "`<https://foo.bar.`baz>`",
@@ -79,7 +76,10 @@ fn math(rt: HostRuntime) -> Result<(), Fail> {
                 "$a$ $$b$$",
                 "<span class=\"math math-inline\">a</span> <span class=\"math math-display\">b</span>",
             ),
-            ("`$`$a$", "<code>$</code><span class=\"math math-inline\">a</span>"),
+            (
+                "`$`$a$",
+                "<code>$</code><span class=\"math math-inline\">a</span>",
+            ),
         ],
     )?;
     compare(&rt, Options::empty(), &[("$a$ $$b$$", "$a$ $$b$$")])
