@@ -2,14 +2,16 @@
 use Rattle.std.specs.Prelude.{◌≡◌, ℕ, zero, suc, ◌+◌, ◌-◌, ◌*◌, ◌^◌, ◌≤◌, min}
 use Rattle.markdown_chains.specs.declared.work.Work.{Work}
 
--- the items of a chain from its first open one on, and the delimiter characters that are left of it when pairing begins
+-- the items of a chain from its first open one on, the delimiter characters that are left of it when pairing begins, and
+-- the searches for an opener that find one then
 pub record ChainCounts : Type 0 where
   pub items : ℕ
   pub delimiters : ℕ
+  pub found : ℕ
 
 -- those of no chain
 abbrev pub no_counts : ChainCounts
-no_counts = record { items = 0; delimiters = 0 }
+no_counts = record { items = 0; delimiters = 0; found = 0 }
 
 -- a count with n more, up to the greatest count
 abbrev pub risen : ℕ → ℕ → ℕ
@@ -22,11 +24,16 @@ pub record RisesAtMost (most old new : ℕ) : Type 0 where
   pub within : more ≤ most
   pub counted : new ≡ risen more old
 
+-- or at least, as far as it can grow
+abbrev pub RisesAtLeast : (least old new : ℕ) → Type 0
+RisesAtLeast least old new = min (old + least) (2 ^ 128 - 1) ≤ new
+
 -- the counts after a chain with these was resolved, or none was: at most ten open runs are compared for each delimiter
--- character, and searches for the ends of code look at no more items than there are, and so do those for the ends of math
+-- character, and one at least for each search that finds; and searches for the ends of code look at no more items than there are, and so do those for the ends of math
 pub record WorkRises (n : ChainCounts) (old new : Work) : Type 0 where
   pub items : new.items ≡ risen n.items old.items
   pub delimiters : new.delimiters ≡ risen n.delimiters old.delimiters
   pub examined : RisesAtMost (10 * n.delimiters) old.examined new.examined
+  pub found : RisesAtLeast n.found old.examined new.examined
   pub code_visits : RisesAtMost n.items old.code_visits new.code_visits
   pub math_visits : RisesAtMost n.items old.math_visits new.math_visits
