@@ -10,7 +10,8 @@ use Rattle.markdown_base.specs.ArenaForest.{links_of, Spells}
 use Rattle.markdown_base.specs.BlockTree.{Numbered}
 use Rattle.markdown_base.specs.Forest.{Forest, nil, node, Each, roots, relabelled}
 use Rattle.markdown_delims.specs.declared.marks.Marks.{Marks}
-use Rattle.markdown_delims.specs.MayPair.{OpenRun}
+use Rattle.markdown_delims.specs.EntryFinds.{finds_from}
+use Rattle.markdown_delims.specs.OpenRuns.{Openers}
 use Rattle.markdown_delims.specs.Entries.{Entry, flat, read_back, paired_from}
 use Rattle.markdown_delims.specs.Enclosing.{AllTouched}
 use Rattle.markdown_delims.specs.Views.{View, view_of, Holds, Between, Rises, Cut, next_number}
@@ -82,6 +83,11 @@ pub over_all : (own : ℕ → Bool) (k : View) (first : Option ℕ) (left : Fore
 over_all own k first nil l right hi c = record { link = l; cut = c }
 over_all own k first (node a below before) l right hi c = over_all own k first before (Some a.number) (node a below right) hi (step_left own k first a below before l right hi c)
 
+-- no link leads to nothing
+nothing_left : (t : Arena Item) (g : Forest Numbered) → Holds (view_of t.nodes) None g → g ≡ nil
+nothing_left t nil h = refl
+nothing_left t (node b below after) h = let no : None ≡ Some b.number = h.0 in cc
+
 -- nothing is read yet
 module _ (m : Marks) (text : List ℕ) (s : Arena Item) (first : ℕ) (f : Forest ℕ) (c : IsChain text s.nodes first f) where
   pub whole_chain : Chain
@@ -97,9 +103,9 @@ module _ (m : Marks) (text : List ℕ) (s : Arena Item) (first : ℕ) (f : Fores
         rest_touched = touched_from_list (among (roots f)) s.nodes f (among_all (roots f));
       }
 
-  pub starts_reading : (cost : ℕ) (runs : List OpenRun) → runs ≡ [] → ReadFurther m text whole_chain s s [] (chain_of s.nodes f) cost cost runs None (Some first) 0
+  pub starts_reading : (o : Openers) → o.runs ≡ [] → ReadFurther m text whole_chain s s [] (chain_of s.nodes f) o o None (Some first) 0
   unfolding whole_chain
-  starts_reading cost runs e =
+  starts_reading o e =
       record {
         es = [];
         rest = chain_of s.nodes f;
@@ -107,15 +113,16 @@ module _ (m : Marks) (text : List ℕ) (s : Arena Item) (first : ℕ) (f : Fores
         whole = c.whole;
         same = refl;
         paid = omega arith;
+        found = omega arith;
         further = rises_chain (among (roots f)) s.nodes (Some first) f 0 (omega arith) c.spelled c.rising c.apart;
       }
 
   -- a tree more
-  pub reads_more : (t u : Arena Item) (cost cost1 cost2 : ℕ) (runs runs' : List OpenRun) (last last' l : Option ℕ) (ix : ℕ)
-      → ReadFurther m text whole_chain s t [] (chain_of s.nodes f) cost cost1 runs last (Some ix) 0
-      → ReadsTree m text ix last t u runs runs' cost1 cost2 last' l
-      → ReadFurther m text whole_chain s u [] (chain_of s.nodes f) cost cost2 runs' last' l 0
-  reads_more t u cost cost1 cost2 runs runs' last last' l ix a step =
+  pub reads_more : (t u : Arena Item) (old now new : Openers) (last last' l : Option ℕ) (ix : ℕ)
+      → ReadFurther m text whole_chain s t [] (chain_of s.nodes f) old now last (Some ix) 0
+      → ReadsTree m text ix last t u now new last' l
+      → ReadFurther m text whole_chain s u [] (chain_of s.nodes f) old new last' l 0
+  reads_more t u old now new last last' l ix a step =
       let b = step whole_chain a.es a.rest a.is_read.reads.stands a.whole a.is_read.runs_are in
       record {
         es = b.es;
@@ -124,19 +131,20 @@ module _ (m : Marks) (text : List ℕ) (s : Arena Item) (first : ℕ) (f : Fores
         whole = b.whole;
         same = b.same ∙ a.same;
         paid = omega (arith, a.paid, b.paid);
+        found = omega (arith, a.found, b.found);
         further = Rises-lower whole_chain.touched (suc ix) 0 b.rest whole_chain.bound (omega arith) b.further;
       }
 
-  pub can_go_on : (t : Arena Item) (cost cost1 : ℕ) (runs : List OpenRun) (last : Option ℕ) (ix : ℕ) → cost + 10 * delimiters_of (chain_of s.nodes f) < 2 ^ 128
-      → ReadFurther m text whole_chain s t [] (chain_of s.nodes f) cost cost1 runs last (Some ix) 0 → CanReadTree text ix last t runs cost1
-  can_go_on t cost cost1 runs last ix room a =
+  pub can_go_on : (t : Arena Item) (old now : Openers) (last : Option ℕ) (ix : ℕ) → old.potential + 10 * delimiters_of (chain_of s.nodes f) < 2 ^ 128
+      → ReadFurther m text whole_chain s t [] (chain_of s.nodes f) old now last (Some ix) 0 → CanReadTree text ix last t now.runs now.potential
+  can_go_on t old now last ix room a =
       record { chain = whole_chain; es = a.es; rest = a.rest; stands = a.is_read.reads.stands; whole = a.whole; runs_are = a.is_read.runs_are; room = omega (arith, a.paid) }
 
   -- all is read
-  pub all_read : (t : Arena Item) (cost cost1 : ℕ) (runs : List OpenRun) (last : Option ℕ) → ReadFurther m text whole_chain s t [] (chain_of s.nodes f) cost cost1 runs last None 0 → IsPaired m text s t first f
+  pub all_read : (t : Arena Item) (old new : Openers) (last : Option ℕ) → ReadFurther m text whole_chain s t [] (chain_of s.nodes f) old new last None 0 → IsPaired m text s t first f
   unfolding whole_chain paired_from
-  all_read t cost cost1 runs last a =
-      let none = nothing_left a.rest a.is_read.reads.stands.cut.right in
+  all_read t old new last a =
+      let none = nothing_left t a.rest a.is_read.reads.stands.cut.right in
       let cut = subst (λ r. Cut (among (roots f)) (view_of t.nodes) (Some first) (flat a.es) None r (length s.nodes)) none a.is_read.reads.stands.cut in
       let r = over_all (among (roots f)) (view_of t.nodes) (Some first) (flat a.es) None nil (length s.nodes) cut in
       let holds = subst (λ l. Holds (view_of t.nodes) l (read_back (flat a.es) nil)) r.cut.left r.cut.right in
@@ -148,10 +156,14 @@ module _ (m : Marks) (text : List ℕ) (s : Arena Item) (first : ℕ) (f : Fores
         rising = rising_numbers (among (roots f)) 0 (read_back (flat a.es) nil) (length s.nodes) r.cut.rises_right;
         kept = a.is_read.reads.kept;
       }
-    where
-      nothing_left : (g : Forest Numbered) → Holds (view_of t.nodes) None g → g ≡ nil
-      nothing_left nil h = refl
-      nothing_left (node b below after) h = let no : None ≡ Some b.number = h.0 in cc
+
+  -- and all that found was counted
+  pub all_found : (t : Arena Item) (old new : Openers) (last : Option ℕ) → ReadFurther m text whole_chain s t [] (chain_of s.nodes f) old new last None 0
+      → old.examined + finds_from m text 0 (chain_of s.nodes f) [] ≤ new.examined
+  unfolding finds_from
+  all_found t old new last a =
+      let none : finds_from m text 0 a.rest a.es ≡ 0 = ap (λ g. finds_from m text 0 g a.es) (nothing_left t a.rest a.is_read.reads.stands.cut.right) in
+      omega (arith, a.found, none)
 
 -- how many numbers are not below a link
 abbrev pub numbers_left : ℕ → Option ℕ → ℕ
@@ -164,7 +176,7 @@ fewer_left own k None f ix hi w h r = omega arith
 fewer_left own k (Some j) nil ix hi w h r = cc
 fewer_left own k (Some j) (node a below after) ix hi w h r = let e : j ≡ a.number = cc in omega (arith, e, r.0)
 
-pub goes_down : (m : Marks) (text : List ℕ) (h : Chain) (s t u : Arena Item) (begun : List Entry) (chain : Forest Numbered) (cost cost' : ℕ) (runs : List OpenRun) (last l : Option ℕ) (ix : ℕ)
-    → ix < length t.nodes → length u.nodes ≡ length t.nodes → ReadFurther m text h t u begun chain cost cost' runs last l (suc ix) → numbers_left (length u.nodes) l < length t.nodes - ix
-goes_down m text h s t u begun chain cost cost' runs last l ix w e a =
+pub goes_down : (m : Marks) (text : List ℕ) (h : Chain) (s t u : Arena Item) (begun : List Entry) (chain : Forest Numbered) (old new : Openers) (last l : Option ℕ) (ix : ℕ)
+    → ix < length t.nodes → length u.nodes ≡ length t.nodes → ReadFurther m text h t u begun chain old new last l (suc ix) → numbers_left (length u.nodes) l < length t.nodes - ix
+goes_down m text h s t u begun chain old new last l ix w e a =
     subst (λ n. numbers_left (length u.nodes) l < n - ix) e (fewer_left h.touched (view_of u.nodes) l a.rest ix h.bound (rw e w) a.is_read.reads.stands.cut.right a.further)

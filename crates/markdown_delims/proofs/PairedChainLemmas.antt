@@ -144,7 +144,7 @@ break_closed (body.MaybeSmartQuote quote o c) e = absurd (quote_kind_break (quot
 break_closed (body.HardBreak x) e = refl
 break_closed other e = cc
 
-runs_only : (f : Forest Numbered) (single double : Bool) → WaitsForPairing f → HasRunsOnly (quoted_after single double f)
+pub runs_only : (f : Forest Numbered) (single double : Bool) → WaitsForPairing f → HasRunsOnly (quoted_after single double f)
 runs_only nil single double w = tt
 runs_only (node a below after) single double w = (
   λ none.
@@ -154,7 +154,7 @@ runs_only (node a below after) single double w = (
 )
 
 -- the labels of nodes by their numbers
-labels_of : {A : Type 0} (tag : ℕ → A) (tables : Tables) (s : Setting) (nodes : List (Node Item)) (f : Forest ℕ)
+pub labels_of : {A : Type 0} (tag : ℕ → A) (tables : Tables) (s : Setting) (nodes : List (Node Item)) (f : Forest ℕ)
     → trees tag tables s (chain_of nodes f) ≡ relabelled (λ n. look tag tables s (numbered nodes n)) f
 labels_of tag tables s nodes f = relabelled-relabelled (numbered nodes) (look tag tables s) f
 

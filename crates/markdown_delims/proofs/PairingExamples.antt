@@ -7,6 +7,7 @@ use Rattle.markdown_base.specs.declared.item.ItemBody.TheVariants as body
 use Rattle.markdown_chains.specs.Document.{Shape, leaf, enclosed, plain, backslash_break, unresolved, Label, Plain, text_over}
 use Rattle.markdown_chains.specs.Setting.{Setting, Rules}
 use Rattle.markdown_delims.specs.Pairing.{closed_by, reads_from, runs_paired, paired}
+use Rattle.markdown_delims.specs.PairingFinds.{closer_finds, finds_from, finds_in}
 use Rattle.markdown_delims.specs.PairingLaws.{RunAt, with_runs, kept_run}
 use Rattle.markdown_delims.specs.Quotes.{with_quotes}
 
@@ -158,3 +159,33 @@ kept_5 : (rules : Rules)
     ≡ None ∷ None ∷ Some 3 ∷ None ∷ None ∷ Some 8 ∷ []
 unfolding paired runs_paired reads_from closed_by with_quotes
 kept_5 rules = refl
+
+-- one pair: `*a*`
+finds_pair : (rules : Rules) → finds_in (under rules (codes "*a*") 0) (run 0 1 true false (word (codes "*a*") 1 1 (run 2 1 false true nil))) ≡ 1
+unfolding finds_in finds_from closer_finds reads_from closed_by with_quotes
+finds_pair rules = refl
+
+-- two layers of one opener, by one search: `***a***`
+finds_layers : (rules : Rules) → finds_in (under rules (codes "***a***") 0) (run 0 3 true false (word (codes "***a***") 3 1 (run 4 3 false true nil))) ≡ 1
+unfolding finds_in finds_from closer_finds reads_from closed_by with_quotes
+finds_layers rules = refl
+
+-- no closer: `*a`
+finds_none : (rules : Rules) → finds_in (under rules (codes "*a") 0) (run 0 1 true false (word (codes "*a") 1 1 nil)) ≡ 0
+unfolding finds_in finds_from closer_finds reads_from closed_by with_quotes
+finds_none rules = refl
+
+-- two pairs: `*a* *b*`
+finds_pairs : (rules : Rules) → finds_in (under rules (codes "*a* *b*") 0) (run 0 1 true false (word (codes "*a* *b*") 1 1 (run 2 1 false true (word (codes "*a* *b*") 3 1 (run 4 1 true false (word (codes "*a* *b*") 5 1 (run 6 1 false true nil))))))) ≡ 2
+unfolding finds_in finds_from closer_finds reads_from closed_by with_quotes
+finds_pairs rules = refl
+
+-- a closer with characters left finds again: `*a **b***`
+finds_again : (rules : Rules) → finds_in (under rules (codes "*a **b***") 0) (run 0 1 true false (word (codes "*a **b***") 1 2 (run 3 2 true false (word (codes "*a **b***") 5 1 (run 6 3 false true nil))))) ≡ 2
+unfolding finds_in finds_from closer_finds reads_from closed_by with_quotes
+finds_again rules = refl
+
+-- one that finds no opener of its character: `*a_`
+finds_open : (rules : Rules) → finds_in (under rules (codes "*a_") 0) (run 0 1 true false (word (codes "*a_") 1 1 (run 2 1 false true nil))) ≡ 0
+unfolding finds_in finds_from closer_finds reads_from closed_by with_quotes
+finds_open rules = refl

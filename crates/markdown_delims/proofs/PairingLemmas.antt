@@ -58,10 +58,10 @@ kept_counted : (start : ℕ) (c : Characters) (es : List Entry) → 0 < c.count 
 kept_counted start c es some h = kept_if_counted c.run.can_open start c es some h
 
 -- an opener that a search finds has characters, and so have the runs before it
-abbrev GoodTaken : Taken → Type 0
+abbrev pub GoodTaken : Taken → Type 0
 GoodTaken t = (0 < t.opener.count) × AllCounted t.before
 
-search_good : (closer : Run) (es : List Entry) (inside : Forest Numbered) → AllCounted es → IfSome (search closer es inside) GoodTaken
+pub search_good : (closer : Run) (es : List Entry) (inside : Forest Numbered) → AllCounted es → IfSome (search closer es inside) GoodTaken
 search_good closer [] inside h = tt
 search_good closer (settled a below ∷ es) inside h = search_good closer es (node a below inside) h
 search_good closer (lone number start n ∷ es) inside h = search_good closer es (characters number start n inside) h
@@ -76,7 +76,7 @@ rest_counted k t h =
       | inr all ↦ rw (le-ltb k t.opener.count all) h
     ]
 
-pair_counted : (m : Marks) (start : ℕ) (closer : Characters) (t : Taken) → GoodTaken t → AllCounted (with_pair m start closer t)
+pub pair_counted : (m : Marks) (start : ℕ) (closer : Characters) (t : Taken) → GoodTaken t → AllCounted (with_pair m start closer t)
 pair_counted m start closer t h =
     tree_counted _ (rest_open (min t.opener.count closer.count) t)
     (enclosed_tree m t.opener.run.delimiter t.opener.number t.start t.opener.count start (min t.opener.count closer.count) t.inside)
@@ -114,7 +114,7 @@ module _ {A : Type 0} (tag : ℕ → A) (tables : Tables) (s : Setting) where
   Same rs es = (rs ≡ seen tag tables s es) × AllCounted es
 
   -- after a find
-  found_seen : (start : ℕ) (closer : Characters) (t : Taken) → 0 < closer.count → GoodTaken t
+  pub found_seen : (start : ℕ) (closer : Characters) (t : Taken) → 0 < closer.count → GoodTaken t
       → after_layers (record { inside = trees tag tables s t.inside; run = t.opener.run; characters = lasts tag tables s t.opener.number t.start t.opener.count; before = seen tag tables s t.before })
       (layers s t.opener.run.delimiter (lasts tag tables s t.opener.number t.start t.opener.count) (firsts tag tables s closer.number start closer.count) (trees tag tables s t.inside))
       ≡ seen tag tables s (with_pair m start closer t)
@@ -126,7 +126,7 @@ module _ {A : Type 0} (tag : ℕ → A) (tables : Tables) (s : Setting) where
       ∙ ap (trees_done (trees tag tables s (tree_of_entry e))) (rest_seen tag tables s k t)
       ∙ entry_seen tag tables s e (rest_open k t) (enclosed_tree m t.opener.run.delimiter t.opener.number t.start t.opener.count start k t.inside)
 
-  left_after : (start : ℕ) (closer : Characters) (t : Taken) → 0 < closer.count → GoodTaken t
+  pub left_after : (start : ℕ) (closer : Characters) (t : Taken) → 0 < closer.count → GoodTaken t
       → (layers s t.opener.run.delimiter (lasts tag tables s t.opener.number t.start t.opener.count) (firsts tag tables s closer.number start closer.count) (trees tag tables s t.inside)).closing
       ≡ firsts tag tables s (closer.number + min t.opener.count closer.count) (start + min t.opener.count closer.count) (closer.count - min t.opener.count closer.count)
   left_after start closer t some g =
@@ -185,7 +185,7 @@ module _ {A : Type 0} (tag : ℕ → A) (tables : Tables) (s : Setting) where
         r.1,
       )
 
-  length_firsts : (number start n : ℕ) → length (firsts tag tables s number start n) ≡ n
+  pub length_firsts : (number start n : ℕ) → length (firsts tag tables s number start n) ≡ n
   length_firsts number start zero = refl
   length_firsts number start (suc n) = ap suc (length_firsts (suc number) (suc start) n)
 
@@ -214,7 +214,7 @@ module _ {A : Type 0} (tag : ℕ → A) (tables : Tables) (s : Setting) where
       ∙ ap (λ (o : Option ItemBody). let l : Label A = record { tag = tag a.number; part = record { shape = text_over (slice_range s.text a.item.start (a.item.start + 1)); range = record { start = a.item.start; end = a.item.start + 1 }; block = o } } in l) (run_block a.item.body c r)
 
   -- so are all of a run
-  texts_of_run : (n : ℕ) (opens closes : Bool) (a : Numbered) (below after : Forest Numbered) → run_character a.item.body ≡ Some (record { count = n; can_open = opens; can_close = closes })
+  pub texts_of_run : (n : ℕ) (opens closes : Bool) (a : Numbered) (below after : Forest Numbered) → run_character a.item.body ≡ Some (record { count = n; can_open = opens; can_close = closes })
       → IsWhole s.text (node a below after) → first_texts s.text n (trees tag tables s (node a below after)) ≡ firsts tag tables s a.number a.item.start n
   texts_of_run zero opens closes a below after e w = refl
   texts_of_run (suc zero) opens closes a below after e w =
@@ -267,7 +267,7 @@ delimiter_some i h =
     star false e = underscore (i == 95) refl e
 
 -- the run of a character that stands in one
-run_of_whole : (tables : Tables) (source : List ℕ) (b : ItemBody) (c : RunCharacter) (d : Option Delimiter) → run_character b ≡ Some c → 0 < c.count
+pub run_of_whole : (tables : Tables) (source : List ℕ) (b : ItemBody) (c : RunCharacter) (d : Option Delimiter) → run_character b ≡ Some c → 0 < c.count
     → run_of_shape (shape_of tables source b) d ≡ run_if (run_character b) d
 run_of_whole tables source (body.MaybeEmphasis zero opens closes) c d e some =
     let same : record { count = zero; can_open = opens; can_close = closes } ≡ c = cc in
@@ -277,7 +277,7 @@ run_of_whole tables source (body.MaybeEmphasis (suc i) opens closes) c (Some d) 
 run_of_whole tables source other c d e some = cc
 
 -- and what is none
-run_of_closed : (shape : Shape) (d : Option Delimiter) → is_unresolved shape ≡ false → run_of_shape shape d ≡ None
+pub run_of_closed : (shape : Shape) (d : Option Delimiter) → is_unresolved shape ≡ false → run_of_shape shape d ≡ None
 run_of_closed (leaf e origins) d h = refl
 run_of_closed (enclosed_shape tag) d h = refl
 run_of_closed plain d h = refl

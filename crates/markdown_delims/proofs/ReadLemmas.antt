@@ -11,7 +11,9 @@ use Rattle.markdown_base.specs.WellFormed.{RunCharacter, run_character, is_delim
 use Rattle.markdown_delims.specs.declared.marks.Marks.{Marks}
 use Rattle.markdown_delims.specs.declared.run.Delimiter.{Delimiter}
 use Rattle.markdown_delims.specs.declared.run.Run.{Run}
+use Rattle.markdown_delims.specs.EntryFinds.{run_finds, finds_from, tree_finds}
 use Rattle.markdown_delims.specs.MayPair.{OpenRun}
+use Rattle.markdown_delims.specs.OpenRuns.{Openers}
 use Rattle.markdown_delims.specs.MarkBodies.{run_if, run_of}
 use Rattle.markdown_delims.specs.Entries.{Entry, settled, flat, open_of, with_run, all_of_run, after_tree, paired_from}
 use Rattle.markdown_delims.specs.Views.{view_of, Rises}
@@ -99,6 +101,22 @@ paired_some : (m : Marks) (text : List ℕ) (a : Numbered) (below after : Forest
 unfolding paired_from
 paired_some m text a below after es run e = ap (λ o. after_tree m (λ skip fs. paired_from m text skip after fs) o a below es) e
 
+-- and so it is with the searches that find
+skip_finds : (m : Marks) (text : List ℕ) (number n : ℕ) (chain rest : Forest Numbered) (es : List Entry) → BeginsRun number n chain rest → finds_from m text n chain es ≡ finds_from m text 0 rest es
+unfolding finds_from
+skip_finds m text number zero chain rest es b = ap (λ f. finds_from m text 0 f es) b
+skip_finds m text number (suc n) nil rest es b = absurd b
+skip_finds m text number (suc n) (node a below after) rest es b = skip_finds m text (suc number) n after rest es b.2
+
+finds_at_none : (m : Marks) (text : List ℕ) (a : Numbered) (below after : Forest Numbered) (es : List Entry) → run_of text a.item ≡ None → finds_from m text 0 (node a below after) es ≡ finds_from m text 0 after (settled a below ∷ es)
+unfolding finds_from
+finds_at_none m text a below after es e = ap (λ o. tree_finds m (λ skip fs. finds_from m text skip after fs) o a below es) e
+
+finds_at_some : (m : Marks) (text : List ℕ) (a : Numbered) (below after : Forest Numbered) (es : List Entry) (run : Run) → run_of text a.item ≡ Some run
+    → finds_from m text 0 (node a below after) es ≡ run_finds run run.length (open_of es) + finds_from m text (run.length - 1) after (with_run m a.item.start (all_of_run run a.number) es)
+unfolding finds_from
+finds_at_some m text a below after es run e = ap (λ o. tree_finds m (λ skip fs. finds_from m text skip after fs) o a below es) e
+
 -- the rest of a run's first node
 begins_after : (number n : ℕ) (a : Numbered) (below after rest : Forest Numbered) → 0 < n → BeginsRun number n (node a below after) rest → BeginsRun (suc number) (n - 1) after rest
 begins_after number zero a below after rest some b = absurd (omega arith)
@@ -118,10 +136,10 @@ module _ (m : Marks) (text : List ℕ) (h : Chain) (s : Arena Item) (es : List E
   head_within nil st = let no : Some ix ≡ None = st.cut.right in cc
   head_within (node a below after) st = let here : Some ix ≡ Some a.number = st.cut.right.0 in let e : ix ≡ a.number = cc in omega (arith, st.cut.right.1, e)
 
-  pub read_none : (chain : Forest Numbered) (runs : List OpenRun) (cost : ℕ) → Stands h s es last (Some ix) chain → IsWhole text chain → runs ≡ open_of es → run_of text (item_at s.nodes ix) ≡ None
-      → ReadFurther m text h s s es chain cost cost runs (Some ix) (sibling_of s.nodes ix) (suc ix)
-  read_none nil runs cost st w r e = let no : Some ix ≡ None = st.cut.right in cc
-  read_none (node a below after) runs cost st w r e =
+  pub read_none : (chain : Forest Numbered) (o : Openers) → Stands h s es last (Some ix) chain → IsWhole text chain → o.runs ≡ open_of es → run_of text (item_at s.nodes ix) ≡ None
+      → ReadFurther m text h s s es chain o o (Some ix) (sibling_of s.nodes ix) (suc ix)
+  read_none nil o st w r e = let no : Some ix ≡ None = st.cut.right in cc
+  read_none (node a below after) o st w r e =
       let here : Some ix ≡ Some a.number = st.cut.right.0 in
       let same : ix ≡ a.number = cc in
       let item : item_at s.nodes ix ≡ a.item = ap (item_at s.nodes) same ∙ st.cut.right.2 in
@@ -144,6 +162,7 @@ module _ (m : Marks) (text : List ℕ) (h : Chain) (s : Arena Item) (es : List E
         whole = w.1;
         same = sym (paired_none m text a below after es none);
         paid = omega arith;
+        found = omega (arith, finds_at_none m text a below after es none);
         further = rw same st.cut.rises_right.2;
       }
 
@@ -151,6 +170,8 @@ module _ (m : Marks) (text : List ℕ) (h : Chain) (s : Arena Item) (es : List E
   pub record RunHere (run : Run) (chain : Forest Numbered) : Type 0 where
     pub begins : RunBegins text ix (item_at s.nodes ix).start run.length chain
     pub same : (fs : List Entry) (goes_on : List Entry) → with_run m (item_at s.nodes ix).start (all_of_run run ix) fs ≡ goes_on → paired_from m text 0 begins.rest goes_on ≡ paired_from m text 0 chain fs
+    pub finds : (fs : List Entry) (goes_on : List Entry) → with_run m (item_at s.nodes ix).start (all_of_run run ix) fs ≡ goes_on
+        → finds_from m text 0 chain fs ≡ run_finds run run.length (open_of fs) + finds_from m text 0 begins.rest goes_on
     pub rises : Rises h.touched (suc ix) begins.rest h.bound
 
   pub run_here : (run : Run) (chain : Forest Numbered) → Stands h s es last (Some ix) chain → IsWhole text chain → run_of text (item_at s.nodes ix) ≡ Some run → RunHere run chain
@@ -171,6 +192,13 @@ module _ (m : Marks) (text : List ℕ) (h : Chain) (s : Arena Item) (es : List E
             ∙ ap (λ i. paired_from m text (run.length - 1) after (with_run m (item_at s.nodes ix).start (all_of_run run i) fs)) (sym same)
             ∙ ap (λ (i : Item). paired_from m text (run.length - 1) after (with_run m i.start (all_of_run run a.number) fs)) (sym item)
             ∙ sym (paired_some m text a below after fs run is);
+        finds = λ fs goes_on g.
+            finds_at_some m text a below after fs run is
+            ∙ ap (λ (i : Item). run_finds run run.length (open_of fs) + finds_from m text (run.length - 1) after (with_run m i.start (all_of_run run a.number) fs)) item
+            ∙ ap (λ i. run_finds run run.length (open_of fs) + finds_from m text (run.length - 1) after (with_run m (item_at s.nodes ix).start (all_of_run run i) fs)) same
+            ∙ ap (λ x. run_finds run run.length (open_of fs) + x)
+            (skip_finds m text (suc ix) (run.length - 1) after b.rest (with_run m (item_at s.nodes ix).start (all_of_run run ix) fs) (begins_after ix run.length a below after b.rest b.some b.begins)
+            ∙ ap (λ x. finds_from m text 0 b.rest x) g);
         rises = rises_behind h.touched ix run.length 0 (node a below after) b.rest h.bound b.some b.begins st.cut.rises_right;
       }
 
@@ -182,11 +210,12 @@ module _ (m : Marks) (text : List ℕ) (h : Chain) (s : Arena Item) (es : List E
   can_read run chain runs t st e r settles =
       record { chain = h; es = es; after = r.begins.rest; stands = (settles h es last chain r.begins.rest st r.begins.begins).stands; runs_are = e }
 
-  pub read_some : (run : Run) (chain : Forest Numbered) (runs runs' : List OpenRun) (cost cost' : ℕ) (last' l : Option ℕ) (t u : Arena Item)
-      → Stands h s es last (Some ix) chain → runs ≡ open_of es → RunHere run chain → Settles ix (item_at s.nodes ix).start run.length s t
-      → cost' ≤ cost + 10 → ReadsOn (λ fs. with_run m (item_at s.nodes ix).start (all_of_run run ix) fs) (item_at s.nodes ix).start (all_of_run run ix) last t u runs runs' last' l
-      → ReadFurther m text h s u es chain cost cost' runs' last' l (suc ix)
-  read_some run chain runs runs' cost cost' last' l t u st e r settles paid on =
+  pub read_some : (run : Run) (chain : Forest Numbered) (old new : Openers) (last' l : Option ℕ) (t u : Arena Item)
+      → Stands h s es last (Some ix) chain → old.runs ≡ open_of es → RunHere run chain → Settles ix (item_at s.nodes ix).start run.length s t
+      → new.potential ≤ old.potential + 10 → old.examined + run_finds run run.length old.runs ≤ new.examined
+      → ReadsOn (λ fs. with_run m (item_at s.nodes ix).start (all_of_run run ix) fs) (item_at s.nodes ix).start (all_of_run run ix) last t u old.runs new.runs last' l
+      → ReadFurther m text h s u es chain old new last' l (suc ix)
+  read_some run chain old new last' l t u st e r settles paid found on =
       let x = settles h es last chain r.begins.rest st r.begins.begins in
       let y = on h es r.begins.rest x.stands e in
       record {
@@ -196,6 +225,7 @@ module _ (m : Marks) (text : List ℕ) (h : Chain) (s : Arena Item) (es : List E
         whole = r.begins.whole;
         same = r.same es _ refl;
         paid = omega (arith, r.begins.fewer);
+        found = omega (arith, found, ap (λ rs. run_finds run run.length rs) e, r.finds es _ refl);
         further = r.rises;
       }
 

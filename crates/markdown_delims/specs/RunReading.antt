@@ -7,7 +7,9 @@ use Rattle.markdown_base.specs.Forest.{Forest, nil, node, first_root}
 use Rattle.markdown_base.specs.WellFormed.{RunCharacter, StandsInRun, run_character}
 use Rattle.markdown_delims.specs.declared.marks.Marks.{Marks}
 use Rattle.markdown_delims.specs.MayPair.{OpenRun}
+use Rattle.markdown_delims.specs.OpenRuns.{Openers}
 use Rattle.markdown_delims.specs.Entries.{Entry, open_of, characters, paired_from}
+use Rattle.markdown_delims.specs.EntryFinds.{finds_from}
 use Rattle.markdown_delims.specs.ChainStanding.{Chain, Stands, IsRead}
 use Rattle.markdown_delims.specs.Views.{Rises, Kept}
 
@@ -57,21 +59,22 @@ pub record CanSettle (number n : ℕ) (s : Arena Item) : Type 0 where
   pub stands : Stands chain s es last (Some number) whole
   pub begins : BeginsRun number n whole rest
 
--- a chain that was read somewhat further: the same is made of the whole
-pub record ReadFurther (m : Marks) (text : List ℕ) (h : Chain) (s t : Arena Item) (begun : List Entry) (chain : Forest Numbered) (cost cost' : ℕ) (runs' : List OpenRun) (last' l : Option ℕ) (from : ℕ) : Type 0 where
+-- a chain that was read somewhat further: the same is made of the whole, and each search that found was counted
+pub record ReadFurther (m : Marks) (text : List ℕ) (h : Chain) (s t : Arena Item) (begun : List Entry) (chain : Forest Numbered) (old new : Openers) (last' l : Option ℕ) (from : ℕ) : Type 0 where
   pub es : List Entry
   pub rest : Forest Numbered
-  pub is_read : IsRead h s t es runs' last' l rest
+  pub is_read : IsRead h s t es new.runs last' l rest
   pub whole : IsWhole text rest
   pub same : paired_from m text 0 rest es ≡ paired_from m text 0 chain begun
-  pub paid : cost' + 10 * delimiters_of rest ≤ cost + 10 * delimiters_of chain
+  pub paid : new.potential + 10 * delimiters_of rest ≤ old.potential + 10 * delimiters_of chain
+  pub found : old.examined + finds_from m text 0 chain begun ≤ new.examined + finds_from m text 0 rest es
   pub further : Rises h.touched from rest h.bound
 
 -- a tree is read: the first of the rest, or all characters of a run
-abbrev pub ReadsTree : Marks → List ℕ → ℕ → Option ℕ → Arena Item → Arena Item → List OpenRun → List OpenRun → ℕ → ℕ → Option ℕ → Option ℕ → Type 0
-ReadsTree m text ix last s t runs runs' cost cost' last' l =
-    (h : Chain) (es : List Entry) (chain : Forest Numbered) → Stands h s es last (Some ix) chain → IsWhole text chain → runs ≡ open_of es
-    → ReadFurther m text h s t es chain cost cost' runs' last' l (suc ix)
+abbrev pub ReadsTree : Marks → List ℕ → ℕ → Option ℕ → Arena Item → Arena Item → Openers → Openers → Option ℕ → Option ℕ → Type 0
+ReadsTree m text ix last s t old new last' l =
+    (h : Chain) (es : List Entry) (chain : Forest Numbered) → Stands h s es last (Some ix) chain → IsWhole text chain → old.runs ≡ open_of es
+    → ReadFurther m text h s t es chain old new last' l (suc ix)
 
 -- that there is one
 pub record CanReadTree (text : List ℕ) (ix : ℕ) (last : Option ℕ) (s : Arena Item) (runs : List OpenRun) (cost : ℕ) : Type 0 where

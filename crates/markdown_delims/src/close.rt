@@ -1,6 +1,7 @@
 //! A closer pairs for as long as it has characters and finds an opener.
 ghost use Rattle.std.specs.Prelude.{◌≡◌, ◌+◌, ◌^◌, ◌<◌, ◌≤◌, List, IfOk};
 ghost use Rattle.markdown_delims.specs.Entries.{Entry, kept, with_run};
+ghost use Rattle.markdown_delims.specs.EntryFinds.{run_finds};
 ghost use Rattle.markdown_delims.specs.ChainStanding.{CanRead, ReadsOn};
 
 use crate::marks::Marks;
@@ -24,6 +25,7 @@ fn keep(
     requires stands { CanRead start left last tree.now openers.old.runs }
     ensures ok { IfOk result (λ r. ReadsOn (λ es. kept start left es) start left last tree.now tree.now openers.old.runs openers.new.runs r.0 r.1) }
     ensures paid { openers.new.potential ≤ openers.old.potential + 10 }
+    ensures counted { openers.new.examined ≡ openers.old.examined }
 {
     // bounds the numbers
     let _nodes = tree.len();
@@ -54,6 +56,7 @@ pub fn read_run(
     requires stands { CanRead start met last tree.old openers.old.runs }
     ensures ok { IfOk result (λ r. ReadsOn (λ es. with_run marks start met es) start met last tree.old tree.new openers.old.runs openers.new.runs r.0 r.1) }
     ensures paid { openers.new.potential ≤ openers.old.potential + 10 }
+    ensures found { openers.old.examined + run_finds met.run met.count openers.old.runs ≤ openers.new.examined }
 {
     if !met.run.can_close {
         return keep(tree, openers, met, start, last);

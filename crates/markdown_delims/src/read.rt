@@ -46,7 +46,7 @@ pub fn read_tree(
     last: Option<usize>,
 ) -> Result<(Option<usize>, Option<usize>), AllocError>
     requires stands { CanReadTree text.now ix last tree.old openers.old.runs openers.old.potential }
-    ensures ok { IfOk result (λ r. ReadsTree marks text.now ix last tree.old tree.new openers.old.runs openers.new.runs openers.old.potential openers.new.potential r.0 r.1) }
+    ensures ok { IfOk result (λ r. ReadsTree marks text.now ix last tree.old tree.new openers.old openers.new r.0 r.1) }
 {
     // bounds the bytes
     let _bytes = text.len();

@@ -1,5 +1,5 @@
 -- The quotes first, and then the runs; and what that leaves in place, in the words of labels.
-use Rattle.std.proofs.Common.{◌≡◌, ℕ, List, Option, Some, refl, ap, subst, sym, ◌∙◌, arith, Ok, Err}
+use Rattle.std.proofs.Common.{◌≡◌, ℕ, List, [], Option, Some, refl, ap, subst, sym, ◌∙◌, arith, Ok, Err}
 use Rattle.std.specs.Prelude.{OnOk, Result}
 use Rattle.markdown_base.specs.Arena.{Arena}
 use Rattle.markdown_base.specs.ArenaForest.{links_of, forest_at}
@@ -9,11 +9,14 @@ use Rattle.markdown_base.specs.declared.node.Node.{Node}
 use Rattle.markdown_chains.specs.Setting.{setting_of}
 use Rattle.markdown_delims.specs.ChainForest.{IsChain, IsPaired, chain_of}
 use Rattle.markdown_delims.specs.Layers.{marks_of}
+use Rattle.markdown_delims.specs.EntryFinds.{finds_from}
 use Rattle.markdown_delims.specs.PairedChain.{CanPair}
+use Rattle.markdown_delims.specs.QuoteBodies.{quoted as quoted_chain_of}
 use Rattle.markdown_delims.specs.Quoting.{IsSpelled, IsQuoted, IsResolved}
 use Rattle.markdown_delims.specs.RunReading.{delimiters_of}
 use Rattle.markdown_delims.specs.declared.marks.Marks.{Marks}
 use Rattle.markdown_delims.proofs.PairedChainLemmas.{chain_is, pairs_chain}
+use Rattle.markdown_delims.proofs.PairingFindsLemmas.{chain_finds}
 use Rattle.markdown_delims.proofs.QuoteChainLemmas.{spelled_chain, quoted_chain, quoted_delimiters, resolved}
 use Rattle.markdown_delims.proofs.chain.pair_chain.Goals as goal
 
@@ -46,6 +49,9 @@ module _ (text bytes : List ℕ) (old quoted : Arena Item) (first : ℕ) (is : b
 
   as_many : delimiters_of (chain_of quoted.nodes trees) ≡ delimiters_of (chain_of old.nodes trees)
   as_many = quoted_delimiters bytes old quoted first trees chain quoted_is
+
+  as_often : (m : Marks) → finds_from m bytes 0 (chain_of quoted.nodes trees) [] ≡ finds_from m text 0 (quoted_chain_of (chain_of old.nodes trees)) []
+  as_often m = ap (λ g. finds_from m bytes 0 g []) quoted_is.quotes ∙ ap (λ t. finds_from m t 0 (quoted_chain_of (chain_of old.nodes trees)) []) is
 
   resolves : (m : Marks) (new : Arena Item) → ((f : Forest ℕ) → IsChain bytes quoted.nodes first f → IsPaired m bytes quoted new first f) → IsResolved m text old new first trees
   resolves m new pairs = subst (λ t. IsResolved m t old new first trees) is (resolved bytes old quoted first trees chain m new quoted_is (pairs trees can_pair))
@@ -104,6 +110,21 @@ returns-clause-examined c =
     let none : c.clear.new.self.examined ≡ 0 = ap (λ o. o.examined) c.clear.ensures in
     record { examined = c.examined.result; within = omega (arith, bound f chain, as_many, none, c.examined.ensures.value); counted = c.saturating_add-work-2.ensures })
     c.pair_runs-done.ensures.examined
+
+pub returns-clause-found : goal.returns-clause-found
+returns-clause-found c =
+    on_ok c.pair_runs-done.result
+    (λ found rules tables same.
+    let f : Forest ℕ = forest_at (links_of c.args.tree.now.nodes) (Some c.args.first) in
+    let chain = can_pair c.args.text.now c.as_bytes.result.now c.args.tree.now c.quote_chain.new.tree c.args.first c.as_bytes.ensures.value c.requires.chain c.quote_chain.ensures.quotes in
+    let marks = c.of_options-marks.ensures ∙ ap marks_of (sym same) in
+    let as_often =
+    as_often c.args.text.now c.as_bytes.result.now c.args.tree.now c.quote_chain.new.tree c.args.first c.as_bytes.ensures.value c.requires.chain c.quote_chain.ensures.quotes c.of_options-marks.result
+    ∙ ap (λ m. finds_from m c.args.text.now 0 (quoted_chain_of (chain_of c.args.tree.now.nodes f)) []) marks
+    ∙ sym (chain_finds (setting_of c.args.text.now rules) tables c.args.tree.now.nodes c.args.first c.requires.chain) in
+    let none : c.clear.new.self.examined ≡ 0 = ap (λ o. o.examined) c.clear.ensures in
+    omega (arith, found f chain, as_often, none, c.examined.ensures.value, c.saturating_add-work-2.ensures))
+    c.pair_runs-done.ensures.found
 
 pub returns-clause-counted : goal.returns-clause-counted
 returns-clause-counted c =

@@ -12,6 +12,7 @@ use Rattle.markdown_delims.specs.ChainStanding.{Chain, IsRead}
 use Rattle.markdown_delims.specs.Entries.{Entry, kept, closed_in, with_run}
 use Rattle.markdown_delims.specs.MayPair.{OpenRun}
 use Rattle.markdown_delims.proofs.CloseLemmas.{last_within}
+use Rattle.markdown_delims.proofs.EntryFindsLemmas.{finding_begin, finding_more, finding_last, finding_none}
 use Rattle.markdown_delims.proofs.ClosingLemmas.{closing_begin, can_keep, closing_none, opener_before, can_pair, closing_more, closing_used, closing_left}
 use Rattle.markdown_delims.proofs.close.read_run.Goals as goal
 
@@ -22,6 +23,7 @@ turns-init c =
       some = c.requires.some;
       bytes = refl;
       paid = omega arith;
+      found = finding_begin c.args.openers.now.examined c.args.met.run c.args.met.count c.args.openers.now.runs;
     }
 
 -- the same of a run that can close
@@ -85,6 +87,8 @@ turns-preserved c =
       some = omega arith;
       bytes = omega arith;
       paid = omega (arith, c.in-Some.ensures.paid);
+      found = finding_more _ c.turns.openers.examined c.turns.closer.run c.turns.closer.count c.turns.openers.runs c.turns.invariant.found c.turns.invariant.some c.take_nearest.new.self.examined
+          (record { opener = c.in-Some.opener; before = c.take_nearest.new.self.runs }) c.in-Some.ensures.found c.in-Some.ensures.some more c.in-Some.ensures.counted;
     }
 
 pub keep-requires-2-clause-stands : goal.keep-requires-2-clause-stands
@@ -106,3 +110,25 @@ returns-clause-ok c =
     (closing_none c.args.marks c.args.start c.args.met h es after c.args.tree.now c.turns.tree c.turns.openers.runs c.turns.at c.turns.closer c.turns.before (c.turns.invariant.goes_on h es after st runs) c.turns.invariant.some
     c.turns.tree c.take_nearest.new.self.runs c.keep-2.new.openers.runs r.0 r.1 c.in_default.ensures.missed.0 c.in_default.ensures.missed.1 next))
     c.keep-2.ensures.ok
+
+pub returns-in_err-push-clause-found : goal.returns-in_err-push-clause-found
+returns-in_err-push-clause-found c =
+    let same : c.push.new.self.examined ≡ c.take_nearest.new.self.examined = ap (λ o. o.examined) c.in_err-push.ensures.err in
+    finding_last _ c.turns.openers.examined c.turns.closer.run c.turns.closer.count c.turns.openers.runs c.turns.invariant.found c.turns.invariant.some c.push.new.self.examined
+    (record { opener = c.in-Some.opener; before = c.take_nearest.new.self.runs }) c.in-Some.ensures.found (omega (arith, c.if-closer-opener.true)) (omega (arith, same, c.in-Some.ensures.counted))
+
+pub returns-then-closer-opener-clause-found : goal.returns-then-closer-opener-clause-found
+returns-then-closer-opener-clause-found c =
+    let same : c.push.new.self.examined ≡ c.take_nearest.new.self.examined = ap (λ o. o.examined) c.in_ok-push.ensures.ok in
+    finding_last _ c.turns.openers.examined c.turns.closer.run c.turns.closer.count c.turns.openers.runs c.turns.invariant.found c.turns.invariant.some c.push.new.self.examined
+    (record { opener = c.in-Some.opener; before = c.take_nearest.new.self.runs }) c.in-Some.ensures.found (omega (arith, c.if-closer-opener.true)) (omega (arith, same, c.in-Some.ensures.counted))
+
+pub returns-then-closer-opener-2-clause-found : goal.returns-then-closer-opener-2-clause-found
+returns-then-closer-opener-2-clause-found c =
+    finding_last _ c.turns.openers.examined c.turns.closer.run c.turns.closer.count c.turns.openers.runs c.turns.invariant.found c.turns.invariant.some c.take_nearest.new.self.examined
+    (record { opener = c.in-Some.opener; before = c.take_nearest.new.self.runs }) c.in-Some.ensures.found (omega (arith, c.if-closer-opener-2.true)) c.in-Some.ensures.counted
+
+pub returns-clause-found : goal.returns-clause-found
+returns-clause-found c =
+    finding_none _ c.turns.openers.examined c.turns.closer.run c.turns.closer.count c.turns.openers.runs c.turns.invariant.found c.turns.invariant.some c.keep-2.new.openers.examined
+    c.in_default.ensures.missed.0 (omega (arith, c.keep-2.ensures.counted, c.in_default.ensures.rises))

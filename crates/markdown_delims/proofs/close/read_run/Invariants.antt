@@ -3,8 +3,10 @@ use Rattle.std.proofs.Common.{◌≡◌, ◌+◌, ◌<◌, ◌≤◌, List}
 use Rattle.markdown_base.specs.BlockTree.{Numbered}
 use Rattle.markdown_base.specs.Forest.{Forest}
 use Rattle.markdown_delims.specs.Entries.{Entry, open_of}
+use Rattle.markdown_delims.specs.EntryFinds.{run_finds}
 use Rattle.markdown_delims.specs.ChainStanding.{Chain, StandsAt}
 use Rattle.markdown_delims.proofs.ClosingLemmas.{ClosingAt}
+use Rattle.markdown_delims.proofs.EntryFindsLemmas.{StillFinds}
 use Rattle.markdown_delims.proofs.close.read_run.Given as goal
 
 abbrev pub invariant-turns : goal.invariant-turns
@@ -16,6 +18,7 @@ invariant-turns l =
       some : 0 < l.closer.count;
       bytes : l.at + l.closer.count ≡ l.fn.start + l.fn.met.count;
       paid : l.openers.potential ≤ l.fn.openers.potential;
+      found : StillFinds (l.fn.openers.examined + run_finds l.fn.met.run l.fn.met.count l.fn.openers.runs) l.openers.examined l.closer.run l.closer.count l.openers.runs;
     }
 
 abbrev pub decreases-turns : goal.decreases-turns

@@ -58,7 +58,7 @@ returns-in-None c =
     record {
       ok = λ h es chain st w r.
           rw c.next.ensures.value
-          (read_none c.args.marks c.args.text.now h c.args.tree.now es c.args.last c.args.ix chain c.args.openers.now.runs c.args.openers.now.potential st w r
+          (read_none c.args.marks c.args.text.now h c.args.tree.now es c.args.last c.args.ix chain c.args.openers.now st w r
           (ap (run_of c.args.text.now) (sym i) ∙ sym c.in-None.ensures));
     }
 
@@ -72,11 +72,10 @@ returns-in-Some c =
     record {
       ok = if_ok _ _ c.read_run.result
           (λ x on h es chain st w r.
-          read_some c.args.marks c.args.text.now h c.args.tree.now es c.args.last c.args.ix c.in-Some.run' chain c.args.openers.now.runs c.read_run.new.openers.runs
-          c.args.openers.now.potential c.read_run.new.openers.potential x.0 x.1 c.settle_run.new.tree c.read_run.new.tree st r
+          read_some c.args.marks c.args.text.now h c.args.tree.now es c.args.last c.args.ix c.in-Some.run' chain c.args.openers.now c.read_run.new.openers x.0 x.1 c.settle_run.new.tree c.read_run.new.tree st r
           (run_here c.args.marks c.args.text.now h c.args.tree.now es c.args.last c.args.ix c.in-Some.run' chain st w (ap (run_of c.args.text.now) (sym i) ∙ sym c.in-Some.ensures))
           (settles_as c.args.ix c.in-Some.run'.length _ _ c.args.tree.now c.settle_run.new.tree i c.settle_run.ensures)
-          c.read_run.ensures.paid
+          c.read_run.ensures.paid c.read_run.ensures.found
           (subst (λ (y : Item). ReadsOn (λ fs. with_run c.args.marks y.start (all_of_run c.in-Some.run' c.args.ix) fs) y.start (all_of_run c.in-Some.run' c.args.ix) c.args.last c.settle_run.new.tree c.read_run.new.tree c.args.openers.now.runs c.read_run.new.openers.runs x.0 x.1) i on))
           c.read_run.ensures.ok;
     }
