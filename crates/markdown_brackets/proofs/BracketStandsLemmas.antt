@@ -11,7 +11,7 @@ use Rattle.markdown_chains.specs.Document.{Label}
 use Rattle.markdown_chains.specs.Tables.{Tables}
 use Rattle.markdown_brackets.specs.ChainAhead.{IsChain}
 use Rattle.markdown_brackets.specs.ChainHeld.{Holds, numbers_of}
-use Rattle.markdown_brackets.proofs.FoldLemmas.{Holds-spells}
+use Rattle.markdown_brackets.proofs.HeldTreesLemmas.{Holds-spells}
 
 each_true : (f : Forest ℕ) → Each (λ ix. ⊤) f
 each_true nil = tt

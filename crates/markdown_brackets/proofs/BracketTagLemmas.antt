@@ -9,7 +9,6 @@ use Rattle.markdown_base.specs.Forest.{Forest, nil, node}
 use Rattle.markdown_base.specs.declared.item.ItemBody.{ItemBody}
 use Rattle.markdown_base.specs.declared.item.ItemBody.TheVariants as body
 use Rattle.markdown_base.specs.declared.tag.LinkType.{LinkType}
-use Rattle.markdown_base.specs.declared.tag.LinkType.TheVariants as kind
 use Rattle.markdown_chains.specs.Document.{Label, as_text}
 use Rattle.markdown_chains.specs.Labels.{retag, retagged}
 use Rattle.markdown_chains.specs.ChainRest.{begun_at, past_byte, start_of, end_of, open_body}
@@ -22,7 +21,7 @@ use Rattle.markdown_brackets.specs.LeftList.{Entry, Mark, Split, before_footnote
 use Rattle.markdown_brackets.specs.LinkTail.{LinkTail, link_tail}
 use Rattle.markdown_brackets.specs.Lookup.{LookedUp, look_up}
 use Rattle.markdown_brackets.specs.ReadChain.{Reader, closing, opened, read, read_as, read_chain, read_past}
-use Rattle.markdown_brackets.specs.Reference.{FoundLabel, Form, collapsed, form_at, is_closer, is_opener, reference, shortcut}
+use Rattle.markdown_brackets.specs.Reference.{FoundLabel, Form, form_at, is_closer, is_opener}
 use Rattle.markdown_brackets.specs.Wikilink.{Shows, WikilinkBody, has_pothole, shows_from, shows_name, shows_nothing, wikilink_body}
 
 abbrev shown_as : {A : Type 0} → WikilinkBody → Forest (Label A) → Wikilink A
@@ -112,28 +111,28 @@ module _ {A B : Type 0} (f : A → B) where
   inside_retag o = onto_retag o.after nil
 
   -- the chain after a `]` is read by its parts
-  first_retag : (rest : Forest (Label A)) → first_item (retagged f rest) ≡ first_item rest
+  pub first_retag : (rest : Forest (Label A)) → first_item (retagged f rest) ≡ first_item rest
   first_retag nil = refl
   first_retag (node a below after) = refl
 
-  second_item_retag : (rest : Forest (Label A)) → second_item (retagged f rest) ≡ second_item rest
+  pub second_item_retag : (rest : Forest (Label A)) → second_item (retagged f rest) ≡ second_item rest
   second_item_retag nil = refl
   second_item_retag (node a below after) = first_retag after
 
-  is_next_retag : (test : ItemBody → Bool) (rest : Forest (Label A)) → is_next test (retagged f rest) ≡ is_next test rest
+  pub is_next_retag : (test : ItemBody → Bool) (rest : Forest (Label A)) → is_next test (retagged f rest) ≡ is_next test rest
   is_next_retag test nil = refl
   is_next_retag test (node a below after) = refl
 
-  start_retag : (rest : Forest (Label A)) (i : ℕ) → start_of_first_past (retagged f rest) i ≡ start_of_first_past rest i
+  pub start_retag : (rest : Forest (Label A)) (i : ℕ) → start_of_first_past (retagged f rest) i ≡ start_of_first_past rest i
   start_retag nil i = refl
   start_retag (node a below after) i = ap (λ later. if nat_lt i (end_of a) then Some (start_of a) else later) (start_retag after i)
 
-  ends_at_retag : (i : ℕ) (rest : Forest (Label A)) → closer_ends_at i (retagged f rest) ≡ closer_ends_at i rest
+  pub ends_at_retag : (i : ℕ) (rest : Forest (Label A)) → closer_ends_at i (retagged f rest) ≡ closer_ends_at i rest
   ends_at_retag i nil = refl
   ends_at_retag i (node a below after) =
       ap (λ later. if nat_lt (end_of a) i then later else is_closer (open_body a.part.shape) && (end_of a == i)) (ends_at_retag i after)
 
-  past_byte_retag : (i : ℕ) (chain : Forest (Label A)) → past_byte i (retagged f chain) ≡ retagged f (past_byte i chain)
+  pub past_byte_retag : (i : ℕ) (chain : Forest (Label A)) → past_byte i (retagged f chain) ≡ retagged f (past_byte i chain)
   past_byte_retag i nil = refl
   past_byte_retag i (node a below after) = by (nat_le (end_of a) i) (past_byte_retag i after)
     where
@@ -145,7 +144,7 @@ module _ {A B : Type 0} (f : A → B) where
 
   module _ (w : Around) where
     -- what is written at an opener and its `]`
-    form_retag : (c : Closing A) → form_of w (retag_closing c) ≡ form_of w c
+    pub form_retag : (c : Closing A) → form_of w (retag_closing c) ≡ form_of w c
     form_retag c =
         ap (λ next. form_at (footnote_style w.setting.rules.options) w.skipped w.above.in_table (block_text w) (end_of c.label) next (second_item (retagged f c.rest))) (first_retag c.rest)
         ∙ ap (form_at (footnote_style w.setting.rules.options) w.skipped w.above.in_table (block_text w) (end_of c.label) (first_item c.rest)) (second_item_retag c.rest)
@@ -197,7 +196,7 @@ module _ {A B : Type 0} (f : A → B) where
     tried_retag o (footnote_label name) p = footnote_retag o name p
 
     -- one `]`
-    opener_retag : (c : Closing A) (o : Option (Split A)) (p : Progress A)
+    pub opener_retag : (c : Closing A) (o : Option (Split A)) (p : Progress A)
         → opener_tried w (retag_closing c) (option_map retag_split o) (retag_progress f p) ≡ retag_decision (opener_tried w c o p)
     opener_retag c None p = refl
     opener_retag c (Some o) p = by (is_live o.mark.bracket)
@@ -207,7 +206,7 @@ module _ {A B : Type 0} (f : A → B) where
         by true = ap (λ x. tried w (retag_split o) x (retag_progress f p)) (written_retag c o) ∙ tried_retag o (written w c o) p
         by false = refl
 
-    one_retag : (c : Closing A) (p : Progress A) → one_decided w (retag_closing c) (retag_progress f p) ≡ retag_decision (one_decided w c p)
+    pub one_retag : (c : Closing A) (p : Progress A) → one_decided w (retag_closing c) (retag_progress f p) ≡ retag_decision (one_decided w c p)
     one_retag c p =
         ap (λ o. opener_tried w (retag_closing c) o (record (retag_progress f p) { left = bracket_taken (retag_left f p.left) })) (nearest_retag opens_bracket p.left)
         ∙ ap (λ l. opener_tried w (retag_closing c) (option_map retag_split (nearest opens_bracket p.left)) (record (retag_progress f p) { left = l })) (change_retag opens_bracket without_bracket p.left)
@@ -235,11 +234,11 @@ module _ {A B : Type 0} (f : A → B) where
     body_retag first trees end (Some b) =
         ap (option_map (shown_as b)) (children_retag first trees end b.shows) ∙ shown_retag b (children_of w first trees end b.shows)
 
-    wikilink_in_retag : (trees : Forest (Label A)) (end : ℕ) → wikilink_in w (retagged f trees) end ≡ option_map retag_wikilink (wikilink_in w trees end)
+    pub wikilink_in_retag : (trees : Forest (Label A)) (end : ℕ) → wikilink_in w (retagged f trees) end ≡ option_map retag_wikilink (wikilink_in w trees end)
     wikilink_in_retag nil end = refl
     wikilink_in_retag (node first below after) end = body_retag first (node first below after) end (wikilink_body w.setting.text (start_of first) end)
 
-    past_second_retag : (trees : Forest (Label A)) → past_second (retagged f trees) ≡ retagged f (past_second trees)
+    pub past_second_retag : (trees : Forest (Label A)) → past_second (retagged f trees) ≡ retagged f (past_second trees)
     past_second_retag nil = refl
     past_second_retag (node a below after) = refl
 
@@ -268,7 +267,7 @@ module _ {A B : Type 0} (f : A → B) where
         ap (λ found. wikilink_or_one w (retag_closing c) end (retag_split o) found (retag_progress f p)) (found_retag (is_live o.mark.wikilink) o (start_of c.label))
         ∙ or_one_retag c end o (if is_live o.mark.wikilink then wikilink_in w (past_second (inside o)) (start_of c.label) else None) p
 
-    wikilink_opener_retag : (left : List (Entry A)) → wikilink_opener (retag_left f left) ≡ option_map retag_split (wikilink_opener left)
+    pub wikilink_opener_retag : (left : List (Entry A)) → wikilink_opener (retag_left f left) ≡ option_map retag_split (wikilink_opener left)
     wikilink_opener_retag left =
         ap (nearest opens_wikilink) (change_retag opens_bracket without_bracket left) ∙ nearest_retag opens_wikilink (bracket_taken left)
 
@@ -289,7 +288,7 @@ module _ {A B : Type 0} (f : A → B) where
     unfolding decided
     decided_retag c p = before_retag c c.rest p
 
-    footnote_onto_retag : (c : Closing A) (is_image : Bool) (opener : Label A) (name : List ℕ) (left : List (Entry A))
+    pub footnote_onto_retag : (c : Closing A) (is_image : Bool) (opener : Label A) (name : List ℕ) (left : List (Entry A))
         → footnote_onto w (retag_closing c) is_image (retag f opener) name (retag_left f left) ≡ retag_left f (footnote_onto w c is_image opener name left)
     footnote_onto_retag c true opener name left = refl
     footnote_onto_retag c false opener name left = refl
@@ -311,7 +310,12 @@ module _ {A B : Type 0} (f : A → B) where
     unfolding closed
     closed_retag c p = ap (put_decided w (retag_closing c)) (decided_retag c p) ∙ put_retag c (decided w c p).becomes (decided w c p).progress
 
-    opened_retag : (is_image : Bool) (a : Label A) (rest : Forest (Label A)) (p : Progress A)
+    -- a `]` of a chain
+    pub closing_retag : (could : Bool) (a : Label A) (rest : Forest (Label A)) (p : Progress A)
+        → closed w (closing could (retag f a) (retagged f rest) (retag_progress f p)) (retag_progress f p) ≡ retag_progress f (closed w (closing could a rest p) p)
+    closing_retag could a rest p = closed_retag (closing could a rest p) p
+
+    pub opened_retag : (is_image : Bool) (a : Label A) (rest : Forest (Label A)) (p : Progress A)
         → opened w is_image (retag f a) (retagged f rest) (retag_progress f p) ≡ retag_progress f (opened w is_image a rest p)
     opened_retag is_image a rest p =
         ap (λ b. record (retag_progress f p) {
@@ -321,14 +325,14 @@ module _ {A B : Type 0} (f : A → B) where
 
     -- a chain
     module _ (others : Reader A) (others' : Reader B) (follows : Follows f others others') where
-      read_as_retag : (b : ItemBody) (a : Label A) (below rest : Forest (Label A)) (p : Progress A)
+      pub read_as_retag : (b : ItemBody) (a : Label A) (below rest : Forest (Label A)) (p : Progress A)
           → read_as w others' b (retag f a) (retagged f below) (retagged f rest) (retag_progress f p) ≡ retag_progress f (read_as w others b a below rest p)
       read_as_retag body.MaybeLinkOpen a below rest p = opened_retag false a rest p
       read_as_retag body.MaybeImage a below rest p = opened_retag true a rest p
       read_as_retag (body.MaybeLinkClose could) a below rest p = closed_retag (closing could a rest p) p
       read_as_retag other a below rest p = follows a below rest p
 
-      read_past_retag : (goes_on : Option ℕ) (a : Label A) (below rest : Forest (Label A)) (p : Progress A)
+      pub read_past_retag : (goes_on : Option ℕ) (a : Label A) (below rest : Forest (Label A)) (p : Progress A)
           → read_past w others' goes_on (retag f a) (retagged f below) (retagged f rest) (retag_progress f p) ≡ retag_progress f (read_past w others goes_on a below rest p)
       read_past_retag None a below rest p = read_as_retag (open_body a.part.shape) a below rest p
       read_past_retag (Some i) a below rest p = by (nat_le (end_of a) i)

@@ -7,11 +7,14 @@ use Rattle.markdown_base.specs.Questions.{Question, Answer}
 use Rattle.markdown_base.specs.declared.item.Item.{Item}
 use Rattle.markdown_base.specs.declared.node.Node.{Node}
 use Rattle.markdown_chains.specs.ChainRest.{end_of}
-use Rattle.markdown_brackets.specs.BracketDecision.{Around, Closing, Decision, a_wikilink}
+use Rattle.markdown_chains.specs.Setting.{Known}
+use Rattle.markdown_brackets.specs.BracketDecision.{Around, Closing, Decision, Progress, a_wikilink}
 use Rattle.markdown_brackets.specs.Decides.{Decides, StandsBefore, TakesNone, TakesOne}
 use Rattle.markdown_brackets.specs.DecisionView.{knowing, opener_of}
-use Rattle.markdown_brackets.specs.LeftList.{Entry, Split, nearest, opens_bracket, bracket_taken, wikilink_taken, brackets_of}
+use Rattle.markdown_brackets.specs.Finish.{SplitsAs}
+use Rattle.markdown_brackets.specs.LeftList.{Entry, Split, nearest, opens_bracket, without_bracket, bracket_taken, wikilink_taken, brackets_of}
 use Rattle.markdown_brackets.specs.Openers.{Waiting}
+use Rattle.markdown_brackets.specs.ReadChain.{begun}
 use Rattle.markdown_brackets.specs.StandsAt.{AreTaken, ComesToOpener, TriesOpener}
 use Rattle.markdown_brackets.specs.declared.closing_bracket.ClosedBracket.{ClosedBracket}
 use Rattle.markdown_brackets.specs.declared.openers.Opener.{Opener}
@@ -19,6 +22,7 @@ use Rattle.markdown_brackets.specs.declared.spent_ends.SpentEnds.{SpentEnds}
 use Rattle.markdown_brackets.proofs.AheadOfBracketLemmas.{same_start, same_end}
 use Rattle.markdown_brackets.proofs.BracketStandsLemmas.{found_at}
 use Rattle.markdown_brackets.proofs.OpenerHeldLemmas.{TopBracket, SplitsAt, brackets_stay, splits_at, top_bracket, wikilinks_stay}
+use Rattle.markdown_brackets.proofs.SplitLemmas.{opener_splits, taken_splits}
 use Rattle.markdown_brackets.proofs.TakeWikilinkLemmas.{closer_found, first_of, opener_holds, rest_brackets, rest_found, rest_of}
 
 -- what is left of a stack whose top was taken off
@@ -40,6 +44,7 @@ module _ {C : Type 0} (step : C → Question → Option Answer → C → Type 0)
     becomes = a_wikilink t.opener t.wikilink t.end;
     is = t.is;
     left_then = wikilink_taken (bracket_taken left);
+    splits = t.splits;
     more = [];
     decides = λ p later.
         t.decides (knowing limit later uses p)
@@ -59,6 +64,12 @@ module _ {C : Type 0} (step : C → Question → Option Answer → C → Type 0)
     becomes = h.comes.becomes;
     is = h.comes.is;
     left_then = bracket_taken t.left_then;
+    splits =
+        let none : Known = record { limit = 0; answers = []; uses = λ name. 0 } in
+        let start : Progress ℕ = begun none in
+        subst (λ becomes. SplitsAs (bracket_taken t.left_then) becomes) (ap (λ (d : Decision ℕ). d.becomes) (h.comes.comes start []))
+        (opener_splits w c (bracket_taken t.left_then) (nearest opens_bracket t.left_then) (knowing limit (h.comes.answers ++ []) uses start)
+        (taken_splits opens_bracket without_bracket t.left_then));
     more = h.more;
     decides = λ p later.
         t.decides (knowing limit (h.comes.answers ++ later) uses p)

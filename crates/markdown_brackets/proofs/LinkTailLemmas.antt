@@ -1,6 +1,7 @@
 -- The tail of a link, from its parts.
-use Rattle.std.proofs.Common.{◌≡◌, ℕ, ◌+◌, ◌==◌, Bool, true, false, List, [], Option, Some, None, cond, sym, ◌∙◌, ap, subst, drop}
+use Rattle.std.proofs.Common.{◌≡◌, ℕ, ◌+◌, ◌==◌, Bool, true, false, List, [], Option, Some, None, ◌≤◌, cond, length, sym, ◌∙◌, ap, subst, drop}
 use Rattle.std.specs.Prelude.{slice_index, if◌then◌else◌}
+use Rattle.std.proofs.lemmas.List.{get_or_past}
 use Rattle.markdown_base.specs.CowText.{text_of, IsBorrowed}
 use Rattle.markdown_base.specs.declared.cow_str.CowStr.{CowStr}
 use Rattle.markdown_scan.specs.Destination.{destination}
@@ -48,3 +49,10 @@ module _ (in_table : Bool) (skipped : List ℕ → Option ℕ) (starts : ℕ →
       ap (λ b. cond b (after_destination skipped starts text (past_separator skipped text (at + 1)) (destination max_nesting (drop (past_separator skipped text (at + 1)) text))) None) opens
       ∙ ap (after_destination skipped starts text (past_separator skipped text (at + 1))) e in
       subst Reads (sym here) (titled next (title_at starts text next) part)
+
+-- no tail stands past the text's end
+pub tail_past_end : (skipped : List ℕ → Option ℕ) (starts : ℕ → Option ℕ) (text : List ℕ) (at : ℕ) → length text ≤ at → link_tail skipped starts text at ≡ None
+tail_past_end skipped starts text at past =
+    ap (λ (b : ℕ). cond (b == 40)
+    (after_destination skipped starts text (past_separator skipped text (at + 1)) (destination max_nesting (drop (past_separator skipped text (at + 1)) text))) None)
+    (get_or_past text at 0 past)

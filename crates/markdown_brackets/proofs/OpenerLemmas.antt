@@ -1,9 +1,11 @@
 -- A stack of openers as the list for which it stands.
-use Rattle.std.proofs.Common.{◌≡◌, ℕ, suc, zero, ◌+◌, ◌-◌, ◌<◌, ◌≤◌, Bool, true, false, ◌&&◌, List, [], ◌∷◌, ◌++◌, length, get_or, take, map, min, cond, nat_le, arith, refl, sym, ◌∙◌, ap, reverse, subst}
+use Rattle.std.proofs.Common.{◌≡◌, ℕ, suc, zero, ◌+◌, ◌-◌, ◌<◌, ◌≤◌, Bool, true, false, ◌&&◌, List, [], ◌∷◌, ◌++◌, Some, length, get_or, take, map, min, cond, nat_le, arith, refl, sym, ◌∙◌, ap, reverse, subst}
 use Rattle.std.proofs.lemmas.Bool.{leb-true}
 use Rattle.std.proofs.lemmas.Bool.Decides.{nat_tests}
-use Rattle.std.proofs.lemmas.List.{reverse-append, map-append, take_more}
-use Rattle.markdown_brackets.specs.Openers.{Waiting, live, disabled, before}
+use Rattle.std.proofs.lemmas.List.{reverse-append, map-append, take_more, take_all}
+use Rattle.std.proofs.lemmas.Option.{slice_get-get_or}
+use Rattle.std.specs.List.{slice_get}
+use Rattle.markdown_brackets.specs.Openers.{Waiting, live, disabled, before, first_opener}
 use Rattle.markdown_brackets.specs.OpenerStack.{marked, waiting}
 use Rattle.markdown_brackets.specs.declared.openers.Opener.{Opener}
 
@@ -109,10 +111,10 @@ and_true false = refl
 pub waiting_image : (openers : List Opener) (o : Opener) → waiting (suc (length openers)) (openers ++ o ∷ []) ≡ record { opener = o; is_live = o.is_image } ∷ waiting (length openers) openers
 waiting_image openers o = waiting_disabled openers o ∙ ap (λ b. record { opener = o; is_live = b } ∷ waiting (length openers) openers) (and_true o.is_image)
 
-le_true : (a b : ℕ) → a ≤ b → nat_le a b ≡ true
+pub le_true : (a b : ℕ) → a ≤ b → nat_le a b ≡ true
 le_true a b h = grind (arith, nat_tests)
 
-lt_false : (a b : ℕ) → b < a → nat_le a b ≡ false
+pub lt_false : (a b : ℕ) → b < a → nat_le a b ≡ false
 lt_false a b h = grind (arith, nat_tests)
 
 -- of the first k + 1 openers the last goes
@@ -152,3 +154,18 @@ nearest_stays node n left openers d some within lt =
     let P : ℕ → Type 0 = λ m. before node (waiting n (take m openers)) ≡ waiting n (take m openers) in
     let same : left - 1 + 1 ≡ left = omega arith in
     subst P same (last_stays node n (left - 1) openers d (omega arith) lt)
+
+-- the nearest is the last
+first_last : (n : ℕ) (openers : List Opener) (o : Opener) → first_opener (waiting n (openers ++ o ∷ [])) ≡ Some o
+first_last n openers o = let l = waiting_last n openers o in ap first_opener l.stands ∙ ap (λ (p : Opener). Some p) l.is_it
+
+pub nearest_is : (n : ℕ) (openers : List Opener) → slice_get openers (length openers - 1) ≡ first_opener (waiting n openers)
+nearest_is n [] = refl
+nearest_is n (x ∷ openers) =
+    let all : List Opener = x ∷ openers in
+    let k : ℕ = length openers in
+    let within : k < length all = omega arith in
+    let last : length all - 1 ≡ k = omega arith in
+    let whole : length all ≤ k + 1 = omega arith in
+    ap (slice_get all) last ∙ slice_get-get_or all k x within ∙ sym (first_last n (take k all) (get_or all k x))
+    ∙ ap (λ (l : List Opener). first_opener (waiting n l)) (sym (take_more all k x within) ∙ take_all (k + 1) all whole)

@@ -17,6 +17,7 @@ use Rattle.markdown_brackets.specs.BracketOptions.{wikilinks_on}
 use Rattle.markdown_brackets.specs.ChainHeld.{Holds, numbers_of, times_of}
 use Rattle.markdown_brackets.specs.Decides.{StandsBefore, TakesNone, TakesWikilink}
 use Rattle.markdown_brackets.specs.DecisionView.{opener_of}
+use Rattle.markdown_brackets.specs.Finish.{IsSplit}
 use Rattle.markdown_brackets.specs.LeftList.{Entry, Split, inside, is_live, nearest, opens_bracket, opens_wikilink, without_bracket, without_wikilink, bracket_taken, wikilink_taken, brackets_of, wikilinks_of, trees_onto}
 use Rattle.markdown_brackets.specs.Openers.{Waiting}
 use Rattle.markdown_brackets.specs.Reference.{is_closer}
@@ -26,8 +27,9 @@ use Rattle.markdown_brackets.specs.declared.closing_bracket.ClosedBracket.TheVar
 use Rattle.markdown_brackets.specs.declared.openers.Opener.{Opener}
 use Rattle.markdown_brackets.proofs.AheadOfBracketLemmas.{same_start, same_end, same_closer}
 use Rattle.markdown_brackets.proofs.BracketStandsLemmas.{Found, found_after, found_at, height_found}
-use Rattle.markdown_brackets.proofs.FoldLemmas.{Holds-from, height-later, total-onto, total-joined}
+use Rattle.markdown_brackets.proofs.HeldTreesLemmas.{Holds-from, height-later, total-onto, total-joined}
 use Rattle.markdown_brackets.proofs.OpenerHeldLemmas.{TopBracket, TopWikilink, top_bracket, top_wikilink, wikilinks_stay, brackets_stay, trees_stay, splits_at, SplitsAt, onto_joined}
+use Rattle.markdown_brackets.proofs.SplitLemmas.{taken_splits}
 
 -- a stack that was not empty
 abbrev pub rest_of : List Waiting → List Waiting
@@ -219,6 +221,9 @@ module _ (nodes : List (Node Item)) (closer : ℕ) (left : List (Entry ℕ)) (c 
                     ap rest_of none ∙ sym none
             by (Some o) q h = inner (if is_live o.mark.wikilink then wikilink_in w (past_second (inside o)) (start_of c.label) else None) refl r h
               where
+                splits : IsSplit (wikilink_taken (bracket_taken left)) o
+                splits = subst (λ o. IfSome o (IsSplit (wikilink_taken (bracket_taken left)))) q (taken_splits opens_wikilink without_wikilink (bracket_taken left))
+
                 inner : (x : Option (Wikilink ℕ)) → (if is_live o.mark.wikilink then wikilink_in w (past_second (inside o)) (start_of c.label) else None) ≡ x
                     → (r : Option ClosedBracket) → IsWikilink w (opener_of o) end (past_second (inside o)) x r → TakesWikilink w c left new r
                 inner None e None h = record {
@@ -240,6 +245,7 @@ module _ (nodes : List (Node Item)) (closer : ℕ) (left : List (Entry ℕ)) (c 
                   wikilink = v;
                   end = end;
                   held_is = new_is ∙ (ap rest_of (sym (wikilinks_stay left)) ∙ rest_wikilinks (bracket_taken left));
+                  splits = splits;
                   decides = λ p. tried_two (record p { left = left })
                       ∙ (ap (λ o. wikilink_tried w c end o (record p { left = left })) q
                       ∙ ap (λ x. wikilink_or_one w c end o x (record p { left = left })) e);

@@ -1,14 +1,14 @@
 -- Steps of the scan of a title: what the whole has is what was read, and then what the rest has.
 use Rattle.std.proofs.Common.{◌≡◌, ℕ, suc, zero, ◌+◌, ◌-◌, ◌<◌, ◌≤◌, Bool, true, false, ◌||◌, ◌==◌, cond, List, [], ◌∷◌, ◌++◌, Option, Some, None, length, get_or, take, drop, slice_range, refl, sym, ◌∙◌, ap, subst, arith, append_assoc}
 use Rattle.std.specs.Option.{option_map}
-use Rattle.std.proofs.lemmas.List.{append-nil, drop_more, take_more, get_or-drop, length-drop, drop-drop}
+use Rattle.std.proofs.lemmas.List.{append-nil, drop_all, drop_more, take_more, get_or-drop, length-drop, drop-drop}
 use Rattle.std.proofs.lemmas.Bool.Decides.{nat_tests}
 use Rattle.markdown_base.specs.CowText.{text_of, IsBorrowed}
 use Rattle.markdown_base.specs.declared.cow_str.CowStr.{CowStr}
 use Rattle.markdown_scan.specs.Backslash.{backslash, is_bare}
 use Rattle.markdown_scan.specs.LineEnd.{line_feed, carriage_return}
 use Rattle.markdown_brackets.specs.LinkTitle.{Title, title_from, after_text, refuses, next_line, byte_shown, is_line, passed_with, start_past}
-use Rattle.markdown_brackets.specs.TitleView.{BorrowsTitle}
+use Rattle.markdown_brackets.specs.TitleView.{BorrowsTitle, ReadsTitle}
 
 -- bytes that are left out
 title_skip : (starts : ℕ → Option ℕ) (closer i : ℕ) (escaped : Bool) (n : ℕ) (bytes : List ℕ) → title_from starts closer i escaped n bytes ≡ title_from starts closer (i + n) escaped 0 (drop n bytes)
@@ -94,6 +94,25 @@ whole_past_line whole starts closer i escaped so joined text start was here bare
     ∙ ap (option_map (after_text (so ++ line_feed ∷ []) true)) (title_skip starts closer (i + 1) e (start - (i + 1)) (drop (i + 1) text))
     ∙ ap (λ (bytes : List ℕ). option_map (after_text (so ++ line_feed ∷ []) true) (title_from starts closer (i + 1 + (start - (i + 1))) e 0 bytes)) (drop-drop (start - (i + 1)) (i + 1) text)
     ∙ ap (λ (k : ℕ). option_map (after_text (so ++ line_feed ∷ []) true) (title_from starts closer k e 0 (drop k text))) place
+
+-- nothing, where that line starts past the text's end
+nothing_left : (starts : ℕ → Option ℕ) (closer i : ℕ) (escaped : Bool) (so : List ℕ) (joined : Bool) (rest : List ℕ) → rest ≡ []
+    → option_map (after_text so joined) (title_from starts closer i escaped 0 rest) ≡ None
+nothing_left starts closer i escaped so joined rest e = ap (λ (bytes : List ℕ). option_map (after_text so joined) (title_from starts closer i escaped 0 bytes)) e
+
+pub whole_past_end : (whole : Option Title) (starts : ℕ → Option ℕ) (closer i : ℕ) (escaped : Bool) (so : List ℕ) (joined : Bool) (text : List ℕ) (start : ℕ)
+    → whole ≡ option_map (after_text so joined) (title_from starts closer i escaped 0 (drop i text)) → i < length text
+    → is_bare escaped (get_or text i 0) closer ≡ false → refuses closer escaped (get_or text i 0) ≡ false → next_line starts i (get_or text i 0) ≡ Some start → i < start
+    → length text ≤ start → whole ≡ None
+whole_past_end whole starts closer i escaped so joined text start was here bare refused is later past =
+    whole_past_line whole starts closer i escaped so joined text start was here bare refused is later
+    ∙ nothing_left starts closer start (is_bare escaped (get_or text i 0) backslash) (so ++ line_feed ∷ []) true (drop start text) (drop_all start text past)
+
+pub ReadsTitle-none : (in_table : Bool) (whole : Option Title) → whole ≡ None → ReadsTitle in_table whole None
+ReadsTitle-none in_table whole e = subst (λ (t : Option Title). ReadsTitle in_table t None) (sym e) tt
+
+pub BorrowsTitle-none : (whole : Option Title) (found : Option (ℕ × CowStr)) → whole ≡ None → BorrowsTitle whole found
+BorrowsTitle-none whole found e = subst (λ (t : Option Title). BorrowsTitle t found) (sym e) tt
 
 -- what starts later is asked of what ends past the next byte alone
 pub next_line_same : (starts starts' : ℕ → Option ℕ) (i b : ℕ) → starts (i + 1) ≡ starts' (i + 1) → next_line starts i b ≡ next_line starts' i b

@@ -1,5 +1,7 @@
 -- An inline link's tail is what is written, and where there is none, a reference is.
-use Rattle.std.proofs.Common.{rules, ◌≡◌, ℕ, Bool, List, Option, Some, None, Result, Ok, Err, take}
+use Rattle.std.proofs.Common.{rules, ◌≡◌, ℕ, ◌<◌, ◌≤◌, Bool, List, Option, Some, None, Result, Ok, Err, get_or, length, min, take, arith, sym, subst}
+use Rattle.std.proofs.lemmas.List.{get_or-take, length-take}
+use Rattle.std.specs.Str.{IsCharBoundary}
 use Rattle.std.specs.Prelude.{IfOk, OnOk, slice_range}
 use Rattle.markdown_base.specs.declared.item.Item.{Item}
 use Rattle.markdown_base.specs.declared.node.Node.{Node}
@@ -13,6 +15,7 @@ use Rattle.markdown_brackets.specs.WrittenView.{IsRead}
 use Rattle.markdown_brackets.specs.declared.link_tail.LinkTail.{LinkTail}
 use Rattle.markdown_brackets.specs.declared.written.Written.{Written}
 use Rattle.markdown_brackets.specs.declared.written.Written.TheVariants.{Inline}
+use Rattle.markdown_brackets.proofs.LinkTailLemmas.{tail_past_end}
 
 pub read_tail : (in_table : Bool) (other : decision.Written) (t : Option scanned.LinkTail) (found : LinkTail) → ReadsTail in_table t (Some found)
     → IsRead in_table (tail_or other t) (Inline found)
@@ -47,3 +50,26 @@ ok_with (Err e) P G Q h k f = tt
 pub ok_both : {X E : Type 0} (r : Result X E) (P Q G : X → Type 0) → IfOk r P → IfOk r Q → ((x : X) → P x → Q x → G x) → IfOk r G
 ok_both (Ok x) P Q G h k f = f x h k
 ok_both (Err e) P Q G h k f = tt
+
+-- what is a boundary of a text is one of its beginning too
+pub boundary_within : (text : List ℕ) (end s : ℕ) → IsCharBoundary text s → s ≤ end → IsCharBoundary (take end text) s
+boundary_within text end s h le =
+    let size : length (take end text) ≡ min end (length text) = length-take end text in (
+      omega (arith, size, h.0, le),
+      λ inside high.
+          let before : s < end = omega (arith, inside, size) in
+          let all : s < length text = omega (arith, inside, size) in
+          let same : get_or (take end text) s 0 ≡ get_or text s 0 = get_or-take end text s 0 before in
+          subst (λ b. 192 ≤ b) (sym same) (h.1 all (subst (λ b. 128 ≤ b) same high)),
+    )
+
+pub within_taken : (text : List ℕ) (end s : ℕ) → s ≤ length (take end text) → s ≤ end
+within_taken text end s h = omega (arith, h, length-take end text)
+
+pub taken_past : (text : List ℕ) (end at : ℕ) → end < at → length (take end text) ≤ at
+taken_past text end at h = omega (arith, h, length-take end text)
+
+-- where no tail stands
+pub no_tail : (in_table : Bool) (skipped : List ℕ → Option ℕ) (starts : ℕ → Option ℕ) (text : List ℕ) (at : ℕ) → length text ≤ at
+    → ReadsTail in_table (link_tail skipped starts text at) None
+no_tail in_table skipped starts text at past = subst (λ (t : Option scanned.LinkTail). ReadsTail in_table t None) (sym (tail_past_end skipped starts text at past)) tt

@@ -6,7 +6,7 @@ use Rattle.markdown_base.specs.Forest.{Forest, nil, node, Each, relabelled}
 use Rattle.markdown_base.specs.declared.item.Item.{Item}
 use Rattle.markdown_base.specs.declared.node.Node.{Node}
 use Rattle.markdown_chains.specs.Document.{Label, Plain, part_of}
-use Rattle.markdown_chains.specs.Places.{IsPlaced, IsSameAt}
+use Rattle.markdown_chains.specs.Places.{IsPlaced}
 use Rattle.markdown_chains.specs.Tables.{Tables}
 use Rattle.markdown_chains.specs.Totals.{total, same}
 
@@ -37,11 +37,3 @@ link_to (node a below after) = Some a.tag
 -- all their nodes are placed
 abbrev pub ArePlaced : List ℕ → Tables → List (Node Item) → Forest (Label ℕ) → Type 0
 ArePlaced source tables nodes f = Each (IsPlaced source tables nodes) (numbers_of f)
-
--- one node has this item and these links, and all others are as they were
-pub record IsWritten (old new : List (Node Item)) (ix : ℕ) (item : Item) (child next : Option ℕ) : Type 0 where
-  pub size : length new ≡ length old
-  pub item_is : item_at new ix ≡ item
-  pub child_is : child_of new ix ≡ child
-  pub next_is : sibling_of new ix ≡ next
-  pub others : (j : ℕ) → (j ≡ ix → ⊥) → IsSameAt old new j

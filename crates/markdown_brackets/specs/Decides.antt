@@ -12,6 +12,7 @@ use Rattle.markdown_spans.specs.Callback.{Asks}
 use Rattle.markdown_brackets.specs.BracketDecision.{Around, Becomes, a_wikilink, Closing, Progress, Wikilink, decided, one_decided}
 use Rattle.markdown_brackets.specs.ChainHeld.{Holds, numbers_of, times_of}
 use Rattle.markdown_brackets.specs.DecisionView.{IsBecome, knowing}
+use Rattle.markdown_brackets.specs.Finish.{IsSplit, SplitsAs}
 use Rattle.markdown_brackets.specs.LeftList.{Entry, Split, bracket_taken, wikilink_taken, brackets_of, wikilinks_of, trees_onto}
 use Rattle.markdown_brackets.specs.Openers.{Waiting}
 use Rattle.markdown_brackets.specs.ReadChain.{among}
@@ -50,6 +51,7 @@ pub record TakesOne (w : Around) (c : Closing ℕ) (left : List (Entry ℕ)) (he
   pub wikilink : Wikilink ℕ
   pub end : ℕ
   pub held_is : held ≡ wikilinks_of (wikilink_taken (bracket_taken left))
+  pub splits : IsSplit (wikilink_taken (bracket_taken left)) opener
   pub decides : (p : Progress ℕ) → decided w c (record p { left = left })
       ≡ record { becomes = a_wikilink opener wikilink end; progress = record p { left = wikilink_taken (bracket_taken left) } }
   pub is : IsBecome w (a_wikilink opener wikilink end) found
@@ -69,6 +71,7 @@ pub record Decides {C : Type 0} (step : C → Question → Option Answer → C �
   pub becomes : Becomes ℕ
   pub is : IsBecome w becomes found
   pub left_then : List (Entry ℕ)
+  pub splits : SplitsAs left_then becomes
   pub more : List ℕ
   pub decides : (p : Progress ℕ) (later : Answers)
       → decided w c (knowing limit (answers ++ later) uses (record p { left = left }))

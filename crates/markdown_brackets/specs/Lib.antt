@@ -36,8 +36,9 @@ pub mod WrittenView
 pub mod WikilinkNodes
 pub mod DecisionView
 pub mod StandsAt
+pub mod Finish
 pub mod Decides
-pub mod FoldedChain
 -- for private clauses
+pub mod SecondBracket
 pub mod TitleText
 pub mod TitlePart

@@ -1,11 +1,15 @@
 -- Openers `[` and `![` that wait for a `]`, the nearest first.
-use Rattle.std.specs.Prelude.{ℕ, Bool, true, ◌&&◌, if◌then◌else◌, List, [], ◌∷◌, map, nat_le}
+use Rattle.std.specs.Prelude.{ℕ, Bool, true, ◌&&◌, if◌then◌else◌, List, [], ◌∷◌, map, nat_le, Option, Some, None}
 use Rattle.markdown_brackets.specs.declared.openers.Opener.{Opener}
 
 -- an opener, and whether it may still become a link
 pub record Waiting : Type 0 where
   pub opener : Opener
   pub is_live : Bool
+
+abbrev pub first_opener : List Waiting → Option Opener
+first_opener [] = None
+first_opener (w ∷ waiting) = Some w.opener
 
 -- it has just been met
 abbrev pub live : Opener → Waiting

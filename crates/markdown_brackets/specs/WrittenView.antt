@@ -56,15 +56,14 @@ abbrev pub EndsBehind : ℕ → Form → Type 0
 EndsBehind at (reference label end) = at < end
 EndsBehind at other = Unit {0}
 
--- it can be read: the `]` stands in a chain; it, and each item after it, ends in the block's text; the opener's `[` stands
--- before it
+-- it can be read: the `]` stands in a chain; it ends between characters, and each item after it starts there; the opener's
+-- `[` stands before it
 pub record CanRead (nodes : List (Node Item)) (place : BracketPlace) (closer start : ℕ) : Type 0 where
   pub within : closer < length nodes
   pub chain : IsChain nodes (sibling_of nodes closer)
   pub block : IsCharBoundary place.text.now place.block_end
-  pub here : IsCharBoundary (take place.block_end place.text.now) (item_at nodes closer).end
   pub later : (n s : ℕ) → starts_from nodes (sibling_of nodes closer) n ≡ Some s
-      → IsCharBoundary (take place.block_end place.text.now) s
+      → IsCharBoundary place.text.now s
   pub some : 0 < (item_at nodes closer).end
   pub opens : IsCharBoundary place.text.now start
   pub closes : IsCharBoundary place.text.now (item_at nodes closer).end

@@ -140,6 +140,8 @@ fn find_footnote<'a>(
         ≡ (if is_match (text_of name.entry) other
         then option_map used_once_more (footnote_at footnotes.old (text_of name.entry))
         else footnote_at footnotes.old other)) }
+    ensures names { (label : List ℕ)
+        → is_some (footnote_at footnotes.new label) ≡ is_some (footnote_at footnotes.old label) }
     ensures refused { IfErr result (λ fault. fault ≡ Fault.Memory) }
 {
     if use_footnote(footnotes, style, name.as_str())? {
@@ -171,6 +173,8 @@ pub(crate) fn find_written<'a, F: BrokenLinkCallback<'a>>(
     ensures spent { IfOk result (λ _. (in_table : Bool) (x : decision.Written) → IsRead in_table x written.entry
         → (end : ℕ) → is_spent spent.new end ≡ (among end (spent_in x) || is_spent spent.old end)) }
 
+    ensures names { (label : List ℕ)
+        → is_some (footnote_at footnotes.new label) ≡ is_some (footnote_at footnotes.old label) }
     ensures again { IfSome callback.new F.can_ask }
     ensures refused { IfErr result (λ fault. fault ≡ Fault.Memory) }
     ensures nothing_asked { OnErr result (callback.new ≡ callback.old) }

@@ -3,6 +3,7 @@ ghost use Rattle.std.specs.Prelude.{◌≡◌, ◌<◌, ◌&&◌, ℕ, Bool, Lis
 ghost use Rattle.markdown_base.specs.declared.fault.Fault.{Fault};
 ghost use Rattle.markdown_base.specs.declared.item.ItemBody.{ItemBody};
 ghost use Rattle.markdown_chains.specs.Setting.{uses_of};
+ghost use Rattle.markdown_spans.specs.Footnotes.{footnote_at};
 ghost use Rattle.markdown_brackets.specs.BracketDecision.{Around, Closing};
 ghost use Rattle.markdown_brackets.specs.DecisionView.{around_at};
 ghost use Rattle.markdown_brackets.specs.Decides.{Decides, EachOpener, StandsBefore, TakesWikilink};
@@ -56,6 +57,8 @@ pub fn try_opener<'a, R: LineRule, F: BrokenLinkCallback<'a>>(
         (is_some callback.old)) c o limit.old limit.new (uses_of footnotes.old) (uses_of footnotes.new)
         spent.old spent.new callback.old callback.new found) }
 
+    ensures names { (label : List ℕ)
+        → is_some (footnote_at footnotes.new label) ≡ is_some (footnote_at footnotes.old label) }
     ensures again { IfSome callback.new F.can_ask }
     ensures refused { IfErr result (λ fault. fault ≡ Fault.Memory) }
     ensures nothing_asked { OnErr result (callback.new ≡ callback.old) }
@@ -204,6 +207,8 @@ pub fn decide_bracket<'a, R: LineRule, F: BrokenLinkCallback<'a>>(
         (is_some callback.old)) c left limit.old limit.new (uses_of footnotes.old) (uses_of footnotes.new)
         spent.old spent.new callback.old callback.new openers.new.brackets openers.new.wikilinks found) }
 
+    ensures names { (label : List ℕ)
+        → is_some (footnote_at footnotes.new label) ≡ is_some (footnote_at footnotes.old label) }
     ensures again { IfSome callback.new F.can_ask }
     ensures refused { IfErr result (λ fault. fault ≡ Fault.Memory) }
     ensures nothing_asked { OnErr result (callback.new ≡ callback.old) }

@@ -65,7 +65,8 @@ fn next_line<I: ItemsAfter>(items: &mut I, at: usize, byte: u8) -> Option<usize>
     }
 }
 
-// A title from the byte `start` up to the mark that closes it: the byte after that mark, and its text.
+// A title from the byte `start` up to the mark that closes it: the byte after that mark, and its text. None where it
+// would go on past the text's end.
 fn scan_title_text<'t, I: ItemsAfter>(
     alloc: Global,
     text: &'t str,
@@ -76,7 +77,7 @@ fn scan_title_text<'t, I: ItemsAfter>(
 ) -> Result<Option<(usize, CowStr<'t>)>, AllocError>
     requires start { IsCharBoundary text.now start }
     requires ascii { closer < 128 }
-    requires items { (n s : ℕ) → I.starts items.old n ≡ Some s → IsCharBoundary text.now s }
+    requires items { (n s : ℕ) → I.starts items.old n ≡ Some s → s ≤ length text.now → IsCharBoundary text.now s }
     ensures value { IfOk result (
         ReadsTitle in_table (title_from (I.starts items.old) closer start false 0 (drop start text.now))) }
     ensures borrowed { IfOk result (
@@ -98,6 +99,9 @@ fn scan_title_text<'t, I: ItemsAfter>(
         escaped = is_bare(escaped, byte, b'\\');
         match next_line(items, at, byte) {
             Some(line) => {
+                if line > bytes.len() {
+                    return Ok(None);
+                }
                 title.join_line(at, line)?;
                 at = line;
             }
@@ -118,7 +122,7 @@ pub fn scan_link_title<'t, I: ItemsAfter>(
     items: &mut I,
 ) -> Result<Option<(usize, CowStr<'t>)>, AllocError>
     requires at { IsCharBoundary text.now at }
-    requires items { (n s : ℕ) → I.starts items.old n ≡ Some s → IsCharBoundary text.now s }
+    requires items { (n s : ℕ) → I.starts items.old n ≡ Some s → s ≤ length text.now → IsCharBoundary text.now s }
     ensures value { IfOk result (ReadsTitle in_table (title_at (I.starts items.old) text.now at)) }
     ensures borrowed { IfOk result (BorrowsTitle (title_at (I.starts items.old) text.now at)) }
     ensures within { IfOk result (λ found. IfSome found (λ t. IsCharBoundary text.now t.0)) }

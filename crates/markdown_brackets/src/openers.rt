@@ -53,7 +53,7 @@ impl Model for OpenerStack {
 impl OpenerStack {
     ghost use Rattle.std.specs.Prelude.{◌≡◌, ◌∷◌, [], map, OnOk, OnErr, IfErr, MatchOption};
     ghost use Rattle.markdown_base.specs.declared.fault.Fault.{Fault};
-    ghost use Rattle.markdown_brackets.specs.Openers.{live, disabled, before};
+    ghost use Rattle.markdown_brackets.specs.Openers.{live, disabled, before, first_opener};
 
     /// No openers.
     pub fn new(alloc: Global) -> OpenerStack
@@ -73,6 +73,13 @@ impl OpenerStack {
     {
         self.openers.push(opener)?;
         Ok(())
+    }
+
+    /// The nearest.
+    pub fn nearest(&self) -> Option<Opener>
+        ensures { result ≡ first_opener self.now }
+    {
+        self.openers.last().copied()
     }
 
     /// Takes the nearest off, and tells whether it may still become a link.

@@ -1,9 +1,10 @@
 //! Labels, and the form of a reference (CommonMark 6.3).
-ghost use Rattle.std.specs.Prelude.{◌≡◌, ◌≤◌, ◌+◌, ◌<◌, ◌^◌, ◌&&◌, true, Some, IfOk, IfSome, drop, length, slice_range};
+ghost use Rattle.std.specs.Prelude.{◌≡◌, ◌≤◌, ◌+◌, ◌<◌, ◌^◌, ◌&&◌, ℕ, Bool, true, List, Option, Some, IfOk, IfSome, drop, length, slice_range};
 ghost use Rattle.std.specs.Option.{option_map};
 ghost use Rattle.std.specs.Str.{IsCharBoundary};
 ghost use Rattle.markdown_scan.specs.Label.{link_label};
 ghost use Rattle.markdown_brackets.specs.Reference as def;
+ghost use Rattle.markdown_brackets.specs.declared.footnote.FootnoteStyle.{FootnoteStyle};
 ghost use Rattle.markdown_brackets.specs.ReferenceView.{label_view, form_view, BorrowsLabel, BorrowsName};
 
 use crate::byte_at::after_byte;
@@ -214,6 +215,18 @@ fn form_of(at: usize, label: FoundLabel<'_>) -> Form<'_>
         end: at + label.length,
         label: label.name,
     }
+}
+
+/// The form of a reference, of a `]` that ends where no text is left, by the two items after it: no label stands there.
+pub(crate) fn form_past_end<'t>(at: usize, next: Option<Item>, after: Option<Item>) -> Form<'t>
+    requires { at + 1 < 2 ^ 64 }
+    ensures { (style : FootnoteStyle) (skipped : List ℕ → Option ℕ) (in_table : Bool) (text : List ℕ) → length text ≤ at
+        → form_view result ≡ def.form_at style skipped in_table text at next after }
+{
+    if is_empty_pair(at, next, after) {
+        return Form::Collapsed;
+    }
+    Form::Shortcut
 }
 
 /// The form of a reference, of a `]` that ends before the byte `at` of the text, by the two items after it: Collapsed

@@ -1,5 +1,5 @@
 //! What is written at an opener and its `]`: an inline link, a reference or a footnote label.
-ghost use Rattle.std.specs.Prelude.{◌≡◌, ◌≤◌, ◌<◌, ◌^◌, ◌+◌, Bool, Some, IfOk, take, if◌then◌else◌};
+ghost use Rattle.std.specs.Prelude.{◌≡◌, ◌≤◌, ◌<◌, ◌^◌, ◌+◌, Bool, Some, IfOk, length, take, if◌then◌else◌};
 ghost use Rattle.std.specs.Str.{IsCharBoundary};
 ghost use Rattle.markdown_base.specs.BlockTree.{item_at};
 ghost use Rattle.markdown_base.specs.CowText.{text_of};
@@ -14,7 +14,7 @@ ghost use Rattle.markdown_brackets.specs.WrittenView.{CanRead, EndsBehind, IsRea
 use crate::footnote::FootnoteStyle;
 use crate::items_ahead::{ItemsAhead, link_after, linked_item, reaches_closer};
 use crate::link_tail::{LinkTail, scan_link_tail};
-use crate::reference::{Form, FoundLabel, scan_form, scan_own_label};
+use crate::reference::{Form, FoundLabel, form_past_end, scan_form, scan_own_label};
 use bitflags::Flags;
 use markdown_base::cow_str::CowStr;
 use markdown_base::item::Item;
@@ -67,7 +67,7 @@ pub(crate) fn footnote_style(options: Options) -> FootnoteStyle
 }
 
 /// Whether options take wikilinks.
-pub(crate) fn wikilinks_on(options: Options) -> bool
+pub fn wikilinks_on(options: Options) -> bool
     ensures { result ≡ wikilinks_on options }
 {
     options.contains(Options::ENABLE_WIKILINKS)
@@ -169,6 +169,32 @@ fn read_form<'t, R: LineRule>(
     read_own(alloc, place, rule, start, end, link_type, next)
 }
 
+// The form of a reference, by what follows the `]` of a node in the block.
+fn read_form_ahead<'t, R: LineRule>(
+    alloc: Global,
+    tree: &Tree<Item>,
+    closer: usize,
+    place: &BracketPlace<'t>,
+    rule: &R,
+) -> Result<Form<'t>, AllocError>
+    requires within { closer < length tree.now.nodes }
+    requires block { IsCharBoundary place.now.text.now place.now.block_end }
+    requires closes { IsCharBoundary place.now.text.now (item_at tree.now.nodes closer).end }
+    ensures { IfOk result (λ form.
+        form_view form ≡ form_ahead tree.now.nodes place.now (R.skipped rule.now) closer) }
+{
+    let end = tree.item(closer).end;
+    let next = tree.next(closer);
+    let first = linked_item(tree, next);
+    let second = linked_item(tree, link_after(tree, next));
+    if end > place.block_end {
+        return Ok(form_past_end(end, first, second));
+    }
+    let style = footnote_style(place.options);
+    let text = &place.text[..place.block_end];
+    scan_form(alloc, text, end, style, rule, place.in_table, first, second)
+}
+
 // A reference.
 fn read_reference<'t, R: LineRule>(
     alloc: Global,
@@ -184,13 +210,7 @@ fn read_reference<'t, R: LineRule>(
         (reference_at tree.now.nodes place.now (R.skipped rule.now) closer could_be start
         (form_ahead tree.now.nodes place.now (R.skipped rule.now) closer)) found) }
 {
-    let end = tree.item(closer).end;
-    let next = tree.next(closer);
-    let style = footnote_style(place.options);
-    let first = linked_item(tree, next);
-    let second = linked_item(tree, link_after(tree, next));
-    let text = &place.text[..place.block_end];
-    let form = scan_form(alloc, text, end, style, rule, place.in_table, first, second)?;
+    let form = read_form_ahead(alloc, tree, closer, place, rule)?;
     read_form(alloc, tree, closer, could_be, place, rule, start, form)
 }
 
@@ -210,6 +230,9 @@ pub(crate) fn read_written<'t, R: LineRule>(
         (written_at tree.now.nodes place.now (R.skipped rule.now) closer could_be start)) }
 {
     let end = tree.item(closer).end;
+    if end > place.block_end {
+        return read_reference(alloc, tree, closer, could_be, place, rule, start);
+    }
     let mut items = ItemsAhead {
         tree,
         next: tree.next(closer),

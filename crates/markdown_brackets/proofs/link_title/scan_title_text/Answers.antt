@@ -1,4 +1,4 @@
-use Rattle.std.proofs.Common.{◌<◌, ◌++◌, [], ◌∷◌, get_or, length, slice_range, string_bytes, sym, ◌∙◌, ap, arith, append_assoc, drop, true, false, ◌+◌, ℕ, List, Bool}
+use Rattle.std.proofs.Common.{◌<◌, ◌≤◌, ◌++◌, [], ◌∷◌, get_or, length, slice_range, string_bytes, sym, ◌∙◌, ap, arith, append_assoc, drop, true, false, ◌+◌, ℕ, List, Bool}
 use Rattle.std.specs.Option.{option_map}
 use Rattle.markdown_scan.specs.Backslash.{is_bare}
 use Rattle.std.proofs.lemmas.Bool.{false≢true}
@@ -6,7 +6,7 @@ use Rattle.std.proofs.lemmas.List.{append-nil}
 use Rattle.std.proofs.lemmas.Str.{IsCharBoundary-after_ascii}
 use Rattle.markdown_brackets.specs.LinkTitle.{title_from, after_text}
 use Rattle.markdown_brackets.specs.TitleText.{so_far}
-use Rattle.markdown_brackets.proofs.TitleLemmas.{whole_closes, whole_past_byte, whole_past_line, next_line_same, slice_more, slice_empty, bare_is, BorrowsTitle-closed}
+use Rattle.markdown_brackets.proofs.TitleLemmas.{whole_closes, whole_past_byte, whole_past_end, whole_past_line, next_line_same, slice_more, slice_empty, bare_is, BorrowsTitle-closed, ReadsTitle-none}
 use Rattle.markdown_brackets.proofs.link_title.scan_title_text.Goals as goal
 
 pub returns-then-is_bare-clause-borrowed : goal.returns-then-is_bare-clause-borrowed
@@ -32,7 +32,25 @@ returns-then-is_bare-clause-within g c =
 pub join_line-requires-clause-there : goal.join_line-requires-clause-there
 join_line-requires-clause-there g c =
     let start = sym (c.title.invariant.later (c.title.at + 1) (omega arith)) ∙ c.in-Some.ensures.past.1 in
-    rw c.title.invariant.text (c.requires.items (c.title.at + 1) c.in-Some.line start)
+    let within : c.in-Some.line ≤ length c.args.text.now = rw c.as_bytes-bytes.ensures.value at c.if-line-bytes.false in
+    rw c.title.invariant.text (c.requires.items (c.title.at + 1) c.in-Some.line start within)
+
+pub returns-then-line-bytes-clause-value : goal.returns-then-line-bytes-clause-value
+returns-then-line-bytes-clause-value g c =
+    let text = c.args.text.now in
+    let at = c.title.at in
+    let bytes = c.as_bytes-bytes.ensures.value in
+    let invariant = c.title.invariant in
+    let here : at < length text = rw bytes at c.title-test.true in
+    let bare = rw bytes at (sym c.is_bare.ensures ∙ c.if-is_bare.false) in
+    let refused = rw bytes at (sym c.refuses.ensures ∙ c.if-refuses.false) in
+    let starts = g.I.ItemsAfter.starts c.args.items.now in
+    let line = rw bytes at (sym c.in-Some.ensures.value) in
+    let same = sym (next_line_same (g.I.ItemsAfter.starts c.title.items) starts at (get_or text at 0) (invariant.later (at + 1) (omega arith))) ∙ line in
+    let past : length text < c.in-Some.line = rw bytes at c.if-line-bytes.true in
+    ReadsTitle-none c.args.in_table (title_from starts c.args.closer c.args.start false 0 (drop c.args.start text))
+    (whole_past_end _ starts c.args.closer at c.title.escaped (so_far c.title.title at) c.title.title.is_joined text c.in-Some.line invariant.value here bare refused same
+    c.in-Some.ensures.past.0 (omega (arith, past)))
 
 pub title-preserved-in-Some : goal.title-preserved-in-Some
 title-preserved-in-Some g c =
@@ -47,6 +65,7 @@ title-preserved-in-Some g c =
     let line = rw bytes at (sym c.in-Some.ensures.value) in
     let same = sym (next_line_same (g.I.ItemsAfter.starts c.title.items) starts at (get_or text at 0) (invariant.later (at + 1) (omega arith))) ∙ line in
     let start = sym (invariant.later (at + 1) (omega arith)) ∙ c.in-Some.ensures.past.1 in
+    let within : c.in-Some.line ≤ length text = rw bytes at c.if-line-bytes.false in
     let joined = c.in_ok-join_line-in-Some.ensures in
     let so = so_far c.title.title at in
     let next = c.join_line.new.self in
@@ -56,7 +75,7 @@ title-preserved-in-Some g c =
     record {
       order = omega (arith, joined.from);
       text = joined.text ∙ invariant.text;
-      boundary = rw joined.from (c.requires.items (at + 1) c.in-Some.line start);
+      boundary = rw joined.from (c.requires.items (at + 1) c.in-Some.line start within);
       plain = λ e. absurd (false≢true (sym e ∙ joined.is_joined));
       later = λ n le. c.next_line.ensures.later n (omega (arith, le, c.in-Some.ensures.past.0)) ∙ invariant.later n (omega (arith, le, c.in-Some.ensures.past.0));
       value =

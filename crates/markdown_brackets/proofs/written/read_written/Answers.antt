@@ -1,16 +1,40 @@
--- The tail is that of the block's text, by the items ahead.
-use Rattle.std.proofs.Common.{◌≡◌, Some, None, sym, ◌∙◌, subst}
+-- The tail is that of the block's text, by the items ahead; past its end there is none.
+use Rattle.std.proofs.Common.{◌≡◌, ◌<◌, ◌≤◌, Some, None, length, take, sym, ◌∙◌, subst}
 use Rattle.std.specs.Str.{IsCharBoundary}
-use Rattle.markdown_base.specs.BlockTree.{no_item}
+use Rattle.markdown_base.specs.Arena.{sibling_of}
+use Rattle.markdown_base.specs.BlockTree.{item_at, no_item}
+use Rattle.markdown_base.specs.declared.item.Item.{Item}
 use Rattle.markdown_brackets.specs.ChainAhead.{starts_from}
-use Rattle.markdown_brackets.proofs.WrittenLemmas.{read_tail, read_other, tail_at, whole_range}
+use Rattle.markdown_brackets.proofs.WrittenLemmas.{boundary_within, no_tail, read_tail, read_other, tail_at, taken_past, whole_range, within_taken}
 use Rattle.markdown_brackets.proofs.written.read_written.Goals as goal
 
-pub scan_link_tail-requires-clause-items : goal.scan_link_tail-requires-clause-items
-scan_link_tail-requires-clause-items g c n s e =
+pub returns-then-end-place : goal.returns-then-end-place
+returns-then-end-place g c =
     let place = c.args.place.now in
-    subst (λ text. IsCharBoundary text s) (sym (c.range-text.ensures.value ∙ whole_range place.text.now place.block_end))
-    (c.requires.later n s (subst (λ l. starts_from c.args.tree.now.nodes l n ≡ Some s) c.next.ensures.value e))
+    let nodes = c.args.tree.now.nodes in
+    let past : place.block_end < (item_at nodes c.args.closer).end =
+    subst (λ (i : Item). place.block_end < i.end) (c.item.ensures no_item) c.if-end-place.true in
+    read_other place.in_table _ _ c.read_reference.result
+    (no_tail place.in_table (g.R.LineRule.skipped c.args.rule.now) (starts_from nodes (sibling_of nodes c.args.closer)) (take place.block_end place.text.now) (item_at nodes c.args.closer).end
+    (taken_past place.text.now place.block_end (item_at nodes c.args.closer).end past))
+    c.read_reference.ensures
+
+pub scan_link_tail-requires-clause-at : goal.scan_link_tail-requires-clause-at
+scan_link_tail-requires-clause-at g c =
+    let place = c.args.place.now in
+    subst (λ text. IsCharBoundary text c.item.result.now.end) (sym (c.range-text.ensures.value ∙ whole_range place.text.now place.block_end))
+    (boundary_within place.text.now place.block_end c.item.result.now.end
+    (subst (λ (i : Item). IsCharBoundary place.text.now i.end) (sym (c.item.ensures no_item)) c.requires.closes) c.if-end-place.false)
+
+pub scan_link_tail-requires-clause-items : goal.scan_link_tail-requires-clause-items
+scan_link_tail-requires-clause-items g c n s e within =
+    let place = c.args.place.now in
+    let text = c.range-text.ensures.value ∙ whole_range place.text.now place.block_end in
+    let taken : s ≤ length (take place.block_end place.text.now) = subst (λ text. s ≤ length text) text within in
+    let before : s ≤ place.block_end = within_taken place.text.now place.block_end s taken in
+    subst (λ text. IsCharBoundary text s) (sym text)
+    (boundary_within place.text.now place.block_end s
+    (c.requires.later n s (subst (λ l. starts_from c.args.tree.now.nodes l n ≡ Some s) c.next.ensures.value e)) before)
 
 pub returns-in-Some : goal.returns-in-Some
 returns-in-Some g c =
@@ -24,7 +48,7 @@ pub returns-in-None : goal.returns-in-None
 returns-in-None g c =
     let place = c.args.place.now in
     let text = c.range-text.ensures.value ∙ whole_range place.text.now place.block_end in
-    read_other place.in_table _ _ c.read_reference.result
+    read_other place.in_table _ _ c.read_reference-in-None.result
     (tail_at place.in_table (g.R.LineRule.skipped c.args.rule.now) c.args.tree.now.nodes c.next.result _ c.range-text.result.now _ c.item.result.now _
     c.in_ok-tail.field-0 None c.next.ensures.value text (c.item.ensures no_item) c.in-None.is c.in_ok-tail.ensures.value)
-    c.read_reference.ensures
+    c.read_reference-in-None.ensures

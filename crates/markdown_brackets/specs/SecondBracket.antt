@@ -1,0 +1,16 @@
+-- An opener of a wikilink whose second bracket became something else.
+use Rattle.std.specs.Prelude.{ℕ, Bool, false, ◌==◌, if◌then◌else◌, List, [], ◌∷◌, Option, Some, None}
+use Rattle.markdown_base.specs.Arena.{sibling_of}
+use Rattle.markdown_base.specs.declared.item.Item.{Item}
+use Rattle.markdown_base.specs.declared.node.Node.{Node}
+use Rattle.markdown_brackets.specs.Openers.{Waiting, before}
+
+abbrev pub leads_to : Option ℕ → ℕ → Bool
+leads_to None node = false
+leads_to (Some next) node = next == node
+
+-- openers, of which the nearest goes where this node follows it
+abbrev pub without_second : List (Node Item) → ℕ → List Waiting → List Waiting
+without_second nodes node [] = []
+without_second nodes node (w ∷ waiting) =
+    if leads_to (sibling_of nodes w.opener.node) node then before w.opener.node (w ∷ waiting) else w ∷ waiting
