@@ -293,11 +293,6 @@ module _ (source : List ℕ) (tables : Tables) (old new : List (Node Item)) (ope
       ap (λ (g : Forest ℕ). relabelled (label_at source tables new) g) inside_forest ∙ read_equal (label_at source tables old) (label_at source tables new) (first_trees k f) labels
       ∙ read_first (label_at source tables old) k f
 
-  pub rest_reads : trees_from source tables new (Some closer) ≡ trees_past k (trees_from source tables old (sibling_of old opener))
-  rest_reads =
-      ap (λ (g : Forest ℕ). relabelled (label_at source tables new) g) rest_forest ∙ read_equal (label_at source tables old) (label_at source tables new) (trees_past k f) labels
-      ∙ read_past (label_at source tables old) k f
-
   -- its items are placed
   closer_past : StandsPast old opener (item_at old opener).end closer
   closer_past = past_at old opener (item_at old opener).end closer inside can.after (rw can.follows at (rest_past source tables old opener can.ready))

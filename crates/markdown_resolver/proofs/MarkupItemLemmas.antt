@@ -11,7 +11,7 @@ use Rattle.markdown_base.specs.Arena.{child_of, sibling_of}
 use Rattle.markdown_base.specs.ArenaForest.{links_of}
 use Rattle.markdown_base.specs.BlockTree.{item_at}
 use Rattle.markdown_base.specs.Event.{LinkView}
-use Rattle.markdown_base.specs.Forest.{Forest}
+use Rattle.markdown_base.specs.Forest.{Forest, roots}
 use Rattle.markdown_base.specs.Item.{LiesIn}
 use Rattle.markdown_base.specs.declared.index.CowIndex.{CowIndex}
 use Rattle.markdown_base.specs.declared.index.LinkIndex.{LinkIndex}
@@ -207,6 +207,12 @@ pub autolink_trees : (source : List ℕ) (rules : Rules) (tables tables' : Table
     → ReadsFor source rules tables nodes ix (parent source tables' (item_to nodes ix end (body.Link number)) (address_to nodes ix end)) (autolink end uri)
 autolink_trees source rules tables tables' number uri nodes ix end put = rw put.found refl
 
+-- one tree stands for it
+one_markup : (source : List ℕ) (rules : Rules) (m : Markup) (a : Plain) (below : Forest Plain) → length (roots (standing_for source rules m a below)) ≡ 1
+one_markup source rules (autolink end uri) a below = refl
+one_markup source rules (html end None) a below = refl
+one_markup source rules (html end (Some bytes)) a below = refl
+
 -- so what was put stands for it
 pub puts_standing : (source : List ℕ) (rules : Rules) (m : Markup) (ix : ℕ) (trees : Standing) (goes_on next : Option ℕ) (old new : List (Node Item)) (tables tables' : Tables)
     → CanResolve source tables old (Some ix) → ReadsFor source rules tables old ix trees m
@@ -217,6 +223,11 @@ puts_standing source rules m ix trees goes_on next old new tables tables' ready 
       record { changes = w.changes; runs = w.runs; rewritten = w.rewritten ∙ alike rule };
   leaves = p.leaves;
   leads = p.leads;
+  standing = p.standing;
+  numbers = p.numbers;
+  as_many = λ a below.
+      one_markup source rules m a below ∙ sym (one_markup source rules m (label_at source tables old ix) (trees_from source tables old (child_of old ix)))
+      ∙ ap (λ (f : Forest Plain). length (roots f)) (sym same) ∙ p.as_many (label_at source tables old ix) (trees_from source tables old (child_of old ix));
 }
   where
     alike : (rule : Forest Plain → Forest Plain) → replaced trees goes_on rule (trees_from source tables old (Some ix)) ≡ replaced (standing_for source rules m) goes_on rule (trees_from source tables old (Some ix))

@@ -29,7 +29,8 @@ use Rattle.markdown_spans.specs.Allocations.{Allocated}
 use Rattle.markdown_resolver.specs.ChainPlace.{CanReadItem, IsPlaceOf}
 use Rattle.markdown_resolver.specs.Chains.{CanResolve}
 use Rattle.markdown_resolver.specs.MarkupItems.{HasAddress, IsMarkupAt, standing_for}
-use Rattle.markdown_resolver.specs.Rewritten.{Puts, ReadsItem, settled, text_unless}
+use Rattle.markdown_resolver.specs.Rewritten.{Puts, settled, text_unless}
+use Rattle.markdown_resolver.specs.ReadsItem.{ReadsItem}
 use Rattle.markdown_resolver.specs.declared.chain_place.ChainPlace.{ChainPlace}
 use Rattle.markdown_resolver.proofs.ChainPlaceLemmas.{prefix_is}
 use Rattle.markdown_resolver.proofs.MarkupEndLemmas.{MarkupEnds, found_at, markup_ends}

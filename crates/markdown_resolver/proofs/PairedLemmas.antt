@@ -31,9 +31,10 @@ use Rattle.markdown_resolver.specs.ChainCounts.{chain_counts}
 use Rattle.markdown_resolver.specs.Chains.{ChangesChain, ResolvesFrom, StopsIn}
 use Rattle.markdown_resolver.specs.Kept.{IsQuiet, IsQuietBelow}
 use Rattle.markdown_resolver.specs.PassOne.{Outcome, pass_one}
+use Rattle.markdown_resolver.specs.ReadOn.{StopsInPassOne}
 use Rattle.markdown_resolver.specs.Resolved.{then_paired, resolved}
 use Rattle.markdown_resolver.proofs.ComposeLemmas.{same_trans}
-use Rattle.markdown_resolver.proofs.PassOneLemmas.{pass_one-quiet}
+use Rattle.markdown_resolver.proofs.PassOneQuietLemmas.{pass_one-quiet}
 
 -- of a chain in which nothing is open but what waits, and no block stands: what its items are
 no_block : (b : ItemBody) → is_some (block_of b) ≡ false → is_block b ≡ false
@@ -161,15 +162,12 @@ then_pairs step s above first old mid nodes quiet r p = record {
   resolves = pair_resolves step s above first old mid nodes r p;
 }
 
--- where memory is refused to pass one, nobody was asked
-pub stops_at_once : {C : Type 0} (step : C → Question → Option Answer → C → Type 0) (s : Setting) (above : Above) (first : ℕ) (old : Stage C) (callback : Option C) → callback ≡ old.callback
-    → StopsIn step s above first old callback
-stops_at_once step s above first old callback e = record {
-  answers = [];
-  questions = [];
-  asked = sym e;
-  begins = λ later. ((resolved s plain_tags above (chain_at s.text old (Some first)) (known_at old later)).questions, refl);
-}
+-- where memory is refused to pass one, the questions asked are the first of the chain
+pub stops_resolving : {C : Type 0} (step : C → Question → Option Answer → C → Type 0) (s : Setting) (above : Above) (first : ℕ) (old : Stage C) (callback : Option C)
+    → StopsInPassOne step s above first old callback → StopsIn step s above first old callback
+unfolding resolved
+stops_resolving step s above first old callback p =
+    record { answers = p.answers; questions = p.questions; asked = p.asked; begins = λ later. p.begins later }
 
 -- where memory is refused to pairing, the chain's questions were all asked
 pub stops_in : {C : Type 0} (step : C → Question → Option Answer → C → Type 0) (s : Setting) (above : Above) (first : ℕ) (old mid : Stage C)

@@ -1,106 +1,176 @@
 -- What pass one makes of a chain: it is read from its first tree on, and past a find what is left is read. A quiet chain
--- stays, what is left of any is quiet and no heavier, and tags say nothing.
-use Rattle.std.proofs.Common.{◌≡◌, ℕ, ◌+◌, ◌-◌, ◌≤◌, Bool, true, false, Option, Some, None, refl, ap, ◌∙◌, nat_le, arith}
-use Rattle.std.specs.Prelude.{if◌then◌else◌, is_some}
-use Rattle.markdown_base.specs.Forest.{Forest, nil, node, Each}
+-- stays, what is left of any is no heavier, it begins with what its first open item became, later answers are handed on,
+-- and tags say nothing: each by the law of brackets, where the rule for what is no bracket keeps that law.
+use Rattle.std.proofs.Common.{◌≡◌, ℕ, ◌+◌, ◌≤◌, Bool, true, false, not, List, [], ◌∷◌, Option, Some, None, refl, sym, ap, ◌∙◌, subst, nat_le, arith}
+use Rattle.std.specs.Prelude.{if◌then◌else◌}
+use Rattle.markdown_base.specs.Forest.{Forest, nil, node}
+use Rattle.markdown_base.specs.declared.item.ItemBody.{ItemBody}
+use Rattle.markdown_base.specs.declared.item.ItemBody.TheVariants as body
+use Rattle.markdown_brackets.specs.BracketDecision.{Around, Progress}
+use Rattle.markdown_brackets.specs.BracketLaws.{HandsOn}
+use Rattle.markdown_brackets.specs.BracketTags.{Follows as RetagsTo, retag_left, retag_progress}
+use Rattle.markdown_brackets.specs.BracketWeight.{weight_at, weight_left}
+use Rattle.markdown_brackets.specs.ChainBegins.{BeginsSo, BeginsWith}
+use Rattle.markdown_brackets.specs.ClosingBracket.{closed}
+use Rattle.markdown_brackets.specs.LeftList.{Entry, done, trees_onto}
+use Rattle.markdown_brackets.specs.QuietItems.{LeavesQuiet, WaitsAtMost, all_done}
+use Rattle.markdown_brackets.specs.ReadChain.{Reader, begun, closing, opened, read, read_as, read_chain, read_past}
+use Rattle.markdown_brackets.proofs.BracketLawLemmas.{asks_none, chain_law}
+use Rattle.markdown_brackets.proofs.BracketTagLemmas.{onto_retag, read_chain_retag}
+use Rattle.markdown_brackets.proofs.BracketWeightLemmas.{no_heavier}
+use Rattle.markdown_brackets.proofs.ChainBeginsLemmas.{begins_law, begins_onto}
+use Rattle.markdown_brackets.proofs.QuietItemsLemmas.{all_done_trees, quiet_items_law}
 use Rattle.markdown_chains.specs.Above.{Above}
-use Rattle.markdown_chains.specs.ChainRest.{begun_at, cut_shape, end_of, joined, past, past_byte}
+use Rattle.markdown_chains.specs.ChainRest.{begun_at, end_of, open_body, past, past_byte}
 use Rattle.markdown_chains.specs.Document.{Tags, Shape, leaf, enclosed, plain, backslash_break, unresolved, Label, Plain, plain_tags, is_unresolved}
-use Rattle.markdown_chains.specs.Labels.{Begins, GivesFirst, is_plain, weight, retag, retagged}
+use Rattle.markdown_chains.specs.Labels.{Begins, GivesFirst, is_plain, weight, retagged}
 use Rattle.markdown_chains.specs.Setting.{Setting, Known}
-use Rattle.markdown_chains.specs.Totals.{weight_if}
-use Rattle.markdown_chains.specs.Waiting.{is_quiet}
-use Rattle.markdown_code.specs.Finds.{Passed, Reader, find, passed, read_tree, read_unless}
-use Rattle.markdown_code.proofs.FindsLemmas.{IsQuietLabel, begins_trees, read_quiet, read_weight}
+use Rattle.markdown_chains.specs.Waiting.{is_quiet, waits_for_pairing}
+use Rattle.markdown_code.specs.Finds.{Passed, find, passed, read_tree, read_unless}
+use Rattle.markdown_code.proofs.FindsLemmas.{begins_trees, read_weight}
 use Rattle.markdown_code.proofs.FindsTagLemmas.{read_retag}
-use Rattle.markdown_resolver.specs.Kept.{IsQuiet, IsQuietBelow}
+use Rattle.markdown_resolver.specs.Kept.{IsQuiet}
 use Rattle.markdown_resolver.specs.Laws.{Follows}
-use Rattle.markdown_resolver.specs.PassOne.{read_chain, pass_one}
-use Rattle.markdown_resolver.specs.Rewritten.{reads_by}
+use Rattle.markdown_resolver.specs.PassOne.{Outcome, around, outcome, pass_one, put_passed, read_on, read_other}
+use Rattle.markdown_resolver.specs.ReadOn.{all_read}
 
-module _ {A : Type 0} where
-  -- what was read of a tree, and then the chain after it
-  abbrev and_rest : Setting → Tags A → Above → Passed A → Forest (Label A) → Forest (Label A)
-  and_rest s tags above r rest = joined r.trees (read_chain s tags above r.goes_on r.made rest)
+-- a `[`, a `![` or a `]`
+abbrev pub is_bracket : ItemBody → Bool
+is_bracket body.MaybeLinkOpen = true
+is_bracket body.MaybeImage = true
+is_bracket (body.MaybeLinkClose could_be_reference) = true
+is_bracket other = false
 
-  -- what is read of a tree after a find that ends at a byte: nothing, if it ends there or before
-  abbrev pub read_if : (ends : Bool) → Setting → Tags A → Above → (i n : ℕ) → Reader A
-  read_if ends s tags above i n a below rest =
-      if ends then record { trees = nil; goes_on = Some i; made = n } else read_tree s tags above n (begun_at i a) below rest
+-- another item
+abbrev pub NoBracket : ItemBody → Type 0
+NoBracket b = is_bracket b ≡ false
+
+-- an opener
+abbrev pub opener_body : (is_image : Bool) → ItemBody
+opener_body true = body.MaybeImage
+opener_body false = body.MaybeLinkOpen
+
+-- what is not open is no bracket, nor what waits for pairing
+pub closed_no_bracket : (shape : Shape) → is_unresolved shape ≡ false → NoBracket (open_body shape)
+closed_no_bracket (leaf e origins) h = refl
+closed_no_bracket (enclosed tag) h = refl
+closed_no_bracket plain h = refl
+closed_no_bracket backslash_break h = refl
+closed_no_bracket (unresolved b) h = cc h
+
+waits_no_bracket : (b : ItemBody) → waits_for_pairing b ≡ true → NoBracket b
+waits_no_bracket (body.MaybeEmphasis count opens closes) h = refl
+waits_no_bracket (body.MaybeSmartQuote quote opens closes) h = refl
+waits_no_bracket other h = cc
+
+pub quiet_no_bracket : (shape : Shape) → is_quiet shape ≡ true → NoBracket (open_body shape)
+quiet_no_bracket (leaf e origins) h = refl
+quiet_no_bracket (enclosed tag) h = refl
+quiet_no_bracket plain h = refl
+quiet_no_bracket backslash_break h = refl
+quiet_no_bracket (unresolved b) h = waits_no_bracket b h
+
+-- it is read by the rule for what is no bracket
+pub read_elsewhere : {A : Type 0} (w : Around) (others : Reader A) (b : ItemBody) (a : Label A) (below rest : Forest (Label A)) (p : Progress A) → NoBracket b
+    → read_as w others b a below rest p ≡ others a below rest p
+read_elsewhere w others body.MaybeLinkOpen a below rest p h = cc h
+read_elsewhere w others body.MaybeImage a below rest p h = cc h
+read_elsewhere w others (body.MaybeLinkClose could) a below rest p h = cc h
+read_elsewhere w others other a below rest p h = refl
+
+module _ {A : Type 0} (s : Setting) (tags : Tags A) (above : Above) where
+  -- a chain that was read whole
+  abbrev pub whole_read : Forest (Label A) → Progress A → Progress A
+  whole_read chain p = record (read_on s tags above chain p) { goes_on = None }
+
+  -- what was read of a tree after a find that ends at a byte: nothing, if it ends there or before
+  abbrev read_if : (ends : Bool) (i : ℕ) → Reader A
+  read_if ends i a below rest p =
+      if ends then record p { goes_on = Some i }
+      else read (around s above) (read_other s tags above) (begun_at i a) below rest (record p { goes_on = None })
+
+  past_if : (ends : Bool) (i : ℕ) (a : Label A) (below rest : Forest (Label A)) (p : Progress A)
+      → whole_read rest (record p { goes_on = Some i }) ≡ whole_read (past_byte i rest) (record p { goes_on = None })
+      → whole_read rest (read_if ends i a below rest p) ≡ whole_read (if ends then past_byte i rest else node (begun_at i a) below rest) (record p { goes_on = None })
+  unfolding read_chain
+  past_if true i a below rest p e = e
+  past_if false i a below rest p e = refl
 
   -- to go on past a byte is to read what is left past it
-  past_if : (s : Setting) (tags : Tags A) (above : Above) (i n : ℕ) (a : Label A) (below rest : Forest (Label A)) (ends : Bool)
-      → read_chain s tags above (Some i) n rest ≡ read_chain s tags above None n (past_byte i rest)
-      → and_rest s tags above (read_if ends s tags above i n a below rest) rest
-      ≡ read_chain s tags above None n (if ends then past_byte i rest else node (begun_at i a) below rest)
+  pub reads_past : (i : ℕ) (chain : Forest (Label A)) (p : Progress A)
+      → whole_read chain (record p { goes_on = Some i }) ≡ whole_read (past_byte i chain) (record p { goes_on = None })
   unfolding read_chain
-  past_if s tags above i n a below rest true e = e
-  past_if s tags above i n a below rest false e = refl
+  reads_past i nil p = refl
+  reads_past i (node a below rest) p = past_if (nat_le (end_of a) i) i a below rest p (reads_past i rest p)
 
-  pub reads_past : (s : Setting) (tags : Tags A) (above : Above) (goes_on : Option ℕ) (n : ℕ) (chain : Forest (Label A))
-      → read_chain s tags above goes_on n chain ≡ read_chain s tags above None n (past goes_on chain)
+  pub reads_past_all : (goes_on : Option ℕ) (chain : Forest (Label A)) (p : Progress A)
+      → whole_read chain (record p { goes_on = goes_on }) ≡ whole_read (past goes_on chain) (record p { goes_on = None })
+  reads_past_all None chain p = refl
+  reads_past_all (Some i) chain p = reads_past i chain p
+
+  -- where no find goes on, the first tree is read as it is
+  reads_first : (a : Label A) (below rest : Forest (Label A)) (p : Progress A) → p.goes_on ≡ None
+      → read_on s tags above (node a below rest) p ≡ read_on s tags above rest (read (around s above) (read_other s tags above) a below rest p)
   unfolding read_chain
-  reads_past s tags above None n chain = refl
-  reads_past s tags above (Some i) n nil = refl
-  reads_past s tags above (Some i) n (node a below rest) =
-      past_if s tags above i n a below rest (nat_le (end_of a) i) (reads_past s tags above (Some i) n rest)
+  reads_first a below rest p none = ap (λ goes_on. read_on s tags above rest (read_past (around s above) (read_other s tags above) goes_on a below rest p)) none
 
--- where all tags are one, it says nothing how many trees were made
-unless_made : (s : Setting) (above : Above) (n m : ℕ) (a : Plain) (below rest : Forest Plain) (quiet : Bool)
-    → ((read_unless quiet s plain_tags above n a below rest).trees ≡ (read_unless quiet s plain_tags above m a below rest).trees)
-    × ((read_unless quiet s plain_tags above n a below rest).goes_on ≡ (read_unless quiet s plain_tags above m a below rest).goes_on)
-unless_made s above n m a below rest true = (refl, refl)
-unless_made s above n m a below rest false = (refl, refl)
+  reads_as : (b : ItemBody) (a : Label A) (below rest : Forest (Label A)) (p : Progress A) → p.goes_on ≡ None → open_body a.part.shape ≡ b
+      → read_on s tags above (node a below rest) p ≡ read_on s tags above rest (read_as (around s above) (read_other s tags above) b a below rest p)
+  reads_as b a below rest p none e =
+      reads_first a below rest p none ∙ ap (λ b. read_on s tags above rest (read_as (around s above) (read_other s tags above) b a below rest p)) e
 
-tree_made : (s : Setting) (above : Above) (n m : ℕ) (a : Plain) (below rest : Forest Plain)
-    → ((read_tree s plain_tags above n a below rest).trees ≡ (read_tree s plain_tags above m a below rest).trees)
-    × ((read_tree s plain_tags above n a below rest).goes_on ≡ (read_tree s plain_tags above m a below rest).goes_on)
+  -- an opener is put into the left list
+  pub reads_opener : (is_image : Bool) (a : Label A) (below rest : Forest (Label A)) (p : Progress A) → p.goes_on ≡ None → open_body a.part.shape ≡ opener_body is_image
+      → whole_read (node a below rest) p ≡ whole_read rest (opened (around s above) is_image a rest p)
+  reads_opener true a below rest p none e = ap (λ (q : Progress A). record q { goes_on = None }) (reads_as body.MaybeImage a below rest p none e)
+  reads_opener false a below rest p none e = ap (λ (q : Progress A). record q { goes_on = None }) (reads_as body.MaybeLinkOpen a below rest p none e)
+
+  -- a `]` is closed, and the chain goes on where what it became ends
+  pub reads_closer : (could_be : Bool) (a : Label A) (below rest : Forest (Label A)) (p : Progress A) → p.goes_on ≡ None → open_body a.part.shape ≡ body.MaybeLinkClose could_be
+      → whole_read (node a below rest) p
+      ≡ (let q : Progress A = closed (around s above) (closing could_be a rest p) p in whole_read (past q.goes_on rest) (record q { goes_on = None }))
+  reads_closer could_be a below rest p none e =
+      let q : Progress A = closed (around s above) (closing could_be a rest p) p in
+      ap (λ (q : Progress A). record q { goes_on = None }) (reads_as (body.MaybeLinkClose could_be) a below rest p none e) ∙ reads_past_all q.goes_on rest q
+
+  -- what is no bracket is read, and the chain goes on where what was found ends
+  pub reads_elsewhere : (a : Label A) (below rest : Forest (Label A)) (p : Progress A) → p.goes_on ≡ None → NoBracket (open_body a.part.shape)
+      → whole_read (node a below rest) p
+      ≡ (let r : Passed A = read_tree s tags above p.made a below rest in whole_read (past r.goes_on rest) (record p { left = all_done r.trees p.left; goes_on = None; made = r.made }))
+  reads_elsewhere a below rest p none other =
+      let r : Passed A = read_tree s tags above p.made a below rest in
+      ap (λ (q : Progress A). record q { goes_on = None })
+      (reads_first a below rest p none ∙ ap (read_on s tags above rest) (read_elsewhere (around s above) (read_other s tags above) (open_body a.part.shape) a below rest p other))
+      ∙ reads_past_all r.goes_on rest (put_passed r p)
+
+-- where all tags are one, it says nothing to the trees how many were made
+abbrev from_made : (n : ℕ) → Passed (Unit {0}) → Passed (Unit {0})
+from_made n r = record { trees = r.trees; goes_on = r.goes_on; made = n + r.made }
+
+unless_made : (s : Setting) (above : Above) (n : ℕ) (a : Plain) (below rest : Forest Plain) (quiet : Bool)
+    → read_unless quiet s plain_tags above n a below rest ≡ from_made n (read_unless quiet s plain_tags above 0 a below rest)
+unless_made s above n a below rest true = ap (λ m. let r : Passed (Unit {0}) = record { trees = node a below nil; goes_on = None; made = m } in r) (omega arith)
+unless_made s above n a below rest false =
+    let found = find s above a rest in
+    let r : Passed (Unit {0}) = passed s plain_tags n a found in
+    ap (λ m. record r { made = m }) (omega arith)
+
+pub tree_made : (s : Setting) (above : Above) (n : ℕ) (a : Plain) (below rest : Forest Plain)
+    → read_tree s plain_tags above n a below rest ≡ from_made n (read_tree s plain_tags above 0 a below rest)
 unfolding read_tree
-tree_made s above n m a below rest = unless_made s above n m a below rest (is_quiet a.part.shape)
+tree_made s above n a below rest = unless_made s above n a below rest (is_quiet a.part.shape)
 
--- neither of a tree with the chain after it
-rest_made : (s : Setting) (above : Above) (n m : ℕ) (a : Plain) (below rest : Forest Plain)
-    → ((goes_on : Option ℕ) (n m : ℕ) → read_chain s plain_tags above goes_on n rest ≡ read_chain s plain_tags above goes_on m rest)
-    → and_rest s plain_tags above (read_tree s plain_tags above n a below rest) rest ≡ and_rest s plain_tags above (read_tree s plain_tags above m a below rest) rest
-rest_made s above n m a below rest others =
-    let first = read_tree s plain_tags above n a below rest in
-    let second = read_tree s plain_tags above m a below rest in
-    let same = tree_made s above n m a below rest in
-    ap (λ trees. joined trees (read_chain s plain_tags above first.goes_on first.made rest)) same.0
-    ∙ ap (λ goes_on. joined second.trees (read_chain s plain_tags above goes_on first.made rest)) same.1
-    ∙ ap (joined second.trees) (others second.goes_on first.made second.made)
-
-past_made : (s : Setting) (above : Above) (i n m : ℕ) (a : Plain) (below rest : Forest Plain) (ends : Bool)
-    → ((goes_on : Option ℕ) (n m : ℕ) → read_chain s plain_tags above goes_on n rest ≡ read_chain s plain_tags above goes_on m rest)
-    → and_rest s plain_tags above (read_if ends s plain_tags above i n a below rest) rest ≡ and_rest s plain_tags above (read_if ends s plain_tags above i m a below rest) rest
-past_made s above i n m a below rest true others = others (Some i) n m
-past_made s above i n m a below rest false others = rest_made s above n m (begun_at i a) below rest others
-
-reads_made : (s : Setting) (above : Above) (chain : Forest Plain) (goes_on : Option ℕ) (n m : ℕ) → read_chain s plain_tags above goes_on n chain ≡ read_chain s plain_tags above goes_on m chain
-unfolding read_chain
-reads_made s above nil goes_on n m = refl
-reads_made s above (node a below rest) None n m = rest_made s above n m a below rest (reads_made s above rest)
-reads_made s above (node a below rest) (Some i) n m = past_made s above i n m a below rest (nat_le (end_of a) i) (reads_made s above rest)
-
--- a chain is read by its first tree, and then what is left
-pub reads_head : (s : Setting) (above : Above) (a : Plain) (below after : Forest Plain)
-    → reads_by s above (node a below after)
-    ≡ (let r : Passed (Unit {0}) = read_tree s plain_tags above 0 a below after in joined r.trees (reads_by s above (past r.goes_on after)))
-unfolding read_chain
-reads_head s above a below after =
-    let r : Passed (Unit {0}) = read_tree s plain_tags above 0 a below after in
-    ap (joined r.trees) (reads_past s plain_tags above r.goes_on r.made after ∙ reads_made s above (past r.goes_on after) None r.made 0)
-
--- what is not open is quiet
-pub closed_quiet : (shape : Shape) → is_unresolved shape ≡ false → is_quiet shape ≡ true
-closed_quiet (leaf e origins) h = refl
-closed_quiet (enclosed tag) h = refl
-closed_quiet plain h = refl
-closed_quiet backslash_break h = refl
-closed_quiet (unresolved b) h = cc h
+-- so what is no bracket is read the same wherever it stands
+pub reads_other : (s : Setting) (above : Above) (a : Plain) (below rest : Forest Plain) (p : Progress (Unit {0})) → p.goes_on ≡ None → NoBracket (open_body a.part.shape)
+    → all_read s above (node a below rest) p
+    ≡ (let r : Passed (Unit {0}) = read_tree s plain_tags above 0 a below rest in
+    all_read s above (past r.goes_on rest) (record p { left = all_done r.trees p.left; goes_on = None; made = p.made + r.made }))
+reads_other s above a below rest p none other =
+    reads_elsewhere s plain_tags above a below rest p none other
+    ∙ ap (λ (r : Passed (Unit {0})). all_read s above (past r.goes_on rest) (record p { left = all_done r.trees p.left; goes_on = None; made = r.made })) (tree_made s above p.made a below rest)
 
 -- what is open does not read as what is below it alone
-open_not_plain : (shape : Shape) → is_unresolved shape ≡ true → is_plain shape ≡ false
+open_not_plain : (shape : Shape) → is_unresolved shape ≡ true → not (is_plain shape) ≡ true
 open_not_plain (leaf e origins) h = refl
 open_not_plain (enclosed tag) h = refl
 open_not_plain plain h = cc h
@@ -108,159 +178,129 @@ open_not_plain backslash_break h = refl
 open_not_plain (unresolved b) h = refl
 
 -- nor does what gives an event first
-first_not_plain : (shape : Shape) → GivesFirst shape → is_plain shape ≡ false
+first_not_plain : (shape : Shape) → GivesFirst shape → not (is_plain shape) ≡ true
 first_not_plain (leaf e origins) h = refl
 first_not_plain (enclosed tag) h = refl
 first_not_plain plain h = absurd h
 first_not_plain backslash_break h = refl
 first_not_plain (unresolved b) h = refl
 
--- cutting opens and closes nothing
-cut_open : (n : ℕ) (shape : Shape) → is_unresolved (cut_shape n shape) ≡ is_unresolved shape
-cut_open n (leaf e origins) = refl
-cut_open n (enclosed tag) = refl
-cut_open n plain = refl
-cut_open n backslash_break = refl
-cut_open n (unresolved b) = refl
+shows_more : (b : Bool) → not b ≡ true → b ≡ false
+shows_more true h = cc h
+shows_more false h = refl
+
+abbrev is_not_plain : Shape → Bool
+is_not_plain shape = not (is_plain shape)
 
 module _ {A : Type 0} where
-  -- a chain is quiet where each of its labels is, at every depth
-  pub each_quiet : (f : Forest (Label A)) → IsQuiet f → Each IsQuietLabel f
-  each_quiet nil q = tt
-  each_quiet (node a below after) q = ((q.0, q.1), each_quiet below q.2, each_quiet after q.3)
-
-  pub all_quiet : (f : Forest (Label A)) → Each IsQuietLabel f → IsQuiet f
-  all_quiet nil h = tt
-  all_quiet (node a below after) h = (h.0.0, h.0.1, all_quiet below h.1, all_quiet after h.2)
-
-  -- two chains side by side
-  joined_each : (p : Label A → Type 0) (f g : Forest (Label A)) → Each p f → Each p g → Each p (joined f g)
-  joined_each p nil g h k = k
-  joined_each p (node a below after) g h k = (h.0, h.1, joined_each p after g h.2 k)
-
-  joined_weight : (f g : Forest (Label A)) → weight (joined f g) ≡ weight f + weight g
-  joined_weight nil g = omega arith
-  joined_weight (node a below after) g = let others = joined_weight after g in omega arith
-
   -- a quiet chain stays
-  quiet_tree : (s : Setting) (tags : Tags A) (above : Above) (n : ℕ) (a : Label A) (below rest : Forest (Label A)) → is_quiet a.part.shape ≡ true
-      → read_tree s tags above n a below rest ≡ record { trees = node a below nil; goes_on = None; made = n }
-  unfolding read_tree
-  quiet_tree s tags above n a below rest q = ap (λ quiet. read_unless quiet s tags above n a below rest) q
+  waits_at_most : (chain : Forest (Label A)) → IsQuiet chain → WaitsAtMost chain
+  waits_at_most nil q = tt
+  waits_at_most (node a below after) q = (q.0, waits_at_most after q.3)
 
-  quiet_chain : (s : Setting) (tags : Tags A) (above : Above) (n : ℕ) (chain : Forest (Label A)) → IsQuiet chain → read_chain s tags above None n chain ≡ chain
-  unfolding read_chain
-  quiet_chain s tags above n nil q = refl
-  quiet_chain s tags above n (node a below rest) q =
-      ap (λ (r : Passed A). joined r.trees (read_chain s tags above r.goes_on r.made rest)) (quiet_tree s tags above n a below rest q.0)
-      ∙ ap (node a below) (quiet_chain s tags above n rest q.3)
+  -- what all trees of a list weigh
+  all_done_weight : (trees : Forest (Label A)) (left : List (Entry A)) → weight_left (all_done trees left) ≡ weight trees + weight_left left
+  all_done_weight nil left = omega arith
+  all_done_weight (node a below after) left = omega (arith, all_done_weight after (done a below ∷ left))
 
-  pub pass_one-stays : (s : Setting) (tags : Tags A) (above : Above) (chain : Forest (Label A)) (known : Known) → IsQuiet chain → (pass_one s tags above chain known).forest ≡ chain
-  unfolding pass_one
-  pass_one-stays s tags above chain known q = quiet_chain s tags above 0 chain q
+  -- a forest that begins with a tree that does not read as what is below it alone
+  begins_as : (f : Forest (Label A)) → Begins f → BeginsWith is_not_plain f
+  begins_as nil h = absurd h
+  begins_as (node a below after) h = first_not_plain a.part.shape h
 
-  -- what is left of a chain is quiet
-  rest_quiet : (s : Setting) (tags : Tags A) (above : Above) (n : ℕ) (a : Label A) (below rest : Forest (Label A)) → is_some a.part.block ≡ false → IsQuiet below
-      → ((goes_on : Option ℕ) (n : ℕ) → Each IsQuietLabel (read_chain s tags above goes_on n rest))
-      → Each IsQuietLabel (and_rest s tags above (read_tree s tags above n a below rest) rest)
-  rest_quiet s tags above n a below rest no_block inner others =
-      let r = read_tree s tags above n a below rest in
-      joined_each IsQuietLabel r.trees (read_chain s tags above r.goes_on r.made rest) (read_quiet s tags above n a below rest no_block (each_quiet below inner)) (others r.goes_on r.made)
+  begun_by : (P : Forest (Label A) → Type 0) (f : Forest (Label A)) → ((a : Label A) (below after : Forest (Label A)) → is_plain a.part.shape ≡ false → P (node a below after))
+      → BeginsWith is_not_plain f → P f
+  begun_by P nil holds h = absurd h
+  begun_by P (node a below after) holds h = holds a below after (shows_more (is_plain a.part.shape) h)
 
-  past_quiet : (s : Setting) (tags : Tags A) (above : Above) (i n : ℕ) (a : Label A) (below rest : Forest (Label A)) (ends : Bool) → is_some a.part.block ≡ false → IsQuiet below
-      → ((goes_on : Option ℕ) (n : ℕ) → Each IsQuietLabel (read_chain s tags above goes_on n rest))
-      → Each IsQuietLabel (and_rest s tags above (read_if ends s tags above i n a below rest) rest)
-  past_quiet s tags above i n a below rest true no_block inner others = others (Some i) n
-  past_quiet s tags above i n a below rest false no_block inner others = rest_quiet s tags above n (begun_at i a) below rest no_block inner others
+  module _ (s : Setting) (tags : Tags A) (above : Above) where
+    quiet_tree : (n : ℕ) (a : Label A) (below rest : Forest (Label A)) → is_quiet a.part.shape ≡ true
+        → read_tree s tags above n a below rest ≡ record { trees = node a below nil; goes_on = None; made = n }
+    unfolding read_tree
+    quiet_tree n a below rest q = ap (λ quiet. read_unless quiet s tags above n a below rest) q
 
-  leaves_quiet : (s : Setting) (tags : Tags A) (above : Above) (chain : Forest (Label A)) → IsQuietBelow chain → (goes_on : Option ℕ) (n : ℕ) → Each IsQuietLabel (read_chain s tags above goes_on n chain)
-  unfolding read_chain
-  leaves_quiet s tags above nil q goes_on n = tt
-  leaves_quiet s tags above (node a below rest) q None n = rest_quiet s tags above n a below rest q.0 q.1 (leaves_quiet s tags above rest q.2)
-  leaves_quiet s tags above (node a below rest) q (Some i) n = past_quiet s tags above i n a below rest (nat_le (end_of a) i) q.0 q.1 (leaves_quiet s tags above rest q.2)
+    leaves_quiet : LeavesQuiet (read_other s tags above)
+    leaves_quiet a below rest p q none =
+        ap (λ (r : Passed A). put_passed r p) (quiet_tree p.made a below rest q)
+        ∙ ap (λ goes_on. record p { left = done a below ∷ p.left; goes_on = goes_on }) (sym none)
 
-  pub pass_one-quiet : (s : Setting) (tags : Tags A) (above : Above) (chain : Forest (Label A)) (known : Known) → IsQuietBelow chain → IsQuiet (pass_one s tags above chain known).forest
-  unfolding pass_one
-  pass_one-quiet s tags above chain known q = all_quiet (read_chain s tags above None 0 chain) (leaves_quiet s tags above chain q None 0)
+    pub pass_one-stays : (chain : Forest (Label A)) (known : Known) → IsQuiet chain → pass_one s tags above chain known ≡ record { questions = []; forest = chain; known = known }
+    unfolding pass_one
+    pass_one-stays chain known q =
+        let alone = quiet_items_law (around s above) (read_other s tags above) leaves_quiet chain known (waits_at_most chain q) in
+        ap outcome alone.reads ∙ ap (λ (f : Forest (Label A)). let o : Outcome A = record { questions = []; forest = f; known = known } in o) alone.trees
 
-  -- and no heavier
-  rest_weight : (s : Setting) (tags : Tags A) (above : Above) (n : ℕ) (a : Label A) (below rest : Forest (Label A))
-      → ((goes_on : Option ℕ) (n : ℕ) → weight (read_chain s tags above goes_on n rest) ≤ weight rest)
-      → weight (and_rest s tags above (read_tree s tags above n a below rest) rest) ≤ weight (node a below rest)
-  rest_weight s tags above n a below rest others =
-      let r = read_tree s tags above n a below rest in
-      let both = joined_weight r.trees (read_chain s tags above r.goes_on r.made rest) in
-      let here = read_weight s tags above n a below rest in
-      let later = others r.goes_on r.made in
-      omega arith
+    -- what is left of a chain is no heavier
+    other_weight : (a : Label A) (below rest : Forest (Label A)) (p : Progress A)
+        → weight_left (read_other s tags above a below rest p).left ≤ weight_left p.left + (weight_at a + weight below)
+    other_weight a below rest p =
+        let put = all_done_weight (read_tree s tags above p.made a below rest).trees p.left in
+        let read = read_weight s tags above p.made a below rest in
+        omega (arith, put, read)
 
-  past_weighs : (s : Setting) (tags : Tags A) (above : Above) (i n : ℕ) (a : Label A) (below rest : Forest (Label A)) (ends : Bool)
-      → ((goes_on : Option ℕ) (n : ℕ) → weight (read_chain s tags above goes_on n rest) ≤ weight rest)
-      → weight (and_rest s tags above (read_if ends s tags above i n a below rest) rest) ≤ weight (node a below rest)
-  past_weighs s tags above i n a below rest true others = let later = others (Some i) n in omega arith
-  past_weighs s tags above i n a below rest false others =
-      let here = rest_weight s tags above n (begun_at i a) below rest others in
-      let same = ap weight_if (cut_open (i - a.part.range.start) a.part.shape) in
-      omega arith
+    pub pass_one-weight : (chain : Forest (Label A)) (known : Known) → weight (pass_one s tags above chain known).forest ≤ weight chain
+    unfolding pass_one
+    pass_one-weight chain known = no_heavier (around s above) (read_other s tags above) other_weight chain known
 
-  leaves_weight : (s : Setting) (tags : Tags A) (above : Above) (chain : Forest (Label A)) (goes_on : Option ℕ) (n : ℕ) → weight (read_chain s tags above goes_on n chain) ≤ weight chain
-  unfolding read_chain
-  leaves_weight s tags above nil goes_on n = omega arith
-  leaves_weight s tags above (node a below rest) None n = rest_weight s tags above n a below rest (leaves_weight s tags above rest)
-  leaves_weight s tags above (node a below rest) (Some i) n = past_weighs s tags above i n a below rest (nat_le (end_of a) i) (leaves_weight s tags above rest)
+    -- what was open gives an event first, or waits for pairing and so does not read as what is below it alone
+    unless_begins : (n : ℕ) (a : Label A) (below rest : Forest (Label A)) (quiet : Bool) → is_unresolved a.part.shape ≡ true
+        → BeginsWith is_not_plain (read_unless quiet s tags above n a below rest).trees
+    unless_begins n a below rest true h = open_not_plain a.part.shape h
+    unless_begins n a below rest false h =
+        let found = find s above a rest in
+        begins_as (passed s tags n a found).trees (begins_trees s (tags.fresh n) a found)
 
-  pub pass_one-weight : (s : Setting) (tags : Tags A) (above : Above) (chain : Forest (Label A)) (known : Known) → weight (pass_one s tags above chain known).forest ≤ weight chain
-  unfolding pass_one
-  pass_one-weight s tags above chain known = leaves_weight s tags above chain None 0
+    tree_begins : (n : ℕ) (a : Label A) (below rest : Forest (Label A)) → is_unresolved a.part.shape ≡ true
+        → BeginsWith is_not_plain (read_tree s tags above n a below rest).trees
+    unfolding read_tree
+    tree_begins n a below rest h = unless_begins n a below rest (is_quiet a.part.shape) h
 
-  -- what was open gives an event first, or waits for pairing and so does not read as what is below it alone
-  joined_first : (P : Forest (Label A) → Type 0) (f g : Forest (Label A)) → ((a : Label A) (below after : Forest (Label A)) → is_plain a.part.shape ≡ false → P (node a below after))
-      → Begins f → P (joined f g)
-  joined_first P nil g holds h = absurd h
-  joined_first P (node a below after) g holds h = holds a below (joined after g) (first_not_plain a.part.shape h)
+    other_begins : BeginsSo is_not_plain (read_other s tags above)
+    other_begins = record {
+      puts = λ a below rest known h.
+          let r : Passed A = read_tree s tags above 0 a below rest in
+          subst (BeginsWith is_not_plain) (sym (all_done_trees r.trees [])) (tree_begins 0 a below rest h);
+      keeps = λ a below rest p h.
+          let r : Passed A = read_tree s tags above p.made a below rest in
+          subst (BeginsWith is_not_plain) (sym (all_done_trees r.trees p.left)) (begins_onto is_not_plain p.left nil r.trees (λ none. absurd none) h);
+    }
 
-  unless_first : (P : Forest (Label A) → Type 0) (s : Setting) (tags : Tags A) (above : Above) (n : ℕ) (a : Label A) (below rest g : Forest (Label A)) (quiet : Bool)
-      → ((a : Label A) (below after : Forest (Label A)) → is_plain a.part.shape ≡ false → P (node a below after))
-      → is_unresolved a.part.shape ≡ true → P (joined (read_unless quiet s tags above n a below rest).trees g)
-  unless_first P s tags above n a below rest g true holds h = holds a below g (open_not_plain a.part.shape h)
-  unless_first P s tags above n a below rest g false holds h =
-      joined_first P (passed s tags n a (find s above a rest)).trees g holds (begins_trees s (tags.fresh n) a (find s above a rest))
+    pub pass_one-first : (P : Forest (Label A) → Type 0) (a : Label A) (below after : Forest (Label A)) (known : Known)
+        → ((a : Label A) (below after : Forest (Label A)) → is_plain a.part.shape ≡ false → P (node a below after))
+        → is_unresolved a.part.shape ≡ true → P (pass_one s tags above (node a below after) known).forest
+    unfolding pass_one
+    pass_one-first P a below after known holds h =
+        begun_by P (trees_onto (read_on s tags above (node a below after) (begun known)).left nil) holds
+        (begins_law (around s above) (read_other s tags above) is_not_plain (λ e origins. refl) (λ tag. refl) other_begins a below after known h)
 
-  pub pass_one-first : (P : Forest (Label A) → Type 0) (s : Setting) (tags : Tags A) (above : Above) (a : Label A) (below after : Forest (Label A)) (known : Known)
-      → ((a : Label A) (below after : Forest (Label A)) → is_plain a.part.shape ≡ false → P (node a below after))
-      → is_unresolved a.part.shape ≡ true → P (pass_one s tags above (node a below after) known).forest
-  unfolding pass_one read_chain read_tree
-  pass_one-first P s tags above a below after known holds h =
-      let r = read_tree s tags above 0 a below after in
-      unless_first P s tags above 0 a below after (read_chain s tags above r.goes_on r.made after) (is_quiet a.part.shape) holds h
+    -- what is no bracket asks nothing, and brackets hand later answers on
+    other_hands_on : (a : Label A) (below rest : Forest (Label A)) (p : Progress A) → HandsOn (read_other s tags above a below rest) p
+    other_hands_on a below rest p = (asks_none (read_other s tags above a below rest) p refl refl (λ later. refl)).hands_on
+
+    pub read_hands_on : (chain : Forest (Label A)) (p : Progress A) → HandsOn (read_on s tags above chain) p
+    read_hands_on chain p = chain_law (around s above) (read_other s tags above) other_hands_on chain p
 
 -- tags say nothing
 module _ {A B : Type 0} (f : A → B) where
-  joined_retag : (x y : Forest (Label A)) → joined (retagged f x) (retagged f y) ≡ retagged f (joined x y)
-  joined_retag nil y = refl
-  joined_retag (node a below after) y = ap (node (retag f a) (retagged f below)) (joined_retag after y)
+  all_done_retag : (trees : Forest (Label A)) (left : List (Entry A)) → all_done (retagged f trees) (retag_left f left) ≡ retag_left f (all_done trees left)
+  all_done_retag nil left = refl
+  all_done_retag (node a below after) left = all_done_retag after (done a below ∷ left)
 
-  rest_retag : (s : Setting) (tags : Tags A) (tags' : Tags B) → Follows f tags tags' → (above : Above) (n : ℕ) (a : Label A) (below rest : Forest (Label A))
-      → ((goes_on : Option ℕ) (n : ℕ) → read_chain s tags' above goes_on n (retagged f rest) ≡ retagged f (read_chain s tags above goes_on n rest))
-      → and_rest s tags' above (read_tree s tags' above n (retag f a) (retagged f below) (retagged f rest)) (retagged f rest)
-      ≡ retagged f (and_rest s tags above (read_tree s tags above n a below rest) rest)
-  rest_retag s tags tags' follows above n a below rest others =
-      let r = read_tree s tags above n a below rest in
-      ap (λ (r : Passed B). and_rest s tags' above r (retagged f rest)) (read_retag f s tags tags' above n (follows.makes n) a below rest)
-      ∙ ap (joined (retagged f r.trees)) (others r.goes_on r.made)
-      ∙ joined_retag r.trees (read_chain s tags above r.goes_on r.made rest)
+  module _ (s : Setting) (tags : Tags A) (tags' : Tags B) (follows : Follows f tags tags') (above : Above) where
+    pub other_retag : RetagsTo f (read_other s tags above) (read_other s tags' above)
+    other_retag a below rest p =
+        let r : Passed A = read_tree s tags above p.made a below rest in
+        ap (λ (r : Passed B). put_passed r (retag_progress f p)) (read_retag f s tags tags' above p.made (follows.makes p.made) a below rest)
+        ∙ ap (λ (left : List (Entry B)). record (retag_progress f p) { left = left; goes_on = r.goes_on; made = r.made }) (all_done_retag r.trees p.left)
 
-  past_retag : (s : Setting) (tags : Tags A) (tags' : Tags B) → Follows f tags tags' → (above : Above) (i n : ℕ) (a : Label A) (below rest : Forest (Label A)) (ends : Bool)
-      → ((goes_on : Option ℕ) (n : ℕ) → read_chain s tags' above goes_on n (retagged f rest) ≡ retagged f (read_chain s tags above goes_on n rest))
-      → and_rest s tags' above (read_if ends s tags' above i n (retag f a) (retagged f below) (retagged f rest)) (retagged f rest)
-      ≡ retagged f (and_rest s tags above (read_if ends s tags above i n a below rest) rest)
-  past_retag s tags tags' follows above i n a below rest true others = others (Some i) n
-  past_retag s tags tags' follows above i n a below rest false others = rest_retag s tags tags' follows above n (begun_at i a) below rest others
+    pub read_on_retag : (chain : Forest (Label A)) (p : Progress A) → read_on s tags' above (retagged f chain) (retag_progress f p) ≡ retag_progress f (read_on s tags above chain p)
+    read_on_retag chain p = read_chain_retag f (around s above) (read_other s tags above) (read_other s tags' above) other_retag chain p
 
-  pub reads_retag : (s : Setting) (tags : Tags A) (tags' : Tags B) → Follows f tags tags' → (above : Above) (chain : Forest (Label A)) (goes_on : Option ℕ) (n : ℕ)
-      → read_chain s tags' above goes_on n (retagged f chain) ≡ retagged f (read_chain s tags above goes_on n chain)
-  unfolding read_chain
-  reads_retag s tags tags' follows above nil goes_on n = refl
-  reads_retag s tags tags' follows above (node a below rest) None n = rest_retag s tags tags' follows above n a below rest (reads_retag s tags tags' follows above rest)
-  reads_retag s tags tags' follows above (node a below rest) (Some i) n =
-      past_retag s tags tags' follows above i n a below rest (nat_le (end_of a) i) (reads_retag s tags tags' follows above rest)
+    pub pass_one-retag : (chain : Forest (Label A)) (known : Known)
+        → pass_one s tags' above (retagged f chain) known
+        ≡ (let r : Outcome A = pass_one s tags above chain known in record { questions = r.questions; forest = retagged f r.forest; known = r.known })
+    unfolding pass_one
+    pass_one-retag chain known =
+        let q : Progress A = read_on s tags above chain (begun known) in
+        ap outcome (read_on_retag chain (begun known))
+        ∙ ap (λ (g : Forest (Label B)). let o : Outcome B = record { questions = q.asked; forest = g; known = q.known } in o) (onto_retag f q.left nil)

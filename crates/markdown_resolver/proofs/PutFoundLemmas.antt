@@ -24,13 +24,13 @@ use Rattle.markdown_chains.proofs.ItemRulesLemmas.{keeps-closed}
 use Rattle.markdown_chains.proofs.PlaceLemmas.{times-past, slices-none}
 use Rattle.markdown_chains.proofs.TablesLemmas.{same-apart, grown-longer, entries-longer}
 use Rattle.markdown_resolver.specs.Chains.{CanResolve}
-use Rattle.markdown_resolver.specs.Rewritten.{Standing, first_past, one, parent, IsFoundAt, CanPut, CanPutParent, Puts}
+use Rattle.markdown_resolver.specs.Rewritten.{Standing, Rewrites, replaced, first_past, one, parent, IsFoundAt, CanPut, CanPutParent, Puts}
 use Rattle.markdown_resolver.specs.Settling.{IsWritten, begun_from}
 use Rattle.markdown_resolver.proofs.ChainOrderLemmas.{rest_past}
 use Rattle.markdown_resolver.proofs.ComposeLemmas.{same_trans, Stands, stands_ready, Moves, changes_move, moves_twice, HeadWritten, head_moves, after_head, Below, below_kept}
 use Rattle.markdown_resolver.proofs.NodeChangeLemmas.{changed_other, changed_here}
 use Rattle.markdown_resolver.proofs.PastByteLemmas.{tree_same}
-use Rattle.markdown_resolver.proofs.PutLemmas.{leaves_rest, whole_put, ClosesAt, before_closed, runs_closed, no_run_here, rest_past_is}
+use Rattle.markdown_resolver.proofs.PutLemmas.{leaves_rest, whole_put, ClosesAt, before_closed, runs_closed, no_run_here, rest_past_is, rewrites_none, next_from, over_numbers}
 
 -- no markup is asked of what is not open
 pub no_markup : (source : List ℕ) (item : Item) → is_open item.body ≡ false → MarkupIsThere source item
@@ -87,22 +87,28 @@ put_written source ix item next old mid tables t inside trees finds puts starts 
     let p = rest_past_is source ix item.end old mid tables t next (item_at old ix).end s w.head link (rest_past source tables old ix finds.ready)
     (λ n e. finds.between n (sym link ∙ e)) puts.lies.end in
     let place = begun_from next item.end mid in
+    let whole : (rule : Forest Plain → Forest Plain) (new : List (Node Item)) (later : Tables) → Rewrites source rule next place new t later
+    → Rewrites source (replaced trees (Some item.end) rule) (Some ix) old new tables later = λ rule new later r.
+    let m = moves_twice source (sibling_of old ix) next next mid place new t t later p.moves (changes_move source next place new t later r.changes) in
+    let b = w.below new later m in
+    let ends : (item_at mid ix).end ≤ item.end = rw w.item_is (omega arith) in
+    let follows = r.changes.before (numbered mid ix) (p.follows (numbered mid ix) refl ends) in
+    let hm = head_moves source ix old mid new tables t later s w.head (rw w.next_is m) b.below (rw w.next_is follows)
+    (no_run_here source (numbered mid ix) (option_map (numbered new) (sibling_of mid ix)) closed) in
+    let rest = past_byte item.end (trees_from source tables old (sibling_of old ix)) in
+    let after : trees_from source later new (sibling_of mid ix) ≡ rule rest =
+    ap (λ (l : Option ℕ). trees_from source later new l) w.next_is ∙ r.rewritten ∙ ap rule p.reads in
+    whole_put source ix old mid new tables t later trees (Some item.end) rule finds.ready w.head hm (λ x stands. before_closed ix old mid x closes stands) (runs_closed source ix old mid closes)
+    (tree_same _ _ _ _ _ _ (ap (λ x. label_of source t x) w.item_is) b.reads after
+    ∙ ap (λ (f : Forest Plain). joined f (rule rest)) (sym (stand (label_at source tables old ix) (trees_from source tables old (child_of old ix))))) in
+    let all = whole (λ f. f) place t (rewrites_none source next place t p.moves.stands) in
     record {
-      whole = λ rule new later r.
-          let m = moves_twice source (sibling_of old ix) next next mid place new t t later p.moves (changes_move source next place new t later r.changes) in
-          let b = w.below new later m in
-          let ends : (item_at mid ix).end ≤ item.end = rw w.item_is (omega arith) in
-          let follows = r.changes.before (numbered mid ix) (p.follows (numbered mid ix) refl ends) in
-          let hm = head_moves source ix old mid new tables t later s w.head (rw w.next_is m) b.below (rw w.next_is follows)
-          (no_run_here source (numbered mid ix) (option_map (numbered new) (sibling_of mid ix)) closed) in
-          let rest = past_byte item.end (trees_from source tables old (sibling_of old ix)) in
-          let after : trees_from source later new (sibling_of mid ix) ≡ rule rest =
-          ap (λ (l : Option ℕ). trees_from source later new l) w.next_is ∙ r.rewritten ∙ ap rule p.reads in
-          whole_put source ix old mid new tables t later trees (Some item.end) rule finds.ready w.head hm (λ x stands. before_closed ix old mid x closes stands) (runs_closed source ix old mid closes)
-          (tree_same _ _ _ _ _ _ (ap (λ x. label_of source t x) w.item_is) b.reads after
-          ∙ ap (λ (f : Forest Plain). joined f (rule rest)) (sym (stand (label_at source tables old ix) (trees_from source tables old (child_of old ix)))));
+      whole = whole;
       leaves = leaves_rest source ix old mid place tables t t next (Some item.end) finds.ready w.head p.moves p.reads;
       leads = p.leads;
+      standing = ix ∷ [];
+      numbers = over_numbers source ix next place t all.changes.reaches (next_from mid next item.end ix ∙ w.next_is);
+      as_many = λ a below. ap (λ (f : Forest Plain). length (roots f)) (stand a below);
     }
 
 -- nothing is put below it

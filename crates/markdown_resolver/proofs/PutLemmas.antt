@@ -3,8 +3,9 @@ use Rattle.std.proofs.Common.{◌≡◌, ℕ, zero, suc, ◌+◌, ◌<◌, ◌�
 use Rattle.std.proofs.lemmas.Bool.{cases_lt}
 use Rattle.std.specs.Prelude.{IfSome, IsCharBoundary}
 use Rattle.std.specs.Option.{option_map}
-use Rattle.markdown_base.specs.Arena.{child_of, sibling_of}
+use Rattle.markdown_base.specs.Arena.{changed_at, child_of, sibling_of}
 use Rattle.markdown_base.specs.ArenaForest.{Spells, forest_at, links_of}
+use Rattle.markdown_base.specs.ArenaWalk.{Reaches}
 use Rattle.markdown_base.specs.BlockTree.{Numbered, numbered, item_at}
 use Rattle.markdown_base.specs.Forest.{Forest, nil, node, relabelled, roots}
 use Rattle.markdown_base.specs.Item.{is_open}
@@ -13,11 +14,12 @@ use Rattle.markdown_base.specs.declared.item.Item.{Item}
 use Rattle.markdown_base.specs.declared.item.ItemBody.{ItemBody}
 use Rattle.markdown_base.specs.declared.item.ItemBody.TheVariants as body
 use Rattle.markdown_base.specs.declared.node.Node.{Node}
+use Rattle.markdown_base.proofs.ArenaForestLemmas.{opens}
 use Rattle.markdown_base.proofs.ArenaLemmas.{length-changed_at}
 use Rattle.markdown_chains.specs.ChainRest.{begun_at, end_of, joined, past, past_byte}
 use Rattle.markdown_chains.specs.Document.{Plain, label_of}
 use Rattle.markdown_chains.specs.ItemRules.{StandsBefore}
-use Rattle.markdown_chains.specs.Places.{IsSameAt, label_at, trees_from}
+use Rattle.markdown_chains.specs.Places.{IsSameAt, IsPlaced, label_at, trees_from}
 use Rattle.markdown_chains.specs.Stages.{items_from, times_in, weight_in}
 use Rattle.markdown_chains.specs.Tables.{Tables}
 use Rattle.markdown_chains.specs.Totals.{total, same, weight_at}
@@ -30,9 +32,36 @@ use Rattle.markdown_resolver.specs.Kept.{IsQuietBelow}
 use Rattle.markdown_resolver.specs.Rewritten.{RunsGoOn, Rewrites, Standing, replaced, first_past, begun_item, LeavesRest, numbered_past_byte}
 use Rattle.markdown_resolver.specs.Settling.{begun_from}
 use Rattle.markdown_resolver.proofs.NodeChangeLemmas.{changed_other, changed_here}
-use Rattle.markdown_resolver.proofs.ComposeLemmas.{same_trans, Stands, stands_ready, Moves, moves_change, moves_twice, HeadWritten, HeadMoved, after_head}
+use Rattle.markdown_resolver.proofs.ComposeLemmas.{same_trans, Stands, stands_ready, Moves, moves_change, moves_none, moves_twice, HeadWritten, HeadMoved, after_head}
 use Rattle.markdown_resolver.proofs.PastByteLemmas.{left_past, first_begun, past_is, dropped, Dropped, begun_is}
 use Rattle.markdown_resolver.proofs.ChainOrderLemmas.{AllPast, IsFirstPast, first_is_past, leads_kept, leads_above, leads_left, numbered_left, numbered_begun, numbered_past_is}
+
+-- nothing is rewritten
+pub rewrites_none : (source : List ℕ) (l : Option ℕ) (nodes : List (Node Item)) (tables : Tables) → Stands source tables nodes l → Rewrites source (λ f. f) l nodes nodes tables tables
+rewrites_none source l nodes tables s = record {
+  changes = moves_change source l nodes nodes tables tables (moves_none source l nodes tables s) (λ a h. h);
+  runs = λ a h. h;
+  rewritten = refl;
+}
+
+-- a link to a node stays where an item is begun
+next_begun : (nodes : List (Node Item)) (jx : ℕ) (item : Item) (n : ℕ) → sibling_of (changed_at jx (λ m. record m { item = item }) nodes) n ≡ sibling_of nodes n
+next_begun [] jx item n = refl
+next_begun (m ∷ nodes) zero item zero = refl
+next_begun (m ∷ nodes) zero item (suc n) = refl
+next_begun (m ∷ nodes) (suc jx) item zero = refl
+next_begun (m ∷ nodes) (suc jx) item (suc n) = next_begun nodes jx item n
+
+pub next_from : (nodes : List (Node Item)) (l : Option ℕ) (i n : ℕ) → sibling_of (begun_from l i nodes) n ≡ sibling_of nodes n
+next_from nodes None i n = refl
+next_from nodes (Some jx) i n = next_begun nodes jx (begun_item i (item_at nodes jx)) n
+
+-- a node stands before what follows it
+pub over_numbers : (source : List ℕ) (opener : ℕ) (next : Option ℕ) (place : List (Node Item)) (t : Tables) → Reaches (links_of place) (IsPlaced source t place) (Some opener)
+    → sibling_of place opener ≡ next → roots (forest_at (links_of place) (Some opener)) ≡ opener ∷ roots (forest_at (links_of place) next)
+over_numbers source opener next place t reaches link =
+    let o = opens (links_of place) (IsPlaced source t place) opener reaches in
+    ap (λ (g : Forest ℕ). roots g) o.here ∙ ap (λ (l : Option ℕ). opener ∷ roots (forest_at (links_of place) l)) link
 
 -- what is left of a chain whose items are no blocks is such a chain, and has no more items
 quiet_if : (b : Bool) (i : ℕ) (a : Plain) (below after rest : Forest Plain) → IsQuietBelow rest → IsQuietBelow (node a below after) → IsQuietBelow (if b then rest else node (begun_at i a) below after)

@@ -3,9 +3,8 @@ use Rattle.std.proofs.Common.{◌≡◌, ℕ, zero, suc, ◌+◌, ◌<◌, ◌�
 use Rattle.std.proofs.lemmas.Bool.Decides.{nat_tests}
 use Rattle.std.specs.Prelude.{IsCharBoundary, is_some}
 use Rattle.std.specs.Option.{option_map}
-use Rattle.markdown_base.specs.Arena.{child_of, sibling_of, changed_at}
+use Rattle.markdown_base.specs.Arena.{child_of, sibling_of}
 use Rattle.markdown_base.specs.ArenaForest.{Spells, forest_at, links_of}
-use Rattle.markdown_base.specs.ArenaWalk.{Reaches}
 use Rattle.markdown_base.specs.BlockTree.{Numbered, numbered, item_at}
 use Rattle.markdown_base.specs.Forest.{Forest, nil, node, relabelled, roots}
 use Rattle.markdown_base.specs.Item.{is_block, is_open}
@@ -24,42 +23,17 @@ use Rattle.markdown_chains.proofs.PlaceLemmas.{some_weight}
 use Rattle.markdown_chains.proofs.TablesLemmas.{same-refl}
 use Rattle.markdown_code.specs.ChainInArena.{LeadsThrough}
 use Rattle.markdown_resolver.specs.Chains.{CanResolve}
-use Rattle.markdown_resolver.specs.ClosedOver.{trees_past, closed_over, over_inside, last_inside, CanClose, CanPutOver, PutsOver, IsEnclosed}
+use Rattle.markdown_resolver.specs.ClosedOver.{Enclosing, first_trees, trees_past, closed_over, over_inside, last_inside, CanClose, CanPutOver, PutsOver, IsEnclosed}
 use Rattle.markdown_resolver.specs.Kept.{IsQuietBelow}
-use Rattle.markdown_resolver.specs.Rewritten.{RunsGoOn, Rewrites, LeavesRest, CanPut, first_past, begun_item, numbered_past_byte}
+use Rattle.markdown_resolver.specs.Rewritten.{RunsGoOn, Rewrites, LeavesRest, CanPut, first_past, numbered_past_byte}
 use Rattle.markdown_resolver.specs.Settling.{IsWritten, begun_from}
-use Rattle.markdown_resolver.proofs.ChainOrderLemmas.{AllPast, rest_past, leads_kept, leads_left, numbered_left, numbered_past_is}
-use Rattle.markdown_resolver.proofs.ComposeLemmas.{same_trans, Stands, Moves, changes_move, moves_change, moves_none, moves_twice, HeadWritten, HeadMoved, head_moves, head_leaves, after_head, below_kept}
-use Rattle.markdown_resolver.proofs.EncloseLemmas.{OpensAt, opens_at, enclosed_moves, inside_reads, rest_forest, rest_reads, rest_kept, whole_is, spelled_past, spelled_kept, total_parts}
+use Rattle.markdown_resolver.proofs.ChainOrderLemmas.{AllPast, leads_kept, leads_left, numbered_left, numbered_past_is}
+use Rattle.markdown_resolver.proofs.ComposeLemmas.{same_trans, Stands, Moves, changes_move, moves_change, moves_twice, HeadWritten, HeadMoved, head_moves, head_leaves, after_head, below_kept}
+use Rattle.markdown_resolver.proofs.EncloseLemmas.{OpensAt, opens_at, inside_reads, spelled_past, spelled_kept, total_parts}
+use Rattle.markdown_resolver.proofs.FoldLemmas.{IsFolded, behind_past, behind_reads, closer_opens, enclosed_folds, first_behind, folded_moves, item_behind, stands_once, whole_childless}
 use Rattle.markdown_resolver.proofs.PastByteLemmas.{tree_same}
 use Rattle.markdown_resolver.proofs.PutFoundLemmas.{closed_head}
-use Rattle.markdown_resolver.proofs.PutLemmas.{quiet_past_byte, few_past_byte, as_many, closed_no_run, leads_begun, no_run_here, run_closed, first_kept, RestPast, rest_past_is}
-
--- the number of what stands first past a byte depends on the items alone
-first_equal : (old new : List (Node Item)) (i : ℕ) (ns : List ℕ) → ((n : ℕ) → item_at new n ≡ item_at old n) → first_past new i ns ≡ first_past old i ns
-first_equal old new i [] h = refl
-first_equal old new i (n ∷ ns) h = rw (h n, first_equal old new i ns h) refl
-
--- of numbers past a number those behind others
-past_behind : (nodes : List (Node Item)) (low byte : ℕ) (before after : List ℕ) → AllPast nodes low byte (before ++ after) → AllPast nodes low byte after
-past_behind nodes low byte [] after h = h
-past_behind nodes low byte (n ∷ before) after h = past_behind nodes low byte before after h.1
-
-past_equal : (old new : List (Node Item)) (low byte : ℕ) (ns : List ℕ) → ((n : ℕ) → item_at new n ≡ item_at old n) → AllPast old low byte ns → AllPast new low byte ns
-past_equal old new low byte [] h all = tt
-past_equal old new low byte (n ∷ ns) h all = let p = all.0 in (record { number = p.number; start = rw (h n) p.start }, past_equal old new low byte ns h all.1)
-
--- a link to a node stays where an item is begun
-next_begun : (nodes : List (Node Item)) (jx : ℕ) (item : Item) (n : ℕ) → sibling_of (changed_at jx (λ m. record m { item = item }) nodes) n ≡ sibling_of nodes n
-next_begun [] jx item n = refl
-next_begun (m ∷ nodes) zero item zero = refl
-next_begun (m ∷ nodes) zero item (suc n) = refl
-next_begun (m ∷ nodes) (suc jx) item zero = refl
-next_begun (m ∷ nodes) (suc jx) item (suc n) = next_begun nodes jx item n
-
-pub next_from : (nodes : List (Node Item)) (l : Option ℕ) (i n : ℕ) → sibling_of (begun_from l i nodes) n ≡ sibling_of nodes n
-next_from nodes None i n = refl
-next_from nodes (Some jx) i n = next_begun nodes jx (begun_item i (item_at nodes jx)) n
+use Rattle.markdown_resolver.proofs.PutLemmas.{rewrites_none, next_from, over_numbers, quiet_past_byte, few_past_byte, as_many, closed_no_run, leads_begun, no_run_here, run_closed, first_kept, RestPast, rest_past_is}
 
 -- what is left of a quiet chain is quiet, and has no more items
 quiet_trees : (k : ℕ) (f : Forest Plain) → IsQuietBelow f → IsQuietBelow (trees_past k f)
@@ -105,7 +79,8 @@ pub record HeadStands (source : List ℕ) (ix i : ℕ) (item : Item) (rule : For
 
 pub head_stands : (source : List ℕ) (ix i : ℕ) (item : Item) (next : Option ℕ) (nodes mid : List (Node Item)) (tables t : Tables) → Stands source tables nodes (Some ix)
     → child_of mid ix ≡ child_of nodes ix → HeadPut source ix i item next nodes mid tables t
-    → (rule : Forest Plain → Forest Plain) (new : List (Node Item)) (later : Tables) → Rewrites source rule next (begun_from next i mid) new t later → HeadStands source ix i item rule nodes mid new tables t later
+    → (rule : Forest Plain → Forest Plain) (new : List (Node Item)) (later : Tables) → Rewrites source rule next (begun_from next i mid) new t later
+    → HeadStands source ix i item rule nodes mid new tables t later
 head_stands source ix i item next nodes mid tables t s child p rule new later r =
     let m = moves_twice source (sibling_of nodes ix) next next mid (begun_from next i mid) new t t later p.rest.moves (changes_move source next (begun_from next i mid) new t later r.changes) in
     let closed : is_open (item_at mid ix).body ≡ false = rw p.item_is p.closed in
@@ -120,14 +95,6 @@ head_stands source ix i item next nodes mid tables t s child p rule new later r 
       moved = hm;
       reads = hm.trees ∙ tree_same _ _ _ _ _ _ (ap (λ x. label_of source t x) p.item_is) kept.trees after;
     }
-
--- nothing is rewritten
-pub rewrites_none : (source : List ℕ) (l : Option ℕ) (nodes : List (Node Item)) (tables : Tables) → Stands source tables nodes l → Rewrites source (λ f. f) l nodes nodes tables tables
-rewrites_none source l nodes tables s = record {
-  changes = moves_change source l nodes nodes tables tables (moves_none source l nodes tables s) (λ a h. h);
-  runs = λ a h. h;
-  rewritten = refl;
-}
 
 -- an item stands where another stood that was not open, and no block
 no_block : (is : Bool) (b : ItemBody) → is_some (if is then Some b else None) ≡ false → is ≡ false
@@ -202,17 +169,14 @@ behind_leads old mid opener closer byte inside after next f listed spelled size 
     let left : LeadsThrough mid low next (numbered_left byte chain) = rw link at (leads_left mid byte (sibling_of old closer) behind low chain there leads) in
     rw (numbered_past_is byte chain) (leads_begun mid byte next low (numbered_left byte chain) left)
 
--- the opener's node stands before what is left
-pub over_numbers : (source : List ℕ) (opener : ℕ) (next : Option ℕ) (place : List (Node Item)) (t : Tables) → Reaches (links_of place) (IsPlaced source t place) (Some opener)
-    → sibling_of place opener ≡ next → roots (forest_at (links_of place) (Some opener)) ≡ opener ∷ roots (forest_at (links_of place) next)
-over_numbers source opener next place t reaches link =
-    let o = opens (links_of place) (IsPlaced source t place) opener reaches in
-    ap (λ (g : Forest ℕ). roots g) o.here ∙ ap (λ (l : Option ℕ). opener ∷ roots (forest_at (links_of place) l)) link
+-- one item, with what a rule shows of what is inside below it
+abbrev pub over_shape : List ℕ → Tables → Item → (shown : Forest Plain → Forest Plain) → Enclosing
+over_shape source tables item shown a inside = node (label_of source tables item) (shown inside) nil
 
--- the opener's node was written once what stands inside was put below it
-module _ (source : List ℕ) (opener last closer : ℕ) (item : Item) (byte : ℕ) (inside : List ℕ) (next : Option ℕ) (old folded mid : List (Node Item)) (tables t : Tables) (grown : HasGrown tables t)
-    (can : CanClose source tables old opener closer inside byte) (over : CanPutOver source tables t old opener item byte) (is : last_inside opener inside ≡ last)
-    (v : IsEnclosed old folded opener last closer) (link : next ≡ first_past folded byte (roots (forest_at (links_of folded) (Some closer)))) (w : IsWritten folded mid opener item next) where
+-- the opener's node was written once it was folded
+module _ (source : List ℕ) (opener closer : ℕ) (item : Item) (byte : ℕ) (inside : List ℕ) (next : Option ℕ) (old folded mid : List (Node Item)) (tables t : Tables) (grown : HasGrown tables t)
+    (can : CanClose source tables old opener closer inside byte) (over : CanPutOver source tables t old opener item byte) (v : IsFolded source tables old folded opener closer (length inside))
+    (next_first : first_past old byte can.after ≡ next) (w : IsWritten folded mid opener item next) where
   abbrev k : ℕ
   k = length inside
 
@@ -225,99 +189,89 @@ module _ (source : List ℕ) (opener last closer : ℕ) (item : Item) (byte : �
   abbrev place : List (Node Item)
   place = begun_from next byte mid
 
-  opens_there : OpensAt k closer can.after f
-  opens_there = opens_at inside can.after closer f can.follows
-
   whole_old : forest_at (links_of old) (Some opener) ≡ node opener nil f
-  whole_old = whole_is source tables old folded opener last closer inside byte can is v
+  whole_old = whole_childless source tables old opener closer inside byte can
 
-  folded_moves : Moves source (Some opener) (Some opener) old folded tables tables
-  folded_moves = enclosed_moves source tables old folded opener last closer inside byte can is v
-
-  rest_roots : roots (forest_at (links_of folded) (sibling_of folded opener)) ≡ closer ∷ can.after
-  rest_roots =
-      ap (λ (l : Option ℕ). roots (forest_at (links_of folded) l)) v.next_is ∙ ap (λ (g : Forest ℕ). roots g) (rest_forest source tables old folded opener last closer inside byte can is v)
-      ∙ ap (λ (g : Forest ℕ). roots g) opens_there.is ∙ ap (λ (ns : List ℕ). closer ∷ ns) opens_there.follow
+  moved : Moves source (Some opener) (Some opener) old folded tables tables
+  moved = folded_moves source tables old opener closer inside byte can folded v
 
   rest_all_past : AllPast folded opener (item_at old opener).end (roots (forest_at (links_of folded) (sibling_of folded opener)))
-  rest_all_past =
-      let all : AllPast old opener (item_at old opener).end (inside ++ closer ∷ can.after) = rw can.follows at (rest_past source tables old opener can.ready) in
-      let some = past_equal old folded opener (item_at old opener).end (closer ∷ can.after) v.items (past_behind old opener (item_at old opener).end inside (closer ∷ can.after) all) in
-      rw rest_roots some
+  rest_all_past = rw v.next_is (behind_past source tables old opener closer inside byte can folded v.size v.behind)
 
   link_on : next ≡ first_past folded byte (roots (forest_at (links_of folded) (sibling_of folded opener)))
-  link_on = link ∙ ap (λ (l : Option ℕ). first_past folded byte (roots (forest_at (links_of folded) l))) (sym v.next_is)
-
-  next_first : first_past old byte can.after ≡ next
-  next_first =
-      let ends = can.closer_ends in
-      let ends' : (item_at folded closer).end ≤ byte = rw (v.items closer) ends in
-      let test : nat_le (item_at folded closer).end byte ≡ true = grind (arith, nat_tests, ends') in
-      let skip : first_past folded byte (closer ∷ can.after) ≡ first_past folded byte can.after = rw test refl in
-      sym (link_on ∙ ap (λ (ns : List ℕ). first_past folded byte ns) rest_roots ∙ skip ∙ first_equal old folded byte can.after v.items)
+  link_on = rw v.next_is (sym (first_behind source tables old opener closer inside byte can folded v.size v.behind ∙ next_first))
 
   puts : HeadPut source opener byte item next folded mid tables t
   puts =
-      head_put source opener byte item next folded mid tables t grown folded_moves.stands over.puts over.ends w (item_at old opener).end rest_all_past link_on
-      (λ n e. rw (v.items n) (can.between n (next_first ∙ e))) can.boundary
+      head_put source opener byte item next folded mid tables t grown moved.stands over.puts over.ends w (item_at old opener).end rest_all_past link_on
+      (λ n e. rw (item_behind source tables old opener closer inside byte can folded v.size v.behind n (next_first ∙ e)) (can.between n (next_first ∙ e))) can.boundary
 
   rest_is : past_byte byte (trees_from source tables folded (sibling_of folded opener)) ≡ past_byte byte (trees_past (suc k) chain)
   rest_is =
       ap (λ (l : Option ℕ). past_byte byte (trees_from source tables folded l)) v.next_is
-      ∙ ap (λ (g : Forest Plain). past_byte byte g) (rest_reads source tables old folded opener last closer inside byte can is v)
-      ∙ past_closer source tables old k closer byte can.after f opens_there can.closer_ends
-
-  link_whole : (rule : Forest Plain → Forest Plain) (new : List (Node Item)) (later : Tables) → Rewrites source rule next place new t later
-      → Rewrites source (closed_over k (over_inside source t item) byte rule) (Some opener) old new tables later
-  link_whole rule new later r =
-      let h = head_stands source opener byte item next folded mid tables t folded_moves.stands w.child_is puts rule new later r in
-      let m = moves_twice source (Some opener) (Some opener) (Some opener) old folded new tables tables later folded_moves h.moved.moves in
-      let item_is : item_at new opener ≡ item = h.moved.item ∙ puts.item_is in
-      record {
-        changes = moves_change source (Some opener) old new tables later m
-            (λ a stands. before_text opener old new a (first_no_block source tables old opener can.ready) (rw item_is over.starts) stands);
-        runs = runs_text source opener old new can.opener_closed (rw item_is puts.closed);
-        rewritten = h.reads ∙ tree_same _ _ _ _ _ _ refl (inside_reads source tables old folded opener last closer inside byte can is v) (ap rule rest_is) ∙ rw whole_old refl;
-      }
+      ∙ ap (λ (g : Forest Plain). past_byte byte g) (behind_reads source tables old opener closer inside byte can folded v.size v.behind)
+      ∙ past_closer source tables old k closer byte can.after f (closer_opens source tables old opener closer inside byte can) can.closer_ends
 
   left_moves : Moves source (Some opener) next old place tables t
   left_moves =
-      moves_twice source (Some opener) (Some opener) next old folded place tables tables t folded_moves
-      (moves_twice source (Some opener) (sibling_of folded opener) next folded mid place tables t t (head_leaves source opener folded mid tables t folded_moves.stands puts.head) puts.rest.moves)
+      moves_twice source (Some opener) (Some opener) next old folded place tables tables t moved
+      (moves_twice source (Some opener) (sibling_of folded opener) next folded mid place tables t t (head_leaves source opener folded mid tables t moved.stands puts.head) puts.rest.moves)
 
-  left_reads : trees_from source t place next ≡ past_byte byte (trees_past (suc k) chain)
-  left_reads = puts.rest.reads ∙ rest_is
-
-  link_leaves : LeavesRest source opener next old place t
-  link_leaves =
-      let a = after_head source opener folded mid tables t folded_moves.stands puts.head in
+  fold_leaves : LeavesRest source opener next old place t
+  fold_leaves =
+      let a = after_head source opener folded mid tables t moved.stands puts.head in
       let two : 2 ≤ weight_at folded opener = some_weight (is_open (item_at folded opener).body) in
       let all : weight_in folded (Some opener) ≡ weight_at folded opener + (weight_in folded (child_of folded opener) + weight_in folded (sibling_of folded opener)) =
       ap (λ (g : Forest ℕ). total (weight_at folded) g) a.here in
       let rest : weight_in place next ≤ weight_in folded (sibling_of folded opener) = rw (← a.rest.weight) puts.rest.moves.no_heavier in
-      let weight = folded_moves.no_heavier in
-      over_leaves source opener (suc k) byte next old place tables t f can.ready whole_old left_moves (omega (arith, two, all, rest, weight)) left_reads
+      let weight = moved.no_heavier in
+      over_leaves source opener (suc k) byte next old place tables t f can.ready whole_old left_moves (omega (arith, two, all, rest, weight)) (puts.rest.reads ∙ rest_is)
 
   behind_same : (n : ℕ) → 0 < total (same n) (trees_past (suc k) f) → IsSameAt old mid n
   behind_same n l =
-      let one : total (same n) (trees_past k f) ≡ same n closer + (total (same n) opens_there.below + total (same n) (trees_past (suc k) f)) = ap (λ (g : Forest ℕ). total (same n) g) opens_there.is in
+      let o = closer_opens source tables old opener closer inside byte can in
+      let one : total (same n) (trees_past k f) ≡ same n closer + (total (same n) o.below + total (same n) (trees_past (suc k) f)) = ap (λ (g : Forest ℕ). total (same n) g) o.is in
       let parts = total_parts (same n) k f in
-      let once : same n opener + total (same n) f ≤ 1 = (let x = rw whole_old at (can.ready.once n) in omega arith) in
-      same_trans old folded mid n (rest_kept source tables old folded opener last closer inside byte can is v n (omega (arith, one, l)))
+      let once = stands_once source tables old opener closer inside byte can n in
+      same_trans old folded mid n (v.behind n (omega (arith, one, l)))
       (w.others n (λ q. let self : same n opener ≡ 1 = subst (λ (m : ℕ). same n m ≡ 1) q (same-refl n) in absurd (omega (arith, once, self, parts, one, l))))
 
-  link_leads : (low : ℕ) (after : List Numbered) → LeadsThrough old low (sibling_of old closer) after → LeadsThrough place low next (numbered_past_byte byte after)
-  link_leads =
+  fold_leads : (low : ℕ) (after : List Numbered) → LeadsThrough old low (sibling_of old closer) after → LeadsThrough place low next (numbered_past_byte byte after)
+  fold_leads =
       let o = opens (links_of old) (IsPlaced source tables old) opener can.ready.reaches in
       let size = v.size in
       let size' = w.size in
       behind_leads old mid opener closer byte inside can.after next f can.follows o.after.spelled (omega (arith, size, size')) behind_same next_first
 
-  link_numbers : roots (forest_at (links_of place) (Some opener)) ≡ opener ∷ roots (forest_at (links_of place) next)
-  link_numbers =
-      let r = link_whole (λ g. g) place t (rewrites_none source next place t left_moves.stands) in
-      over_numbers source opener next place t r.changes.reaches (next_from mid next byte opener ∙ w.next_is)
+  -- so the item stands for what was found, over what is shown of what stood inside
+  module _ (shown : Forest Plain → Forest Plain) (reads : trees_from source tables folded (child_of folded opener) ≡ shown (first_trees k chain)) where
+    fold_whole : (rule : Forest Plain → Forest Plain) (new : List (Node Item)) (later : Tables) → Rewrites source rule next place new t later
+        → Rewrites source (closed_over k (over_shape source t item shown) byte rule) (Some opener) old new tables later
+    fold_whole rule new later r =
+        let h = head_stands source opener byte item next folded mid tables t moved.stands w.child_is puts rule new later r in
+        let m = moves_twice source (Some opener) (Some opener) (Some opener) old folded new tables tables later moved h.moved.moves in
+        let item_is : item_at new opener ≡ item = h.moved.item ∙ puts.item_is in
+        record {
+          changes = moves_change source (Some opener) old new tables later m
+              (λ a stands. before_text opener old new a (first_no_block source tables old opener can.ready) (rw item_is over.starts) stands);
+          runs = runs_text source opener old new can.opener_closed (rw item_is puts.closed);
+          rewritten = h.reads ∙ tree_same _ _ _ _ _ _ refl reads (ap rule rest_is) ∙ rw whole_old refl;
+        }
 
-  -- so the item stands for what was found, over what is inside
-  pub link_puts : PutsOver source opener closer inside (over_inside source t item) byte (opener ∷ []) next old place tables t
-  link_puts = record { whole = link_whole; leaves = link_leaves; leads = link_leads; numbers = link_numbers }
+    fold_numbers : roots (forest_at (links_of place) (Some opener)) ≡ opener ∷ roots (forest_at (links_of place) next)
+    fold_numbers =
+        let r = fold_whole (λ g. g) place t (rewrites_none source next place t left_moves.stands) in
+        over_numbers source opener next place t r.changes.reaches (next_from mid next byte opener ∙ w.next_is)
+
+    pub fold_puts : PutsOver source opener closer inside (over_shape source t item shown) byte (opener ∷ []) next old place tables t
+    fold_puts = record { whole = fold_whole; leaves = fold_leaves; leads = fold_leads; numbers = fold_numbers }
+
+-- a link stands over all that is inside
+pub link_puts : (source : List ℕ) (opener last closer : ℕ) (item : Item) (byte : ℕ) (inside : List ℕ) (next : Option ℕ) (old folded mid : List (Node Item)) (tables t : Tables) → HasGrown tables t
+    → CanClose source tables old opener closer inside byte → CanPutOver source tables t old opener item byte → last_inside opener inside ≡ last → IsEnclosed old folded opener last closer
+    → next ≡ first_past folded byte (roots (forest_at (links_of folded) (Some closer))) → IsWritten folded mid opener item next
+    → PutsOver source opener closer inside (over_inside source t item) byte (opener ∷ []) next old (begun_from next byte mid) tables t
+link_puts source opener last closer item byte inside next old folded mid tables t grown can over is enclosed link w =
+    let v = enclosed_folds source tables old folded opener last closer inside byte can is enclosed in
+    fold_puts source opener closer item byte inside next old folded mid tables t grown can over v
+    (sym (link ∙ first_behind source tables old opener closer inside byte can folded v.size v.behind)) w (λ f. f) (inside_reads source tables old folded opener last closer inside byte can is enclosed)

@@ -29,8 +29,8 @@ use Rattle.markdown_resolver.proofs.ComposeLemmas.{same_trans, Stands, stands_re
 use Rattle.markdown_resolver.proofs.EncloseLemmas.{opens_at, total_parts}
 use Rattle.markdown_resolver.proofs.PastByteLemmas.{tree_same}
 use Rattle.markdown_resolver.proofs.PutFoundLemmas.{closed_head}
-use Rattle.markdown_resolver.proofs.PutLemmas.{no_run_here, first_kept, first_there, rest_same, rest_within}
-use Rattle.markdown_resolver.proofs.PutLinkLemmas.{HeadPut, head_put, HeadStands, head_stands, rewrites_none, first_no_block, before_text, runs_text, over_leaves, behind_leads, over_numbers, next_from}
+use Rattle.markdown_resolver.proofs.PutLemmas.{rewrites_none, next_from, over_numbers, no_run_here, first_kept, first_there, rest_same, rest_within}
+use Rattle.markdown_resolver.proofs.PutLinkLemmas.{HeadPut, head_put, HeadStands, head_stands, first_no_block, before_text, runs_text, over_leaves, behind_leads}
 use Rattle.markdown_resolver.proofs.PutPairLemmas.{Skips, skips, past_at, entries_of_none, label_of_none}
 use Rattle.markdown_resolver.proofs.PutReferenceLemmas.{past_inside, first_behind}
 
@@ -105,7 +105,8 @@ module _ (source : List ℕ) (opener closer : ℕ) (mark item : Item) (inside : 
       sym skipped_there.reads ∙ ap (λ (g : Forest Plain). past_byte item.end g) after_mark_is.rest.trees
       ∙ past_inside source tables old opener closer item.end inside can over.ends
 
-  module _ (next : Option ℕ) (last : List (Node Item)) (link : next ≡ first_past mid item.end (roots (forest_at (links_of mid) (sibling_of mid closer)))) (w : IsWritten mid last closer item next) where
+  module _ (next : Option ℕ) (last : List (Node Item)) (link : next ≡ first_past mid item.end (roots (forest_at (links_of mid) (sibling_of mid closer))))
+      (w : IsWritten mid last closer item next) where
     abbrev place : List (Node Item)
     place = begun_from next item.end last
 

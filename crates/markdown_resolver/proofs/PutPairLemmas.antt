@@ -29,7 +29,7 @@ use Rattle.markdown_resolver.specs.Settling.{IsWritten, begun_from}
 use Rattle.markdown_resolver.proofs.ChainOrderLemmas.{StandsPast, AllPast, rest_past, leads_kept, leads_lower}
 use Rattle.markdown_resolver.proofs.ComposeLemmas.{Stands, stands_ready, Moves, changes_move, moves_none, moves_twice, first_leaves, HeadWritten, HeadMoved, After, head_moves, head_leaves, after_head}
 use Rattle.markdown_resolver.proofs.PastByteLemmas.{tree_same, SpelledAt, spelled_at}
-use Rattle.markdown_resolver.proofs.PutLemmas.{leaves_rest, whole_put, ClosesAt, before_closed, runs_closed, no_run_here, first_kept, first_there, rest_same, rest_within, RestPast, rest_past_is}
+use Rattle.markdown_resolver.proofs.PutLemmas.{leaves_rest, whole_put, ClosesAt, before_closed, runs_closed, no_run_here, first_kept, first_there, rest_same, rest_within, RestPast, rest_past_is, rewrites_none, next_from, over_numbers}
 use Rattle.markdown_resolver.proofs.PutFoundLemmas.{closed_head, none_below}
 
 -- of numbers past a number one that stands among them
@@ -268,6 +268,17 @@ module _ (source : List ℕ) (ix closer : ℕ) (first second : Item) (next : Opt
       whole_put source ix old mid new tables tables later (pair source t first second) (Some second.end) rule finds.ready begun.head hm
       (λ x stands. before_closed ix old mid x opener_closes stands) (runs_closed source ix old mid opener_closes) (tree_same _ _ _ _ _ _ label b.reads after)
 
+  -- both stand there
+  pair_numbers : roots (forest_at (links_of place) (Some ix)) ≡ ix ∷ closer ∷ roots (forest_at (links_of place) next)
+  pair_numbers =
+      let none = rewrites_none source next place t left.moves.stands in
+      let all = whole_pair (λ f. f) place t none in
+      let second_moved = second_moves (λ f. f) place t none in
+      let number = begun.number in
+      let opener_next : sibling_of place ix ≡ Some closer = next_from last next second.end ix ∙ (w.others ix (λ e. absurd (omega (arith, number, e)))).next ∙ v.next_is in
+      over_numbers source ix (Some closer) place t all.changes.reaches opener_next
+      ∙ ap (λ (ns : List ℕ). ix ∷ ns) (over_numbers source closer next place t second_moved.moves.stands.reaches (next_from last next second.end closer ∙ w.next_is))
+
   -- so the pair stands for what was found, and the chain goes on past it
   pub pair_puts : Puts source ix (pair source t first second) (Some second.end) next old place tables t
   pair_puts = record {
@@ -279,4 +290,7 @@ module _ (source : List ℕ) (ix closer : ℕ) (first second : Item) (next : Opt
         let kept = leads_kept old mid l (forest_at (links_of old) l) low chain opener_after.after.spelled begun.head.more (λ n x z. rest_same source ix old mid tables tables opener_stands begun.head n x z) e in
         let d = begun.skips.leads low chain kept in
         rw d.same_left (left.leads low d.rest d.leads);
+    standing = ix ∷ closer ∷ [];
+    numbers = pair_numbers;
+    as_many = λ a below. refl;
   }

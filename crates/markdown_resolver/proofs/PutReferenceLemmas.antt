@@ -25,7 +25,8 @@ use Rattle.markdown_resolver.proofs.ChainOrderLemmas.{rest_past}
 use Rattle.markdown_resolver.proofs.ComposeLemmas.{Stands, stands_ready, Moves, moves_change, moves_twice, head_leaves, after_head}
 use Rattle.markdown_resolver.proofs.EncloseLemmas.{opens_at, read_past, spelled_past, total_parts}
 use Rattle.markdown_resolver.proofs.PastByteLemmas.{tree_same}
-use Rattle.markdown_resolver.proofs.PutLinkLemmas.{HeadPut, head_put, head_stands, rewrites_none, first_no_block, before_text, runs_text, over_leaves, behind_leads, over_numbers, next_from}
+use Rattle.markdown_resolver.proofs.PutLemmas.{rewrites_none, next_from, over_numbers}
+use Rattle.markdown_resolver.proofs.PutLinkLemmas.{HeadPut, head_put, head_stands, first_no_block, before_text, runs_text, over_leaves, behind_leads}
 use Rattle.markdown_resolver.proofs.PutPairLemmas.{Skips, skips, ready_next}
 
 -- the chain behind a closer, where it stands
@@ -59,7 +60,8 @@ module _ (source : List ℕ) (tables : Tables) (old : List (Node Item)) (opener 
   behind : Behind old closer can.after (trees_past (suc many) numbers)
   behind =
       let o = opens_at inside can.after closer numbers can.follows in
-      let at : Spells (links_of old) (Some closer) (node closer o.below (trees_past (suc many) numbers)) = rw o.is at (spelled_past old inside can.after closer (sibling_of old opener) numbers can.follows opened.after.spelled) in
+      let at : Spells (links_of old) (Some closer) (node closer o.below (trees_past (suc many) numbers)) =
+      rw o.is at (spelled_past old inside can.after closer (sibling_of old opener) numbers can.follows opened.after.spelled) in
       record {
         within = at.1;
         forest = found (links_of old) (sibling_of old closer) (trees_past (suc many) numbers) at.3 (λ n. let z = whole_once n in let parts = total_parts (same n) (suc many) numbers in omega arith);
@@ -152,7 +154,8 @@ module _ (source : List ℕ) (opener closer : ℕ) (item : Item) (inside : List 
     reference_leads : (low : ℕ) (after : List Numbered) → LeadsThrough old low (sibling_of old closer) after → LeadsThrough place low next (numbered_past_byte item.end after)
     reference_leads =
         let size = w.size in
-        behind_leads old mid opener closer item.end inside can.after next f can.follows (opens (links_of old) (IsPlaced source tables old) opener can.ready.reaches).after.spelled (omega (arith, size)) behind_same next_first
+        behind_leads old mid opener closer item.end inside can.after next f can.follows (opens (links_of old) (IsPlaced source tables old) opener can.ready.reaches).after.spelled
+        (omega (arith, size)) behind_same next_first
 
     reference_numbers : roots (forest_at (links_of place) (Some opener)) ≡ opener ∷ roots (forest_at (links_of place) next)
     reference_numbers =

@@ -6,30 +6,28 @@ use Rattle.markdown_base.specs.ArenaForest.{links_of}
 use Rattle.markdown_base.specs.BlockTree.{item_at}
 use Rattle.markdown_base.specs.Forest.{Forest}
 use Rattle.markdown_base.specs.Item.{is_open}
-use Rattle.markdown_base.specs.Questions.{Question, Answer}
 use Rattle.markdown_base.specs.declared.item.Item.{Item}
 use Rattle.markdown_base.specs.declared.item.ItemBody.{ItemBody}
 use Rattle.markdown_base.specs.declared.item.ItemBody.TheVariants as body
 use Rattle.markdown_base.specs.declared.node.Node.{Node}
 use Rattle.markdown_base.proofs.ArenaForestLemmas.{opens, forest_at-none}
-use Rattle.markdown_chains.specs.Above.{Above, above_at, above_cursor, inside_all, inside_item, no_blocks}
+use Rattle.markdown_chains.specs.Above.{Above, above_cursor, inside_all, inside_item}
 use Rattle.markdown_chains.specs.ChainRest.{open_body}
 use Rattle.markdown_chains.specs.Counts.{risen}
 use Rattle.markdown_chains.specs.Document.{Plain, plain_tags, Shape, leaf, enclosed, plain, backslash_break, unresolved, is_unresolved, shape_of}
 use Rattle.markdown_chains.specs.Places.{IsPlaced, label_at, trees_from}
 use Rattle.markdown_chains.specs.Setting.{Rules, Setting, setting_of}
-use Rattle.markdown_chains.specs.Stages.{Stage, chain_at, items_from, known_at}
+use Rattle.markdown_chains.specs.Stages.{items_from}
 use Rattle.markdown_chains.specs.Tables.{Tables}
 use Rattle.markdown_chains.specs.Waiting.{is_quiet}
 use Rattle.markdown_chains.proofs.PlaceLemmas.{shape-open}
-use Rattle.markdown_chains.proofs.TablesLemmas.{grown-nothing}
 use Rattle.markdown_code.specs.Finds.{nothing, Passed, find, find_by, gfm_footnotes, read_tree}
 use Rattle.markdown_code.specs.SpanClosers.{HoldsFrom, Learned}
 use Rattle.markdown_code.specs.declared.span_text.SpanKind.{SpanKind}
 use Rattle.markdown_delims.proofs.PairingLemmas.{closed_shape}
-use Rattle.markdown_resolver.specs.Chains.{AreAbove, CanResolve, ResolvesFrom}
-use Rattle.markdown_resolver.specs.PassOne.{Outcome, pass_one, read_chain}
-use Rattle.markdown_resolver.specs.Rewritten.{LeavesRest, LooksAt, Puts, ReadsItem, Rewrites, reads_by, settled}
+use Rattle.markdown_resolver.specs.Chains.{AreAbove, CanResolve}
+use Rattle.markdown_resolver.specs.Rewritten.{LeavesRest, Puts, settled}
+use Rattle.markdown_resolver.specs.ReadsItem.{LooksAt, ReadsItem}
 use Rattle.markdown_resolver.proofs.ChainLeadsLemmas.{chain_leads, holds_next}
 use Rattle.markdown_resolver.proofs.ReadsItemLemmas.{reads_item}
 
@@ -204,7 +202,7 @@ above_left source ix next old new tables' (n ∷ deeper) leaves above =
     )
 
 -- so the blocks above the chain do
-inside_left : (source : List ℕ) (ix : ℕ) (next : Option ℕ) (old new : List (Node Item)) (tables' : Tables) (spine : List ℕ) (outer : Above)
+pub inside_left : (source : List ℕ) (ix : ℕ) (next : Option ℕ) (old new : List (Node Item)) (tables' : Tables) (spine : List ℕ) (outer : Above)
     → LeavesRest source ix next old new tables' → AreAbove source old (Some ix) spine → inside_all new spine outer ≡ inside_all old spine outer
 inside_left source ix next old new tables' [] outer leaves above = refl
 inside_left source ix next old new tables' (n ∷ deeper) outer leaves above =
@@ -215,87 +213,6 @@ inside_left source ix next old new tables' (n ∷ deeper) outer leaves above =
 -- the bytes up to one
 pub up_to : (text : List ℕ) (end : ℕ) → slice_range text 0 end ≡ take end text
 up_to text end = search rules
-
--- a chain was read where it stands from the node `first` up to the link `at`
-pub record ReadsUpTo (s : Setting) (first : ℕ) (at : Option ℕ) (old now : Arena Item) (tables tables' : Tables) : Type 0 where
-  -- what is left may be read, where the chain stands
-  pub tree : now ≡ record old { nodes = now.nodes }
-  pub ready : CanResolve s.text tables' now.nodes at
-  pub above : AreAbove s.text now.nodes at now.spine
-  pub same_above : above_cursor s.text now ≡ above_cursor s.text old
-  -- once it is read, the whole is
-  pub whole : (nodes : List (Node Item)) (later : Tables) → Rewrites s.text (reads_by s (above_cursor s.text old)) at now.nodes nodes tables' later
-      → Rewrites s.text (reads_by s (above_cursor s.text old)) (Some first) old.nodes nodes tables later
-
--- none of it was read yet
-pub reads_none : (s : Setting) (first : ℕ) (old : Arena Item) (tables : Tables) → CanResolve s.text tables old.nodes (Some first)
-    → AreAbove s.text old.nodes (Some first) old.spine → ReadsUpTo s first (Some first) old old tables tables
-reads_none s first old tables ready above = record { tree = refl; ready = ready; above = above; same_above = refl; whole = λ nodes later r. r }
-
--- one item more was read
-pub reads_more : (s s' : Setting) (first ix : ℕ) (next : Option ℕ) (old now new : Arena Item) (tables tables1 tables2 : Tables) → s' ≡ s
-    → ReadsUpTo s first (Some ix) old now tables tables1 → new ≡ record now { nodes = new.nodes }
-    → ReadsItem s' (above_cursor s'.text now) ix next now.nodes new.nodes tables1 tables2 → ReadsUpTo s first next old new tables tables2
-reads_more s s' first ix next old now new tables tables1 tables2 same r e reads' =
-    let reads = subst (λ (x : Setting). ReadsItem x (above_cursor x.text now) ix next now.nodes new.nodes tables1 tables2) same reads' in
-    let leaves = reads.leaves in
-    let spine : new.spine ≡ now.spine = ap (λ (t : Arena Item). t.spine) e in
-    record {
-      tree = e ∙ ap (λ (t : Arena Item). let u : Arena Item = record t { nodes = new.nodes } in u) r.tree;
-      ready = leaves.ready;
-      above = rw spine (above_left s.text ix next now.nodes new.nodes tables2 now.spine leaves r.above);
-      same_above =
-          ap (λ (spine : List ℕ). above_at s.text new.nodes spine) spine
-          ∙ inside_left s.text ix next now.nodes new.nodes tables2 now.spine (no_blocks s.text) leaves r.above
-          ∙ r.same_above;
-      whole = λ nodes later rest. r.whole nodes later (rw r.same_above at (reads.whole nodes later (rw r.same_above rest)));
-    }
-
--- of a chain that has ended nothing is left to be read
-read_to_end : (s : Setting) (above : Above) (nodes : List (Node Item)) (tables : Tables) → Rewrites s.text (reads_by s above) None nodes nodes tables tables
-unfolding read_chain
-read_to_end s above nodes tables =
-    let e = forest_at-none (links_of nodes) in
-    record {
-      changes = record {
-        reaches = record { spelled = rw e refl; each = rw e tt };
-        once = λ n. rw e (omega arith);
-        of_chain = λ n l. omega arith;
-        more_nodes = omega arith;
-        outside = λ n l z. record { child = refl; next = refl; item = refl };
-        grown = grown-nothing tables;
-        named_once = λ n. rw e (omega arith);
-        named = λ n l. omega arith;
-        before = λ a stands. stands;
-        no_heavier = omega arith;
-      };
-      runs = λ a whole. whole;
-      rewritten = rw e refl;
-    }
-
--- a chain that was read is resolved by pass one, which asks nothing
-resolves_read : {C : Type 0} (step : C → Question → Option Answer → C → Type 0) (s : Setting) (above : Above) (first : ℕ) (old new : Stage C)
-    → new ≡ record old { nodes = new.nodes; tables = new.tables } → Rewrites s.text (reads_by s above) (Some first) old.nodes new.nodes old.tables new.tables
-    → ResolvesFrom step s.text (pass_one s plain_tags above) (Some first) old new
-unfolding pass_one
-resolves_read {C} step s above first old new e r = record {
-  changes = r.changes;
-  answers = [];
-  questions = [];
-  asked = ap (λ (t : Stage C). t.callback) (sym e);
-  resolves = λ later.
-      ap (λ (f : Forest Plain). let o : Outcome (Unit {0}) = record { questions = []; forest = f; known = known_at old later } in o) (sym r.rewritten)
-      ∙ ap (λ (t : Stage C). let o : Outcome (Unit {0}) = record { questions = []; forest = chain_at s.text new (Some first); known = known_at t later } in o) (sym e);
-}
-
--- in the end the whole chain was resolved
-pub resolves_all : {C : Type 0} (step : C → Question → Option Answer → C → Type 0) (s : Setting) (first : ℕ) (at : Option ℕ) (tree tree' : Arena Item) (old new : Stage C)
-    → at ≡ None → old.nodes ≡ tree.nodes → new.nodes ≡ tree'.nodes → new ≡ record old { nodes = new.nodes; tables = new.tables }
-    → ReadsUpTo s first at tree tree' old.tables new.tables
-    → ResolvesFrom step s.text (pass_one s plain_tags (above_cursor s.text tree)) (Some first) old new
-resolves_all step s first at tree tree' old new none from to e r =
-    let whole = (rw none at r.whole) tree'.nodes new.tables (read_to_end s (above_cursor s.text tree) tree'.nodes new.tables) in
-    resolves_read step s (above_cursor s.text tree) first old new e (rw (from, to) whole)
 
 -- searches have looked at some items of a chain, of which some are left: at none of those, unless one has failed
 pub record LookedUpTo (failed : Bool) (old now all rest : ℕ) : Type 0 where

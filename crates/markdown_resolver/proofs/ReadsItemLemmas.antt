@@ -1,55 +1,64 @@
--- What was put for an item of a chain is what pass one reads of it.
-use Rattle.std.proofs.Common.{◌≡◌, ℕ, true, false, List, Option, Some, refl, sym, ap, ◌∙◌}
-use Rattle.std.specs.Prelude.{slice_range}
+-- What was put for an item of a chain is what pass one reads of it, and is quiet.
+use Rattle.std.proofs.Common.{◌≡◌, ℕ, Bool, true, false, List, Option, Some, None, refl, sym, ap, ◌∙◌, subst}
+use Rattle.std.specs.Prelude.{is_some, slice_range}
 use Rattle.markdown_base.specs.Arena.{child_of, sibling_of}
 use Rattle.markdown_base.specs.BlockTree.{item_at}
-use Rattle.markdown_base.specs.Forest.{Forest}
+use Rattle.markdown_base.specs.Forest.{Forest, node}
 use Rattle.markdown_base.specs.Item.{is_open}
 use Rattle.markdown_base.specs.declared.item.Item.{Item}
 use Rattle.markdown_base.specs.declared.item.ItemBody.{ItemBody}
 use Rattle.markdown_base.specs.declared.node.Node.{Node}
 use Rattle.markdown_chains.specs.Above.{Above}
-use Rattle.markdown_chains.specs.ChainRest.{joined, past}
+use Rattle.markdown_chains.specs.ChainRest.{open_body, past}
 use Rattle.markdown_chains.specs.Document.{Plain, plain_tags, unresolved}
 use Rattle.markdown_chains.specs.Places.{trees_from, label_at}
 use Rattle.markdown_chains.specs.Setting.{Setting}
 use Rattle.markdown_chains.specs.Tables.{Tables}
 use Rattle.markdown_chains.specs.Waiting.{is_quiet, waits_for_pairing}
 use Rattle.markdown_chains.proofs.PlaceLemmas.{shape-open}
-use Rattle.markdown_code.specs.Finds.{Passed, find_by, passed, read_tree}
+use Rattle.markdown_code.specs.AfterLess.{Markup, autolink, html}
+use Rattle.markdown_code.specs.Finds.{Find, SpanText, code_span, code_trees, find, find_by, is_escaped, markup, markup_trees, math_span, nothing, passed, read_tree, read_unless, trees_for}
 use Rattle.markdown_code.specs.SpanClosers.{HoldsFrom, Learned}
 use Rattle.markdown_code.specs.declared.span_text.SpanKind.{SpanKind}
 use Rattle.markdown_code.proofs.ChainWalkLemmas.{chain_at}
 use Rattle.markdown_resolver.specs.Chains.{CanResolve}
-use Rattle.markdown_resolver.specs.Rewritten.{Puts, ReadsItem, Standing, reads_by, replaced}
+use Rattle.markdown_resolver.specs.Kept.{IsQuiet, IsQuietBelow}
+use Rattle.markdown_resolver.specs.PutsTrees.{PutsTrees}
+use Rattle.markdown_resolver.specs.ReadsItem.{ReadsItem, read_at}
+use Rattle.markdown_resolver.specs.Rewritten.{Puts, Standing}
 use Rattle.markdown_resolver.proofs.ChainLeadsLemmas.{chain_leads, holds_past}
 use Rattle.markdown_resolver.proofs.FollowersLemmas.{opens_chain}
-use Rattle.markdown_resolver.proofs.PassOneLemmas.{reads_head}
-
--- what pass one reads of the first tree of a chain in an arena
-abbrev pub read_at : Setting → Above → Tables → List (Node Item) → ℕ → Passed (Unit {0})
-read_at s above tables nodes ix =
-    read_tree s plain_tags above 0 (label_at s.text tables nodes ix) (trees_from s.text tables nodes (child_of nodes ix)) (trees_from s.text tables nodes (sibling_of nodes ix))
+use Rattle.markdown_resolver.proofs.PutsTreesLemmas.{put_trees}
 
 -- trees are put for an item as pass one has them
 pub record ReadsAs (s : Setting) (above : Above) (tables : Tables) (nodes : List (Node Item)) (ix : ℕ) (trees : Standing) (goes_on : Option ℕ) : Type 0 where
   pub standing : (read_at s above tables nodes ix).trees ≡ trees (label_at s.text tables nodes ix) (trees_from s.text tables nodes (child_of nodes ix))
   pub ends : (read_at s above tables nodes ix).goes_on ≡ goes_on
 
-replaced_reads : (s : Setting) (above : Above) (tables : Tables) (nodes : List (Node Item)) (ix : ℕ) (trees : Standing) (goes_on : Option ℕ)
-    → CanResolve s.text tables nodes (Some ix) → ReadsAs s above tables nodes ix trees goes_on
-    → replaced trees goes_on (reads_by s above) (trees_from s.text tables nodes (Some ix)) ≡ reads_by s above (trees_from s.text tables nodes (Some ix))
-replaced_reads s above tables nodes ix trees goes_on ready reads =
-    let o = opens_chain s.text tables nodes ix ready in
-    let a = label_at s.text tables nodes ix in
-    let below = trees_from s.text tables nodes (child_of nodes ix) in
-    let after = trees_from s.text tables nodes (sibling_of nodes ix) in
-    let r = read_at s above tables nodes ix in
-    ap (replaced trees goes_on (reads_by s above)) o.trees
-    ∙ ap (λ (first : Forest Plain). joined first (reads_by s above (past goes_on after))) (sym reads.standing)
-    ∙ ap (λ (goes_on : Option ℕ). joined r.trees (reads_by s above (past goes_on after))) (sym reads.ends)
-    ∙ sym (reads_head s above a below after)
-    ∙ ap (reads_by s above) (sym o.trees)
+-- what stands for what is found is quiet
+quiet_code : (s : Setting) (escaped : Bool) (a : Plain) (t : SpanText) (closer : Plain) → IsQuiet (code_trees s escaped a t closer)
+quiet_code s false a t closer = (refl, refl, tt, tt)
+quiet_code s true a t closer = (refl, refl, tt, (refl, refl, tt, tt))
+
+quiet_markup : (s : Setting) (a : Plain) (m : Markup) → IsQuiet (markup_trees s tt a m)
+quiet_markup s a (autolink end uri) = (refl, refl, (refl, refl, tt, tt), tt)
+quiet_markup s a (html end None) = (refl, refl, tt, tt)
+quiet_markup s a (html end (Some bytes)) = (refl, refl, tt, tt)
+
+quiet_found : (s : Setting) (a : Plain) (f : Find (Unit {0})) → is_some a.part.block ≡ false → IsQuiet (trees_for s tt a f)
+quiet_found s a (code_span t closer) plain = quiet_code s (is_escaped (open_body a.part.shape)) a t closer
+quiet_found s a (math_span display t end) plain = (refl, refl, tt, tt)
+quiet_found s a (markup m) plain = quiet_markup s a m
+quiet_found s a nothing plain = (refl, plain, tt, tt)
+
+-- so is what is read of a tree, where what is below it is
+pub quiet_read : (s : Setting) (above : Above) (a : Plain) (below after : Forest Plain) → IsQuietBelow (node a below after) → IsQuiet (read_tree s plain_tags above 0 a below after).trees
+unfolding read_tree
+quiet_read s above a below after quiet = by_quiet (is_quiet a.part.shape) refl
+  where
+    by_quiet : (is : Bool) → is_quiet a.part.shape ≡ is → IsQuiet (read_unless is s plain_tags above 0 a below after).trees
+    by_quiet true e = (e, quiet.0, quiet.1, tt)
+    by_quiet false e = quiet_found s a (find s above a after) quiet.0
 
 -- what searches have learned of what follows an item is true of what is left
 pub holds_put : (kind : SpanKind) (learned : Learned) (source : List ℕ) (ix : ℕ) (trees : Standing) (goes_on next : Option ℕ) (old new : List (Node Item)) (tables tables' : Tables)
@@ -62,13 +71,19 @@ holds_put kind learned source ix trees goes_on next old new tables tables' ready
 pub reads_item : (s : Setting) (above : Above) (ix : ℕ) (trees : Standing) (goes_on next : Option ℕ) (old new : List (Node Item)) (tables tables' : Tables)
     → CanResolve s.text tables old (Some ix) → ReadsAs s above tables old ix trees goes_on
     → Puts s.text ix trees goes_on next old new tables tables' → ReadsItem s above ix next old new tables tables'
-reads_item s above ix trees goes_on next old new tables tables' ready reads puts = record {
-  whole = λ nodes later rest.
-      let w = puts.whole (reads_by s above) nodes later rest in
-      record { changes = w.changes; runs = w.runs; rewritten = w.rewritten ∙ replaced_reads s above tables old ix trees goes_on ready reads };
-  leaves = puts.leaves;
-  holds = λ kind learned. holds_put kind learned s.text ix trees goes_on next old new tables tables' ready puts;
-}
+reads_item s above ix trees goes_on next old new tables tables' ready reads puts =
+    let o = opens_chain s.text tables old ix ready in
+    let a = label_at s.text tables old ix in
+    let below = trees_from s.text tables old (child_of old ix) in
+    let after = trees_from s.text tables old (sibling_of old ix) in
+    let quiet : IsQuiet (read_at s above tables old ix).trees = quiet_read s above a below after (rw o.trees at ready.quiet_below) in
+    let p = put_trees s.text ix trees goes_on next old new tables tables' ready puts (subst (λ (f : Forest Plain). IsQuiet f) reads.standing quiet) in
+    let q = subst (λ (f : Forest Plain). PutsTrees s.text ix next f (past goes_on after) old new tables tables') (sym reads.standing) p in
+    record {
+      puts = subst (λ (goes_on : Option ℕ). PutsTrees s.text ix next (read_at s above tables old ix).trees (past goes_on after) old new tables tables') (sym reads.ends) q;
+      leaves = puts.leaves;
+      holds = λ kind learned. holds_put kind learned s.text ix trees goes_on next old new tables tables' ready puts;
+    }
 
 -- the shape of an open item
 pub opener_shape : (s : Setting) (tables : Tables) (nodes : List (Node Item)) (ix : ℕ) (b : ItemBody) → (item_at nodes ix).body ≡ b → is_open b ≡ true

@@ -1,12 +1,16 @@
--- What becomes of small chains by the definitions: pass one finds code, math, autolinks and raw HTML and leaves what
--- waits for pairing, and then that is paired.
-use Rattle.std.proofs.Common.{◌≡◌, ℕ, ◌+◌, Bool, true, false, List, [], ◌∷◌, None, length, refl}
-use Rattle.std.specs.Prelude.{codes}
-use Rattle.markdown_base.specs.Event.{EventView, code, inline_math, inline_html, emphasis, link}
+-- What becomes of small chains by the definitions: pass one finds code, math, autolinks and raw HTML, makes links and
+-- images of brackets and leaves what waits for pairing, and then that is paired.
+use Rattle.std.proofs.Common.{◌≡◌, ℕ, ◌+◌, Bool, true, false, List, [], ◌∷◌, Some, None, length, refl}
+use Rattle.std.specs.Prelude.{codes, slice_range}
+use Rattle.markdown_base.specs.Event.{EventView, LinkView, code, inline_math, inline_html, emphasis, image, link}
 use Rattle.markdown_base.specs.Forest.{Forest, nil, node}
 use Rattle.markdown_base.specs.declared.item.Item.{Item}
 use Rattle.markdown_base.specs.declared.item.ItemBody.{ItemBody}
 use Rattle.markdown_base.specs.declared.item.ItemBody.TheVariants as body
+use Rattle.markdown_base.specs.declared.tag.LinkType.TheVariants as kind
+use Rattle.markdown_brackets.specs.BracketDecision.{decided}
+use Rattle.markdown_brackets.specs.ClosingBracket.{closed}
+use Rattle.markdown_brackets.specs.ReadChain.{read_chain}
 use Rattle.markdown_raw_html.specs.HtmlTag.{all, both, either, nonempty, often, often_past, one, optional}
 use Rattle.markdown_chains.specs.Above.{Above}
 use Rattle.markdown_chains.specs.Document.{sliced, Shape, leaf, enclosed, Plain, part_of, plain_tags, text_over}
@@ -18,18 +22,22 @@ use Rattle.markdown_code.specs.Finds.{address, read_tree}
 use Rattle.markdown_delims.specs.Pairing.{closed_by, reads_from, runs_paired, paired}
 use Rattle.markdown_delims.specs.Quotes.{with_quotes}
 use Rattle.markdown_resolver.specs.Laws.{RunsStandWhole}
-use Rattle.markdown_resolver.specs.PassOne.{read_chain, pass_one}
-use Rattle.markdown_resolver.specs.Resolved.{resolved}
+use Rattle.markdown_resolver.specs.PassOne.{Outcome, pass_one}
+use Rattle.markdown_resolver.specs.Resolved.{all_paired, resolved}
 
--- GFM footnotes are on, and nothing is defined; the chain is a paragraph's
+-- nothing is defined; the chain is a paragraph's
+abbrev setting_by : (options : ℕ) → (asks : Bool) → List ℕ → Setting
+setting_by options asks source =
+    setting_of source (record { options = record { 0 = options }; definitions = []; is_footnote = λ name. false; asks = asks })
+
+-- GFM footnotes are on, and nobody is asked
 abbrev setting : List ℕ → Setting
-setting source =
-    setting_of source (record { options = record { 0 = 4 }; definitions = []; is_footnote = λ name. false; asks = false })
+setting source = setting_by 4 false source
 
 abbrev in_paragraph : List ℕ → Above
 in_paragraph source = record { block_end = length source; in_table = false; bodies = body.Paragraph ∷ [] }
 
--- items: a text, backticks, a `*` that opens or closes, a `$`, a `<`
+-- items: a text, backticks, a `*` that opens or closes, a `$`, a `<`, a `[`, a `![`, a `]`
 abbrev item : ℕ → ℕ → ItemBody → Item
 item start end b = record { start = start; end = end; body = b }
 
@@ -51,6 +59,15 @@ dollar start opens closes = item start (start + 1) (body.MaybeMath opens closes 
 abbrev less : ℕ → Item
 less start = item start (start + 1) body.MaybeHtml
 
+abbrev opener : ℕ → Item
+opener start = item start (start + 1) body.MaybeLinkOpen
+
+abbrev image_opener : ℕ → Item
+image_opener start = item start (start + 2) body.MaybeImage
+
+abbrev closer : ℕ → Item
+closer start = item start (start + 1) (body.MaybeLinkClose true)
+
 abbrev chain_of : List ℕ → List Item → Forest Plain
 chain_of source [] = nil
 chain_of source (i ∷ items) = node (record { tag = tt; part = part_of source no_tables i }) nil (chain_of source items)
@@ -64,12 +81,26 @@ abbrev resolved_to : List ℕ → List Item → Known → Forest Plain
 resolved_to source items known =
     (resolved (setting source) plain_tags (in_paragraph source) (chain_of source items) known).forest
 
+-- and with the chains below it
+abbrev resolved_below : List ℕ → List Item → Known → Forest Plain
+resolved_below source items known = all_paired (setting source) (resolved_to source items known)
+
 -- labels: over bytes i up to j; the text of a span that is a slice of the source
 abbrev over : ℕ → ℕ → Shape → Plain
 over i j shape = record { tag = tt; part = record { shape = shape; range = record { start = i; end = j }; block = None } }
 
 abbrev sliced_at : EventView → ℕ → ℕ → Plain
 sliced_at e i j = over i j (leaf e (sliced ∷ []))
+
+abbrev text_at : List ℕ → ℕ → ℕ → Plain
+text_at source i j = over i j (text_over (slice_range source i j))
+
+-- what an inline link leads to, and a wikilink
+abbrev inline_to : List ℕ → LinkView
+inline_to destination = record { kind = kind.Inline; destination = destination; title = []; label = [] }
+
+abbrev wikilink_to : List ℕ → LinkView
+wikilink_to name = record { kind = kind.WikiLink false; destination = name; title = []; label = [] }
 
 -- backticks, and others of the same length further on: what stands between them is code, other backticks too
 row_code : (known : Known)
@@ -117,9 +148,9 @@ row_less : (known : Known)
 unfolding pass_one read_chain read_tree markup_at all both either nonempty often often_past one optional
 row_less known = refl
 
--- a bracket is a Text, and a run's characters wait
+-- a `[` that nothing closes is a Text, and a run's characters wait
 row_waits : (known : Known)
-    → left_by_pass_one (codes "[*a*") (item 0 1 body.MaybeLinkOpen ∷ star 1 true false ∷ plain_text 2 3 ∷ star 3 false true ∷ []) known
+    → left_by_pass_one (codes "[*a*") (opener 0 ∷ star 1 true false ∷ plain_text 2 3 ∷ star 3 false true ∷ []) known
     ≡ node (over 0 1 (text_over (codes "["))) nil
     (chain_of (codes "[*a*") (star 1 true false ∷ plain_text 2 3 ∷ star 3 false true ∷ []))
 unfolding pass_one read_chain read_tree
@@ -138,6 +169,74 @@ row_code_first : (known : Known)
     ≡ node (over 0 1 (text_over (codes "*"))) nil (node (sliced_at (code (codes "a*")) 1 5) nil nil)
 unfolding resolved pass_one read_chain read_tree replaced_past is_sliced paired runs_paired reads_from closed_by with_quotes
 row_code_first known = refl
+
+-- a link, and an image; what stands in the destination is left out
+row_link : (known : Known)
+    → left_by_pass_one (codes "[a](b) c") (opener 0 ∷ plain_text 1 2 ∷ closer 2 ∷ plain_text 3 8 ∷ []) known
+    ≡ node (over 0 6 (enclosed (link (inline_to (codes "b"))))) (node (text_at (codes "[a](b) c") 1 2) nil nil)
+    (node (text_at (codes "[a](b) c") 6 8) nil nil)
+unfolding pass_one read_chain read_tree closed decided
+row_link known = refl
+
+row_image : (known : Known)
+    → left_by_pass_one (codes "![a](b)") (image_opener 0 ∷ plain_text 2 3 ∷ closer 3 ∷ plain_text 4 7 ∷ []) known
+    ≡ node (over 0 7 (enclosed (image (inline_to (codes "b"))))) (node (text_at (codes "![a](b)") 2 3) nil nil) nil
+unfolding pass_one read_chain read_tree closed decided
+row_image known = refl
+
+row_destination : (known : Known)
+    → left_by_pass_one (codes "[a](`b`)") (opener 0 ∷ plain_text 1 2 ∷ closer 2 ∷ plain_text 3 4 ∷ ticks 4 1 ∷ plain_text 5 6 ∷ ticks 6 1 ∷ plain_text 7 8 ∷ []) known
+    ≡ node (over 0 8 (enclosed (link (inline_to (codes "`b`"))))) (node (text_at (codes "[a](`b`)") 1 2) nil nil) nil
+unfolding pass_one read_chain read_tree closed decided
+row_destination known = refl
+
+-- but code that begins before the `]` is found before it
+row_code_in_brackets : (known : Known)
+    → left_by_pass_one (codes "[`a](b`)") (opener 0 ∷ ticks 1 1 ∷ plain_text 2 3 ∷ closer 3 ∷ plain_text 4 6 ∷ ticks 6 1 ∷ plain_text 7 8 ∷ []) known
+    ≡ node (text_at (codes "[`a](b`)") 0 1) nil
+    (node (sliced_at (code (codes "a](b")) 1 7) nil (node (text_at (codes "[`a](b`)") 7 8) nil nil))
+unfolding pass_one read_chain read_tree replaced_past is_sliced closed decided
+row_code_in_brackets known = refl
+
+-- a link holds the run inside it, which is paired when its chain is reached; one that closes outside stays open
+row_emphasis_in_link : (known : Known)
+    → resolved_below (codes "[a *b*](c)") (opener 0 ∷ plain_text 1 3 ∷ star 3 true false ∷ plain_text 4 5 ∷ star 5 false true ∷ closer 6 ∷ plain_text 7 10 ∷ []) known
+    ≡ node (over 0 10 (enclosed (link (inline_to (codes "c")))))
+    (node (text_at (codes "[a *b*](c)") 1 3) nil (node (over 3 6 (enclosed emphasis)) (node (text_at (codes "[a *b*](c)") 4 5) nil nil) nil)) nil
+unfolding resolved pass_one read_chain read_tree closed decided paired runs_paired reads_from closed_by with_quotes
+row_emphasis_in_link known = refl
+
+row_run_into_link : (known : Known)
+    → resolved_below (codes "*a [b*](c)") (star 0 true false ∷ plain_text 1 3 ∷ opener 3 ∷ plain_text 4 5 ∷ star 5 false true ∷ closer 6 ∷ plain_text 7 10 ∷ []) known
+    ≡ node (text_at (codes "*a [b*](c)") 0 1) nil
+    (node (text_at (codes "*a [b*](c)") 1 3) nil
+    (node (over 3 10 (enclosed (link (inline_to (codes "c")))))
+    (node (text_at (codes "*a [b*](c)") 4 5) nil (node (text_at (codes "*a [b*](c)") 5 6) nil nil)) nil))
+unfolding resolved pass_one read_chain read_tree closed decided paired runs_paired reads_from closed_by with_quotes
+row_run_into_link known = refl
+
+-- a wikilink, where they are on
+row_wikilink : (known : Known)
+    → (pass_one (setting_by 32768 false (codes "[[a]]")) plain_tags (in_paragraph (codes "[[a]]"))
+    (chain_of (codes "[[a]]") (opener 0 ∷ opener 1 ∷ plain_text 2 3 ∷ closer 3 ∷ closer 4 ∷ [])) known).forest
+    ≡ node (over 0 5 (enclosed (link (wikilink_to (codes "a"))))) (node (text_at (codes "[[a]]") 2 3) nil nil) nil
+unfolding pass_one read_chain read_tree closed decided
+row_wikilink known = refl
+
+-- who is asked for what is not defined is told the form, and an answer is taken
+abbrev asks_one : Outcome (Unit {0})
+asks_one =
+    pass_one (setting_by 4 true (codes "[a]")) plain_tags (in_paragraph (codes "[a]"))
+    (chain_of (codes "[a]") (opener 0 ∷ plain_text 1 2 ∷ closer 2 ∷ []))
+    (record { limit = 100; answers = Some (record { destination = codes "u"; title = [] }) ∷ []; uses = λ name. 0 })
+
+row_asked : asks_one.questions ≡ record { span = record { start = 0; end = 3 }; link_type = kind.Shortcut; reference = codes "a" } ∷ []
+unfolding pass_one read_chain read_tree closed decided
+row_asked = refl
+
+row_answer_is_taken : asks_one.known.answers ≡ []
+unfolding pass_one read_chain read_tree closed decided
+row_answer_is_taken = refl
 
 -- two `*` that touch are one run, which is whole; without the second it is not, nor where each is a run of its own
 row_whole : RunsStandWhole (codes "**a") (chain_of (codes "**a") (star_of 2 0 true false ∷ star 1 true false ∷ plain_text 2 3 ∷ []))

@@ -12,26 +12,20 @@ use Rattle.markdown_delims.specs.PairingLaws.{NothingOpen, below_trees}
 use Rattle.markdown_delims.proofs.BeginLawLemmas.{begins-law}
 use Rattle.markdown_delims.proofs.LawLemmas.{closed-law, order-law, paired-keeps}
 use Rattle.markdown_resolver.specs.Kept.{IsQuiet, IsQuietBelow, IsKept, IsSettled}
-use Rattle.markdown_resolver.specs.PassOne.{Outcome, pass_one}
-use Rattle.markdown_resolver.specs.Resolved.{resolved, paired_if_open, all_paired}
-use Rattle.markdown_resolver.proofs.PassOneLemmas.{all_quiet, closed_quiet, each_quiet, pass_one-first, pass_one-quiet, pass_one-stays}
+use Rattle.markdown_resolver.specs.PassOne.{pass_one}
+use Rattle.markdown_resolver.specs.Resolved.{resolved, then_paired, paired_if_open, all_paired}
+use Rattle.markdown_resolver.proofs.PassOneLemmas.{pass_one-first, pass_one-stays}
+use Rattle.markdown_resolver.proofs.PassOneQuietLemmas.{all_quiet, closed_quiet, each_quiet, pass_one-quiet}
 
 module _ {A : Type 0} where
   -- what is made of a label that may stand in a quiet chain may stand there
   made_stands : (a b : Label A) → IsQuietLabel a → b.part.block ≡ a.part.block → is_unresolved b.part.shape ≡ false → IsQuietLabel b
   made_stands a b h e closed = (closed_quiet b.part.shape closed, rw e h.1)
 
-  -- pass one asks nothing, and what it leaves is paired
-  pub resolved-read : (s : Setting) (tags : Tags A) (above : Above) (chain : Forest (Label A)) (known : Known)
-      → resolved s tags above chain known ≡ record { questions = []; forest = paired s (pass_one s tags above chain known).forest; known = known }
-  unfolding resolved pass_one
-  resolved-read s tags above chain known = refl
-
   -- a chain that waits for pairing alone is paired, and keeps what is known
   pub resolved-quiet : (s : Setting) (tags : Tags A) (above : Above) (chain : Forest (Label A)) (known : Known) → IsQuiet chain → resolved s tags above chain known ≡ record { questions = []; forest = paired s chain; known = known }
-  resolved-quiet s tags above chain known q =
-      resolved-read s tags above chain known
-      ∙ ap (λ (f : Forest (Label A)). let r : Outcome A = record { questions = []; forest = paired s f; known = known } in r) (pass_one-stays s tags above chain known q)
+  unfolding resolved
+  resolved-quiet s tags above chain known q = ap (then_paired s) (pass_one-stays s tags above chain known q)
 
   -- to pair each chain below is to change what is below the trees
   all_below : (s : Setting) (f : Forest (Label A)) → all_paired s f ≡ below_trees (λ g. paired_if_open s (all_paired s g)) f
@@ -80,4 +74,4 @@ module _ {A : Type 0} where
   -- a chain whose first item is open gives an event at once, after its questions
   pub resolved-begins : (s : Setting) (tags : Tags A) (above : Above) (a : Label A) (below after : Forest (Label A)) (known : Known) → is_unresolved a.part.shape ≡ true → Begins (resolved s tags above (node a below after) known).forest
   unfolding resolved
-  resolved-begins s tags above a below after known h = pass_one-first (λ f. Begins (paired s f)) s tags above a below after known (begins-law s) h
+  resolved-begins s tags above a below after known h = pass_one-first s tags above (λ f. Begins (paired s f)) a below after known (begins-law s) h

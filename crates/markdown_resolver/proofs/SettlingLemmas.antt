@@ -1,13 +1,13 @@
 -- One item of a chain at which nothing is found is settled, in one node of an arena.
 use Rattle.markdown_base.specs.declared.item.ItemBody.TheVariants as body
-use Rattle.std.proofs.Common.{◌≡◌, ℕ, zero, suc, ◌<◌, ◌≤◌, Bool, true, false, List, length, Option, Some, None, refl, sym, ap, ◌∙◌, arith}
+use Rattle.std.proofs.Common.{◌≡◌, ℕ, zero, suc, ◌<◌, ◌≤◌, Bool, true, false, List, [], ◌∷◌, length, Option, Some, None, refl, sym, ap, ◌∙◌, arith}
 use Rattle.std.specs.Prelude.{not, ◌&&◌, slice_range, IfSome}
 use Rattle.std.specs.Option.{option_map}
 use Rattle.markdown_base.specs.Arena.{Arena, child_of, sibling_of, changed_at}
 use Rattle.markdown_base.specs.ArenaForest.{forest_at, links_of}
 use Rattle.markdown_base.specs.ArenaRules.{next_at}
 use Rattle.markdown_base.specs.BlockTree.{Numbered, numbered, item_at}
-use Rattle.markdown_base.specs.Forest.{Forest, nil, node}
+use Rattle.markdown_base.specs.Forest.{Forest, nil, node, roots}
 use Rattle.markdown_base.specs.Item.{is_block, is_open}
 use Rattle.markdown_base.specs.WellFormed.{RunCharacter, run_character, RunGoesOn, StandsInRun}
 use Rattle.markdown_base.specs.declared.item.Item.{Item}
@@ -28,13 +28,13 @@ use Rattle.markdown_chains.proofs.PlaceLemmas.{shape-open, some_weight}
 use Rattle.markdown_chains.proofs.TablesLemmas.{grown-nothing}
 use Rattle.markdown_delims.proofs.PairingLemmas.{closed_shape}
 use Rattle.markdown_resolver.specs.Chains.{CanResolve}
-use Rattle.markdown_resolver.specs.Rewritten.{Puts, text_unless, settled}
+use Rattle.markdown_resolver.specs.Rewritten.{Puts, Rewrites, replaced, text_unless, settled}
 use Rattle.markdown_resolver.specs.Settling.{becomes_text, settled_if, settled_item, settled_at}
 use Rattle.markdown_resolver.proofs.ChainOrderLemmas.{leads_kept}
 use Rattle.markdown_resolver.proofs.ComposeLemmas.{Stands, stands_ready, changes_move, moves_none, HeadWritten, head_moves, after_head, below_kept, following_kept}
 use Rattle.markdown_resolver.proofs.NodeChangeLemmas.{changed_other, changed_here, item_again}
 use Rattle.markdown_resolver.proofs.PastByteLemmas.{tree_same}
-use Rattle.markdown_resolver.proofs.PutLemmas.{rest_same, leaves_rest, whole_put}
+use Rattle.markdown_resolver.proofs.PutLemmas.{rest_same, leaves_rest, whole_put, rewrites_none, over_numbers}
 
 -- an item that is written as a Text where it becomes one is settled, and so is another as it is
 pub settled_open : (tree tree' : Arena Item) (ix : ℕ) (item : Item) → item ≡ item_at tree.nodes ix → becomes_text item.body ≡ true
@@ -191,6 +191,11 @@ head_settled source tables nodes ix s =
       named = λ n l. rw c.item (named_settled (becomes_text item.body) item.body n);
     }
 
+-- one tree stands for it
+one_settled : (quiet : Bool) (source : List ℕ) (a : Plain) (below : Forest Plain) → length (roots (text_unless quiet source a below)) ≡ 1
+one_settled true source a below = refl
+one_settled false source a below = refl
+
 -- what stands for it is put there
 pub settle_puts : (source : List ℕ) (tables : Tables) (nodes : List (Node Item)) (ix : ℕ) → CanResolve source tables nodes (Some ix)
     → Puts source ix (settled source) None (sibling_of nodes ix) nodes (settled_at ix nodes) tables tables
@@ -205,21 +210,27 @@ settle_puts source tables nodes ix ready =
     let keeps = keeps_settled source ix item (child_of nodes ix) (next_at nodes ix) (becomes_text item.body) refl o.holds.keeps in
     let following = following_kept source ix nodes mid tables tables s h in
     let l = sibling_of nodes ix in
+    let whole : (rule : Forest Plain → Forest Plain) (new : List (Node Item)) (later : Tables) → Rewrites source rule l mid new tables later
+    → Rewrites source (replaced (settled source) None rule) (Some ix) nodes new tables later = λ rule new later r.
+    let m = changes_move source l mid new tables later r.changes in
+    let kept = below_kept source ix nodes mid new tables tables later l s h m c.child (rw c.item (weight_settled (becomes_text item.body) item.body)) in
+    let follows : StandsBefore (numbered mid ix) (option_map (numbered new) l) = r.changes.before (numbered mid ix) (rw (following, c.item) keeps.in_order) in
+    let goes_on = r.runs (numbered mid ix) (rw (following, c.item) keeps.runs_are_whole) in
+    let hm = head_moves source ix nodes mid new tables tables later s h (rw c.next m) kept.below (rw c.next follows) (rw c.next goes_on) in
+    let none : is_open item.body ≡ true → trees_from source tables nodes (child_of nodes ix) ≡ nil = λ e. rw (o.holds.keeps.childless e, forest_at-none (links_of nodes)) refl in
+    let rest : trees_from source later new (sibling_of mid ix) ≡ rule (trees_from source tables nodes l) =
+    ap (λ (k : Option ℕ). trees_from source later new k) c.next ∙ r.rewritten ∙ ap rule a.rest.trees in
+    whole_put source ix nodes mid new tables tables later (settled source) None rule ready h hm
+    (λ b stands. before_settled b nodes mid ix c.item stands)
+    (λ b whole. rw c.item (run_settled source b (numbered nodes ix) (run_character b.item.body) whole))
+    (tree_same _ _ _ _ _ _ (ap (λ x. label_of source tables x) c.item) kept.trees rest
+    ∙ settled_reads source tables item (trees_from source tables nodes (child_of nodes ix)) (rule (trees_from source tables nodes l)) none) in
+    let all = whole (λ f. f) mid tables (rewrites_none source l mid tables a.stands) in
     record {
-      whole = λ rule new later r.
-          let m = changes_move source l mid new tables later r.changes in
-          let kept = below_kept source ix nodes mid new tables tables later l s h m c.child (rw c.item (weight_settled (becomes_text item.body) item.body)) in
-          let follows : StandsBefore (numbered mid ix) (option_map (numbered new) l) = r.changes.before (numbered mid ix) (rw (following, c.item) keeps.in_order) in
-          let goes_on = r.runs (numbered mid ix) (rw (following, c.item) keeps.runs_are_whole) in
-          let hm = head_moves source ix nodes mid new tables tables later s h (rw c.next m) kept.below (rw c.next follows) (rw c.next goes_on) in
-          let none : is_open item.body ≡ true → trees_from source tables nodes (child_of nodes ix) ≡ nil = λ e. rw (o.holds.keeps.childless e, forest_at-none (links_of nodes)) refl in
-          let rest : trees_from source later new (sibling_of mid ix) ≡ rule (trees_from source tables nodes l) =
-          ap (λ (k : Option ℕ). trees_from source later new k) c.next ∙ r.rewritten ∙ ap rule a.rest.trees in
-          whole_put source ix nodes mid new tables tables later (settled source) None rule ready h hm
-          (λ b stands. before_settled b nodes mid ix c.item stands)
-          (λ b whole. rw c.item (run_settled source b (numbered nodes ix) (run_character b.item.body) whole))
-          (tree_same _ _ _ _ _ _ (ap (λ x. label_of source tables x) c.item) kept.trees rest
-          ∙ settled_reads source tables item (trees_from source tables nodes (child_of nodes ix)) (rule (trees_from source tables nodes l)) none);
+      whole = whole;
       leaves = leaves_rest source ix nodes mid mid tables tables tables l None ready h (moves_none source l mid tables a.stands) a.rest.trees;
       leads = λ low chain k. leads_kept nodes mid l (forest_at (links_of nodes) l) low chain a.after.spelled h.more (rest_same source ix nodes mid tables tables s h) k;
+      standing = ix ∷ [];
+      numbers = over_numbers source ix l mid tables all.changes.reaches c.next;
+      as_many = λ x below. one_settled (is_quiet x.part.shape) source x below;
     }

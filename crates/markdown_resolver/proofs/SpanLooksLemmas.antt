@@ -15,7 +15,8 @@ use Rattle.markdown_code.specs.SpanClosers.{ClosesCode, ClosesMath, Learned, Loo
 use Rattle.markdown_code.specs.declared.span_closers.FoundMath.{FoundMath}
 use Rattle.markdown_code.proofs.VisitLemmas.{code_visit_law, math_visit_law}
 use Rattle.markdown_resolver.specs.Chains.{CanResolve}
-use Rattle.markdown_resolver.specs.Rewritten.{LooksAt, Puts, Standing, numbered_past}
+use Rattle.markdown_resolver.specs.Rewritten.{Puts, Standing, numbered_past}
+use Rattle.markdown_resolver.specs.ReadsItem.{LooksAt}
 use Rattle.markdown_resolver.proofs.FollowersLemmas.{InOrder, fewer_left, followers, items_led, opens_chain}
 use Rattle.markdown_resolver.proofs.CodeSpanLemmas.{closed_code, closes_by_number}
 use Rattle.markdown_resolver.proofs.MathSpanLemmas.{MathStands, close_of, math_by_number, stands_of}

@@ -1,25 +1,32 @@
--- Runs stay whole in pass one: what waits for pairing stays as it is, what stands for a find is no run's character, and
--- what is left of a chain past a byte begins with a whole character of a run or with none.
+-- Runs stay whole in pass one: what waits for pairing stays as it is, what stands for a find or an opener is no run's
+-- character, and what is left of a chain past a byte begins with a whole character of a run or with none.
 use Rattle.std.proofs.Common.{◌≡◌, ℕ, zero, suc, ◌+◌, ◌-◌, ◌<◌, Bool, true, false, List, Option, Some, None, max, refl, sym, ap, subst, ◌∙◌, nat_le, arith}
 use Rattle.std.proofs.lemmas.Bool.{leb-false}
-use Rattle.std.specs.Prelude.{IfSome}
+use Rattle.std.specs.Prelude.{IfSome, if◌then◌else◌, [], ◌∷◌, ⊤}
 use Rattle.std.specs.Option.{option_map}
 use Rattle.markdown_base.specs.BlockTree.{Numbered}
 use Rattle.markdown_base.specs.Forest.{Forest, nil, node, first_root}
 use Rattle.markdown_base.specs.WellFormed.{RunCharacter, run_character, RunGoesOn, StandsInRun, RunsAreWhole}
 use Rattle.markdown_base.specs.declared.item.ItemBody.{ItemBody}
 use Rattle.markdown_base.specs.declared.item.ItemBody.TheVariants as body
+use Rattle.markdown_base.specs.Event.{LinkView}
+use Rattle.markdown_brackets.specs.BracketDecision.{Around, Closing, Progress, Wikilink, past_second, text_from, wikilink_in}
+use Rattle.markdown_brackets.specs.ClosingBracket.{closed, footnote_from, footnote_onto, linked, tag_for, wikilink_target}
+use Rattle.markdown_brackets.specs.LeftList.{Entry, Mark, Split, before_footnote, before_link, behind, change_nearest, disabled_mark, done, inside, nearest, on_marks, opens_bracket, opens_wikilink, second_folded, trees_onto, waits, without_bracket, without_wikilink}
+use Rattle.markdown_brackets.specs.QuietItems.{all_done}
+use Rattle.markdown_brackets.specs.ReadChain.{begun, closing, opened, read, read_as, read_chain, read_past}
+use Rattle.markdown_brackets.proofs.ClosingBracketLemmas.{Cases, in_each_case, some_of}
+use Rattle.markdown_brackets.proofs.NoLinkLemmas.{wikilink_keeps}
 use Rattle.markdown_chains.specs.Above.{Above}
-use Rattle.markdown_chains.specs.ChainRest.{begun_at, cut_shape, end_of, joined, open_body, start_of}
-use Rattle.markdown_chains.specs.Document.{Tags, Shape, leaf, enclosed, plain, backslash_break, unresolved, Label, is_unresolved}
+use Rattle.markdown_chains.specs.ChainRest.{begun_at, cut_shape, end_of, joined, open_body, past, past_byte, start_of}
+use Rattle.markdown_chains.specs.Document.{Tags, Shape, leaf, enclosed, plain, backslash_break, unresolved, Label, as_text, is_unresolved}
 use Rattle.markdown_chains.specs.Labels.{Begins}
 use Rattle.markdown_chains.specs.Setting.{Setting, Known}
 use Rattle.markdown_chains.specs.Waiting.{is_quiet, waits_for_pairing}
-use Rattle.markdown_code.specs.Finds.{Passed, end_of_find, find, made_by, read_tree, read_unless, trees_for}
+use Rattle.markdown_code.specs.Finds.{end_of_find, find, read_tree, read_unless, trees_for}
 use Rattle.markdown_code.proofs.FindsLemmas.{AllClosed, begins_trees, closed_trees}
 use Rattle.markdown_resolver.specs.Laws.{RunsStandWhole, by_place}
-use Rattle.markdown_resolver.specs.PassOne.{read_chain, pass_one}
-use Rattle.markdown_resolver.proofs.PassOneLemmas.{read_if}
+use Rattle.markdown_resolver.specs.PassOne.{around, pass_one, put_passed, read_on, read_other}
 
 -- what does not wait for pairing is no run's character, nor is what is not open
 body_no_run : (b : ItemBody) → waits_for_pairing b ≡ false → run_character b ≡ None
@@ -53,6 +60,17 @@ run_other : (text : List ℕ) (a b d : Numbered) (o : Option RunCharacter) → r
     → IfSome o (StandsInRun text a (Some b)) → IfSome o (StandsInRun text a (Some d))
 run_other text a b d None was is h = tt
 run_other text a b d (Some c) was is h = record { one_byte = h.one_byte; delimiter = h.delimiter; goes_on = goes_other text a b d c.count c.can_open c.can_close was is h.goes_on }
+
+goes_none : (text : List ℕ) (a b : Numbered) (count : ℕ) (opens closes : Bool) → run_character b.item.body ≡ None
+    → RunGoesOn text a count opens closes (Some b) → RunGoesOn text a count opens closes None
+goes_none text a b zero opens closes was h = h
+goes_none text a b (suc zero) opens closes was h = tt
+goes_none text a b (suc (suc count)) opens closes was h = let q = sym was ∙ h.body in cc
+
+run_none : (text : List ℕ) (a b : Numbered) (o : Option RunCharacter) → run_character b.item.body ≡ None
+    → IfSome o (StandsInRun text a (Some b)) → IfSome o (StandsInRun text a None)
+run_none text a b None was h = tt
+run_none text a b (Some c) was h = record { one_byte = h.one_byte; delimiter = h.delimiter; goes_on = goes_none text a b c.count c.can_open c.can_close was h.goes_on }
 
 -- an item that begins where it did
 same_start : (start end i : ℕ) → end ≡ suc start → i < end → max start i ≡ start
@@ -92,58 +110,311 @@ module _ {A : Type 0} where
       let whole : StandsInRun source (by_place a) (option_map by_place (first_root after)) c = subst (λ o. IfSome o (StandsInRun source (by_place a) (option_map by_place (first_root after)))) e w in
       subst (λ p. RunsAreWhole source p (option_map by_place (first_root after))) (sym (begun_place i a (same_start (start_of a) (end_of a) i whole.one_byte past))) w
 
-  -- what follows a label in a chain, and then in what is read of that chain: a run goes on as it did
-  head_closed : (source : List ℕ) (a b : Label A) (below rest trees others : Forest (Label A)) → Begins trees → AllClosed trees → run_character (open_body b.part.shape) ≡ None
-      → IsWholeAt source a (node b below rest) → IsWholeAt source a (joined trees others)
-  head_closed source a b below rest nil others begins closed none w = absurd begins
-  head_closed source a b below rest (node d inner after) others begins closed none w =
-      run_other source (by_place a) (by_place b) (by_place d) (run_character (open_body a.part.shape)) none (closed_no_run d.part.shape closed.0) w
+  -- what is left of a chain past a byte is whole
+  past_byte_whole : (source : List ℕ) (i : ℕ) (f : Forest (Label A)) → RunsStandWhole source f → RunsStandWhole source (past_byte i f)
+  past_byte_whole source i nil w = tt
+  past_byte_whole source i (node a below after) w = by (nat_le (end_of a) i) refl (past_byte_whole source i after w.2)
+    where
+      by : (ends : Bool) → nat_le (end_of a) i ≡ ends → RunsStandWhole source (past_byte i after)
+          → RunsStandWhole source (if ends then past_byte i after else node (begun_at i a) below after)
+      by true e later = later
+      by false e later = (begun_whole source i a after (leb-false (end_of a) i e) (run_character (open_body a.part.shape)) refl w.0, w.1, w.2)
 
-  head_unless : (s : Setting) (tags : Tags A) (above : Above) (n : ℕ) (a b : Label A) (below rest others : Forest (Label A)) (quiet : Bool) → is_quiet b.part.shape ≡ quiet
-      → IsWholeAt s.text a (node b below rest) → IsWholeAt s.text a (joined (read_unless quiet s tags above n b below rest).trees others)
-  head_unless s tags above n a b below rest others true q w = w
-  head_unless s tags above n a b below rest others false q w =
-      let found = find s above b rest in
-      head_closed s.text a b below rest (trees_for s (tags.fresh n) b found) others (begins_trees s (tags.fresh n) b found) (closed_trees s (tags.fresh n) b found)
-      (quiet_no_run b.part.shape q) w
+  past_whole : (source : List ℕ) (goes_on : Option ℕ) (f : Forest (Label A)) → RunsStandWhole source f → RunsStandWhole source (past goes_on f)
+  past_whole source None f w = w
+  past_whole source (Some i) f w = past_byte_whole source i f w
 
-  follows_read : (s : Setting) (tags : Tags A) (above : Above) (n : ℕ) (a : Label A) (rest : Forest (Label A)) → IsWholeAt s.text a rest
-      → IsWholeAt s.text a (read_chain s tags above None n rest)
-  unfolding read_chain read_tree
-  follows_read s tags above n a nil w = w
-  follows_read s tags above n a (node b below rest) w =
-      let r = read_tree s tags above n b below rest in
-      head_unless s tags above n a b below rest (read_chain s tags above r.goes_on r.made rest) (is_quiet b.part.shape) refl w
+  -- before an item that is no run's character another one may stand, or none
+  before_other : (source : List ℕ) (b d : Label A) (x y f g : Forest (Label A)) → run_character (open_body b.part.shape) ≡ None → run_character (open_body d.part.shape) ≡ None
+      → (a : Label A) → IsWholeAt source a (node b x f) → IsWholeAt source a (node d y g)
+  before_other source b d x y f g was is a h = run_other source (by_place a) (by_place b) (by_place d) (run_character (open_body a.part.shape)) was is h
 
-  -- what is read of a tree, and then of the chain after it
-  unless_whole : (s : Setting) (tags : Tags A) (above : Above) (n : ℕ) (a : Label A) (below rest : Forest (Label A)) (quiet : Bool) → IsWholeAt s.text a rest → RunsStandWhole s.text below
-      → ((goes_on : Option ℕ) (n : ℕ) → RunsStandWhole s.text (read_chain s tags above goes_on n rest))
-      → let r : Passed A = read_unless quiet s tags above n a below rest in RunsStandWhole s.text (joined r.trees (read_chain s tags above r.goes_on r.made rest))
-  unless_whole s tags above n a below rest true w inner others = (follows_read s tags above n a rest w, inner, others None n)
-  unless_whole s tags above n a below rest false w inner others =
-      let found = find s above a rest in
-      joined_whole s.text (trees_for s (tags.fresh n) a found) (read_chain s tags above (end_of_find found) (n + made_by found) rest) (closed_trees s (tags.fresh n) a found)
-      (others (end_of_find found) (n + made_by found))
+  before_none : (source : List ℕ) (b : Label A) (x f : Forest (Label A)) → run_character (open_body b.part.shape) ≡ None
+      → (a : Label A) → IsWholeAt source a (node b x f) → IsWholeAt source a nil
+  before_none source b x f was a h = run_none source (by_place a) (by_place b) (run_character (open_body a.part.shape)) was h
 
-  past_whole : (s : Setting) (tags : Tags A) (above : Above) (i n : ℕ) (a : Label A) (below rest : Forest (Label A)) (ends : Bool) → nat_le (end_of a) i ≡ ends
-      → IsWholeAt s.text a rest → RunsStandWhole s.text below → ((goes_on : Option ℕ) (n : ℕ) → RunsStandWhole s.text (read_chain s tags above goes_on n rest))
-      → let r : Passed A = read_if ends s tags above i n a below rest in RunsStandWhole s.text (joined r.trees (read_chain s tags above r.goes_on r.made rest))
-  unfolding read_tree
-  past_whole s tags above i n a below rest true e w inner others = others (Some i) n
-  past_whole s tags above i n a below rest false e w inner others =
-      let past : i < end_of a = leb-false (end_of a) i e in
-      let begun = begun_whole s.text i a rest past (run_character (open_body a.part.shape)) refl w in
-      unless_whole s tags above n (begun_at i a) below rest (is_quiet (begun_at i a).part.shape) begun inner others
+  before_closed : (source : List ℕ) (b : Label A) (below rest trees others : Forest (Label A)) → Begins trees → AllClosed trees → run_character (open_body b.part.shape) ≡ None
+      → (a : Label A) → IsWholeAt source a (node b below rest) → IsWholeAt source a (joined trees others)
+  before_closed source b below rest nil others begins closed none a w = absurd begins
+  before_closed source b below rest (node d inner after) others begins closed none a w =
+      before_other source b d below inner rest (joined after others) none (closed_no_run d.part.shape closed.0) a w
 
-  leaves_whole : (s : Setting) (tags : Tags A) (above : Above) (chain : Forest (Label A)) → RunsStandWhole s.text chain → (goes_on : Option ℕ) (n : ℕ)
-      → RunsStandWhole s.text (read_chain s tags above goes_on n chain)
-  unfolding read_chain read_tree
-  leaves_whole s tags above nil w goes_on n = tt
-  leaves_whole s tags above (node a below rest) w None n = unless_whole s tags above n a below rest (is_quiet a.part.shape) w.0 w.1 (leaves_whole s tags above rest w.2)
-  leaves_whole s tags above (node a below rest) w (Some i) n =
-      past_whole s tags above i n a below rest (nat_le (end_of a) i) refl w.0 w.1 (leaves_whole s tags above rest w.2)
+  -- behind a left list something else may stand, if runs are whole in it and go on as they did
+  behind_whole : (source : List ℕ) (left : List (Entry A)) (f : Forest (Label A)) → RunsStandWhole source (trees_onto left f) → RunsStandWhole source f
+  behind_whole source [] f w = w
+  behind_whole source (done a below ∷ left) f w = (behind_whole source left (node a below f) w).2
+  behind_whole source (waits m a ∷ left) f w = (behind_whole source left (node a nil f) w).2
+
+  other_whole : (source : List ℕ) (left : List (Entry A)) (f g : Forest (Label A)) → RunsStandWhole source (trees_onto left f) → RunsStandWhole source g
+      → ((a : Label A) → IsWholeAt source a f → IsWholeAt source a g) → RunsStandWhole source (trees_onto left g)
+  other_whole source [] f g w whole goes = whole
+  other_whole source (done a below ∷ left) f g w whole goes =
+      let here = behind_whole source left (node a below f) w in
+      other_whole source left (node a below f) (node a below g) w (goes a here.0, here.1, whole) (λ b h. h)
+  other_whole source (waits m a ∷ left) f g w whole goes =
+      let here = behind_whole source left (node a nil f) w in
+      other_whole source left (node a nil f) (node a nil g) w (goes a here.0, tt, whole) (λ b h. h)
+
+  -- the openers of a left list are not open
+  abbrev WaitsClosed : List (Entry A) → Type 0
+  WaitsClosed [] = ⊤
+  WaitsClosed (done a below ∷ left) = WaitsClosed left
+  WaitsClosed (waits m a ∷ left) = (is_unresolved a.part.shape ≡ false) × WaitsClosed left
+
+  -- marks say nothing to the trees
+  same_change : (opens : Mark → Bool) (f : Mark → Mark) (left : List (Entry A)) (later : Forest (Label A)) → trees_onto (change_nearest opens f left) later ≡ trees_onto left later
+  same_change opens f [] later = refl
+  same_change opens f (done a below ∷ left) later = same_change opens f left (node a below later)
+  same_change opens f (waits m a ∷ left) later = by (opens m) (same_change opens f left (node a nil later))
+    where
+      by : (b : Bool) → trees_onto (change_nearest opens f left) (node a nil later) ≡ trees_onto left (node a nil later)
+          → trees_onto (if b then waits (f m) a ∷ left else waits m a ∷ change_nearest opens f left) later ≡ trees_onto left (node a nil later)
+      by true h = refl
+      by false h = h
+
+  closed_change : (opens : Mark → Bool) (f : Mark → Mark) (left : List (Entry A)) → WaitsClosed left → WaitsClosed (change_nearest opens f left)
+  closed_change opens f [] h = tt
+  closed_change opens f (done a below ∷ left) h = closed_change opens f left h
+  closed_change opens f (waits m a ∷ left) h = by (opens m) (closed_change opens f left h.1)
+    where
+      by : (b : Bool) → WaitsClosed (change_nearest opens f left) → WaitsClosed (if b then waits (f m) a ∷ left else waits m a ∷ change_nearest opens f left)
+      by true k = h
+      by false k = (h.0, k)
+
+  same_marks : (f : Mark → Mark) (left : List (Entry A)) (later : Forest (Label A)) → trees_onto (on_marks f left) later ≡ trees_onto left later
+  same_marks f [] later = refl
+  same_marks f (done a below ∷ left) later = same_marks f left (node a below later)
+  same_marks f (waits m a ∷ left) later = same_marks f left (node a nil later)
+
+  closed_marks : (f : Mark → Mark) (left : List (Entry A)) → WaitsClosed left → WaitsClosed (on_marks f left)
+  closed_marks f [] h = tt
+  closed_marks f (done a below ∷ left) h = closed_marks f left h
+  closed_marks f (waits m a ∷ left) h = (h.0, closed_marks f left h.1)
+
+  same_second : (left : List (Entry A)) (later : Forest (Label A)) → trees_onto (second_folded left) later ≡ trees_onto left later
+  same_second [] later = refl
+  same_second (done a below ∷ left) later = refl
+  same_second (waits m a ∷ left) later = refl
+
+  closed_second : (left : List (Entry A)) → WaitsClosed left → WaitsClosed (second_folded left)
+  closed_second [] h = tt
+  closed_second (done a below ∷ left) h = h
+  closed_second (waits m a ∷ left) h = h
+
+  same_link : (is_image : Bool) (left : List (Entry A)) (later : Forest (Label A)) → trees_onto (before_link is_image left) later ≡ trees_onto left later
+  same_link true left later = same_second left later
+  same_link false left later = same_marks disabled_mark (second_folded left) later ∙ same_second left later
+
+  closed_link : (is_image : Bool) (left : List (Entry A)) → WaitsClosed left → WaitsClosed (before_link is_image left)
+  closed_link true left h = closed_second left h
+  closed_link false left h = closed_marks disabled_mark (second_folded left) (closed_second left h)
+
+  -- a left list at an opener
+  record SplitWhole (left : List (Entry A)) (o : Split A) : Type 0 where
+    splits : (later : Forest (Label A)) → trees_onto left later ≡ trees_onto o.before (node o.opener nil (trees_onto o.after later))
+    closed : is_unresolved o.opener.part.shape ≡ false
+    before : WaitsClosed o.before
+
+  split_behind : (e : Entry A) (left : List (Entry A)) (x : Option (Split A)) → IfSome x (SplitWhole left) → IfSome (option_map (behind e) x) (SplitWhole (e ∷ left))
+  split_behind e left None h = tt
+  split_behind (done a below) left (Some o) h = record { splits = λ later. h.splits (node a below later); closed = h.closed; before = h.before }
+  split_behind (waits m a) left (Some o) h = record { splits = λ later. h.splits (node a nil later); closed = h.closed; before = h.before }
+
+  split_at : (opens : Mark → Bool) (left : List (Entry A)) → WaitsClosed left → IfSome (nearest opens left) (SplitWhole left)
+  split_at opens [] h = tt
+  split_at opens (done a below ∷ left) h = split_behind (done a below) left (nearest opens left) (split_at opens left h)
+  split_at opens (waits m a ∷ left) h = by (opens m) (split_at opens left h.1)
+    where
+      by : (b : Bool) → IfSome (nearest opens left) (SplitWhole left)
+          → IfSome (if b then Some (record { mark = m; opener = a; after = []; before = left }) else option_map (behind (waits m a)) (nearest opens left)) (SplitWhole (waits m a ∷ left))
+      by true k = record { splits = λ later. refl; closed = h.0; before = h.1 }
+      by false k = split_behind (waits m a) left (nearest opens left) k
+
+  past_second_whole : (source : List ℕ) (f : Forest (Label A)) → RunsStandWhole source f → RunsStandWhole source (past_second f)
+  past_second_whole source nil w = tt
+  past_second_whole source (node a below after) w = w.2
+
+  -- a left list before a `]`, and one behind which any chain may stand
+  record WholeBefore (source : List ℕ) (b : Label A) (rest : Forest (Label A)) (left : List (Entry A)) : Type 0 where
+    whole : RunsStandWhole source (trees_onto left (node b nil rest))
+    waiting : WaitsClosed left
+
+  record WholeAfter (source : List ℕ) (left : List (Entry A)) : Type 0 where
+    whole : (later : Forest (Label A)) → RunsStandWhole source later → RunsStandWhole source (trees_onto left later)
+    waiting : WaitsClosed left
+
+  module _ (w : Around) (c : Closing A) (rest : Forest (Label A)) (closer : run_character (open_body c.label.part.shape) ≡ None) where
+    abbrev source : List ℕ
+    source = w.setting.text
+
+    -- an opener at which something is put, which is not open, over what stands inside
+    module _ (left : List (Entry A)) (o : Split A) (q : WholeBefore source c.label rest left) (s : SplitWhole left o) where
+      around_opener : RunsStandWhole source (trees_onto o.before (node o.opener nil (trees_onto o.after (node c.label nil rest))))
+      around_opener = subst (RunsStandWhole source) (s.splits (node c.label nil rest)) q.whole
+
+      inside_whole : RunsStandWhole source (inside o)
+      inside_whole =
+          let here = behind_whole source o.before (node o.opener nil (trees_onto o.after (node c.label nil rest))) around_opener in
+          other_whole source o.after (node c.label nil rest) nil here.2 tt (before_none source c.label nil rest closer)
+
+      put_whole : (d : Label A) (below later : Forest (Label A)) → run_character (open_body d.part.shape) ≡ None → RunsStandWhole source below → RunsStandWhole source later
+          → RunsStandWhole source (trees_onto o.before (node d below later))
+      put_whole d below later none inner outer =
+          other_whole source o.before (node o.opener nil (trees_onto o.after (node c.label nil rest))) (node d below later) around_opener
+          (whole_other source d later none, inner, outer)
+          (before_other source o.opener d nil below (trees_onto o.after (node c.label nil rest)) later (closed_no_run o.opener.part.shape s.closed) none)
+
+    footnote_whole : (i : Bool) (left : List (Entry A)) (o : Split A) (name : List ℕ) → WholeBefore source c.label rest left → SplitWhole left o
+        → WholeAfter source (footnote_onto w c i o.opener name (before_footnote o.before))
+    footnote_whole false left o name q s = record {
+      whole = λ later k. subst (RunsStandWhole source)
+          (sym (same_marks without_bracket (second_folded o.before) _ ∙ same_second o.before _))
+          (put_whole left o q s (footnote_from o.opener name (start_of o.opener) (end_of c.label)) nil later refl tt k);
+      waiting = closed_marks without_bracket (second_folded o.before) (closed_second o.before s.before);
+    }
+    footnote_whole true left o name q s = record {
+      whole = λ later k. subst (RunsStandWhole source)
+          (sym (same_marks without_bracket (second_folded o.before) _ ∙ same_second o.before _))
+          (put_whole left o q s (text_from w o.opener (start_of o.opener) (start_of o.opener + 1)) nil
+          (node (footnote_from c.label name (start_of o.opener + 1) (end_of c.label)) nil later) refl tt (tt, tt, k));
+      waiting = closed_marks without_bracket (second_folded o.before) (closed_second o.before s.before);
+    }
+
+    tag_no_run : (m : Mark) (target : LinkView) → run_character (open_body (enclosed (tag_for m target))) ≡ None
+    tag_no_run m target = refl
+
+    whole_cases : Cases w c (WholeBefore source c.label rest) (WholeAfter source)
+    whole_cases = record {
+      bracket_goes = λ left q. record {
+        whole = subst (RunsStandWhole source) (sym (same_change opens_bracket without_bracket left (node c.label nil rest))) q.whole;
+        waiting = closed_change opens_bracket without_bracket left q.waiting;
+      };
+      wikilink_goes = λ left q. record {
+        whole = subst (RunsStandWhole source) (sym (same_change opens_wikilink without_wikilink left (node c.label nil rest))) q.whole;
+        waiting = closed_change opens_wikilink without_wikilink left q.waiting;
+      };
+      text = λ left q. record {
+        whole = λ later k. other_whole source left (node c.label nil rest) (node (as_text source c.label) nil later) q.whole (tt, tt, k)
+            (before_other source c.label (as_text source c.label) nil nil rest later closer refl);
+        waiting = q.waiting;
+      };
+      link = λ left o target end q found live.
+          let s = some_of (nearest opens_bracket left) o (SplitWhole left) found (split_at opens_bracket left q.waiting) in
+          record {
+            whole = λ later k. subst (RunsStandWhole source) (sym (same_link o.mark.is_image o.before (node (linked o target end) (inside o) later)))
+                (put_whole left o q s (linked o target end) (inside o) later refl (inside_whole left o q s) k);
+            waiting = closed_link o.mark.is_image o.before s.before;
+          };
+      footnote = λ left o name q found live.
+          footnote_whole o.mark.is_image left o name q (some_of (nearest opens_bracket left) o (SplitWhole left) found (split_at opens_bracket left q.waiting));
+      wikilink = λ left o v end q found live is.
+          let s = some_of (nearest opens_wikilink left) o (SplitWhole left) found (split_at opens_wikilink left q.waiting) in
+          let children = some_of (wikilink_in w (past_second (inside o)) (start_of c.label)) v (λ (v : Wikilink A). RunsStandWhole source v.children) is
+          (wikilink_keeps w (RunsStandWhole source) (λ a x y. (tt, tt, tt)) (λ i f h. past_byte_whole source i f h) (past_second (inside o)) (start_of c.label)
+          (past_second_whole source (inside o) (inside_whole left o q s))) in
+          record {
+            whole = λ later k. subst (RunsStandWhole source)
+                (sym (same_marks without_wikilink (on_marks disabled_mark o.before) _ ∙ same_marks disabled_mark o.before _))
+                (put_whole left o q s (linked o (wikilink_target v) end) v.children later refl children k);
+            waiting = closed_marks without_wikilink (on_marks disabled_mark o.before) (closed_marks disabled_mark o.before s.before);
+          };
+    }
+
+  -- trees put onto a left list
+  onto_done : (trees : Forest (Label A)) (left : List (Entry A)) (later : Forest (Label A)) → trees_onto (all_done trees left) later ≡ trees_onto left (joined trees later)
+  onto_done nil left later = refl
+  onto_done (node a below after) left later = onto_done after (done a below ∷ left) later
+
+  closed_done : (trees : Forest (Label A)) (left : List (Entry A)) → WaitsClosed left → WaitsClosed (all_done trees left)
+  closed_done nil left h = h
+  closed_done (node a below after) left h = closed_done after (done a below ∷ left) h
+
+  -- how far a chain was read: runs are whole in the left list with what is left behind it
+  record WholeSoFar (source : List ℕ) (p : Progress A) (rest : Forest (Label A)) : Type 0 where
+    whole : RunsStandWhole source (trees_onto p.left (past p.goes_on rest))
+    waiting : WaitsClosed p.left
+
+  module _ (s : Setting) (tags : Tags A) (above : Above) where
+    other_step : (a : Label A) (below rest : Forest (Label A)) (p : Progress A) → RunsStandWhole s.text (trees_onto p.left (node a below rest)) → WaitsClosed p.left
+        → WholeSoFar s.text (read_other s tags above a below rest p) rest
+    unfolding read_tree
+    other_step a below rest p w waiting = by (is_quiet a.part.shape) refl
+      where
+        by : (quiet : Bool) → is_quiet a.part.shape ≡ quiet → WholeSoFar s.text (put_passed (read_unless quiet s tags above p.made a below rest) p) rest
+        by true q = record { whole = w; waiting = waiting }
+        by false q =
+            let found = find s above a rest in
+            let fresh = tags.fresh p.made in
+            let trees = trees_for s fresh a found in
+            let later = past (end_of_find found) rest in
+            let here = behind_whole s.text p.left (node a below rest) w in
+            record {
+              whole = subst (RunsStandWhole s.text) (sym (onto_done trees p.left later))
+                  (other_whole s.text p.left (node a below rest) (joined trees later) w
+                  (joined_whole s.text trees later (closed_trees s fresh a found) (past_whole s.text (end_of_find found) rest here.2))
+                  (before_closed s.text a below rest trees later (begins_trees s fresh a found) (closed_trees s fresh a found) (quiet_no_run a.part.shape q)));
+              waiting = closed_done trees p.left waiting;
+            }
+
+    opened_step : (i : Bool) (a : Label A) (below rest : Forest (Label A)) (p : Progress A) → p.goes_on ≡ None → run_character (open_body a.part.shape) ≡ None
+        → RunsStandWhole s.text (trees_onto p.left (node a below rest)) → WaitsClosed p.left → WholeSoFar s.text (opened (around s above) i a rest p) rest
+    opened_step i a below rest p none no_run w waiting =
+        let here = behind_whole s.text p.left (node a below rest) w in
+        record {
+          whole = subst (λ (goes_on : Option ℕ). RunsStandWhole s.text (trees_onto p.left (node (as_text s.text a) nil (past goes_on rest)))) (sym none)
+              (other_whole s.text p.left (node a below rest) (node (as_text s.text a) nil rest) w (tt, tt, here.2)
+              (before_other s.text a (as_text s.text a) below nil rest rest no_run refl));
+          waiting = (refl, waiting);
+        }
+
+    closed_step : (could : Bool) (a : Label A) (below rest : Forest (Label A)) (p : Progress A) → run_character (open_body a.part.shape) ≡ None
+        → RunsStandWhole s.text (trees_onto p.left (node a below rest)) → WaitsClosed p.left → WholeSoFar s.text (closed (around s above) (closing could a rest p) p) rest
+    closed_step could a below rest p no_run w waiting =
+        let here = behind_whole s.text p.left (node a below rest) w in
+        let before : WholeBefore s.text a rest p.left = record {
+          whole = other_whole s.text p.left (node a below rest) (node a nil rest) w (here.0, tt, here.2) (λ b h. h);
+          waiting = waiting;
+        } in
+        let c = closing could a rest p in
+        let after = in_each_case (around s above) c (WholeBefore s.text a rest) (WholeAfter s.text) (whole_cases (around s above) c rest no_run) p before in
+        record {
+          whole = after.whole (past (closed (around s above) c p).goes_on rest) (past_whole s.text (closed (around s above) c p).goes_on rest here.2);
+          waiting = after.waiting;
+        }
+
+    step : (b : ItemBody) (a : Label A) (below rest : Forest (Label A)) (p : Progress A) → open_body a.part.shape ≡ b → p.goes_on ≡ None
+        → RunsStandWhole s.text (trees_onto p.left (node a below rest)) → WaitsClosed p.left
+        → WholeSoFar s.text (read_as (around s above) (read_other s tags above) b a below rest p) rest
+    step body.MaybeLinkOpen a below rest p is none w waiting = opened_step false a below rest p none (ap run_character is) w waiting
+    step body.MaybeImage a below rest p is none w waiting = opened_step true a below rest p none (ap run_character is) w waiting
+    step (body.MaybeLinkClose could) a below rest p is none w waiting = closed_step could a below rest p (ap run_character is) w waiting
+    step other a below rest p is none w waiting = other_step a below rest p w waiting
+
+    past_step : (goes_on : Option ℕ) (a : Label A) (below rest : Forest (Label A)) (p : Progress A) → p.goes_on ≡ goes_on → WholeSoFar s.text p (node a below rest)
+        → WholeSoFar s.text (read_past (around s above) (read_other s tags above) goes_on a below rest p) rest
+    past_step None a below rest p is so =
+        step (open_body a.part.shape) a below rest p refl is (subst (λ (o : Option ℕ). RunsStandWhole s.text (trees_onto p.left (past o (node a below rest)))) is so.whole) so.waiting
+    past_step (Some i) a below rest p is so =
+        by (nat_le (end_of a) i) (subst (λ (o : Option ℕ). RunsStandWhole s.text (trees_onto p.left (past o (node a below rest)))) is so.whole)
+      where
+        by : (ends : Bool) → RunsStandWhole s.text (trees_onto p.left (if ends then past_byte i rest else node (begun_at i a) below rest))
+            → WholeSoFar s.text (if ends then p else read (around s above) (read_other s tags above) (begun_at i a) below rest (record p { goes_on = None })) rest
+        by true w = record { whole = subst (λ (o : Option ℕ). RunsStandWhole s.text (trees_onto p.left (past o rest))) (sym is) w; waiting = so.waiting }
+        by false w = step (open_body (begun_at i a).part.shape) (begun_at i a) below rest (record p { goes_on = None }) refl refl w so.waiting
+
+    chain_whole : (chain : Forest (Label A)) (p : Progress A) → WholeSoFar s.text p chain → WholeSoFar s.text (read_on s tags above chain p) nil
+    unfolding read_chain
+    chain_whole nil p so = so
+    chain_whole (node a below rest) p so =
+        chain_whole rest (read_past (around s above) (read_other s tags above) p.goes_on a below rest p) (past_step p.goes_on a below rest p refl so)
+
+    nothing_left : (left : List (Entry A)) (goes_on : Option ℕ) → RunsStandWhole s.text (trees_onto left (past goes_on nil)) → RunsStandWhole s.text (trees_onto left nil)
+    nothing_left left None w = w
+    nothing_left left (Some i) w = w
 
   pub pass_one-whole : (s : Setting) (tags : Tags A) (above : Above) (chain : Forest (Label A)) (known : Known) → RunsStandWhole s.text chain
       → RunsStandWhole s.text (pass_one s tags above chain known).forest
   unfolding pass_one
-  pass_one-whole s tags above chain known w = leaves_whole s tags above chain w None 0
+  pass_one-whole s tags above chain known w =
+      let read = read_on s tags above chain (begun known) in
+      nothing_left s tags above read.left read.goes_on (chain_whole s tags above chain (begun known) (record { whole = w; waiting = tt })).whole

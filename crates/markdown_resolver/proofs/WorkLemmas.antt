@@ -9,7 +9,7 @@ use Rattle.markdown_base.specs.declared.item.Item.{Item}
 use Rattle.markdown_base.specs.declared.node.Node.{Node}
 use Rattle.markdown_base.proofs.ForestLemmas.{roots-relabelled}
 use Rattle.markdown_chains.specs.Above.{Above}
-use Rattle.markdown_chains.specs.Counts.{ChainCounts, RisesAtMost, risen, WorkRises}
+use Rattle.markdown_chains.specs.Counts.{ChainCounts, RisesAtLeast, RisesAtMost, risen, WorkRises}
 use Rattle.markdown_chains.specs.Document.{plain_tags}
 use Rattle.markdown_chains.specs.Places.{label_at, trees_from}
 use Rattle.markdown_chains.specs.Setting.{Setting}
@@ -18,9 +18,10 @@ use Rattle.markdown_chains.specs.Tables.{Tables}
 use Rattle.markdown_chains.specs.declared.work.Work.{Work}
 use Rattle.markdown_delims.specs.PairedChain.{ExaminesAtMost}
 use Rattle.markdown_delims.specs.RunReading.{delimiters_of}
+use Rattle.markdown_delims.specs.PairingFinds.{finds_in}
 use Rattle.markdown_resolver.specs.ChainCounts.{chain_counts}
 use Rattle.markdown_resolver.specs.Chains.{ResolvesFrom}
-use Rattle.markdown_resolver.specs.PassOne.{pass_one}
+use Rattle.markdown_resolver.specs.PassOne.{Outcome, pass_one}
 use Rattle.markdown_resolver.proofs.PairedLemmas.{delimiters_left}
 
 -- a chain has as many items as nodes, and one at least
@@ -58,11 +59,12 @@ same_rise : (most most' old new new' : ℕ) → most' ≡ most → new' ≡ new 
 same_rise most most' old new new' e e' r = record { more = r.more; within = omega (arith, e, r.within); counted = e' ∙ r.counted }
 
 work_rises : (n : ChainCounts) (old new : Work) → AreCounts old → 0 < n.items → new.items ≡ min (old.items + n.items) (2 ^ 128 - 1) → new.delimiters ≡ min (old.delimiters + n.delimiters) (2 ^ 128 - 1)
-    → ExaminesAtMost (10 * n.delimiters) old.examined new.examined → RisesAtMost n.items old.code_visits new.code_visits → RisesAtMost n.items old.math_visits new.math_visits → WorkRises n old new
-work_rises n old new fits some items delimiters examined code math = record {
+    → ExaminesAtMost (10 * n.delimiters) old.examined new.examined → RisesAtLeast n.found old.examined new.examined → RisesAtMost n.items old.code_visits new.code_visits → RisesAtMost n.items old.math_visits new.math_visits → WorkRises n old new
+work_rises n old new fits some items delimiters examined found code math = record {
   items = items ∙ risen_some n.items old.items some;
   delimiters = delimiters ∙ risen_is n.delimiters old.delimiters fits.delimiters;
   examined = record { more = examined.examined; within = examined.within; counted = examined.counted ∙ risen_is examined.examined old.examined fits.examined };
+  found = found;
   code_visits = code;
   math_visits = math;
 }
@@ -75,18 +77,22 @@ pub record ReadCounts (items : ℕ) (old new : Work) : Type 0 where
   pub code : RisesAtMost items old.code_visits new.code_visits
   pub math : RisesAtMost items old.math_visits new.math_visits
 
--- and what pairing makes of them, of so many delimiter characters
-pub record PairCounts (delimiters : ℕ) (old new : Work) : Type 0 where
+-- and what pairing makes of them, of so many delimiter characters, where so many searches find
+pub record PairCounts (delimiters found : ℕ) (old new : Work) : Type 0 where
   pub counted : new ≡ record old { delimiters = min (old.delimiters + delimiters) (2 ^ 128 - 1); examined = new.examined }
   pub compared : ExaminesAtMost (10 * delimiters) old.examined new.examined
+  pub finds : RisesAtLeast found old.examined new.examined
 
 examined_by : (d d' old old' new : ℕ) → d ≡ d' → old ≡ old' → ExaminesAtMost (10 * d) old new → ExaminesAtMost (10 * d') old' new
 examined_by d d' old old' new e e' h = record { examined = h.examined; within = omega (arith, e, h.within); counted = h.counted ∙ ap (λ n. min (n + h.examined) (2 ^ 128 - 1)) e' }
 
+found_by : (f f' old old' new : ℕ) → f ≡ f' → old ≡ old' → RisesAtLeast f old new → RisesAtLeast f' old' new
+found_by f f' old old' new e e' h = rw (sym e, sym e') h
+
 -- where a chain was read, and then paired, the counts rose by those of the chain
 pub counts_rise : {C : Type 0} (step : C → Question → Option Answer → C → Type 0) (s : Setting) (above : Above) (first : ℕ) (old mid : Stage C) (work then new : Work)
     → Spells (links_of old.nodes) (Some first) (forest_at (links_of old.nodes) (Some first)) → (r : ResolvesFrom step s.text (pass_one s plain_tags above) (Some first) old mid)
-    → AreCounts work → ReadCounts (items_from old.nodes (Some first)) work then → PairCounts (delimiters_of (trees_at mid.nodes (Some first))) then new
+    → AreCounts work → ReadCounts (items_from old.nodes (Some first)) work then → PairCounts (delimiters_of (trees_at mid.nodes (Some first))) (finds_in s (chain_at s.text mid (Some first))) then new
     → (later : Answers) → WorkRises (chain_counts s plain_tags above (chain_at s.text old (Some first)) (known_at old (r.answers ++ later))) work new
 counts_rise step s above first old mid work then new spelled r fits read paired later =
     let n = chain_counts s plain_tags above (chain_at s.text old (Some first)) (known_at old (r.answers ++ later)) in
@@ -98,5 +104,7 @@ counts_rise step s above first old mid work then new spelled r fits read paired 
     (ap (λ (w : Work). w.items) paired.counted ∙ read.items_counted ∙ ap (λ k. min (work.items + k) (2 ^ 128 - 1)) (sym items))
     (ap (λ (w : Work). w.delimiters) paired.counted ∙ ap (λ k. min (k + d) (2 ^ 128 - 1)) read.same_delimiters ∙ ap (λ k. min (work.delimiters + k) (2 ^ 128 - 1)) left)
     (examined_by d n.delimiters then.examined work.examined new.examined left read.same_examined paired.compared)
+    (found_by (finds_in s (chain_at s.text mid (Some first))) n.found then.examined work.examined new.examined
+    (ap (λ (o : Outcome (Unit {0})). finds_in s o.forest) (sym (r.resolves later))) read.same_examined paired.finds)
     (same_rise (items_from old.nodes (Some first)) n.items work.code_visits then.code_visits new.code_visits items (ap (λ (w : Work). w.code_visits) paired.counted) read.code)
     (same_rise (items_from old.nodes (Some first)) n.items work.math_visits then.math_visits new.math_visits items (ap (λ (w : Work). w.math_visits) paired.counted) read.math)

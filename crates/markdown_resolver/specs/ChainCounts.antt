@@ -6,11 +6,14 @@ use Rattle.markdown_chains.specs.Counts.{ChainCounts}
 use Rattle.markdown_chains.specs.Document.{Tags, Label}
 use Rattle.markdown_chains.specs.Labels.{delimiters_in}
 use Rattle.markdown_chains.specs.Setting.{Setting, Known}
+use Rattle.markdown_delims.specs.PairingFinds.{finds_in}
 use Rattle.markdown_resolver.specs.PassOne.{pass_one}
 
--- the items of a chain from its first open one on, and the delimiter characters that pass one leaves of it
+-- the items of a chain from its first open one on, the delimiter characters that pass one leaves of it, and the searches
+-- for an opener that find one when it is paired
 abbrev pub chain_counts : {A : Type 0} → Setting → Tags A → Above → Forest (Label A) → Known → ChainCounts
 chain_counts s tags above chain known = record {
   items = length (roots chain);
   delimiters = delimiters_in (pass_one s tags above chain known).forest;
+  found = finds_in s (pass_one s tags above chain known).forest;
 }

@@ -1,11 +1,14 @@
 -- Where a chain stands, as a `ChainPlace` has it: a fact of the representation.
-use Rattle.std.specs.Prelude.{◌≡◌, ℕ, Some}
+use Rattle.std.specs.Prelude.{◌≡◌, ℕ, List, Some}
 use Rattle.std.specs.Str.{IsCharBoundary}
 use Rattle.markdown_base.specs.Arena.{Arena}
 use Rattle.markdown_base.specs.declared.item.Item.{Item}
+use Rattle.markdown_brackets.specs.LeftList.{Entry}
+use Rattle.markdown_brackets.specs.Openers.{Waiting}
 use Rattle.markdown_chains.specs.Above.{above_cursor}
 use Rattle.markdown_chains.specs.Tables.{tables_of}
 use Rattle.markdown_resolver.specs.Chains.{AreAbove, CanResolve}
+use Rattle.markdown_resolver.specs.ReadOn.{AreHeld, StandsTo}
 use Rattle.markdown_resolver.specs.declared.chain_place.ChainPlace.{ChainPlace}
 use Rattle.markdown_spans.specs.Allocations.{Allocated}
 
@@ -20,3 +23,11 @@ pub record CanReadItem (place : ChainPlace) (tree : Arena Item) (held : Allocate
   pub stands : IsPlaceOf place tree
   pub ready : CanResolve place.text.now (tables_of held) tree.nodes (Some ix)
   pub above : AreAbove place.text.now tree.nodes (Some ix) tree.spine
+
+-- a chain was read up to the item of a node, which may be read: from the node `first` on a left list stands, of which two
+-- stacks hold the openers
+pub record CanReadOn (place : ChainPlace) (tree : Arena Item) (held : Allocated) (brackets wikilinks : List Waiting) (first ix : ℕ) (left : List (Entry ℕ)) : Type 0 where
+  pub stands : IsPlaceOf place tree
+  pub above : AreAbove place.text.now tree.nodes (Some first) tree.spine
+  pub so_far : StandsTo place.text.now (tables_of held) tree.nodes first (Some ix) left
+  pub openers : AreHeld brackets wikilinks left

@@ -9,7 +9,7 @@ use Rattle.markdown_base.specs.Item.{is_open}
 use Rattle.markdown_base.specs.WellFormed.{run_character}
 use Rattle.markdown_base.specs.declared.item.Item.{Item}
 use Rattle.markdown_base.specs.declared.node.Node.{Node}
-use Rattle.markdown_chains.specs.ChainRest.{joined, past}
+use Rattle.markdown_chains.specs.ChainRest.{joined, past, past_byte}
 use Rattle.markdown_chains.specs.Document.{Plain, label_of}
 use Rattle.markdown_chains.specs.Places.{IsSameAt}
 use Rattle.markdown_chains.specs.Tables.{Tables, Named}
@@ -48,6 +48,15 @@ over_inside source tables item a inside = node (label_of source tables item) ins
 abbrev pub in_place_of : List ℕ → Tables → Item → Enclosing
 in_place_of source tables item a inside = node (label_of source tables item) nil nil
 
+-- one item, with a Text below it, or with what stands inside from its tree k on, from a byte on
+abbrev pub over_text : List ℕ → Tables → (item text : Item) → Enclosing
+over_text source tables item text a inside =
+    node (label_of source tables item) (node (label_of source tables text) nil nil) nil
+
+abbrev pub over_shown : List ℕ → Tables → Item → (k from : ℕ) → Enclosing
+over_shown source tables item k from a inside =
+    node (label_of source tables item) (past_byte from (trees_past k inside)) nil
+
 -- a Text over the first byte of the opener, and an item behind it
 abbrev pub after_mark : List ℕ → Tables → (mark item : Item) → Enclosing
 after_mark source tables mark item a inside =
@@ -77,6 +86,15 @@ pub record CanPutOver (source : List ℕ) (tables tables' : Tables) (nodes : Lis
   pub puts : CanPut source tables tables' item
   pub starts : item.start ≡ (item_at nodes opener).start
   pub ends : item.end ≤ byte
+
+-- what stands inside from a node on may be shown from a byte on: that node is the first that ends past it, and is not cut
+-- where it is open
+pub record CanShow (source : List ℕ) (nodes : List (Node Item)) (inside : List ℕ) (skipped : List ℕ) (first from : ℕ) : Type 0 where
+  pub shown : List ℕ
+  pub inside_is : inside ≡ skipped ++ first ∷ shown
+  pub boundary : (item_at nodes first).start < from → IsCharBoundary source from
+  pub ends_past : from < (item_at nodes first).end
+  pub not_cut : (item_at nodes first).start < from → is_open (item_at nodes first).body ≡ false
 
 -- two items may be put there: over the opener's first byte, and into the node of the closer, which ends where it does
 pub record CanPutMark (source : List ℕ) (tables tables' : Tables) (nodes : List (Node Item)) (opener closer : ℕ) (mark item : Item) : Type 0 where

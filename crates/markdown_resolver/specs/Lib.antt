@@ -1,6 +1,10 @@
 -- what a chain is resolved to
+pub mod Closes
 pub mod PassOne
 pub mod ChainCounts
+pub mod PutsTrees
+pub mod ReadOn
+pub mod ReadsItem
 pub mod Resolved
 pub mod Kept
 pub mod Laws
@@ -11,5 +15,6 @@ pub mod Settling
 pub mod Rewritten
 pub mod ClosedOver
 pub mod ChainPlace
+pub mod BracketKinds
 pub mod PutCode
 pub mod MarkupItems

@@ -1,28 +1,32 @@
--- Pass one over a chain: its items are read from left to right, each once. Code, math, autolinks and raw HTML are found;
--- an opener of them at which nothing is found is a Text, and so are brackets.
-use Rattle.std.specs.Prelude.{ℕ, List, [], Option, Some, None, if◌then◌else◌, nat_le}
-use Rattle.markdown_base.specs.Forest.{Forest, nil, node}
+-- Pass one over a chain: its items are read from left to right, each once. Code, math, autolinks and raw HTML are found, an
+-- opener of them at which nothing is found is a Text, and brackets become links, images, footnote references and wikilinks.
+use Rattle.std.specs.Prelude.{List, Some}
+use Rattle.markdown_base.specs.Forest.{Forest, nil}
 use Rattle.markdown_base.specs.Questions.{Question}
+use Rattle.markdown_brackets.specs.BracketDecision.{Around, Progress}
+use Rattle.markdown_brackets.specs.LeftList.{trees_onto}
+use Rattle.markdown_brackets.specs.QuietItems.{all_done}
+use Rattle.markdown_brackets.specs.ReadChain.{Reader, begun, read_chain}
 use Rattle.markdown_chains.specs.Above.{Above}
-use Rattle.markdown_chains.specs.ChainRest.{begun_at, end_of, joined}
 use Rattle.markdown_chains.specs.Document.{Tags, Label}
 use Rattle.markdown_chains.specs.Setting.{Setting, Known}
-use Rattle.markdown_code.specs.Finds.{Passed, Reader, read_tree}
+use Rattle.markdown_code.specs.Finds.{Passed, prefix_below, read_tree}
 
--- a tree is read, where n were made before it. After a find that ends at a byte, what ends there or before is left out,
--- and the next item begins there at the earliest.
-abbrev pub read_past : {A : Type 0} → Setting → Tags A → Above → Option ℕ → (made : ℕ) → Reader A
-read_past s tags above None n a below rest = read_tree s tags above n a below rest
-read_past s tags above (Some i) n a below rest =
-    if nat_le (end_of a) i then record { trees = nil; goes_on = Some i; made = n }
-    else read_tree s tags above n (begun_at i a) below rest
+-- brackets are read below the blocks that are open above: a line goes on behind their prefix
+abbrev pub around : Setting → Above → Around
+around s above = record { setting = s; above = above; skipped = λ bytes. Some (prefix_below s above bytes) }
 
--- all of them are read
-unfoldable pub read_chain : {A : Type 0} → Setting → Tags A → Above → Option ℕ → (made : ℕ) → Forest (Label A) → Forest (Label A)
-read_chain s tags above goes_on n nil = nil
-read_chain {A} s tags above goes_on n (node a below rest) =
-    let r : Passed A = read_past s tags above goes_on n a below rest in
-    joined r.trees (read_chain s tags above r.goes_on r.made rest)
+-- trees that stand for an item are put onto the left list
+abbrev pub put_passed : {A : Type 0} → Passed A → Progress A → Progress A
+put_passed r p = record p { left = all_done r.trees p.left; goes_on = r.goes_on; made = r.made }
+
+-- an item that is no bracket
+abbrev pub read_other : {A : Type 0} → Setting → Tags A → Above → Reader A
+read_other s tags above a below rest p = put_passed (read_tree s tags above p.made a below rest) p
+
+-- a chain from a progress on
+abbrev pub read_on : {A : Type 0} → Setting → Tags A → Above → Forest (Label A) → Progress A → Progress A
+read_on s tags above chain p = read_chain (around s above) (read_other s tags above) chain p
 
 -- what becomes of a chain: the questions on the way, the forest, and what is known after it
 pub record Outcome (A : Type 0) : Type 0 where
@@ -30,7 +34,9 @@ pub record Outcome (A : Type 0) : Type 0 where
   pub forest : Forest (Label A)
   pub known : Known
 
+abbrev pub outcome : {A : Type 0} → Progress A → Outcome A
+outcome p = record { questions = p.asked; forest = trees_onto p.left nil; known = p.known }
+
 -- by pass one, where the chain is reached at its first open item, below the blocks that are open above it
 unfoldable pub pass_one : {A : Type 0} → Setting → Tags A → Above → Forest (Label A) → Known → Outcome A
-pass_one s tags above chain known =
-    record { questions = []; forest = read_chain s tags above None 0 chain; known = known }
+pass_one s tags above chain known = outcome (read_on s tags above chain (begun known))

@@ -1,5 +1,5 @@
 -- A chain of an arena that is rewritten where it stands: what private contracts say of its nodes.
-use Rattle.std.specs.Prelude.{◌≡◌, ℕ, ◌<◌, ◌≤◌, ◌+◌, ◌-◌, ◌^◌, min, max, Bool, true, false, List, [], ◌∷◌, ◌++◌, Option, Some, None, length, if◌then◌else◌, nat_le}
+use Rattle.std.specs.Prelude.{◌≡◌, ℕ, ◌<◌, ◌≤◌, max, Bool, true, false, List, [], ◌∷◌, ◌++◌, Option, Some, None, length, if◌then◌else◌, nat_le}
 use Rattle.std.specs.Option.{option_map}
 use Rattle.markdown_base.specs.Arena.{sibling_of}
 use Rattle.markdown_base.specs.ArenaForest.{links_of, forest_at}
@@ -9,20 +9,15 @@ use Rattle.markdown_base.specs.Item.{LiesIn, is_block, is_open}
 use Rattle.markdown_base.specs.WellFormed.{RunsAreWhole, run_character}
 use Rattle.markdown_base.specs.declared.item.Item.{Item}
 use Rattle.markdown_base.specs.declared.node.Node.{Node}
-use Rattle.markdown_chains.specs.Above.{Above}
 use Rattle.markdown_chains.specs.ChainRest.{joined, past}
-use Rattle.markdown_chains.specs.Document.{Plain, plain_tags, as_text, label_of}
+use Rattle.markdown_chains.specs.Document.{Plain, as_text, label_of}
 use Rattle.markdown_chains.specs.Places.{HasSlices, IsSameAt, trees_from}
-use Rattle.markdown_chains.specs.Setting.{Setting}
 use Rattle.markdown_chains.specs.Stages.{items_from, times_in, weight_in}
 use Rattle.markdown_chains.specs.Tables.{Tables, Named, NamesEntries, number_of, size_for}
 use Rattle.markdown_chains.specs.Totals.{times_named}
 use Rattle.markdown_chains.specs.Waiting.{is_quiet}
 use Rattle.markdown_code.specs.ChainInArena.{LeadsThrough}
-use Rattle.markdown_code.specs.SpanClosers.{HoldsFrom, Learned}
-use Rattle.markdown_code.specs.declared.span_text.SpanKind.{SpanKind}
 use Rattle.markdown_resolver.specs.Chains.{CanResolve, ChangesChain}
-use Rattle.markdown_resolver.specs.PassOne.{read_chain}
 
 -- a run that goes on at a link still does
 abbrev pub RunsGoOn : List ℕ → List (Node Item) → List (Node Item) → Option ℕ → Type 0
@@ -145,24 +140,7 @@ pub record Puts (source : List ℕ) (ix : ℕ) (trees : Standing) (goes_on : Opt
   -- the links lead on past that byte
   pub leads : (low : ℕ) (after : List Numbered) → LeadsThrough old low (sibling_of old ix) after
       → LeadsThrough new low next (numbered_past goes_on after)
-
--- what pass one makes of a chain, below the blocks that are open above it
-abbrev pub reads_by : Setting → Above → Forest Plain → Forest Plain
-reads_by s above chain = read_chain s plain_tags above None 0 chain
-
--- the item was read by pass one
-pub record ReadsItem (s : Setting) (above : Above) (ix : ℕ) (next : Option ℕ) (old new : List (Node Item)) (tables tables' : Tables) : Type 0 where
-  -- once what is left is read, the whole is
-  pub whole : (nodes : List (Node Item)) (later : Tables) → Rewrites s.text (reads_by s above) next new nodes tables' later
-      → Rewrites s.text (reads_by s above) (Some ix) old nodes tables later
-  pub leaves : LeavesRest s.text ix next old new tables'
-  -- what searches have learned of what follows the item is true of what is left
-  pub holds : (kind : SpanKind) (learned : Learned) → HoldsFrom kind learned old (sibling_of old ix) → HoldsFrom kind learned new next
-
--- a search has looked at some items, or at none once one had failed: at none past what is left, unless it failed
-pub record LooksAt (before after : Bool) (old new items items' : ℕ) : Type 0 where
-  pub more : ℕ
-  pub counted : new ≡ min (old + more) (2 ^ 128 - 1)
-  pub within : more ≤ items
-  pub none : before ≡ true → (more ≡ 0) × (after ≡ true)
-  pub past : after ≡ false → more + items' ≤ items
+  -- these nodes stand there now, one for each tree
+  pub standing : List ℕ
+  pub numbers : roots (forest_at (links_of new) (Some ix)) ≡ standing ++ roots (forest_at (links_of new) next)
+  pub as_many : (a : Plain) (below : Forest Plain) → length (roots (trees a below)) ≡ length standing

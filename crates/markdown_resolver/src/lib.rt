@@ -2,6 +2,8 @@
 //! stands.
 #![tactic(auto)]
 
+mod bracket_kind;
+mod brackets;
 mod chain_place;
 mod found;
 pub mod laws;

@@ -1,9 +1,11 @@
 //! What a closing bracket becomes is put where it stands: into the node of its opener, over what stands inside. What ends
 //! at a byte or before leaves the chain, and what is left begins there at the earliest.
-ghost use Rattle.std.specs.Prelude.{◌≡◌, ◌<◌, ◌∷◌, [], ℕ, List, length, Some, None, IfSome};
+ghost use Rattle.std.specs.Prelude.{◌≡◌, ◌<◌, ◌∷◌, ◌++◌, [], ℕ, List, length, Some, None, IfSome};
 ghost use Rattle.markdown_base.specs.BlockTree.{item_at};
-ghost use Rattle.markdown_chains.specs.Tables.{HasGrown, Tables};
-ghost use Rattle.markdown_resolver.specs.ClosedOver.{CanClose, CanPutMark, CanPutOver, IsEnclosed, PutsOver, after_mark, in_place_of, last_inside, over_inside};
+ghost use Rattle.markdown_chains.specs.Tables.{HasGrown, Named, Tables};
+ghost use Rattle.markdown_chains.specs.Totals.{times_named};
+ghost use Rattle.markdown_resolver.specs.ClosedOver.{CanClose, CanPutMark, CanPutOver, CanShow, IsEnclosed, PutsOver, after_mark, in_place_of, last_inside, over_inside, over_shown, over_text};
+ghost use Rattle.markdown_resolver.specs.Rewritten.{CanPut};
 
 use crate::found::{begin_from, first_past, write_node};
 use markdown_base::item::Item;
@@ -95,6 +97,81 @@ pub fn put_image_footnote(
     write_node(tree, opener, mark, Some(closer));
     let rest = first_past(tree, tree.next(closer), item.end);
     write_node(tree, closer, item, rest);
+    begin_from(tree, rest, item.end);
+    rest
+}
+
+/// The node of a chain before another one, from an opener on that stands before it.
+pub(crate) fn last_before(tree: &Tree<Item>, opener: usize, closer: usize) -> usize
+    requires { (source : List ℕ) × (tables : Tables) × (inside : List ℕ) × (byte : ℕ)
+        × CanClose source tables tree.now.nodes opener closer inside byte }
+    ensures { (source : List ℕ) (tables : Tables) (inside : List ℕ) (byte : ℕ)
+        → CanClose source tables tree.now.nodes opener closer inside byte → last_inside opener inside ≡ result }
+{
+    let mut last = opener;
+    'inside: while let Some(next) = tree.next(last) {
+        if next == closer {
+            return last;
+        }
+        last = next;
+    }
+    last
+}
+
+/// Puts a wikilink that shows its name: into the node of its opener, with a Text over the name in the node `first` below
+/// it. What stood inside besides leaves the chain, which goes on behind the wikilink, at the link that is answered.
+pub(crate) fn put_wikilink_name(
+    tree: &mut Tree<Item>,
+    opener: usize,
+    first: usize,
+    closer: usize,
+    item: Item,
+    inside: Item,
+) -> Option<usize>
+    requires { (source : List ℕ) × (tables : Tables) × (tables' : Tables) × (nodes : List ℕ) × (skipped : List ℕ) × (shown : List ℕ) × HasGrown tables tables'
+        × CanClose source tables tree.old.nodes opener closer nodes item.end
+        × CanPutOver source tables tables' tree.old.nodes opener item item.end × CanPut source tables tables' inside
+        × (nodes ≡ skipped ++ first ∷ shown) × ((n : Named) → times_named n inside.body ≡ 0) }
+    ensures puts { (source : List ℕ) (tables tables' : Tables) (nodes skipped shown : List ℕ) → HasGrown tables tables'
+        → CanClose source tables tree.old.nodes opener closer nodes item.end
+        → CanPutOver source tables tables' tree.old.nodes opener item item.end → CanPut source tables tables' inside
+        → nodes ≡ skipped ++ first ∷ shown → ((n : Named) → times_named n inside.body ≡ 0)
+        → PutsOver source opener closer nodes (over_text source tables' item inside) item.end (opener ∷ []) result tree.old.nodes tree.new.nodes tables tables' }
+    ensures place { tree.new ≡ record tree.old { nodes = tree.new.nodes } }
+{
+    let rest = first_past(tree, Some(closer), item.end);
+    tree.set_child(opener, Some(first));
+    tree.set_child(first, None);
+    write_node(tree, first, inside, None);
+    write_node(tree, opener, item, rest);
+    begin_from(tree, rest, item.end);
+    rest
+}
+
+/// Puts a wikilink that shows what stands inside from a byte on, which begins in the node `first`: into the node of its
+/// opener, with that below it. The chain goes on behind the wikilink, at the link that is answered.
+pub(crate) fn put_wikilink_shown(
+    tree: &mut Tree<Item>,
+    opener: usize,
+    first: usize,
+    closer: usize,
+    item: Item,
+    from: usize,
+) -> Option<usize>
+    requires { (source : List ℕ) × (tables : Tables) × (tables' : Tables) × (nodes : List ℕ) × (skipped : List ℕ) × HasGrown tables tables'
+        × CanClose source tables tree.old.nodes opener closer nodes item.end
+        × CanPutOver source tables tables' tree.old.nodes opener item item.end × CanShow source tree.old.nodes nodes skipped first from }
+    ensures puts { (source : List ℕ) (tables tables' : Tables) (nodes skipped : List ℕ) → HasGrown tables tables'
+        → CanClose source tables tree.old.nodes opener closer nodes item.end
+        → CanPutOver source tables tables' tree.old.nodes opener item item.end → CanShow source tree.old.nodes nodes skipped first from
+        → PutsOver source opener closer nodes (over_shown source tables' item (length skipped) from) item.end (opener ∷ []) result tree.old.nodes tree.new.nodes tables tables' }
+    ensures place { tree.new ≡ record tree.old { nodes = tree.new.nodes } }
+{
+    enclose(tree, opener, last_before(tree, opener, closer), closer);
+    tree.set_child(opener, Some(first));
+    begin_from(tree, Some(first), from);
+    let rest = first_past(tree, Some(closer), item.end);
+    write_node(tree, opener, item, rest);
     begin_from(tree, rest, item.end);
     rest
 }

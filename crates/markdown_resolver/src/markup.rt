@@ -11,7 +11,8 @@ ghost use Rattle.markdown_code.specs.Finds.{end_of_markup, gfm_footnotes};
 ghost use Rattle.markdown_code.specs.MarkupView.{markup_of};
 ghost use Rattle.markdown_resolver.specs.ChainPlace.{CanReadItem};
 ghost use Rattle.markdown_resolver.specs.MarkupItems.{IsMarkupAt, item_to, standing_for};
-ghost use Rattle.markdown_resolver.specs.Rewritten.{CanPut, IsFoundAt, Puts, ReadsItem, one};
+ghost use Rattle.markdown_resolver.specs.Rewritten.{CanPut, IsFoundAt, Puts, one};
+ghost use Rattle.markdown_resolver.specs.ReadsItem.{ReadsItem};
 
 use crate::chain_place::ChainPlace;
 use crate::found::{put_found, put_parent, settle};

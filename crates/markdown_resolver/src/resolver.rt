@@ -1,5 +1,7 @@
 //! Resolving of chains: a chain of inline items is resolved where it stands in the arena, from its first open item
 //! on: pass one reads it, and then it is paired.
+use crate::bracket_kind::{BracketKind, kind_of};
+use crate::brackets::{bracket_place, open_bracket, put_closed};
 use crate::chain_place::ChainPlace;
 use crate::found::settle;
 use crate::markup::read_markup;
@@ -8,7 +10,12 @@ use markdown_base::fault::Fault;
 use markdown_base::item::{Item, ItemBody};
 use markdown_base::options::Options;
 use markdown_base::tree::Tree;
+use markdown_brackets::chain_openers::ChainOpeners;
+use markdown_brackets::decision::decide_bracket;
+use markdown_brackets::finish::finish_bracket;
+use markdown_brackets::spent_ends::SpentEnds;
 use markdown_chains::work::Work;
+use markdown_code::prefixes::ContainerPrefix;
 use markdown_code::span_closers::SpanClosers;
 use markdown_delims::chain::pair_chain;
 use markdown_delims::open_runs::OpenRuns;
@@ -29,6 +36,10 @@ pub struct Resolver<'a, F> {
     /// Whom to ask about references that are defined nowhere.
     pub callback: Option<F>,
     pub work: Work,
+    /// The openers that wait for their `]` in a chain, and the `]` that can be no references any more: both are emptied for
+    /// each chain, and keep their memory.
+    pub openers: ChainOpeners,
+    pub spent: SpentEnds,
     /// What searches for the ends of code spans, and of math spans, hold in a chain: it is emptied for each, and keeps
     /// its memory.
     pub code_closers: SpanClosers,
@@ -38,8 +49,11 @@ pub struct Resolver<'a, F> {
 }
 
 impl<'a, F: BrokenLinkCallback<'a>> Resolver<'a, F> {
-    ghost use Rattle.std.specs.Prelude.{◌≡◌, ◌+◌, ◌-◌, ◌^◌, min, true, Some, IfOk, IfErr, IfSome, is_some, take};
+    ghost use Rattle.std.specs.Prelude.{◌≡◌, ◌+◌, ◌-◌, ◌^◌, ◌<◌, ℕ, List, min, true, Some, IfOk, IfErr, IfSome, is_some, take};
+    ghost use Rattle.markdown_base.specs.Arena.{sibling_of};
     ghost use Rattle.markdown_base.specs.BlockTree.{item_at};
+    ghost use Rattle.markdown_base.specs.declared.item.ItemBody.TheVariants as body;
+    ghost use Rattle.markdown_brackets.specs.LeftList.{Entry};
     ghost use Rattle.markdown_base.specs.Item.{is_open};
     ghost use Rattle.markdown_chains.specs.Above.{above_cursor};
     ghost use Rattle.markdown_chains.specs.Counts.{RisesAtMost};
@@ -48,16 +62,19 @@ impl<'a, F: BrokenLinkCallback<'a>> Resolver<'a, F> {
     ghost use Rattle.markdown_chains.specs.Stages.{items_from, stage};
     ghost use Rattle.markdown_chains.specs.Tables.{tables_of};
     ghost use Rattle.markdown_code.specs.Finds.{gfm_footnotes};
-    ghost use Rattle.markdown_code.specs.SpanClosers.{HoldsFrom, has_failed};
+    ghost use Rattle.markdown_code.specs.SpanClosers.{HoldsFrom, Learned, has_failed};
     ghost use Rattle.markdown_code.specs.declared.span_text.SpanKind.{SpanKind};
-    ghost use Rattle.markdown_resolver.specs.ChainPlace.{CanReadItem};
+    ghost use Rattle.markdown_resolver.specs.BracketKinds.{kind_of};
+    ghost use Rattle.markdown_resolver.specs.ChainPlace.{CanReadItem, CanReadOn};
     ghost use Rattle.markdown_resolver.specs.Chains.{CanResolve, AreAbove, ResolvesChain, ResolvesFrom, StopsIn};
     ghost use Rattle.markdown_resolver.specs.PassOne.{pass_one};
-    ghost use Rattle.markdown_resolver.specs.Rewritten.{LooksAt, ReadsItem};
+    ghost use Rattle.markdown_resolver.specs.ReadOn.{ReadsOn, StopsInPassOne, StopsOn};
+    ghost use Rattle.markdown_resolver.specs.ReadsItem.{LooksAt, ReadsItem};
+    ghost use Rattle.markdown_spans.specs.Footnotes.{footnote_at};
 
-    /// Reads the item of a node of a chain: the link at which the chain goes on. The scanner is one of the text up to the
+    /// Reads the item of a node of a chain, which is no bracket: the link at which the chain goes on. The scanner is one of the text up to the
     /// block's end.
-    fn read_item(
+    fn read_other(
         &mut self,
         tree: &mut Tree<Item>,
         place: &ChainPlace<'a>,
@@ -123,6 +140,129 @@ impl<'a, F: BrokenLinkCallback<'a>> Resolver<'a, F> {
         }
     }
 
+    /// Reads a `]`: what it becomes is decided, and put. The only error is `Fault::Memory`.
+    fn close_bracket(
+        &mut self,
+        tree: &mut Tree<Item>,
+        place: &ChainPlace<'a>,
+        ix: usize,
+        could_be: bool,
+    ) -> Result<Option<usize>, Fault>
+        requires can_ask { IfSome self.old.callback F.can_ask }
+        requires ready { (first : ℕ) × (left : List (Entry ℕ)) × CanReadOn place.now tree.old self.old.tables self.old.openers.brackets
+            self.old.openers.wikilinks first ix left }
+        requires text { place.now.text.now ≡ self.old.text.now }
+        requires footnotes { place.now.gfm_footnotes ≡ gfm_footnotes self.old.options }
+        requires closes { (item_at tree.old.nodes ix).body ≡ body.MaybeLinkClose could_be }
+        ensures reads { IfOk result (λ next. (first : ℕ) (left : List (Entry ℕ)) → CanReadOn place.now tree.old self.old.tables
+            self.old.openers.brackets self.old.openers.wikilinks first ix left
+            → ReadsOn F.answers (setting_of self.old.text.now (rules_from self.old.options self.old.tables (is_some self.old.callback)))
+            (above_cursor self.old.text.now tree.old) first (Some ix) next left
+            (stage tree.old self.old.tables self.old.limit self.old.callback) (stage tree.new self.new.tables self.new.limit self.new.callback)
+            self.old.spent self.new.spent self.new.openers.brackets self.new.openers.wikilinks) }
+        ensures fewer { IfOk result (λ next. items_from tree.new.nodes next < items_from tree.old.nodes (Some ix)) }
+        ensures place { IfOk result (λ _. tree.new ≡ record tree.old { nodes = tree.new.nodes }) }
+        ensures holds { IfOk result (λ next. (kind : SpanKind) (learned : Learned)
+            → HoldsFrom kind learned tree.old.nodes (sibling_of tree.old.nodes ix) → HoldsFrom kind learned tree.new.nodes next) }
+
+        // a refusal, and what holds whatever comes
+        ensures stops { IfErr result (λ _. (first : ℕ) (left : List (Entry ℕ)) → CanReadOn place.now tree.old self.old.tables
+            self.old.openers.brackets self.old.openers.wikilinks first ix left
+            → StopsOn F.answers (setting_of self.old.text.now (rules_from self.old.options self.old.tables (is_some self.old.callback)))
+            (above_cursor self.old.text.now tree.old) (Some ix) left (stage tree.old self.old.tables self.old.limit self.old.callback)
+            self.old.spent self.new.callback) }
+        ensures again { IfSome self.new.callback F.can_ask }
+        ensures refused { IfErr result (λ fault. fault ≡ Fault.Memory) }
+        ensures kept { self.new ≡ record self.old {
+          tables = record self.old.tables {
+            cows = self.new.tables.cows;
+            links = self.new.tables.links;
+            footdefs = self.new.tables.footdefs;
+          };
+          limit = self.new.limit;
+          callback = self.new.callback;
+          openers = self.new.openers;
+          spent = self.new.spent;
+        } }
+        ensures footnotes { (name : List ℕ)
+            → is_some (footnote_at self.new.tables.footdefs name) ≡ is_some (footnote_at self.old.tables.footdefs name) }
+    {
+        // the text is valid
+        let _text = place.text.as_bytes();
+        let tables = &mut self.tables;
+        let found = decide_bracket(
+            self.alloc,
+            tree,
+            ix,
+            could_be,
+            &bracket_place(place, self.options),
+            &ContainerPrefix::new(tree, place.gfm_footnotes),
+            &mut self.openers,
+            &mut self.spent,
+            &tables.refdefs,
+            &mut tables.footdefs,
+            &mut self.callback,
+            &mut self.limit,
+        )?;
+        finish_bracket(&mut self.openers, tree, &found);
+        put_closed(tree, &mut self.tables, ix, found)
+    }
+
+    /// Reads a bracket of a chain: the link at which the chain goes on. The only error is `Fault::Memory`.
+    fn read_bracket(
+        &mut self,
+        tree: &mut Tree<Item>,
+        place: &ChainPlace<'a>,
+        ix: usize,
+        bracket: BracketKind,
+    ) -> Result<Option<usize>, Fault>
+        requires can_ask { IfSome self.old.callback F.can_ask }
+        requires ready { (first : ℕ) × (left : List (Entry ℕ)) × CanReadOn place.now tree.old self.old.tables self.old.openers.brackets
+            self.old.openers.wikilinks first ix left }
+        requires text { place.now.text.now ≡ self.old.text.now }
+        requires footnotes { place.now.gfm_footnotes ≡ gfm_footnotes self.old.options }
+        requires bracket { kind_of (item_at tree.old.nodes ix).body ≡ Some bracket }
+        ensures reads { IfOk result (λ next. (first : ℕ) (left : List (Entry ℕ)) → CanReadOn place.now tree.old self.old.tables
+            self.old.openers.brackets self.old.openers.wikilinks first ix left
+            → ReadsOn F.answers (setting_of self.old.text.now (rules_from self.old.options self.old.tables (is_some self.old.callback)))
+            (above_cursor self.old.text.now tree.old) first (Some ix) next left
+            (stage tree.old self.old.tables self.old.limit self.old.callback) (stage tree.new self.new.tables self.new.limit self.new.callback)
+            self.old.spent self.new.spent self.new.openers.brackets self.new.openers.wikilinks) }
+        ensures fewer { IfOk result (λ next. items_from tree.new.nodes next < items_from tree.old.nodes (Some ix)) }
+        ensures place { IfOk result (λ _. tree.new ≡ record tree.old { nodes = tree.new.nodes }) }
+        ensures holds { IfOk result (λ next. (kind : SpanKind) (learned : Learned)
+            → HoldsFrom kind learned tree.old.nodes (sibling_of tree.old.nodes ix) → HoldsFrom kind learned tree.new.nodes next) }
+
+        // a refusal, and what holds whatever comes
+        ensures stops { IfErr result (λ _. (first : ℕ) (left : List (Entry ℕ)) → CanReadOn place.now tree.old self.old.tables
+            self.old.openers.brackets self.old.openers.wikilinks first ix left
+            → StopsOn F.answers (setting_of self.old.text.now (rules_from self.old.options self.old.tables (is_some self.old.callback)))
+            (above_cursor self.old.text.now tree.old) (Some ix) left (stage tree.old self.old.tables self.old.limit self.old.callback)
+            self.old.spent self.new.callback) }
+        ensures again { IfSome self.new.callback F.can_ask }
+        ensures refused { IfErr result (λ fault. fault ≡ Fault.Memory) }
+        ensures kept { self.new ≡ record self.old {
+          tables = record self.old.tables {
+            cows = self.new.tables.cows;
+            links = self.new.tables.links;
+            footdefs = self.new.tables.footdefs;
+          };
+          limit = self.new.limit;
+          callback = self.new.callback;
+          openers = self.new.openers;
+          spent = self.new.spent;
+        } }
+        ensures footnotes { (name : List ℕ)
+            → is_some (footnote_at self.new.tables.footdefs name) ≡ is_some (footnote_at self.old.tables.footdefs name) }
+    {
+        match bracket {
+            BracketKind::Opener { is_image } => {
+                open_bracket(tree, &mut self.openers, self.options, ix, is_image)
+            }
+            BracketKind::Closer { could_be } => self.close_bracket(tree, place, ix, could_be),
+        }
+    }
+
     /// Counts the items of the chain from the node `first` on.
     fn count_items(&mut self, tree: &Tree<Item>, first: usize)
         requires { CanResolve self.old.text.now (tables_of self.old.tables) tree.now.nodes (Some first) }
@@ -142,6 +282,7 @@ impl<'a, F: BrokenLinkCallback<'a>> Resolver<'a, F> {
     /// Pass one over the chain from the node `first` on, where it stands: its items are counted, and then read from left
     /// to right.
     fn read_chain(&mut self, tree: &mut Tree<Item>, first: usize) -> Result<(), Fault>
+        requires can_ask { IfSome self.old.callback F.can_ask }
         requires ready { CanResolve self.old.text.now (tables_of self.old.tables) tree.old.nodes (Some first) }
         requires above { AreAbove self.old.text.now tree.old.nodes (Some first) tree.old.spine }
         ensures reads { IfOk result (λ _. ResolvesFrom F.answers self.old.text.now
@@ -156,9 +297,22 @@ impl<'a, F: BrokenLinkCallback<'a>> Resolver<'a, F> {
         ensures math_visits { IfOk result (λ _.
             RisesAtMost (items_from tree.old.nodes (Some first)) self.old.work.math_visits self.new.work.math_visits) }
 
-        // whatever comes
+        // a refusal, and what holds whatever comes
+        ensures stops { IfErr result (λ _. StopsInPassOne F.answers
+            (setting_of self.old.text.now (rules_from self.old.options self.old.tables (is_some self.old.callback)))
+            (above_cursor self.old.text.now tree.old) first (stage tree.old self.old.tables self.old.limit self.old.callback)
+            self.new.callback) }
+        ensures again { IfSome self.new.callback F.can_ask }
         ensures kept { self.new ≡ record self.old {
-          tables = record self.old.tables { cows = self.new.tables.cows; links = self.new.tables.links };
+          tables = record self.old.tables {
+            cows = self.new.tables.cows;
+            links = self.new.tables.links;
+            footdefs = self.new.tables.footdefs;
+          };
+          limit = self.new.limit;
+          callback = self.new.callback;
+          openers = self.new.openers;
+          spent = self.new.spent;
           work = record self.old.work {
             items = self.new.work.items;
             code_visits = self.new.work.code_visits;
@@ -167,19 +321,26 @@ impl<'a, F: BrokenLinkCallback<'a>> Resolver<'a, F> {
           code_closers = self.new.code_closers;
           math_closers = self.new.math_closers;
         } }
+        ensures footnotes { (name : List ℕ)
+            → is_some (footnote_at self.new.tables.footdefs name) ≡ is_some (footnote_at self.old.tables.footdefs name) }
         ensures refused { IfErr result (λ fault. fault ≡ Fault.Memory) }
     {
         // bounds the counts
         let _code_visits = self.work.code_visits;
         let _math_visits = self.work.math_visits;
         self.count_items(tree, first);
+        self.openers.clear();
+        self.spent.clear();
         self.code_closers.clear();
         self.math_closers.clear();
         let place = ChainPlace::of_chain(tree, self.text, self.options);
         let mut scanner = RawHtmlScanner::new(self.text[..place.block_end].as_bytes());
         let mut at = Some(first);
         'chain: while let Some(ix) = at {
-            at = self.read_item(tree, &place, &mut scanner, ix)?;
+            at = match kind_of(tree.item(ix).body) {
+                Some(bracket) => self.read_bracket(tree, &place, ix, bracket)?,
+                None => self.read_other(tree, &place, &mut scanner, ix)?,
+            };
         }
         Ok(())
     }

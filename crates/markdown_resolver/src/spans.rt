@@ -20,7 +20,8 @@ ghost use Rattle.markdown_code.specs.MathOpening.{dollar_at};
 ghost use Rattle.markdown_code.specs.SpanClosers.{HoldsFrom, has_failed};
 ghost use Rattle.markdown_resolver.specs.ChainPlace.{CanReadItem, IsPlaceOf};
 ghost use Rattle.markdown_resolver.specs.PutCode.{CanPutCode, code_standing};
-ghost use Rattle.markdown_resolver.specs.Rewritten.{LooksAt, Puts, ReadsItem};
+ghost use Rattle.markdown_resolver.specs.Rewritten.{Puts};
+ghost use Rattle.markdown_resolver.specs.ReadsItem.{LooksAt, ReadsItem};
 
 use crate::chain_place::ChainPlace;
 use crate::found::{put_found, put_pair, settle};

@@ -11,11 +11,19 @@ set_child-requires-clause-node c = rw (size_next c.args.tree.now c.set_next.new.
 
 pub set_next-requires-2-clause-node : goal.set_next-requires-2-clause-node
 set_next-requires-2-clause-node c =
-    rw (size_child c.set_next.new.self c.set_child.new.self c.args.opener c.next-inside.result c.set_child.ensures, size_next c.args.tree.now c.set_next.new.self c.args.last None c.set_next.ensures) c.requires.opener
+    rw (
+      size_child c.set_next.new.self c.set_child.new.self c.args.opener c.next-inside.result c.set_child.ensures,
+      size_next c.args.tree.now c.set_next.new.self c.args.last None c.set_next.ensures,
+    )
+    c.requires.opener
 
 pub set_next-requires-2-clause-next : goal.set_next-requires-2-clause-next
 set_next-requires-2-clause-next c =
-    rw (size_child c.set_next.new.self c.set_child.new.self c.args.opener c.next-inside.result c.set_child.ensures, size_next c.args.tree.now c.set_next.new.self c.args.last None c.set_next.ensures) c.requires.closer
+    rw (
+      size_child c.set_next.new.self c.set_child.new.self c.args.opener c.next-inside.result c.set_child.ensures,
+      size_next c.args.tree.now c.set_next.new.self c.args.last None c.set_next.ensures,
+    )
+    c.requires.closer
 
 pub returns-clause-enclosed : goal.returns-clause-enclosed
 returns-clause-enclosed c =

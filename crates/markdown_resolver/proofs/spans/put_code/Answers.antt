@@ -43,3 +43,12 @@ overflow_add-span c =
     let room = after_backtick c.args.tree.now.nodes c.args.ix c.args.closer c.args.body c.item-item.result.now c.end_of-end.result c.requires
     (c.item-item.ensures no_item) c.end_of-end.ensures (sym c.is_escaped.ensures ∙ c.if-not-is_escaped.false) in
     fits_below (c.item-item.result.now.start + 1) c.end_of-end.result room c.end_of-end.type_inv
+
+pub returns-clause-puts : goal.returns-clause-puts
+returns-clause-puts c = λ source tables tables' can.
+    let nodes = c.args.tree.now.nodes in
+    let opener = c.item-item.ensures no_item in
+    let escaped : is_escaped (item_at nodes c.args.ix).body ≡ true = ap (λ (i : Item). is_escaped i.body) (sym opener) ∙ sym c.is_escaped.ensures ∙ c.if-not-is_escaped.false in
+    let span = subst (CanPutSpan source tables tables' nodes c.args.ix c.args.closer c.args.body) escaped can.span in
+    let puts = rw (opener, c.end_of-end.ensures) at c.put_pair.ensures.puts in
+    rw escaped (puts source tables tables' can.grown can.found span)

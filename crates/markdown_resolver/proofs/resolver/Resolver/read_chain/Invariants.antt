@@ -1,17 +1,19 @@
 -- What was read so far of a chain, and what is so of the rest.
-use Rattle.std.specs.Prelude.{◌≡◌, ◌+◌, ◌-◌, ◌^◌, min, Some, is_some, take}
+use Rattle.std.specs.Prelude.{◌≡◌, ℕ, ◌+◌, ◌-◌, ◌^◌, List, min, IfSome, Some, is_some, take}
 use Rattle.markdown_chains.specs.Setting.{rules_from, setting_of}
 use Rattle.markdown_chains.specs.Stages.{items_from}
-use Rattle.markdown_chains.specs.Tables.{tables_of}
 use Rattle.markdown_code.specs.SpanClosers.{HoldsFrom, has_failed}
 use Rattle.markdown_code.specs.declared.span_text.SpanKind.{SpanKind}
-use Rattle.markdown_resolver.proofs.ReadingLemmas.{LookedUpTo, ReadsUpTo}
+use Rattle.markdown_resolver.proofs.ChainReadLemmas.{ReadsUpTo}
+use Rattle.markdown_resolver.proofs.ReadingLemmas.{LookedUpTo}
 use Rattle.markdown_resolver.proofs.resolver.Resolver.read_chain.Given as goal
+use Rattle.markdown_spans.specs.Footnotes.{footnote_at}
 
 abbrev pub invariant-chain : goal.invariant-chain
 invariant-chain g l = record {
-  reads : ReadsUpTo (setting_of l.fn.self.text.now (rules_from l.fn.self.options l.fn.self.tables (is_some l.fn.self.callback))) l.first l.at
-      l.fn.tree l.tree (tables_of l.fn.self.tables) (tables_of l.self.tables);
+  reads : ReadsUpTo g.F.BrokenLinkCallback.answers (setting_of l.fn.self.text.now (rules_from l.fn.self.options l.fn.self.tables (is_some l.fn.self.callback))) l.first l.at
+      l.fn.tree l.tree l.fn.self.tables l.self.tables l.fn.self.limit l.self.limit l.fn.self.callback l.self.callback l.self.spent l.self.openers.brackets l.self.openers.wikilinks;
+  can_ask : IfSome l.self.callback g.F.BrokenLinkCallback.can_ask;
   scanner : l.scanner.text.now ≡ take l.place.block_end l.place.text.now;
   code_learned : HoldsFrom SpanKind.Code l.self.code_closers l.tree.nodes l.at;
   math_learned : HoldsFrom SpanKind.Math l.self.math_closers l.tree.nodes l.at;
@@ -19,8 +21,13 @@ invariant-chain g l = record {
       (items_from l.fn.tree.nodes (Some l.first)) (items_from l.tree.nodes l.at);
   math_looks : LookedUpTo (has_failed l.self.math_closers) l.fn.self.work.math_visits l.self.work.math_visits
       (items_from l.fn.tree.nodes (Some l.first)) (items_from l.tree.nodes l.at);
+  footnotes : (name : List ℕ) → is_some (footnote_at l.self.tables.footdefs name) ≡ is_some (footnote_at l.fn.self.tables.footdefs name);
   kept : l.self ≡ record l.fn.self {
-    tables = record l.fn.self.tables { cows = l.self.tables.cows; links = l.self.tables.links };
+    tables = record l.fn.self.tables { cows = l.self.tables.cows; links = l.self.tables.links; footdefs = l.self.tables.footdefs };
+    limit = l.self.limit;
+    callback = l.self.callback;
+    openers = l.self.openers;
+    spent = l.self.spent;
     work = record l.fn.self.work {
       items = min (l.fn.self.work.items + items_from l.fn.tree.nodes (Some l.first)) (2 ^ 128 - 1);
       code_visits = l.self.work.code_visits;

@@ -1,13 +1,17 @@
 -- What pass one has read is paired.
-use Rattle.std.proofs.Common.{◌∙◌, ap, refl, arith}
+use Rattle.std.proofs.Common.{◌∙◌, ap, refl, subst, arith}
 use Rattle.std.specs.Prelude.{is_some, Some, Result, Ok, Err, IfErr}
 use Rattle.markdown_base.specs.Arena.{Arena}
 use Rattle.markdown_base.specs.declared.item.Item.{Item}
 use Rattle.markdown_chains.specs.Above.{above_cursor}
 use Rattle.markdown_chains.specs.Setting.{rules_from, setting_of}
-use Rattle.markdown_chains.specs.Stages.{items_from, stage}
+use Rattle.markdown_chains.specs.Counts.{RisesAtLeast}
+use Rattle.markdown_chains.specs.Places.{trees_from}
+use Rattle.markdown_chains.specs.Stages.{chain_at, items_from, stage}
+use Rattle.markdown_chains.specs.Tables.{tables_of}
+use Rattle.markdown_delims.specs.PairingFinds.{finds_in}
 use Rattle.markdown_resolver.specs.declared.resolver.Resolver.{Resolver}
-use Rattle.markdown_resolver.proofs.PairedLemmas.{read_can_pair, then_pairs, stops_at_once, stops_in}
+use Rattle.markdown_resolver.proofs.PairedLemmas.{read_can_pair, then_pairs, stops_in, stops_resolving}
 use Rattle.markdown_resolver.proofs.WorkLemmas.{AreCounts, ReadCounts, counts_rise}
 use Rattle.markdown_resolver.proofs.resolver.Resolver.resolve_chain.Goals as goal
 
@@ -29,8 +33,8 @@ returns-in_err-read_chain-clause-stops g c =
     let s = c.args.self.now in
     let rules = rules_from s.options s.tables (is_some s.callback) in
     if_err c.from_residual.result
-    (stops_at_once g.F.BrokenLinkCallback.answers (setting_of s.text.now rules) (above_cursor s.text.now c.args.tree.now) c.args.first (stage c.args.tree.now s.tables s.limit s.callback) c.read_chain.new.self.callback
-    (ap (λ (r : Resolver g.row.F.Denot). r.callback) c.read_chain.ensures.kept))
+    (stops_resolving g.F.BrokenLinkCallback.answers (setting_of s.text.now rules) (above_cursor s.text.now c.args.tree.now) c.args.first (stage c.args.tree.now s.tables s.limit s.callback) c.read_chain.new.self.callback
+    c.in_err-read_chain.ensures.stops)
 
 pub returns-in_err-pair_chain-clause-stops : goal.returns-in_err-pair_chain-clause-stops
 returns-in_err-pair_chain-clause-stops g c =
@@ -54,6 +58,10 @@ returns-clause-resolves g c =
     let kept = c.read_chain.ensures.kept in
     let reads = c.in_ok-read_chain.ensures in
     let pairs = rw kept at (c.in_ok-pair_chain.ensures.pairs rules (rw kept refl)) in
+    let finds : RisesAtLeast (finds_in setting (chain_at s.text.now mid (Some c.args.first))) after.work.examined c.pair_chain.new.work.examined =
+    subst (λ text. RisesAtLeast (finds_in (setting_of text rules) (trees_from text (tables_of after.tables) c.read_chain.new.tree.nodes (Some c.args.first)))
+    after.work.examined c.pair_chain.new.work.examined) (ap (λ (r : Resolver g.row.F.Denot). r.text.now) kept)
+    (c.in_ok-pair_chain.ensures.found rules (tables_of after.tables) (rw kept refl)) in
     let fits : AreCounts s.work = record { delimiters = omega arith; examined = omega arith } in
     let read : ReadCounts (items_from old.nodes (Some c.args.first)) s.work after.work = record {
       items_counted = reads.items;
@@ -65,8 +73,8 @@ returns-clause-resolves g c =
     record {
       tree = c.in_ok-pair_chain.ensures.place ∙ ap (λ (t : Arena Item). let u : Arena Item = record t { nodes = c.pair_chain.new.tree.nodes } in u) reads.place;
       tables = rw kept refl;
-      footnotes = λ name. rw kept refl;
+      footnotes = λ name. c.read_chain.ensures.footnotes name;
       chain = then_pairs step setting above c.args.first old mid c.pair_chain.new.tree.nodes c.requires.ready.quiet_below reads.reads pairs;
       counted = counts_rise step setting above c.args.first old mid s.work after.work c.pair_chain.new.work c.requires.ready.reaches.spelled reads.reads fits read
-          (record { counted = c.pair_chain.ensures.counted; compared = c.in_ok-pair_chain.ensures.examined });
+          (record { counted = c.pair_chain.ensures.counted; compared = c.in_ok-pair_chain.ensures.examined; finds = finds });
     }

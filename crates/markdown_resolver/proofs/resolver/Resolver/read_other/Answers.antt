@@ -9,9 +9,9 @@ use Rattle.markdown_chains.specs.Tables.{tables_of}
 use Rattle.markdown_code.specs.SpanClosers.{has_failed}
 use Rattle.markdown_code.specs.declared.span_text.SpanKind.{SpanKind}
 use Rattle.markdown_resolver.specs.Chains.{CanResolve}
-use Rattle.markdown_resolver.specs.Rewritten.{ReadsItem}
+use Rattle.markdown_resolver.specs.ReadsItem.{ReadsItem}
 use Rattle.markdown_resolver.proofs.ReadingLemmas.{node_within, finds_nothing, FindsNothing, settled_reads, looks_at_none, holds_on, ok_reads, ok_holds, ok_looks}
-use Rattle.markdown_resolver.proofs.resolver.Resolver.read_item.Goals as goal
+use Rattle.markdown_resolver.proofs.resolver.Resolver.read_other.Goals as goal
 
 pub item-requires : goal.item-requires
 item-requires g c =

@@ -1,0 +1,145 @@
+-- A link or an image, put where its opener stands: what may be put there, and what it reads as.
+use Rattle.std.proofs.Common.{◌≡◌, ℕ, ◌<◌, ◌≤◌, Bool, true, false, List, [], ◌∷◌, Option, Some, None, refl, sym, ap, subst, arith, if◌then◌else◌}
+use Rattle.std.specs.Prelude.{IsCharBoundary}
+use Rattle.markdown_base.specs.BlockTree.{item_at}
+use Rattle.markdown_base.specs.Event.{LinkView, image, link}
+use Rattle.markdown_base.specs.Forest.{Forest, nil, node}
+use Rattle.markdown_base.specs.declared.index.LinkIndex.{LinkIndex}
+use Rattle.markdown_base.specs.declared.item.Item.{Item}
+use Rattle.markdown_base.specs.declared.item.ItemBody.TheVariants as body
+use Rattle.markdown_base.specs.declared.node.Node.{Node}
+use Rattle.markdown_brackets.specs.BracketDecision.{Around, Becomes, Closing, a_footnote, a_link, a_text, a_wikilink}
+use Rattle.markdown_brackets.specs.ClosingBracket.{linked}
+use Rattle.markdown_brackets.specs.DecisionView.{IsBecome, opener_of}
+use Rattle.markdown_brackets.specs.LeftList.{Entry, Split, before_link, inside}
+use Rattle.markdown_brackets.specs.LookupView.{target_view}
+use Rattle.markdown_brackets.specs.declared.closing_bracket.ClosedBracket.TheVariants.{Link}
+use Rattle.markdown_brackets.specs.declared.look_up.Target.{Target}
+use Rattle.markdown_brackets.specs.declared.openers.Opener.{Opener}
+use Rattle.markdown_chains.specs.ChainRest.{start_of, end_of}
+use Rattle.markdown_chains.specs.Document.{Label, Plain, enclosed, label_of}
+use Rattle.markdown_chains.specs.Tables.{Named, Tables, link_at, number_of, size_for, some_alignments, some_link, some_text}
+use Rattle.markdown_chains.specs.Totals.{times_named}
+use Rattle.markdown_resolver.specs.ClosedOver.{CanClose, CanPutOver, PutsOver, over_inside}
+use Rattle.markdown_resolver.specs.Closes.{ClosesAt, PutsClosed}
+use Rattle.markdown_resolver.specs.PutsTrees.{numbered_label, without_numbers}
+use Rattle.markdown_resolver.specs.Rewritten.{CanPut}
+use Rattle.markdown_resolver.proofs.CloseLemmas.{OpenerAt, can_close, opener_at, opener_before, puts_closed, quiet_inside}
+use Rattle.markdown_resolver.proofs.CodeSpanLemmas.{same_below}
+use Rattle.markdown_resolver.proofs.MarkupItemLemmas.{PutsLink}
+use Rattle.markdown_resolver.proofs.SplitLemmas.{inside_numbers, opens_numbered}
+use Rattle.markdown_resolver.proofs.StandsToLemmas.{link_stands}
+
+-- what becomes a link or an image
+pub record BecomesLink (becomes : Becomes ℕ) (opener : Opener) (view : LinkView) (end next : ℕ) : Type 0 where
+  pub split : Split ℕ
+  pub is : becomes ≡ a_link split view end next
+  pub opener_is : opener ≡ opener_of split
+
+pub becomes_link : (w : Around) (becomes : Becomes ℕ) (opener : Opener) (found : Target) (end next : ℕ) → IsBecome w becomes (Link opener found end next)
+    → BecomesLink becomes opener (target_view found) end next
+becomes_link w a_text opener found end next h = absurd h
+becomes_link w (a_link o target e n) opener found end next h = record { split = o; is = rw (h.1, h.2, h.3) refl; opener_is = h.0 }
+becomes_link w (a_footnote o name) opener found end next h = absurd h
+becomes_link w (a_wikilink o v e) opener found end next h = absurd h
+
+-- a link or an image of an entry, over bytes
+abbrev pub link_over : (is_image : Bool) → LinkIndex → (start end : ℕ) → Item
+link_over is_image number start end = record { start = start; end = end; body = if is_image then body.Image number else body.Link number }
+
+-- from an opener on
+abbrev pub link_from : List (Node Item) → Opener → LinkIndex → (end : ℕ) → Item
+link_from nodes opener number end = link_over opener.is_image number (item_at nodes opener.node).start end
+
+-- it may be put, where it lies in the text
+pub can_put_link : (source : List ℕ) (tables tables' : Tables) (is_image : Bool) (number : LinkIndex) (view : LinkView) (start end : ℕ) → PutsLink tables tables' number view
+    → start ≤ end → IsCharBoundary source start → IsCharBoundary source end → CanPut source tables tables' (link_over is_image number start end)
+can_put_link source tables tables' true number view start end put ordered from to = record {
+  closed = refl;
+  no_block = refl;
+  lies = record { ordered = ordered; start = from; end = to };
+  named = record { text = tt; link = put.within; alignments = tt; attributes = tt };
+  slices = tt;
+  new_names = by_image;
+}
+  where
+    by_image : (n : Named) → number_of n < size_for tables n → times_named n (body.Image number) ≡ 0
+    by_image (some_text n) h = refl
+    by_image (some_link n) h = same_below n number.0 (omega (arith, h, put.number))
+    by_image (some_alignments n) h = refl
+can_put_link source tables tables' false number view start end put ordered from to = record {
+  closed = refl;
+  no_block = refl;
+  lies = record { ordered = ordered; start = from; end = to };
+  named = record { text = tt; link = put.within; alignments = tt; attributes = tt };
+  slices = tt;
+  new_names = by_link;
+}
+  where
+    by_link : (n : Named) → number_of n < size_for tables n → times_named n (body.Link number) ≡ 0
+    by_link (some_text n) h = refl
+    by_link (some_link n) h = same_below n number.0 (omega (arith, h, put.number))
+    by_link (some_alignments n) h = refl
+
+-- and reads as its entry
+link_label : (source : List ℕ) (tables : Tables) (tag : ℕ) (is_image : Bool) (number : LinkIndex) (view : LinkView) (start start' end : ℕ) → start ≡ start' → link_at tables.links number.0 ≡ view
+    → label_of source tables (link_over is_image number start end)
+    ≡ record { tag = tt; part = record { shape = enclosed (if is_image then image view else link view); range = record { start = start'; end = end }; block = None } }
+link_label source tables tag true number view start start' end e found = rw (e, found) refl
+link_label source tables tag false number view start start' end e found = rw (e, found) refl
+
+pub linked_label : (source : List ℕ) (tables tables' : Tables) (nodes : List (Node Item)) (o : Split ℕ) (number : LinkIndex) (view : LinkView) (end : ℕ)
+    → o.opener ≡ numbered_label source tables nodes o.opener.tag → PutsLink tables tables' number view
+    → label_of source tables' (link_from nodes (opener_of o) number end) ≡ record { tag = tt; part = (linked o view end).part }
+linked_label source tables tables' nodes o number view end is put =
+    link_label source tables' o.opener.tag o.mark.is_image number view (item_at nodes o.opener.tag).start (start_of o.opener) end (sym (ap (λ (a : Label ℕ). start_of a) is)) put.found
+
+-- what may be put over an opener, up to a byte
+pub record CanLink (source : List ℕ) (tables tables' : Tables) (nodes : List (Node Item)) (closer : ℕ) (o : Split ℕ) (opener : Opener) (number : LinkIndex) (end byte : ℕ) : Type 0 where
+  pub close : CanClose source tables nodes opener.node closer (inside_numbers o) byte
+  pub over : CanPutOver source tables tables' nodes opener.node (link_from nodes opener number end) byte
+
+-- a link that ends between characters, at the `]` or later
+pub link_over_opener : (source : List ℕ) (tables tables' : Tables) (nodes : List (Node Item)) (first closer : ℕ) (o : Split ℕ) (number : LinkIndex) (view : LinkView) (end byte : ℕ)
+    → OpenerAt source tables nodes first closer o → PutsLink tables tables' number view → IsCharBoundary source end → (item_at nodes closer).end ≤ end → end ≤ byte
+    → CanPutOver source tables tables' nodes o.opener.tag (link_from nodes (opener_of o) number end) byte
+link_over_opener source tables tables' nodes first closer o number view end byte at put between behind le =
+    let here = (opens_numbered source tables nodes o.opener.tag at.ready).placed.lies in
+    let last = (opens_numbered source tables nodes closer at.ready_closer).placed.lies in
+    let before = opener_before source tables nodes first closer o at in
+    let ordered = here.ordered in
+    let ordered' = last.ordered in
+    record {
+      puts = can_put_link source tables tables' o.mark.is_image number view (item_at nodes o.opener.tag).start end put (omega arith) here.start between;
+      starts = refl;
+      ends = le;
+    }
+
+pub can_link : (source : List ℕ) (tables tables' : Tables) (nodes : List (Node Item)) (first closer : ℕ) (left : List (Entry ℕ)) (w : Around) (c : Closing ℕ) (o : Split ℕ) (opener : Opener)
+    (number : LinkIndex) (view : LinkView) (end byte : ℕ) → ClosesAt source tables nodes first closer left w c (a_link o view end byte) → opener ≡ opener_of o → PutsLink tables tables' number view
+    → CanLink source tables tables' nodes closer o opener number end byte
+can_link source tables tables' nodes first closer left w c o opener number view end byte closes is put =
+    let at = opener_at source tables nodes first closer left o closes.stands closes.splits in
+    let goes = closes.ends.0 in
+    let behind : (item_at nodes closer).end ≤ end = subst (λ (a : Label ℕ). end_of a ≤ end) closes.label_is closes.ends.2 in
+    rw is (record {
+      close = can_close source tables nodes first closer left w c (a_link o view end byte) o byte closes at goes;
+      over = link_over_opener source tables tables' nodes first closer o number view end byte at put closes.ends.1 behind closes.ends.3;
+    })
+
+-- so it stands in the left list
+pub link_closed : (source : List ℕ) (tables tables' : Tables) (old new : List (Node Item)) (first closer : ℕ) (next : Option ℕ) (left : List (Entry ℕ)) (w : Around) (c : Closing ℕ) (o : Split ℕ)
+    (opener : Opener) (number : LinkIndex) (view : LinkView) (end byte : ℕ) → ClosesAt source tables old first closer left w c (a_link o view end byte) → opener ≡ opener_of o
+    → PutsLink tables tables' number view
+    → PutsOver source opener.node closer (inside_numbers o) (over_inside source tables' (link_from old opener number end)) byte (opener.node ∷ []) next old new tables tables'
+    → PutsClosed source first closer next left w c (a_link o view end byte) old new tables tables'
+link_closed source tables tables' old new first closer next left w c o opener number view end byte closes is put over =
+    let at = opener_at source tables old first closer left o closes.stands closes.splits in
+    let what : Forest (Label ℕ) = node (linked o view end) (inside o) nil in
+    let here = subst (λ (x : Opener). PutsOver source x.node closer (inside_numbers o) (over_inside source tables' (link_from old x number end)) byte (x.node ∷ []) next old new tables tables') is
+    over in
+    let reads = ap (λ (a : Plain). node a (without_numbers (inside o)) nil) (linked_label source tables tables' old o number view end at.around.label_is put) in
+    puts_closed source first closer next left w c (a_link o view end byte) o old new tables tables' (before_link o.mark.is_image o.before)
+    (over_inside source tables' (link_from old (opener_of o) number end)) what
+    byte (o.opener.tag ∷ []) closes at (link_stands source tables old first (Some o.opener.tag) o.before at.stands o.mark.is_image) (record { left_is = λ p e. refl; goes = λ p. refl }) reads
+    (refl, refl, quiet_inside left o closes.splits closes.stands.quiet, tt) (λ a i. refl) here

@@ -1,0 +1,377 @@
+-- A wikilink, put where its opener stands: over a Text, or over what stands inside from a byte on.
+use Rattle.std.proofs.Common.{◌≡◌, ℕ, zero, suc, ◌<◌, ◌≤◌, Bool, true, false, List, [], ◌∷◌, ◌++◌, length, max, Option, Some, Bor, refl, sym, ap, ◌∙◌, subst, arith, if◌then◌else◌, nat_le}
+use Rattle.std.proofs.lemmas.Bool.Decides.{nat_tests}
+use Rattle.std.specs.Prelude.{IsCharBoundary}
+use Rattle.markdown_base.specs.Arena.{sibling_of}
+use Rattle.markdown_base.specs.ArenaForest.{forest_at, links_of}
+use Rattle.markdown_base.specs.BlockTree.{item_at}
+use Rattle.markdown_base.specs.Forest.{Forest, nil, node, relabelled, roots}
+use Rattle.markdown_base.specs.declared.index.LinkIndex.{LinkIndex}
+use Rattle.markdown_base.specs.declared.item.Item.{Item}
+use Rattle.markdown_base.specs.declared.node.Node.{Node}
+use Rattle.markdown_base.specs.declared.tag.LinkType.TheVariants as kind
+use Rattle.markdown_brackets.specs.BracketDecision.{Around, Becomes, Closing, Wikilink, a_footnote, a_link, a_text, a_wikilink, past_second, text_from}
+use Rattle.markdown_brackets.specs.ChainHeld.{link_to, numbers_of}
+use Rattle.markdown_brackets.specs.ClosingBracket.{linked, wikilink_target}
+use Rattle.markdown_brackets.specs.DecisionView.{IsBecome, first_shown, opener_of, shown_of}
+use Rattle.markdown_brackets.specs.LeftList.{Entry, Split, before_wikilink, inside}
+use Rattle.markdown_brackets.specs.declared.closing_bracket.ClosedBracket.TheVariants.{Wikilinked}
+use Rattle.markdown_brackets.specs.declared.openers.Opener.{Opener}
+use Rattle.markdown_brackets.specs.declared.wikilink_nodes.ShownNodes.{ShownNodes}
+use Rattle.markdown_brackets.specs.declared.wikilink_nodes.ShownNodes.TheVariants.{From, Over}
+use Rattle.markdown_chains.specs.ChainRest.{begun_at, cut_shape, end_of, past_byte, start_of}
+use Rattle.markdown_chains.specs.Document.{Label, Plain, Shape, backslash_break, enclosed, label_of, leaf, plain, unresolved}
+use Rattle.markdown_chains.specs.Tables.{Tables, link_view, tables_of}
+use Rattle.markdown_chains.specs.Waiting.{is_quiet}
+use Rattle.markdown_spans.specs.Allocations.{Allocated, LinkParts, with_link}
+use Rattle.markdown_resolver.specs.ClosedOver.{CanClose, CanPutOver, CanShow, PutsOver, first_trees, over_shown, over_text, trees_past}
+use Rattle.markdown_resolver.specs.Closes.{ClosesAt, FirstLies, NoneOpenAround, PutsClosed}
+use Rattle.markdown_resolver.specs.Kept.{IsQuiet}
+use Rattle.markdown_resolver.specs.PutsTrees.{numbered_from, numbered_label, without_numbers}
+use Rattle.markdown_resolver.specs.Rewritten.{CanPut, first_past}
+use Rattle.markdown_resolver.proofs.CloseFootnoteLemmas.{can_put_text, text_item_over, text_label}
+use Rattle.markdown_resolver.proofs.CloseLemmas.{OpenerAt, can_close, none_open, opener_at, puts_closed, quiet_inside}
+use Rattle.markdown_resolver.proofs.CloseLinkLemmas.{link_from, link_over_opener, linked_label}
+use Rattle.markdown_resolver.proofs.MarkupItemLemmas.{PutsLink, link_put}
+use Rattle.markdown_resolver.proofs.PutsTreesLemmas.{first_joined, relabelled_first}
+use Rattle.markdown_resolver.proofs.SplitLemmas.{inside_numbers}
+use Rattle.markdown_resolver.proofs.StandsToLemmas.{numbers_are, wikilink_stands}
+
+-- what becomes a wikilink
+pub record IsWikilink (w : Around) (becomes : Becomes ℕ) (opener : Opener) (name : List ℕ) (has_pothole : Bool) (shown : ShownNodes) (end : ℕ) : Type 0 where
+  pub split : Split ℕ
+  pub found : Wikilink ℕ
+  pub is : becomes ≡ a_wikilink split found end
+  pub opener_is : opener ≡ opener_of split
+  pub name_is : name ≡ found.name
+  pub pothole_is : has_pothole ≡ found.has_pothole
+  pub shown_is : shown_of w (past_second (inside split)) shown ≡ found.children
+  pub first_is : link_to found.children ≡ Some (first_shown shown)
+
+pub wikilink_is : (w : Around) (becomes : Becomes ℕ) (opener : Opener) (name : Bor (List ℕ)) (has_pothole : Bool) (shown : ShownNodes) (end : ℕ)
+    → IsBecome w becomes (Wikilinked opener name has_pothole shown end) → IsWikilink w becomes opener name.now has_pothole shown end
+wikilink_is w a_text opener name has_pothole shown end h = absurd h
+wikilink_is w (a_link o target e next) opener name has_pothole shown end h = absurd h
+wikilink_is w (a_footnote o n) opener name has_pothole shown end h = absurd h
+wikilink_is w (a_wikilink o v e) opener name has_pothole shown end h = record {
+  split = o;
+  found = v;
+  is = ap (a_wikilink o v) (sym h.5);
+  opener_is = h.0;
+  name_is = h.1;
+  pothole_is = h.2;
+  shown_is = h.3;
+  first_is = h.4;
+}
+
+-- what is left past a byte: without the numbers, and quiet
+without_past : (i : ℕ) (f : Forest (Label ℕ)) → past_byte i (without_numbers f) ≡ without_numbers (past_byte i f)
+without_past i nil = refl
+without_past i (node a below after) = by (nat_le (end_of a) i) (without_past i after)
+  where
+    by : (b : Bool) → past_byte i (without_numbers after) ≡ without_numbers (past_byte i after)
+        → (if b then past_byte i (without_numbers after) else node (begun_at i (record { tag = tt; part = a.part })) (without_numbers below) (without_numbers after))
+        ≡ without_numbers (if b then past_byte i after else node (begun_at i a) below after)
+    by true e = e
+    by false e = refl
+
+quiet_cut : (n : ℕ) (s : Shape) → is_quiet s ≡ true → is_quiet (cut_shape n s) ≡ true
+quiet_cut n (leaf e origins) h = h
+quiet_cut n (enclosed tag) h = h
+quiet_cut n plain h = h
+quiet_cut n backslash_break h = h
+quiet_cut n (unresolved b) h = h
+
+quiet_left : (i : ℕ) (f : Forest (Label ℕ)) → IsQuiet f → IsQuiet (past_byte i f)
+quiet_left i nil h = h
+quiet_left i (node a below after) h = by (nat_le (end_of a) i) (quiet_left i after h.3)
+  where
+    by : (b : Bool) → IsQuiet (past_byte i after) → IsQuiet (if b then past_byte i after else node (begun_at i a) below after)
+    by true later = later
+    by false later = (quiet_cut _ a.part.shape h.0, h.1, h.2, h.3)
+
+quiet_second : (f : Forest (Label ℕ)) → IsQuiet f → IsQuiet (past_second f)
+quiet_second nil h = tt
+quiet_second (node a below after) h = h.3
+
+-- what is inside, by numbers
+pub record InsideNumbers (source : List ℕ) (tables : Tables) (nodes : List (Node Item)) (o : Split ℕ) : Type 0 where
+  pub numbers : Forest ℕ
+  pub is : inside o ≡ relabelled (numbered_label source tables nodes) numbers
+  pub listed : inside_numbers o ≡ roots numbers
+
+pub inside_is : (source : List ℕ) (tables : Tables) (nodes : List (Node Item)) (first closer : ℕ) (o : Split ℕ) → OpenerAt source tables nodes first closer o → InsideNumbers source tables nodes o
+inside_is source tables nodes first closer o at =
+    let k = length (roots (inside o)) in
+    let label = numbered_label source tables nodes in
+    let all = forest_at (links_of nodes) (sibling_of nodes o.opener.tag) in
+    let is : inside o ≡ relabelled label (first_trees k all) =
+    sym (first_joined (inside o) (numbered_from source tables nodes (Some closer))) ∙ ap (first_trees k) (sym at.around.numbered) ∙ sym (relabelled_first label k all) in
+    record {
+      numbers = first_trees k all;
+      is = is;
+      listed = ap (λ (f : Forest (Label ℕ)). roots (numbers_of f)) is ∙ ap roots (numbers_are source tables nodes (first_trees k all));
+    }
+
+-- a chain from a byte on, and the node that it begins in
+pub record ShownAt (source : List ℕ) (tables : Tables) (nodes : List (Node Item)) (at first : ℕ) (g : Forest ℕ) : Type 0 where
+  pub skipped : List ℕ
+  pub shown : List ℕ
+  pub parts : roots g ≡ skipped ++ first ∷ shown
+  pub reads : past_byte at (trees_past (length skipped) (relabelled (numbered_label source tables nodes) g)) ≡ past_byte at (relabelled (numbered_label source tables nodes) g)
+  pub below : Forest (Label ℕ)
+  pub after : Forest (Label ℕ)
+  pub begins : past_byte at (relabelled (numbered_label source tables nodes) g) ≡ node (begun_at at (numbered_label source tables nodes first)) below after
+  pub ends_past : at < (item_at nodes first).end
+  pub first_is : first_past nodes at (roots g) ≡ Some first
+
+pub shown_at : (source : List ℕ) (tables : Tables) (nodes : List (Node Item)) (at first : ℕ) (g : Forest ℕ) → link_to (past_byte at (relabelled (numbered_label source tables nodes) g)) ≡ Some first
+    → ShownAt source tables nodes at first g
+shown_at source tables nodes at first nil e = cc e
+shown_at source tables nodes at first (node n under g) e = by (nat_le (item_at nodes n).end at) refl (shown_at source tables nodes at first g)
+  where
+    by : (b : Bool) → nat_le (item_at nodes n).end at ≡ b
+        → (link_to (past_byte at (relabelled (numbered_label source tables nodes) g)) ≡ Some first → ShownAt source tables nodes at first g)
+        → ShownAt source tables nodes at first (node n under g)
+    by true ends after =
+        let left : link_to (past_byte at (relabelled (numbered_label source tables nodes) g)) ≡ Some first = rw ends at e in
+        let later = after left in
+        record {
+          skipped = n ∷ later.skipped;
+          shown = later.shown;
+          parts = ap (λ (l : List ℕ). n ∷ l) later.parts;
+          reads = rw ends later.reads;
+          below = later.below;
+          after = later.after;
+          begins = rw ends later.begins;
+          ends_past = later.ends_past;
+          first_is = rw ends later.first_is;
+        }
+    by false ends after =
+        let same : n ≡ first = (let here : Some n ≡ Some first = rw ends at e in cc here) in
+        subst (λ (m : ℕ). ShownAt source tables nodes at m (node n under g)) same (record {
+          skipped = [];
+          shown = roots g;
+          parts = refl;
+          reads = refl;
+          below = relabelled (numbered_label source tables nodes) under;
+          after = relabelled (numbered_label source tables nodes) g;
+          begins = rw ends refl;
+          ends_past = grind (arith, nat_tests, ends);
+          first_is = rw ends refl;
+        })
+
+-- what may be put over the opener of a wikilink
+pub record CanWikilink (source : List ℕ) (tables tables' : Tables) (nodes : List (Node Item)) (closer : ℕ) (o : Split ℕ) (opener : Opener) (number : LinkIndex) (end : ℕ) : Type 0 where
+  pub close : CanClose source tables nodes opener.node closer (inside_numbers o) end
+  pub over : CanPutOver source tables tables' nodes opener.node (link_from nodes opener number end) end
+
+pub can_wikilink : (source : List ℕ) (tables tables' : Tables) (nodes : List (Node Item)) (first closer : ℕ) (left : List (Entry ℕ)) (w : Around) (c : Closing ℕ) (o : Split ℕ) (opener : Opener)
+    (number : LinkIndex) (v : Wikilink ℕ) (end : ℕ) → ClosesAt source tables nodes first closer left w c (a_wikilink o v end) → opener ≡ opener_of o
+    → PutsLink tables tables' number (wikilink_target v)
+    → CanWikilink source tables tables' nodes closer o opener number end
+can_wikilink source tables tables' nodes first closer left w c o opener number v end closes is put =
+    let at = opener_at source tables nodes first closer left o closes.stands closes.splits in
+    let goes = closes.ends.0 in
+    let behind : (item_at nodes closer).end ≤ end = subst (λ (a : Label ℕ). end_of a ≤ end) closes.label_is goes.behind in
+    rw is (record {
+      close = can_close source tables nodes first closer left w c (a_wikilink o v end) o end closes at goes;
+      over = link_over_opener source tables tables' nodes first closer o number (wikilink_target v) end end at put goes.between behind (omega arith);
+    })
+
+target_is : (has_pothole : Bool) (name : List ℕ) (v : Wikilink ℕ) → has_pothole ≡ v.has_pothole → name ≡ v.name
+    → record { kind = kind.WikiLink has_pothole; destination = name; title = []; label = [] } ≡ wikilink_target v
+target_is has_pothole name v e e' = rw (e, e') refl
+
+-- what becomes a wikilink may be put there, once its entry is held
+pub record ReadyWikilink (source : List ℕ) (tables tables' : Tables) (nodes : List (Node Item)) (first closer : ℕ) (left : List (Entry ℕ)) (w : Around) (c : Closing ℕ) (becomes : Becomes ℕ)
+    (opener : Opener)
+    (shown : ShownNodes) (number : LinkIndex) (end : ℕ) : Type 0 where
+  pub split : Split ℕ
+  pub found : Wikilink ℕ
+  pub is : becomes ≡ a_wikilink split found end
+  pub opener_is : opener ≡ opener_of split
+  pub closes : ClosesAt source tables nodes first closer left w c (a_wikilink split found end)
+  pub put : PutsLink tables tables' number (wikilink_target found)
+  pub can : CanWikilink source tables tables' nodes closer split opener number end
+  pub shown_is : shown_of w (past_second (inside split)) shown ≡ found.children
+  pub first_is : link_to found.children ≡ Some (first_shown shown)
+
+pub ready_wikilink : (source : List ℕ) (held held' : Allocated) (nodes : List (Node Item)) (first closer : ℕ) (left : List (Entry ℕ)) (w : Around) (c : Closing ℕ) (becomes : Becomes ℕ)
+    (opener : Opener)
+    (name : Bor (List ℕ)) (has_pothole : Bool) (shown : ShownNodes) (number : LinkIndex) (end : ℕ) (link : LinkParts) → ClosesAt source (tables_of held) nodes first closer left w c becomes
+    → IsBecome w becomes (Wikilinked opener name has_pothole shown end) → held' ≡ with_link held link → number.0 ≡ length held.links
+    → link_view link ≡ record { kind = kind.WikiLink has_pothole; destination = name.now; title = []; label = [] }
+    → ReadyWikilink source (tables_of held) (tables_of held') nodes first closer left w c becomes opener shown number end
+ready_wikilink source held held' nodes first closer left w c becomes opener name has_pothole shown number end link closes h put last view =
+    let i = wikilink_is w becomes opener name has_pothole shown end h in
+    let so = subst (ClosesAt source (tables_of held) nodes first closer left w c) i.is closes in
+    let there = link_put held held' link number (wikilink_target i.found) put last (view ∙ target_is has_pothole name.now i.found i.pothole_is i.name_is) in
+    record {
+      split = i.split;
+      found = i.found;
+      is = i.is;
+      opener_is = i.opener_is;
+      closes = so;
+      put = there;
+      can = can_wikilink source (tables_of held) (tables_of held') nodes first closer left w c i.split opener number i.found end so i.opener_is there;
+      shown_is = i.shown_is;
+      first_is = i.first_is;
+    }
+
+-- its name, as a Text in the second node inside
+pub record CanName (source : List ℕ) (tables tables' : Tables) (w : Around) (o : Split ℕ) (v : Wikilink ℕ) (first start end : ℕ) : Type 0 where
+  pub skipped : List ℕ
+  pub shown : List ℕ
+  pub parts : inside_numbers o ≡ skipped ++ first ∷ shown
+  pub puts : CanPut source tables tables' (text_item_over start end)
+  pub label : Label ℕ
+  pub children_are : v.children ≡ node (text_from w label start end) nil nil
+
+first_text : (w : Around) (body children : Forest (Label ℕ)) (first start end : ℕ) → shown_of w body (Over first start end) ≡ children → link_to children ≡ Some first
+    → (a : Label ℕ) × (below : Forest (Label ℕ)) × (after : Forest (Label ℕ)) × (body ≡ node a below after) × (a.tag ≡ first) × (children ≡ node (text_from w a start end) nil nil)
+first_text w nil children first start end so e = cc (so, e)
+first_text w (node a below after) children first start end so e =
+    let tag : Some a.tag ≡ Some first = ap link_to so ∙ e in
+    (a, below, after, refl, (cc tag), sym so)
+
+second_numbers : (f : Forest (Label ℕ)) (a : Label ℕ) (below after : Forest (Label ℕ)) (first : ℕ) → past_second f ≡ node a below after → a.tag ≡ first
+    → (skipped : List ℕ) × (shown : List ℕ) × (roots (numbers_of f) ≡ skipped ++ first ∷ shown)
+second_numbers nil a below after first e tag = cc e
+second_numbers (node b under rest) a below after first e tag =
+    (b.tag ∷ [], roots (numbers_of after), ap (λ (f : Forest (Label ℕ)). b.tag ∷ roots (numbers_of f)) e ∙ ap (λ (n : ℕ). b.tag ∷ n ∷ roots (numbers_of after)) tag)
+
+pub can_name : (source : List ℕ) (tables tables' : Tables) (nodes : List (Node Item)) (first closer : ℕ) (left : List (Entry ℕ)) (w : Around) (c : Closing ℕ) (o : Split ℕ) (v : Wikilink ℕ)
+    (end n from to : ℕ) → ClosesAt source tables nodes first closer left w c (a_wikilink o v end) → shown_of w (past_second (inside o)) (Over n from to) ≡ v.children → link_to v.children ≡ Some n
+    → CanName source tables tables' w o v n from to
+can_name source tables tables' nodes first closer left w c o v end n from to closes so e =
+    let t = first_text w (past_second (inside o)) v.children n from to so e in
+    let parts = second_numbers (inside o) t.0 t.1 t.2 n t.3 t.4 in
+    let lies : FirstLies source (node (text_from w t.0 from to) nil nil) = subst (FirstLies source) t.5 closes.ends.1.lies in
+    record {
+      skipped = parts.0;
+      shown = parts.1;
+      parts = parts.2;
+      puts = can_put_text source tables tables' from to lies.0 lies.1 lies.2;
+      label = t.0;
+      children_are = t.5;
+    }
+
+pub named_over : (source : List ℕ) (tables tables' : Tables) (nodes : List (Node Item)) (first closer : ℕ) (left : List (Entry ℕ)) (w : Around) (c : Closing ℕ) (becomes : Becomes ℕ) (opener : Opener)
+    (shown : ShownNodes) (number : LinkIndex) (end n from to : ℕ) (r : ReadyWikilink source tables tables' nodes first closer left w c becomes opener shown number end) → shown ≡ Over n from to
+    → CanName source tables tables' w r.split r.found n from to
+named_over source tables tables' nodes first closer left w c becomes opener shown number end n from to r is =
+    can_name source tables tables' nodes first closer left w c r.split r.found end n from to r.closes
+    (subst (λ (s : ShownNodes). shown_of w (past_second (inside r.split)) s ≡ r.found.children) is r.shown_is) (r.first_is ∙ ap (λ (s : ShownNodes). Some (first_shown s)) is)
+
+-- so the wikilink stands in the left list
+pub name_closed : (source : List ℕ) (tables tables' : Tables) (old new : List (Node Item)) (first closer : ℕ) (next : Option ℕ) (left : List (Entry ℕ)) (w : Around) (c : Closing ℕ) (o : Split ℕ)
+    (opener : Opener) (number : LinkIndex) (v : Wikilink ℕ) (end n from to : ℕ) → ClosesAt source tables old first closer left w c (a_wikilink o v end) → opener ≡ opener_of o
+    → PutsLink tables tables' number (wikilink_target v) → CanName source tables tables' w o v n from to
+    → PutsOver source opener.node closer (inside_numbers o) (over_text source tables' (link_from old opener number end) (text_item_over from to)) end (opener.node ∷ []) next old new tables tables'
+    → PutsClosed source first closer next left w c (a_wikilink o v end) old new tables tables'
+name_closed source tables tables' old new first closer next left w c o opener number v end n from to closes is put can over =
+    let at = opener_at source tables old first closer left o closes.stands closes.splits in
+    let what : Forest (Label ℕ) = node (linked o (wikilink_target v) end) v.children nil in
+    let shows : node (label_of source tables' (text_item_over from to)) nil nil ≡ without_numbers v.children =
+    ap (λ (a : Plain). node a nil nil) (text_label source tables' w can.label from from to to refl refl closes.text_is) ∙ ap without_numbers (sym can.children_are) in
+    let here = subst (λ (x : Opener). PutsOver source x.node closer (inside_numbers o) (over_text source tables' (link_from old x number end) (text_item_over from to)) end (x.node ∷ []) next old new
+    tables tables') is over in
+    let reads : node (label_of source tables' (link_from old (opener_of o) number end)) (node (label_of source tables' (text_item_over from to)) nil nil) nil ≡ without_numbers what =
+    ap (λ (a : Plain). node a (node (label_of source tables' (text_item_over from to)) nil nil) nil) (linked_label source tables tables' old o number (wikilink_target v) end at.around.label_is put)
+    ∙ ap (λ (f : Forest Plain). node (record { tag = tt; part = (linked o (wikilink_target v) end).part }) f nil) shows in
+    let quiet : IsQuiet v.children = subst IsQuiet (sym can.children_are) (refl, refl, tt, tt) in
+    puts_closed source first closer next left w c (a_wikilink o v end) o old new tables tables' (before_wikilink o.before)
+    (over_text source tables' (link_from old (opener_of o) number end) (text_item_over from to)) what
+    end (o.opener.tag ∷ []) closes at (wikilink_stands source tables old first (Some o.opener.tag) o.before at.stands) (record { left_is = λ p e. refl; goes = λ p. refl }) reads
+    (refl, refl, quiet, tt) (λ a i. refl) here
+
+-- what stands inside from a byte on
+pub record ShowsFrom (source : List ℕ) (nodes : List (Node Item)) (o : Split ℕ) (v : Wikilink ℕ) (n from : ℕ) : Type 0 where
+  pub skipped : List ℕ
+  pub can : CanShow source nodes (inside_numbers o) skipped n from
+  pub reads : past_byte from (trees_past (length skipped) (without_numbers (inside o))) ≡ without_numbers v.children
+  pub quiet : IsQuiet v.children
+
+is_past : (w : Around) (body : Forest (Label ℕ)) (n at : ℕ) → shown_of w body (From n at) ≡ past_byte at body
+is_past w nil n at = refl
+is_past w (node a below after) n at = refl
+
+-- of what begins at a byte at the earliest that byte is between characters, where it begins there
+begins_there : (source : List ℕ) (at : ℕ) (a : Label ℕ) (below after : Forest (Label ℕ)) → FirstLies source (node (begun_at at a) below after) → start_of a < at → IsCharBoundary source at
+begins_there source at a below after lies before =
+    let same : max (start_of a) at ≡ at = omega arith in
+    subst (IsCharBoundary source) same lies.1
+
+second_shows : (source : List ℕ) (tables : Tables) (nodes : List (Node Item)) (n from : ℕ) (f children : Forest (Label ℕ)) (g : Forest ℕ) → f ≡ relabelled (numbered_label source tables nodes) g
+    → past_byte from (past_second f) ≡ children → link_to children ≡ Some n → FirstLies source children → NoneOpenAround from (past_second f)
+    → (skipped : List ℕ) × CanShow source nodes (roots g) skipped n from × (past_byte from (trees_past (length skipped) f) ≡ children)
+second_shows source tables nodes n from f children nil is so e lies none_open_there =
+    let none : link_to (past_byte from (past_second (relabelled (numbered_label source tables nodes) nil))) ≡ Some n = ap (λ (x : Forest (Label ℕ)). link_to (past_byte from (past_second x))) (sym is)
+    ∙ ap link_to so ∙ e in
+    cc none
+second_shows source tables nodes n from f children (node b under g) is so e lies none_open_there =
+    let label = numbered_label source tables nodes in
+    let rest : past_second f ≡ relabelled label g = ap past_second is in
+    let left : past_byte from (relabelled label g) ≡ children = ap (past_byte from) (sym rest) ∙ so in
+    let shown = shown_at source tables nodes from n g (ap link_to left ∙ e) in
+    let here : FirstLies source (node (begun_at from (label n)) shown.below shown.after) = subst (FirstLies source) (sym left ∙ shown.begins) lies in (
+      b ∷ shown.skipped,
+      record {
+        shown = shown.shown;
+        inside_is = ap (λ (l : List ℕ). b ∷ l) shown.parts;
+        boundary = begins_there source from (label n) shown.below shown.after here;
+        ends_past = shown.ends_past;
+        not_cut = none_open source tables nodes from n g (subst (NoneOpenAround from) rest none_open_there) shown.first_is;
+      },
+      ap (λ (x : Forest (Label ℕ)). past_byte from (trees_past (suc (length shown.skipped)) x)) is ∙ shown.reads ∙ left,
+    )
+
+-- trees past the first, without the numbers
+without_trees : (k : ℕ) (f : Forest (Label ℕ)) → trees_past k (without_numbers f) ≡ without_numbers (trees_past k f)
+without_trees zero f = refl
+without_trees (suc k) nil = refl
+without_trees (suc k) (node a below after) = without_trees k after
+
+pub shows_from_byte : (source : List ℕ) (tables : Tables) (nodes : List (Node Item)) (first closer : ℕ) (left : List (Entry ℕ)) (w : Around) (c : Closing ℕ) (o : Split ℕ) (v : Wikilink ℕ)
+    (end n from : ℕ) → ClosesAt source tables nodes first closer left w c (a_wikilink o v end) → shown_of w (past_second (inside o)) (From n from) ≡ v.children → link_to v.children ≡ Some n
+    → ShowsFrom source nodes o v n from
+shows_from_byte source tables nodes first closer left w c o v end n from closes so e =
+    let at = opener_at source tables nodes first closer left o closes.stands closes.splits in
+    let i = inside_is source tables nodes first closer o at in
+    let is : past_byte from (past_second (inside o)) ≡ v.children = sym (is_past w (past_second (inside o)) n from) ∙ so in
+    let well = closes.ends.1 in
+    let s = second_shows source tables nodes n from (inside o) v.children i.numbers i.is is e well.lies (well.not_cut from is) in
+    let k = length s.0 in
+    record {
+      skipped = s.0;
+      can = subst (λ (l : List ℕ). CanShow source nodes l s.0 n from) (sym i.listed) s.1;
+      reads = ap (past_byte from) (without_trees k (inside o)) ∙ without_past from (trees_past k (inside o)) ∙ ap without_numbers s.2;
+      quiet = subst IsQuiet is (quiet_left from (past_second (inside o)) (quiet_second (inside o) (quiet_inside left o closes.splits closes.stands.quiet)));
+    }
+
+pub shows_over : (source : List ℕ) (tables tables' : Tables) (nodes : List (Node Item)) (first closer : ℕ) (left : List (Entry ℕ)) (w : Around) (c : Closing ℕ) (becomes : Becomes ℕ) (opener : Opener)
+    (shown : ShownNodes) (number : LinkIndex) (end n from : ℕ) (r : ReadyWikilink source tables tables' nodes first closer left w c becomes opener shown number end) → shown ≡ From n from
+    → ShowsFrom source nodes r.split r.found n from
+shows_over source tables tables' nodes first closer left w c becomes opener shown number end n from r is =
+    shows_from_byte source tables nodes first closer left w c r.split r.found end n from r.closes
+    (subst (λ (s : ShownNodes). shown_of w (past_second (inside r.split)) s ≡ r.found.children) is r.shown_is) (r.first_is ∙ ap (λ (s : ShownNodes). Some (first_shown s)) is)
+
+pub shown_closed : (source : List ℕ) (tables tables' : Tables) (old new : List (Node Item)) (first closer : ℕ) (next : Option ℕ) (left : List (Entry ℕ)) (w : Around) (c : Closing ℕ) (o : Split ℕ)
+    (opener : Opener) (number : LinkIndex) (v : Wikilink ℕ) (end n from : ℕ) → ClosesAt source tables old first closer left w c (a_wikilink o v end) → opener ≡ opener_of o
+    → PutsLink tables tables' number (wikilink_target v) → (s : ShowsFrom source old o v n from)
+    → PutsOver source opener.node closer (inside_numbers o) (over_shown source tables' (link_from old opener number end) (length s.skipped) from) end (opener.node ∷ []) next old new tables tables'
+    → PutsClosed source first closer next left w c (a_wikilink o v end) old new tables tables'
+shown_closed source tables tables' old new first closer next left w c o opener number v end n from closes is put s over =
+    let at = opener_at source tables old first closer left o closes.stands closes.splits in
+    let what : Forest (Label ℕ) = node (linked o (wikilink_target v) end) v.children nil in
+    let here = subst (λ (x : Opener). PutsOver source x.node closer (inside_numbers o) (over_shown source tables' (link_from old x number end) (length s.skipped) from) end (x.node ∷ []) next old new
+    tables tables') is over in
+    let reads : node (label_of source tables' (link_from old (opener_of o) number end)) (past_byte from (trees_past (length s.skipped) (without_numbers (inside o)))) nil ≡ without_numbers what =
+    ap (λ (a : Plain). node a (past_byte from (trees_past (length s.skipped) (without_numbers (inside o)))) nil)
+    (linked_label source tables tables' old o number (wikilink_target v) end at.around.label_is put)
+    ∙ ap (λ (f : Forest Plain). node (record { tag = tt; part = (linked o (wikilink_target v) end).part }) f nil) s.reads in
+    puts_closed source first closer next left w c (a_wikilink o v end) o old new tables tables' (before_wikilink o.before)
+    (over_shown source tables' (link_from old (opener_of o) number end) (length s.skipped) from) what
+    end (o.opener.tag ∷ []) closes at (wikilink_stands source tables old first (Some o.opener.tag) o.before at.stands) (record { left_is = λ p e. refl; goes = λ p. refl }) reads
+    (refl, refl, s.quiet, tt) (λ a i. refl) here

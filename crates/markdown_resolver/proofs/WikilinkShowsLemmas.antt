@@ -1,0 +1,232 @@
+-- What a wikilink shows begins and ends between characters, as the items before its `]` do, and so does a text after a `|`,
+-- which is one byte. No byte cuts an open item of its body: only runs' characters and quotes are open there, of one byte each.
+use Rattle.std.proofs.Common.{◌≡◌, ℕ, ◌+◌, ◌-◌, ◌<◌, ◌≤◌, ◌⊎◌, inl, inr, Bool, true, false, ◌==◌, List, [], ◌∷◌, Option, Some, None, IsUtf8, length, take, drop, get_or, max, refl, sym, ap, ◌∙◌, subst, arith}
+use Rattle.std.specs.Prelude.{IfSome, if◌then◌else◌, nat_le, nat_lt, position, slice_range, ⊤}
+use Rattle.std.specs.List.{position_or_len}
+use Rattle.std.specs.Option.{option_and_then, option_map}
+use Rattle.std.specs.Str.{IsCharBoundary}
+use Rattle.std.proofs.lemmas.Bool.{cases_lt, eqb-true}
+use Rattle.std.proofs.lemmas.Bool.Decides.{nat_tests}
+use Rattle.std.proofs.lemmas.List.{get_or-drop, get_or-take, length-drop, length-take}
+use Rattle.std.proofs.lemmas.List.Sums.{passes_at_first}
+use Rattle.std.proofs.lemmas.Str.{IsCharBoundary-after_ascii}
+use Rattle.markdown_base.specs.ArenaForest.{links_of, forest_at}
+use Rattle.markdown_base.specs.ArenaRules.{next_at}
+use Rattle.markdown_base.specs.BlockTree.{numbered, item_at}
+use Rattle.markdown_base.specs.Forest.{Forest, nil, node, Each, relabelled}
+use Rattle.markdown_base.specs.WellFormed.{StandsOverMarkup, run_character}
+use Rattle.markdown_base.specs.declared.item.Item.{Item}
+use Rattle.markdown_base.specs.declared.item.ItemBody.{ItemBody}
+use Rattle.markdown_base.specs.declared.item.ItemBody.TheVariants as body
+use Rattle.markdown_base.specs.declared.node.Node.{Node}
+use Rattle.markdown_brackets.specs.BracketDecision.{Around, Wikilink, children_of, if_some, past_second, wikilink_by, wikilink_in}
+use Rattle.markdown_brackets.specs.LeftList.{Mark, Entry, Split, inside, nearest, trees_onto}
+use Rattle.markdown_brackets.specs.Wikilink.{Shows, WikilinkBody, cut_at, has_pothole, named, shown_from, shows_from, shows_name, shows_nothing, wikilink_body}
+use Rattle.markdown_brackets.proofs.OpenerHeldLemmas.{splits_at}
+use Rattle.markdown_chains.specs.ChainRest.{begun_at, end_of, joined, past_byte, start_of}
+use Rattle.markdown_chains.specs.Document.{Label, is_unresolved}
+use Rattle.markdown_chains.specs.Places.{IsPlaced}
+use Rattle.markdown_chains.specs.Tables.{Tables}
+use Rattle.markdown_chains.specs.Waiting.{is_quiet, waits_for_pairing}
+use Rattle.markdown_chains.proofs.PlaceLemmas.{open-unresolved, shape-open}
+use Rattle.markdown_resolver.specs.Closes.{FirstLies, IsNotCut, NoneOpenAround, ShowsWell}
+use Rattle.markdown_resolver.specs.Kept.{IsQuiet}
+use Rattle.markdown_resolver.specs.PutsTrees.{numbered_label}
+use Rattle.markdown_resolver.specs.ReadOn.{StandsTo}
+use Rattle.markdown_resolver.proofs.GoesOnLemmas.{one_byte, size_there}
+use Rattle.markdown_resolver.proofs.LeftTreesLemmas.{onto_split}
+use Rattle.markdown_resolver.proofs.StandsToLemmas.{rest_of}
+
+-- a label lies between characters, and where it is open it is one byte long
+pub record LabelLies (source : List ℕ) (a : Label ℕ) : Type 0 where
+  pub ordered : start_of a ≤ end_of a
+  pub starts : IsCharBoundary source (start_of a)
+  pub ends : IsCharBoundary source (end_of a)
+  pub short : is_unresolved a.part.shape ≡ true → end_of a ≤ start_of a + 1
+
+-- so do those of a chain
+abbrev pub AllLie : List ℕ → Forest (Label ℕ) → Type 0
+AllLie source nil = ⊤
+AllLie source (node a below after) = LabelLies source a × AllLie source after
+
+second_lies : (source : List ℕ) (f g : Forest (Label ℕ)) → AllLie source (joined f g) → AllLie source g
+second_lies source nil g h = h
+second_lies source (node a below after) g h = second_lies source after g h.1
+
+past_second_lies : (source : List ℕ) (f : Forest (Label ℕ)) → AllLie source f → AllLie source (past_second f)
+past_second_lies source nil h = tt
+past_second_lies source (node a below after) h = h.1
+
+-- what waits for pairing is one byte long
+waiting_long : (bytes : List ℕ) (b : ItemBody) → waits_for_pairing b ≡ true → StandsOverMarkup bytes b → IfSome (run_character b) (λ c. length bytes ≡ 1) → length bytes ≡ 1
+waiting_long bytes (body.MaybeEmphasis count opens closes) waits markup run = run
+waiting_long bytes (body.MaybeSmartQuote quote opens closes) waits markup run = ap length markup.0
+waiting_long bytes other waits markup run = absurd (cc waits)
+
+-- so it is of an item of an arena that is quiet
+numbered_lies : (source : List ℕ) (tables : Tables) (nodes : List (Node Item)) (ix : ℕ) → IsPlaced source tables nodes ix
+    → is_quiet (numbered_label source tables nodes ix).part.shape ≡ true → LabelLies source (numbered_label source tables nodes ix)
+numbered_lies source tables nodes ix placed quiet =
+    let item = item_at nodes ix in
+    let bytes = slice_range source item.start item.end in
+    let size : length bytes ≡ item.end - item.start = size_there source item.start item.end placed.lies.end.0 in
+    record {
+      ordered = placed.lies.ordered;
+      starts = placed.lies.start;
+      ends = placed.lies.end;
+      short = λ opens.
+          let shape = shape-open tables bytes item.body (open-unresolved tables bytes item.body opens) in
+          let waits : waits_for_pairing item.body ≡ true = sym (ap is_quiet shape) ∙ quiet in
+          let run = one_byte source (numbered nodes ix) (next_at nodes ix) (run_character item.body) bytes size placed.keeps.runs_are_whole in
+          let long = waiting_long bytes item.body waits placed.keeps.markup_is_there run in
+          omega (arith, size, long);
+    }
+
+first_lies : (source : List ℕ) (tables : Tables) (nodes : List (Node Item)) (f : Forest ℕ) (g h : Forest (Label ℕ)) → Each (IsPlaced source tables nodes) f
+    → relabelled (numbered_label source tables nodes) f ≡ joined g h → IsQuiet g → AllLie source g
+first_lies source tables nodes f nil h placed e quiet = tt
+first_lies source tables nodes nil (node a below after) h placed e quiet = absurd (cc e)
+first_lies source tables nodes (node ix inner later) (node a below after) h placed e quiet =
+    let same : numbered_label source tables nodes ix ≡ a = cc e in
+    let shape : is_quiet (numbered_label source tables nodes ix).part.shape ≡ true = ap (λ (b : Label ℕ). is_quiet b.part.shape) same ∙ quiet.0 in
+    let rest : relabelled (numbered_label source tables nodes) later ≡ joined after h = cc e in
+    (subst (LabelLies source) same (numbered_lies source tables nodes ix placed.0 shape), first_lies source tables nodes later after h placed.2 rest quiet.3)
+
+-- the trees of a left list that stands in an arena
+pub left_lies : (source : List ℕ) (tables : Tables) (nodes : List (Node Item)) (first : ℕ) (at : Option ℕ) (left : List (Entry ℕ)) → StandsTo source tables nodes first at left
+    → AllLie source (trees_onto left nil)
+left_lies source tables nodes first at left h =
+    let r = rest_of source tables nodes first at left h in
+    first_lies source tables nodes (forest_at (links_of nodes) (Some first)) (trees_onto left nil) _ h.ready.reaches.each r.whole h.quiet
+
+-- and those inside an opener of it, past the second
+pub inside_lies : (source : List ℕ) (test : Mark → Bool) (left : List (Entry ℕ)) (o : Split ℕ) → AllLie source (trees_onto left nil) → nearest test left ≡ Some o
+    → AllLie source (past_second (inside o))
+inside_lies source test left o h found =
+    let splits = subst (λ (s : Option (Split ℕ)). IfSome s (λ o. (later : Forest (Label ℕ)) → trees_onto left later ≡ trees_onto o.before (node o.opener nil (trees_onto o.after later))))
+    found (splits_at test left) in
+    let whole : trees_onto left nil ≡ joined (trees_onto o.before nil) (node o.opener nil (inside o)) = splits nil ∙ onto_split o.before (node o.opener nil (inside o)) in
+    let all = second_lies source (trees_onto o.before nil) (node o.opener nil (inside o)) (subst (AllLie source) whole h) in
+    past_second_lies source (inside o) all.1
+
+-- no byte cuts one of them that is open
+none_cut : (source : List ℕ) (i : ℕ) (f : Forest (Label ℕ)) → AllLie source f → NoneOpenAround i f
+none_cut source i nil h = tt
+none_cut source i (node a below after) h = by (nat_le (end_of a) i) refl (none_cut source i after h.1)
+  where
+    by_shape : (opens : Bool) → is_unresolved a.part.shape ≡ opens → start_of a < i → i < end_of a → opens ≡ false
+    by_shape true e starts ends = let short = h.0.short e in absurd (omega (arith, short, starts, ends))
+    by_shape false e starts ends = refl
+
+    by : (ended : Bool) → nat_le (end_of a) i ≡ ended → NoneOpenAround i after → IsNotCut ended i a (NoneOpenAround i after)
+    by true e later = later
+    by false e later = λ starts. let ends : i < end_of a = grind (arith, nat_tests) in by_shape (is_unresolved a.part.shape) refl starts ends
+
+-- what is left of them past a byte between characters begins and ends so
+max_between : (source : List ℕ) (s i : ℕ) → IsCharBoundary source s → IsCharBoundary source i → IsCharBoundary source (max s i)
+max_between source s i hs hi = by (cases_lt s i)
+  where
+    by : (s < i) ⊎ (i ≤ s) → IsCharBoundary source (max s i)
+    by (inl l) = let same : i ≡ max s i = omega (arith, l) in subst (IsCharBoundary source) same hi
+    by (inr l) = let same : s ≡ max s i = omega (arith, l) in subst (IsCharBoundary source) same hs
+
+past_lies : (source : List ℕ) (i : ℕ) (f : Forest (Label ℕ)) → AllLie source f → IsCharBoundary source i → FirstLies source (past_byte i f)
+past_lies source i nil h between = tt
+past_lies source i (node a below after) h between = by (nat_le (end_of a) i) refl (past_lies source i after h.1 between)
+  where
+    by : (ended : Bool) → nat_le (end_of a) i ≡ ended → FirstLies source (past_byte i after)
+        → FirstLies source (if ended then past_byte i after else node (begun_at i a) below after)
+    by true e later = later
+    by false e later =
+        let ends : i < end_of a = grind (arith, nat_tests) in
+        let order = h.0.ordered in
+        (omega (arith, order, ends), max_between source (start_of a) i h.0.starts between, h.0.ends)
+
+-- where a body is cut
+abbrev IsCut : List ℕ → (start end : ℕ) → Shows → Type 0
+IsCut text start end shows_name = start < end
+IsCut text start end (shows_nothing at) = IsCharBoundary text at
+IsCut text start end (shows_from at) = IsCharBoundary text at
+
+named_cut : (text : List ℕ) (start end : ℕ) (name : List ℕ) (shows : Shows) → IsCut text start end shows → IfSome (named name shows) (λ b. IsCut text start end b.shows)
+named_cut text start end [] shows h = tt
+named_cut text start end (b ∷ name) shows h = h
+
+shown_cut : (text : List ℕ) (start end at : ℕ) → IsCharBoundary text at → IsCut text start end (shown_from at end)
+shown_cut text start end at h = by (nat_lt at end)
+  where
+    by : (before : Bool) → IsCut text start end (if before then shows_from at else shows_nothing at)
+    by true = h
+    by false = h
+
+cut_is : (text : List ℕ) (start end : ℕ) (found : Option (ℕ × List ℕ)) → start < end → IfSome found (λ pipe. IsCharBoundary text pipe.0)
+    → IfSome (cut_at text start end found) (λ b. IsCut text start end b.shows)
+cut_is text start end None order h = named_cut text start end (slice_range text start end) shows_name order
+cut_is text start end (Some pipe) order h = named_cut text start end pipe.1 (shown_from pipe.0 end) (shown_cut text start end pipe.0 h)
+
+-- behind a `|`
+pipe_between : (text : List ℕ) (start size : ℕ) → IsUtf8 text
+    → IfSome {T = ℕ × List ℕ} (option_map (λ n. (start + n + 1, take n (take size (drop start text)))) (position (λ b. b == 124) (take size (drop start text)))) (λ pipe. IsCharBoundary text pipe.0)
+pipe_between text start size utf8 = by (nat_lt n (length part)) refl
+  where
+    part : List ℕ
+    part = take size (drop start text)
+
+    n : ℕ
+    n = position_or_len (λ b. b == 124) part
+
+    by : (found : Bool) → nat_lt n (length part) ≡ found
+        → IfSome {T = ℕ × List ℕ} (option_map (λ n. (start + n + 1, take n part)) (if found then Some n else None)) (λ pipe. IsCharBoundary text pipe.0)
+    by true e =
+        let inside_part : n < length part = grind (arith, nat_tests) in
+        let is : get_or part n 0 ≡ 124 = eqb-true (get_or part n 0) 124 (passes_at_first (λ b. b == 124) part 0 inside_part) in
+        let cut : n < size = omega (arith, inside_part, length-take size (drop start text)) in
+        let there : start + n < length text = omega (arith, inside_part, length-take size (drop start text), length-drop start text) in
+        let byte : get_or text (start + n) 0 ≡ 124 = sym (get_or-take size (drop start text) n 0 cut ∙ get_or-drop start text n 0) ∙ is in
+        let low : get_or text (start + n) 0 < 128 = omega (arith, byte) in
+        IsCharBoundary-after_ascii text (start + n) utf8 there low
+    by false e = tt
+
+body_cut : (text : List ℕ) (start end : ℕ) → IsUtf8 text → IfSome (wikilink_body text start end) (λ b. IsCut text start end b.shows)
+body_cut text start end utf8 = by (nat_lt start end) refl _ (pipe_between text start (end - start) utf8)
+  where
+    by : (order : Bool) → nat_lt start end ≡ order → (found : Option (ℕ × List ℕ)) → IfSome found (λ pipe. IsCharBoundary text pipe.0)
+        → IfSome (if order then cut_at text start end found else None) (λ b. IsCut text start end b.shows)
+    by true e found h = let before : start < end = grind (arith, nat_tests) in cut_is text start end found before h
+    by false e found h = tt
+
+-- what it shows lies between characters
+some_lies : (source : List ℕ) (f : Forest (Label ℕ)) → FirstLies source f → IfSome (if_some f) (FirstLies source)
+some_lies source nil h = tt
+some_lies source (node a below after) h = h
+
+children_lie : (w : Around) (first : Label ℕ) (f : Forest (Label ℕ)) (end : ℕ) (shows : Shows) → AllLie w.setting.text f → IsCharBoundary w.setting.text (start_of first)
+    → IsCharBoundary w.setting.text end → IsCut w.setting.text (start_of first) end shows → IfSome (children_of w first f end shows) (FirstLies w.setting.text)
+children_lie w first f end shows_name all starts ends cut = (omega (arith, cut), starts, ends)
+children_lie w first f end (shows_nothing at) all starts ends cut = (omega arith, cut, cut)
+children_lie w first f end (shows_from at) all starts ends cut = some_lies w.setting.text (past_byte at f) (past_lies w.setting.text at f all cut)
+
+made_lies : (source : List ℕ) (b : WikilinkBody) (children : Option (Forest (Label ℕ))) → IfSome children (FirstLies source)
+    → IfSome {T = Wikilink ℕ} (option_map (λ children. record { name = b.name; has_pothole = has_pothole b.shows; children = children }) children) (λ v. FirstLies source v.children)
+made_lies source b None h = tt
+made_lies source b (Some children) h = h
+
+wikilink_lies : (w : Around) (f : Forest (Label ℕ)) (end : ℕ) → IsUtf8 w.setting.text → AllLie w.setting.text f → IsCharBoundary w.setting.text end
+    → IfSome (wikilink_in w f end) (λ v. FirstLies w.setting.text v.children)
+wikilink_lies w nil end utf8 all ends = tt
+wikilink_lies w (node first below after) end utf8 all ends = by (wikilink_body w.setting.text (start_of first) end) (body_cut w.setting.text (start_of first) end utf8)
+  where
+    by : (found : Option WikilinkBody) → IfSome found (λ b. IsCut w.setting.text (start_of first) end b.shows)
+        → IfSome (option_and_then (wikilink_by w first (node first below after) end) found) (λ v. FirstLies w.setting.text v.children)
+    by None cut = tt
+    by (Some b) cut =
+        made_lies w.setting.text b (children_of w first (node first below after) end b.shows)
+        (children_lie w first (node first below after) end b.shows all all.0.starts ends cut)
+
+-- so a wikilink of this body shows what may be shown
+pub shows_well : (w : Around) (f : Forest (Label ℕ)) (end : ℕ) (v : Wikilink ℕ) → IsUtf8 w.setting.text → AllLie w.setting.text f → IsCharBoundary w.setting.text end
+    → wikilink_in w f end ≡ Some v → ShowsWell w.setting.text f v.children
+shows_well w f end v utf8 all ends e = record {
+  lies = subst (λ (found : Option (Wikilink ℕ)). IfSome found (λ v. FirstLies w.setting.text v.children)) e (wikilink_lies w f end utf8 all ends);
+  not_cut = λ at same. none_cut w.setting.text at f all;
+}

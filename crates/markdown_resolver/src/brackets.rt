@@ -1,0 +1,300 @@
+//! Brackets in a chain, where it stands: an opener waits for its `]`, and what a `]` becomes is put where its opener
+//! stands.
+ghost use Rattle.std.specs.Prelude.{◌≡◌, ◌∷◌, ◌&&◌, ◌<◌, false, ℕ, List, None, Some, IfErr, IfOk, IfSome, OnOk, if◌then◌else◌, length};
+ghost use Rattle.std.specs.Option.{option_map_or};
+ghost use Rattle.markdown_base.specs.Arena.{sibling_of};
+ghost use Rattle.markdown_base.specs.BlockTree.{item_at};
+ghost use Rattle.markdown_base.specs.CowText.{text_of};
+ghost use Rattle.markdown_base.specs.Event.{LinkView};
+ghost use Rattle.markdown_base.specs.declared.fault.Fault.{Fault};
+ghost use Rattle.markdown_base.specs.declared.item.ItemBody.TheVariants as body;
+ghost use Rattle.markdown_brackets.specs.declared.closing_bracket.ClosedBracket.TheVariants.{Wikilinked};
+ghost use Rattle.markdown_brackets.specs.BracketDecision.{Around, Becomes, Closing, Wikilink, a_footnote, a_link, a_wikilink, past_second};
+ghost use Rattle.markdown_brackets.specs.BracketOptions.{wikilinks_on};
+ghost use Rattle.markdown_brackets.specs.DecisionView.{IsBecome, first_shown, opener_of, shown_of};
+ghost use Rattle.markdown_brackets.specs.LeftList.{Entry, Split, inside};
+ghost use Rattle.markdown_brackets.specs.LookupView.{target_view};
+ghost use Rattle.markdown_brackets.specs.Openers as waiting;
+ghost use Rattle.markdown_brackets.specs.Reference.{is_opener};
+ghost use Rattle.markdown_chains.specs.Tables.{HasGrown, Tables, tables_of};
+ghost use Rattle.markdown_resolver.specs.Chains.{CanResolve};
+ghost use Rattle.markdown_resolver.specs.Closes.{ClosesAt, PutsClosed};
+ghost use Rattle.markdown_resolver.specs.Rewritten.{Puts, settled};
+
+use crate::chain_place::ChainPlace;
+use crate::found::settle;
+use crate::links::{
+    last_before, put_footnote, put_image_footnote, put_link, put_wikilink_name, put_wikilink_shown,
+};
+use markdown_base::cow_str::CowStr;
+use markdown_base::fault::Fault;
+use markdown_base::index::LinkIndex;
+use markdown_base::item::{Item, ItemBody};
+use markdown_base::options::Options;
+use markdown_base::tag::LinkType;
+use markdown_base::tree::Tree;
+use markdown_brackets::chain_openers::ChainOpeners;
+use markdown_brackets::closing_bracket::ClosedBracket;
+use markdown_brackets::look_up::Target;
+use markdown_brackets::openers::Opener;
+use markdown_brackets::wikilink_nodes::ShownNodes;
+use markdown_brackets::written::{BracketPlace, wikilinks_on};
+use markdown_spans::defs::Allocations;
+
+/// The place of a chain, as its brackets ask about it.
+pub(crate) fn bracket_place<'a>(place: &ChainPlace<'a>, options: Options) -> BracketPlace<'a>
+    ensures text { result.text.now ≡ place.now.text.now }
+    ensures block_end { result.block_end ≡ place.now.block_end }
+    ensures in_table { result.in_table ≡ place.now.in_table }
+    ensures options { result.options ≡ options }
+{
+    BracketPlace {
+        text: place.text,
+        block_end: place.block_end,
+        in_table: place.in_table,
+        options,
+    }
+}
+
+/// Whether a link leads to an opener.
+fn leads_to_opener(tree: &Tree<Item>, link: Option<usize>) -> bool
+    requires { IfSome link (λ ix. ix < length tree.now.nodes) }
+    ensures { result ≡ option_map_or (λ ix. is_opener (item_at tree.now.nodes ix).body) link false }
+{
+    match link {
+        Some(ix) => matches!(tree.item(ix).body, ItemBody::MaybeLinkOpen),
+        None => false,
+    }
+}
+
+/// Reads an opener, `[` or `![`: it is a Text, and waits for its `]`; with wikilinks on, one before another opener waits
+/// for two of them too. The chain goes on at the next item. The only error is `Fault::Memory`.
+pub(crate) fn open_bracket(
+    tree: &mut Tree<Item>,
+    openers: &mut ChainOpeners,
+    options: Options,
+    ix: usize,
+    is_image: bool,
+) -> Result<Option<usize>, Fault>
+    requires { (source : List ℕ) × (tables : Tables) × CanResolve source tables tree.old.nodes (Some ix) }
+    ensures puts { IfOk result (λ next. (source : List ℕ) (tables : Tables) → CanResolve source tables tree.old.nodes (Some ix)
+        → Puts source ix (settled source) None next tree.old.nodes tree.new.nodes tables tables) }
+    ensures next { IfOk result (λ next. next ≡ sibling_of tree.old.nodes ix) }
+    ensures place { IfOk result (λ _. tree.new ≡ record tree.old { nodes = tree.new.nodes }) }
+    ensures brackets { OnOk result (
+        openers.new.brackets ≡ waiting.live (record { node = ix; is_image = is_image }) ∷ openers.old.brackets) }
+    ensures wikilinks { OnOk result (openers.new.wikilinks
+        ≡ (if wikilinks_on options && option_map_or (λ n. is_opener (item_at tree.old.nodes n).body) (sibling_of tree.old.nodes ix) false
+        then waiting.live (record { node = ix; is_image = is_image }) ∷ openers.old.wikilinks else openers.old.wikilinks)) }
+    ensures refused { IfErr result (λ fault. fault ≡ Fault.Memory) }
+{
+    let opener = Opener { node: ix, is_image };
+    openers.brackets.push(opener)?;
+    if wikilinks_on(options) && leads_to_opener(tree, tree.next(ix)) {
+        openers.wikilinks.push(opener)?;
+    }
+    Ok(settle(tree, ix))
+}
+
+fn link_body(is_image: bool, link: LinkIndex) -> ItemBody
+    ensures { result ≡ (if is_image then body.Image link else body.Link link) }
+{
+    if is_image {
+        ItemBody::Image(link)
+    } else {
+        ItemBody::Link(link)
+    }
+}
+
+/// A Text.
+fn text_item(start: usize, end: usize) -> Item
+    ensures { result ≡ record { start = start; end = end; body = body.Text false } }
+{
+    Item {
+        start,
+        end,
+        body: ItemBody::Text {
+            backslash_escaped: false,
+        },
+    }
+}
+
+/// Puts a link or an image that ends at the byte `end`: the chain goes on at the byte `next`. The only error is
+/// `Fault::Memory`.
+fn put_target<'a>(
+    tree: &mut Tree<Item>,
+    tables: &mut Allocations<'a>,
+    closer: usize,
+    opener: Opener,
+    target: Target<'a>,
+    end: usize,
+    next: usize,
+) -> Result<Option<usize>, Fault>
+    requires { (source : List ℕ) × (first : ℕ) × (left : List (Entry ℕ)) × (w : Around) × (c : Closing ℕ)
+        × (o : Split ℕ) × ClosesAt source (tables_of tables.old) tree.old.nodes first closer left w c
+        (a_link o (target_view target) end next) × (opener ≡ opener_of o) }
+    ensures puts { IfOk result (λ goes_on. (source : List ℕ) (first : ℕ) (left : List (Entry ℕ)) (w : Around)
+        (c : Closing ℕ) (o : Split ℕ)
+        → ClosesAt source (tables_of tables.old) tree.old.nodes first closer left w c
+        (a_link o (target_view target.entry) end next)
+        → opener ≡ opener_of o
+        → PutsClosed source first closer goes_on left w c (a_link o (target_view target.entry) end next)
+        tree.old.nodes tree.new.nodes (tables_of tables.old) (tables_of tables.new)) }
+    ensures place { IfOk result (λ _. tree.new ≡ record tree.old { nodes = tree.new.nodes }) }
+
+    // whatever comes
+    ensures tables { tables.new ≡ record tables.old { cows = tables.new.cows; links = tables.new.links } }
+    ensures refused { IfErr result (λ fault. fault ≡ Fault.Memory) }
+{
+    let Target {
+        link_type,
+        destination,
+        title,
+        id,
+    } = target;
+    let link = tables.allocate_link(link_type, destination, title, id)?;
+    let item = Item {
+        start: tree.item(opener.node).start,
+        end,
+        body: link_body(opener.is_image, link),
+    };
+    let last = last_before(tree, opener.node, closer);
+    Ok(put_link(tree, opener.node, last, closer, item, next))
+}
+
+/// Puts a footnote reference of a name: of an opener `![` the `!` is a Text of its own. The only error is
+/// `Fault::Memory`.
+fn put_reference<'a>(
+    tree: &mut Tree<Item>,
+    tables: &mut Allocations<'a>,
+    closer: usize,
+    opener: Opener,
+    name: CowStr<'a>,
+) -> Result<Option<usize>, Fault>
+    requires { (source : List ℕ) × (first : ℕ) × (left : List (Entry ℕ)) × (w : Around) × (c : Closing ℕ)
+        × (o : Split ℕ) × ClosesAt source (tables_of tables.old) tree.old.nodes first closer left w c
+        (a_footnote o (text_of name)) × (opener ≡ opener_of o) }
+    ensures puts { IfOk result (λ next. (source : List ℕ) (first : ℕ) (left : List (Entry ℕ)) (w : Around)
+        (c : Closing ℕ) (o : Split ℕ)
+        → ClosesAt source (tables_of tables.old) tree.old.nodes first closer left w c
+        (a_footnote o (text_of name.entry))
+        → opener ≡ opener_of o
+        → PutsClosed source first closer next left w c (a_footnote o (text_of name.entry)) tree.old.nodes
+        tree.new.nodes (tables_of tables.old) (tables_of tables.new)) }
+    ensures place { IfOk result (λ _. tree.new ≡ record tree.old { nodes = tree.new.nodes }) }
+
+    // whatever comes
+    ensures tables { tables.new ≡ record tables.old { cows = tables.new.cows; links = tables.new.links } }
+    ensures refused { IfErr result (λ fault. fault ≡ Fault.Memory) }
+{
+    let body = ItemBody::FootnoteReference(tables.allocate_cow(name)?);
+    let start = tree.item(opener.node).start;
+    let end = tree.item(closer).end;
+    if opener.is_image {
+        let mark = text_item(start, start + 1);
+        let item = Item {
+            start: start + 1,
+            end,
+            body,
+        };
+        return Ok(put_image_footnote(tree, opener.node, closer, mark, item));
+    }
+    let item = Item { start, end, body };
+    Ok(put_footnote(tree, opener.node, closer, item))
+}
+
+/// Puts a wikilink that ends at the byte `end`, as a link or as an image. The only error is `Fault::Memory`.
+fn put_wikilink<'a>(
+    tree: &mut Tree<Item>,
+    tables: &mut Allocations<'a>,
+    closer: usize,
+    opener: Opener,
+    name: &'a str,
+    has_pothole: bool,
+    shown: ShownNodes,
+    end: usize,
+) -> Result<Option<usize>, Fault>
+    requires { (source : List ℕ) × (first : ℕ) × (left : List (Entry ℕ)) × (w : Around) × (c : Closing ℕ)
+        × (becomes : Becomes ℕ) × ClosesAt source (tables_of tables.old) tree.old.nodes first closer left w c becomes
+        × IsBecome w becomes (Wikilinked opener name has_pothole shown end) }
+    ensures puts { IfOk result (λ next. (source : List ℕ) (first : ℕ) (left : List (Entry ℕ)) (w : Around)
+        (c : Closing ℕ) (becomes : Becomes ℕ)
+        → ClosesAt source (tables_of tables.old) tree.old.nodes first closer left w c becomes
+        → IsBecome w becomes (Wikilinked opener name.entry has_pothole shown end)
+        → PutsClosed source first closer next left w c becomes tree.old.nodes tree.new.nodes
+        (tables_of tables.old) (tables_of tables.new)) }
+    ensures place { IfOk result (λ _. tree.new ≡ record tree.old { nodes = tree.new.nodes }) }
+
+    // whatever comes
+    ensures tables { tables.new ≡ record tables.old { cows = tables.new.cows; links = tables.new.links } }
+    ensures refused { IfErr result (λ fault. fault ≡ Fault.Memory) }
+{
+    let link = tables.allocate_link(
+        LinkType::WikiLink { has_pothole },
+        CowStr::Borrowed(name),
+        CowStr::Borrowed(""),
+        CowStr::Borrowed(""),
+    )?;
+    let item = Item {
+        start: tree.item(opener.node).start,
+        end,
+        body: link_body(opener.is_image, link),
+    };
+    match shown {
+        ShownNodes::Over { node, start, end } => {
+            let inside = text_item(start, end);
+            Ok(put_wikilink_name(tree, opener.node, node, closer, item, inside))
+        }
+        ShownNodes::From { node, at } => Ok(put_wikilink_shown(
+            tree,
+            opener.node,
+            node,
+            closer,
+            item,
+            at,
+        )),
+    }
+}
+
+/// Puts what a `]`, the node `closer`, becomes: the link at which the chain goes on. The only error is `Fault::Memory`.
+pub(crate) fn put_closed<'a>(
+    tree: &mut Tree<Item>,
+    tables: &mut Allocations<'a>,
+    closer: usize,
+    found: ClosedBracket<'a>,
+) -> Result<Option<usize>, Fault>
+    requires { (source : List ℕ) × (first : ℕ) × (left : List (Entry ℕ)) × (w : Around) × (c : Closing ℕ)
+        × (becomes : Becomes ℕ) × ClosesAt source (tables_of tables.old) tree.old.nodes first closer left w c becomes
+        × IsBecome w becomes found }
+    ensures puts { IfOk result (λ next. (source : List ℕ) (first : ℕ) (left : List (Entry ℕ)) (w : Around)
+        (c : Closing ℕ) (becomes : Becomes ℕ)
+        → ClosesAt source (tables_of tables.old) tree.old.nodes first closer left w c becomes
+        → IsBecome w becomes found.entry
+        → PutsClosed source first closer next left w c becomes tree.old.nodes tree.new.nodes
+        (tables_of tables.old) (tables_of tables.new)) }
+    ensures place { IfOk result (λ _. tree.new ≡ record tree.old { nodes = tree.new.nodes }) }
+
+    // whatever comes
+    ensures tables { tables.new ≡ record tables.old { cows = tables.new.cows; links = tables.new.links } }
+    ensures refused { IfErr result (λ fault. fault ≡ Fault.Memory) }
+{
+    match found {
+        ClosedBracket::Text => Ok(settle(tree, closer)),
+        ClosedBracket::Link {
+            opener,
+            target,
+            end,
+            next,
+        } => put_target(tree, tables, closer, opener, target, end, next),
+        ClosedBracket::Footnote { opener, name } => {
+            put_reference(tree, tables, closer, opener, name)
+        }
+        ClosedBracket::Wikilinked {
+            opener,
+            name,
+            has_pothole,
+            shown,
+            end,
+        } => put_wikilink(tree, tables, closer, opener, name, has_pothole, shown, end),
+    }
+}
