@@ -11,7 +11,7 @@ use Rattle.markdown_base.specs.ArenaForest.{links_of}
 use Rattle.markdown_chains.specs.Document.{Shape, Origin, event_of_shape, leaf, enclosed, plain, backslash_break, unresolved, Plain, plain_tags}
 use Rattle.markdown_chains.specs.Places.{trees_from}
 use Rattle.markdown_chains.specs.declared.work.Work.{Work}
-use Rattle.markdown_chains.specs.Counts.{ChainCounts, no_counts, risen, RisesAtMost, WorkRises}
+use Rattle.markdown_chains.specs.Counts.{ChainCounts, no_counts, risen, RisesAtLeast, RisesAtMost, WorkRises}
 use Rattle.markdown_chains.specs.Labels.{GivesFirst, Begins}
 use Rattle.markdown_chains.specs.Above.{Above, inside_item, inside_all}
 use Rattle.markdown_chains.specs.Setting.{Setting}
@@ -59,7 +59,7 @@ stays count = record { more = 0; within = omega arith; counted = refl }
 -- nothing was done
 pub rises-none : (n : ChainCounts) (old new : Work) → n ≡ no_counts → new ≡ old → WorkRises n old new
 rises-none n old new z e =
-    rw (z, e) (record { items = refl; delimiters = refl; examined = stays old.examined; code_visits = stays old.code_visits; math_visits = stays old.math_visits })
+    rw (z, e) (record { items = refl; delimiters = refl; examined = stays old.examined; found = omega arith; code_visits = stays old.code_visits; math_visits = stays old.math_visits })
 
 -- a count rose, and then stayed
 then_stays : (most old mid new : ℕ) → RisesAtMost most old mid → RisesAtMost 0 mid new → RisesAtMost most old new
@@ -69,12 +69,20 @@ then_stays most old mid new a b = record { more = a.more; within = a.within; cou
     on zero l e = e ∙ a.counted
     on (suc more) l e = absurd (omega (arith, l))
 
+least_stays : (least old mid new : ℕ) → RisesAtLeast least old mid → RisesAtMost 0 mid new → RisesAtLeast least old new
+least_stays least old mid new a b = on b.more b.within b.counted
+  where
+    on : (more : ℕ) → more ≤ 0 → new ≡ risen more mid → RisesAtLeast least old new
+    on zero l e = rw e a
+    on (suc more) l e = absurd (omega (arith, l))
+
 -- a chain was resolved, and nothing after it
 pub rises-chain : (n : ChainCounts) (old mid new : Work) → WorkRises n old mid → WorkRises no_counts mid new → WorkRises n old new
 rises-chain n old mid new a b = record {
   items = b.items ∙ a.items;
   delimiters = b.delimiters ∙ a.delimiters;
   examined = then_stays (10 * n.delimiters) old.examined mid.examined new.examined a.examined b.examined;
+  found = least_stays n.found old.examined mid.examined new.examined a.found b.examined;
   code_visits = then_stays n.items old.code_visits mid.code_visits new.code_visits a.code_visits b.code_visits;
   math_visits = then_stays n.items old.math_visits mid.math_visits new.math_visits a.math_visits b.math_visits;
 }

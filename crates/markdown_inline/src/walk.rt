@@ -9,6 +9,8 @@ use markdown_base::event::Event;
 use markdown_base::item::Item;
 use markdown_base::options::Options;
 use markdown_base::tree::Tree;
+use markdown_brackets::chain_openers::ChainOpeners;
+use markdown_brackets::spent_ends::SpentEnds;
 use markdown_chains::work::Work;
 use markdown_code::span_closers::SpanClosers;
 use markdown_delims::open_runs::OpenRuns;
@@ -230,6 +232,8 @@ impl<'input, F: BrokenLinkCallback<'input>> Parser<'input, F> {
                 limit: text.len().max(100000),
                 callback,
                 work: Work::none(),
+                openers: ChainOpeners::new(alloc),
+                spent: SpentEnds::new(alloc),
                 code_closers: SpanClosers::new(alloc),
                 math_closers: SpanClosers::new(alloc),
                 open_runs: OpenRuns::new(alloc),
