@@ -5,3 +5,6 @@ mod escape;
 pub mod html;
 pub mod laws;
 pub mod merge;
+
+pub use html::push_html;
+pub use merge::{TextMergeStream, TextMergeWithOffset};
