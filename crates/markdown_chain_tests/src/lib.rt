@@ -5,8 +5,16 @@
 #[cfg(test)]
 mod chains;
 #[cfg(test)]
+mod footnotes;
+#[cfg(test)]
+mod links;
+#[cfg(test)]
 mod pairing;
+#[cfg(test)]
+mod references;
 #[cfg(test)]
 mod rows;
 #[cfg(test)]
 mod spans;
+#[cfg(test)]
+mod wikilinks;

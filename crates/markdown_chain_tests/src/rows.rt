@@ -27,6 +27,20 @@ pub fn compare(
     Ok(())
 }
 
+/// Each text gives this HTML.
+pub fn compare_whole(
+    rt: &(impl Abort + AllocGlobal),
+    options: Options,
+    rows: &[(&str, &str)],
+) -> Result<(), Fail> {
+    let alloc = rt.alloc();
+    for (source, wanted) in rows {
+        let html = merged_html(alloc, Parser::new_ext(alloc, source, options)?)?;
+        assert_eq!(rt; html.as_str(), *wanted, "{source:?}");
+    }
+    Ok(())
+}
+
 /// Each text is one paragraph that shows the text as it stands.
 pub fn compare_plain(rt: &(impl Abort + AllocGlobal), rows: &[&str]) -> Result<(), Fail> {
     let alloc = rt.alloc();

@@ -1,0 +1,294 @@
+//! Inline links and images (CommonMark 6.3 and 6.4), through parsers of texts and of trees made by hand.
+use crate::rows::{compare, compare_plain, compare_whole};
+use bitflags::Flags;
+use markdown_base::index::AlignmentIndex;
+use markdown_base::item::{Item, ItemBody};
+use markdown_base::options::Options;
+use markdown_base::tree::Tree;
+use markdown_inline::walk::Parser;
+use markdown_render::merged::merged_html;
+use markdown_spans::blocks::Blocks;
+use markdown_tests::builders::{item, no_parts, text, tree_of};
+use markdown_tests::notes::notes_of;
+use std::alloc::Global;
+use std::process::Abort;
+use std::test::Fail;
+
+#[test]
+fn destinations(rt: HostRuntime) -> Result<(), Fail> {
+    compare(
+        &rt,
+        Options::empty(),
+        &[
+            ("[link](/uri)", "<a href=\"/uri\">link</a>"),
+            ("[](./target.md)", "<a href=\"./target.md\"></a>"),
+            ("[link]()", "<a href=\"\">link</a>"),
+            ("[link](<>)", "<a href=\"\">link</a>"),
+            ("[]()", "<a href=\"\"></a>"),
+            ("[link](</my uri>)", "<a href=\"/my%20uri\">link</a>"),
+            ("[a](<b c>)", "<a href=\"b%20c\">a</a>"),
+            ("[link](<foo\nbar>)", "[link](<foo\nbar>)"),
+            ("[a](<b)c>)", "<a href=\"b)c\">a</a>"),
+            ("[link](<foo\\>)", "[link](&lt;foo&gt;)"),
+            (
+                "[a](<b)c\n[a](<b)c>\n[a](<b>c)",
+                "[a](&lt;b)c\n[a](&lt;b)c&gt;\n[a](<b>c)",
+            ),
+            ("[link](\\(foo\\))", "<a href=\"(foo)\">link</a>"),
+            (
+                "[link](foo(and(bar)))",
+                "<a href=\"foo(and(bar))\">link</a>",
+            ),
+            (
+                "[link](foo\\(and\\(bar\\))",
+                "<a href=\"foo(and(bar)\">link</a>",
+            ),
+            (
+                "[link](<foo(and(bar)>)",
+                "<a href=\"foo(and(bar)\">link</a>",
+            ),
+            ("[link](foo\\)\\:)", "<a href=\"foo):\">link</a>"),
+            ("[link](foo%20b&amp;)", "<a href=\"foo%20b&amp;\">link</a>"),
+            ("[link](foo\\bar)", "<a href=\"foo%5Cbar\">link</a>"),
+            ("[link](\"title\")", "<a href=\"%22title%22\">link</a>"),
+        ],
+    )?;
+    compare_plain(
+        &rt,
+        &[
+            "[link](/my uri)",
+            "[link](foo\nbar)",
+            "[link](foo(and(bar))",
+            "[link] (/uri)",
+        ],
+    )
+}
+
+#[test]
+fn titles(rt: HostRuntime) -> Result<(), Fail> {
+    compare(
+        &rt,
+        Options::empty(),
+        &[
+            (
+                "[link](/uri \"title\")",
+                "<a href=\"/uri\" title=\"title\">link</a>",
+            ),
+            (
+                "[link](/url 'title')\n[link](/url (title))",
+                "<a href=\"/url\" title=\"title\">link</a>\n<a href=\"/url\" title=\"title\">link</a>",
+            ),
+            (
+                "[link](/url \"title \\\"&quot;\")",
+                "<a href=\"/url\" title=\"title &quot;&quot;\">link</a>",
+            ),
+            (
+                "[link](/url\u{a0}\"title\")",
+                "<a href=\"/url%C2%A0%22title%22\">link</a>",
+            ),
+            (
+                "[link](/url \"title \"and\" title\")",
+                "[link](/url \"title \"and\" title\")",
+            ),
+            (
+                "[link](/url 'title \"and\" title')",
+                "<a href=\"/url\" title=\"title &quot;and&quot; title\">link</a>",
+            ),
+            (
+                "[link](   /uri\n  \"title\"  )",
+                "<a href=\"/uri\" title=\"title\">link</a>",
+            ),
+            ("![a](c \"t\")", "<img src=\"c\" alt=\"a\" title=\"t\" />"),
+            (
+                "![a *b*](c \"t\")",
+                "<img src=\"c\" alt=\"a b\" title=\"t\" />",
+            ),
+        ],
+    )?;
+    compare_whole(
+        &rt,
+        Options::empty(),
+        &[(
+            "> [a](b \"x\n> y\")",
+            "<blockquote>\n<p><a href=\"b\" title=\"x\ny\">a</a></p>\n</blockquote>\n",
+        )],
+    )
+}
+
+#[test]
+fn nesting(rt: HostRuntime) -> Result<(), Fail> {
+    compare(
+        &rt,
+        Options::empty(),
+        &[
+            (
+                "[link [foo [bar]]](/uri)",
+                "<a href=\"/uri\">link [foo [bar]]</a>",
+            ),
+            ("[link] bar](/uri)", "[link] bar](/uri)"),
+            ("[link [bar](/uri)", "[link <a href=\"/uri\">bar</a>"),
+            ("[link \\[bar](/uri)", "<a href=\"/uri\">link [bar</a>"),
+            (
+                "[link *foo **bar** `#`*](/uri)",
+                "<a href=\"/uri\">link <em>foo <strong>bar</strong> <code>#</code></em></a>",
+            ),
+            (
+                "[![moon](moon.jpg)](/uri)",
+                "<a href=\"/uri\"><img src=\"moon.jpg\" alt=\"moon\" /></a>",
+            ),
+            (
+                "[foo [bar](/uri)](/uri)",
+                "[foo <a href=\"/uri\">bar</a>](/uri)",
+            ),
+            ("[a [b](c) d](e)", "[a <a href=\"c\">b</a> d](e)"),
+            (
+                "[foo *[bar [baz](/uri)](/uri)*](/uri)",
+                "[foo <em>[bar <a href=\"/uri\">baz</a>](/uri)</em>](/uri)",
+            ),
+            (
+                "![[[foo](uri1)](uri2)](uri3)",
+                "<img src=\"uri3\" alt=\"[foo](uri2)\" />",
+            ),
+            ("*[foo*](/uri)", "*<a href=\"/uri\">foo*</a>"),
+            ("[foo *bar](baz*)", "<a href=\"baz*\">foo *bar</a>"),
+            ("*foo [bar* baz]", "<em>foo [bar</em> baz]"),
+            ("[foo <bar attr=\"](baz)\">", "[foo <bar attr=\"](baz)\">"),
+            ("[foo`](/uri)`", "[foo<code>](/uri)</code>"),
+            (
+                "[foo<https://example.com/?search=](uri)>",
+                "[foo<a href=\"https://example.com/?search=%5D(uri)\">https://example.com/?search=](uri)</a>",
+            ),
+        ],
+    )
+}
+
+#[test]
+fn images(rt: HostRuntime) -> Result<(), Fail> {
+    compare(
+        &rt,
+        Options::empty(),
+        &[
+            (
+                "![foo](/url \"title\")",
+                "<img src=\"/url\" alt=\"foo\" title=\"title\" />",
+            ),
+            (
+                "![foo ![bar](/url)](/url2)",
+                "<img src=\"/url2\" alt=\"foo bar\" />",
+            ),
+            (
+                "![foo [bar](/url)](/url2)",
+                "<img src=\"/url2\" alt=\"foo bar\" />",
+            ),
+            ("![foo](train.jpg)", "<img src=\"train.jpg\" alt=\"foo\" />"),
+            (
+                "My ![foo bar](/path/to/train.jpg  \"title\"   )",
+                "My <img src=\"/path/to/train.jpg\" alt=\"foo bar\" title=\"title\" />",
+            ),
+            ("![foo](<url>)", "<img src=\"url\" alt=\"foo\" />"),
+            ("![](/url)", "<img src=\"/url\" alt=\"\" />"),
+            // an image disables no opener before it
+            (
+                "[a ![b](c) d](e)",
+                "<a href=\"e\">a <img src=\"c\" alt=\"b\" /> d</a>",
+            ),
+        ],
+    )
+}
+
+#[test]
+fn ranges(rt: HostRuntime) -> Result<(), Fail> {
+    let alloc = rt.alloc();
+    let rows = [
+        (
+            "a [b](c) d",
+            "<p>0..10 [a ]0..2 <a c>2..8 [b]3..4 </a>2..8 [ d]8..10 </p>0..10 ",
+        ),
+        (
+            "[*a*](b)",
+            "<p>0..8 <a b>0..8 <em>1..4 [a]2..3 </em>1..4 </a>0..8 </p>0..8 ",
+        ),
+    ];
+    for (source, noted) in rows {
+        let notes = notes_of(alloc, Parser::new(alloc, source)?.into_offset_iter())?;
+        assert_eq!(rt; notes.as_str(), noted, "{source:?}");
+    }
+    Ok(())
+}
+
+/// The HTML of a table of one cell, which holds the items, over a text.
+fn cell_html(alloc: Global, source: &str, items: &[(usize, Item)]) -> Result<String, Fail> {
+    let end = source.len();
+    let mut outline = Vec::new(alloc);
+    outline.push((0usize, item(0, end, ItemBody::Table(AlignmentIndex(0)))))?;
+    outline.push((1usize, item(0, end, ItemBody::TableHead)))?;
+    outline.push((2usize, item(0, end, ItemBody::TableCell)))?;
+    for (depth, inside) in items {
+        outline.push((*depth, *inside))?;
+    }
+    let tree = tree_of(alloc, &outline)?;
+    let mut parts = no_parts(alloc);
+    parts.alignments.push(Vec::new(alloc))?;
+    let blocks = Blocks::checked(alloc, source, Options::empty(), tree, parts)?;
+    Ok(merged_html(alloc, Parser::from_blocks(alloc, blocks, None)?)?)
+}
+
+#[test]
+fn titles_in_a_cell(rt: HostRuntime) -> Result<(), Fail> {
+    let rows = [
+        ("[a](b \"x\\\\|y\")", "x|y"),
+        ("[a](b \"x\\\\|.y\")", "x|.y"),
+    ];
+    for (source, title) in rows {
+        let items = [
+            (3, item(0, 1, ItemBody::MaybeLinkOpen)),
+            (3, text(1, 2)),
+            (3, item(2, 3, ItemBody::MaybeLinkClose(true))),
+            (3, text(3, source.len())),
+        ];
+        let html = cell_html(rt.alloc(), source, &items)?;
+        let wanted = format!(in rt.alloc();
+            "<table><thead><tr><th><a href=\"b\" title=\"{title}\">a</a></th></tr></thead><tbody>\n</tbody></table>\n"
+        )?;
+        assert_eq!(rt; html.as_str(), wanted.as_str(), "{source:?}");
+    }
+    Ok(())
+}
+
+/// A text with others repeated before and behind it.
+fn around(
+    alloc: Global,
+    before: &str,
+    text: &str,
+    after: &str,
+    times: usize,
+) -> Result<String, Fail> {
+    let mut whole = String::new(alloc);
+    for _ in 0..times {
+        whole.push_str(before)?;
+    }
+    whole.push_str(text)?;
+    for _ in 0..times {
+        whole.push_str(after)?;
+    }
+    Ok(whole)
+}
+
+#[test]
+fn parentheses_nest_to_32(rt: HostRuntime) -> Result<(), Fail> {
+    let alloc = rt.alloc();
+    let inside = around(alloc, "(", "b", ")", 32)?;
+    let source = format!(in alloc; "[a]({})", inside.as_str())?;
+    let html = merged_html(alloc, Parser::new(alloc, &source)?)?;
+    let wanted = format!(in alloc; "<p><a href=\"{}\">a</a></p>\n", inside.as_str())?;
+    assert_eq!(rt; html.as_str(), wanted.as_str());
+    let inside = around(alloc, "(", "b", ")", 40)?;
+    let source = format!(in alloc; "[a]({})", inside.as_str())?;
+    compare_plain(&rt, &[&source])
+}
+
+#[test]
+fn brackets_that_never_close(rt: HostRuntime) -> Result<(), Fail> {
+    let source = around(rt.alloc(), "[", "", "]", 5000)?;
+    compare_plain(&rt, &[&source])
+}
