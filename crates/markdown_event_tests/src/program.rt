@@ -60,6 +60,12 @@ fn prints_html(rt: HostRuntime) -> Result<(), Fail> {
         ("a  \nb", "0 <p>a<br />\nb</p>\n"),
         ("a\\\nb\n\nc", "0 <p>a<br />\nb</p>\n<p>c</p>\n"),
         ("a<b>&\"", "0 <p>a<b>&amp;\"</p>\n"),
+        (
+            "hello\n=====\n\n* alpha\n* beta\n",
+            "0 <h1>hello</h1>\n<ul>\n<li>alpha</li>\n<li>beta</li>\n</ul>\n",
+        ),
+        ("[test]:\\", "0 "),
+        ("[a]:", "0 <p>[a]:</p>\n"),
     ];
     for (input, wanted) in rows {
         let found = printed(rt.alloc(), &[], &mut input.as_bytes())?;
@@ -74,6 +80,44 @@ fn two_words(alloc: Global) -> Result<Vec<String>, Fail> {
     words.push(String::from_str(alloc, "tables")?)?;
     words.push(String::from_str(alloc, "nosuch")?)?;
     Ok(words)
+}
+
+/// What is printed of a text, with one word.
+fn with_word(alloc: Global, word: &str, input: &str) -> Result<String, Fail> {
+    let mut words = Vec::new(alloc);
+    words.push(String::from_str(alloc, word)?)?;
+    printed(alloc, &words, &mut input.as_bytes())
+}
+
+#[test]
+fn words_turn_options_on(rt: HostRuntime) -> Result<(), Fail> {
+    let rows = [
+        (
+            "strikethrough",
+            "Hello world, this is a ~~complicated~~ *very simple* example.",
+            "0 <p>Hello world, this is a <del>complicated</del> <em>very simple</em> example.</p>\n",
+        ),
+        ("smart", "'a' ...", "0 <p>‘a’ ...</p>\n"),
+        (
+            "math",
+            "$a$",
+            "0 <p><span class=\"math math-inline\">a</span></p>\n",
+        ),
+        ("superscript", "a^b^", "0 <p>a<sup>b</sup></p>\n"),
+        ("subscript", "a~b~", "0 <p>a<sub>b</sub></p>\n"),
+        ("wikilinks", "[[a]]", "0 <p><a href=\"a\">a</a></p>\n"),
+        ("footnotes", "a[^b]", "0 <p>a[^b]</p>\n"),
+        (
+            "old-footnotes",
+            "a[^b]",
+            "0 <p>a<sup class=\"footnote-reference\"><a href=\"#b\">1</a></sup></p>\n",
+        ),
+    ];
+    for (word, input, wanted) in rows {
+        let found = with_word(rt.alloc(), word, input)?;
+        assert_eq!(rt; found.as_str(), wanted, "{word}");
+    }
+    Ok(())
 }
 
 #[test]
