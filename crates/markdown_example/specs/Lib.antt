@@ -1,0 +1,1 @@
+-- No definition: the example has no contracts.
