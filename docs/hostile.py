@@ -65,6 +65,20 @@ REPEATED = {
     "ticked-words": "`a",
     "escaped-ticks": "\\``a",
     "addresses": "<ab:",
+    "closers": "]",
+    "link-starts": "[a](",
+    "double-brackets": "[[",
+    "open-wikilinks": "[[a|",
+    "empty-wikilinks": "[[|]]",
+    "image-openers": "![",
+    "label-starts": "[a][",
+    "bracket-pairs": "[]",
+    "references": "[a]",
+    "open-destinations": "[a](<b",
+    "open-titles": "[a](\"",
+    "title-lines": "[a](b \"c\n",
+    "three-titles": "[a](b \"c\n[a](b 'c\n[a](b (c\n",
+    "links": "[a](b) ",
 }
 
 
@@ -72,6 +86,12 @@ def main():
     kind, size = sys.argv[1], int(sys.argv[2])
     if kind == "growing":
         text = growing(size)
+    elif kind == "nested-brackets":
+        text = "[" * (size // 2) + "]" * (size // 2)
+    elif kind == "nested-links":
+        text = "[" * (size // 5) + "a" + "](b)" * (size // 5)
+    elif kind == "defined-references":
+        text = "[a]: b\n\n" + "[a] " * (size // 4)
     elif kind == "rising-backticks":
         text = rising(size)
     elif kind == "blank-list":
