@@ -9,7 +9,7 @@ use markdown_base::event::Event;
 use markdown_base::options::Options;
 use markdown_base::tag::{LinkType, Tag};
 use markdown_inline::walk::Parser;
-use markdown_spans::defs::{BoxedCallback, BrokenLink, Closure};
+use markdown_spans::defs::{BoxedCallback, BrokenLink, BrokenLinkCallback, Closure};
 use std::alloc::Global;
 use std::ops::Range;
 use std::test::Fail;
@@ -184,6 +184,35 @@ fn types_and_ranges(rt: HostRuntime) -> Result<(), Fail> {
     Ok(())
 }
 
+/// Takes so many events of a text with a callback, or all.
+fn take_events<'a, F: BrokenLinkCallback<'a>>(
+    alloc: Global,
+    source: &'a str,
+    callback: F,
+    events: usize,
+) -> Result<(), Fail>
+    requires { F.can_ask callback }
+{
+    let mut parser = Parser::new_with_broken_link_callback(
+        alloc,
+        source,
+        Options::empty(),
+        Some(callback),
+    )?;
+    if events == 0 {
+        return Ok(());
+    }
+    let mut taken = 0usize;
+    'events: while let Some(item) = parser.next() {
+        drop(item?);
+        taken = taken.saturating_add(1);
+        if taken == events {
+            return Ok(());
+        }
+    }
+    Ok(())
+}
+
 /// How many questions a text asks, of which none is answered.
 fn questions_of(alloc: Global, source: &str) -> Result<u64, Fail> {
     let mut asked = 0u64;
@@ -195,17 +224,7 @@ fn questions_of(alloc: Global, source: &str) -> Result<u64, Fail> {
         drop(link);
         None
     };
-    let callback = Some(Closure::new(counting));
-    let mut parser = Parser::new_with_broken_link_callback(
-        alloc,
-        source,
-        Options::empty(),
-        callback,
-    )?;
-    'events: while let Some(item) = parser.next() {
-        drop(item?);
-    }
-    drop(parser);
+    take_events(alloc, source, Closure::new(counting), usize::MAX)?;
     Ok(asked)
 }
 
@@ -397,19 +416,7 @@ fn questions_after(alloc: Global, source: &str, events: usize) -> Result<u64, Fa
         drop(link);
         None
     };
-    let callback = Some(Closure::new(counting));
-    let mut parser = Parser::new_with_broken_link_callback(
-        alloc,
-        source,
-        Options::empty(),
-        callback,
-    )?;
-    for _ in 0..events {
-        if let Some(item) = parser.next() {
-            drop(item?);
-        }
-    }
-    drop(parser);
+    take_events(alloc, source, Closure::new(counting), events)?;
     Ok(asked)
 }
 
