@@ -306,8 +306,14 @@ impl BoxedCallback for World {
 }
 
 /// The links of a text with a callback: type, destination, title and label of each.
-fn answered(alloc: Global, source: &str, callback: Box<dyn BoxedCallback>) -> Result<String, Fail> {
-    let mut parser: Parser<'_, Box<dyn BoxedCallback>> = Parser::new_with_broken_link_callback(
+fn answered<'a, F: BrokenLinkCallback<'a>>(
+    alloc: Global,
+    source: &'a str,
+    callback: F,
+) -> Result<String, Fail>
+    requires { F.can_ask callback }
+{
+    let mut parser = Parser::new_with_broken_link_callback(
         alloc,
         source,
         Options::empty(),
@@ -339,31 +345,39 @@ fn answered(alloc: Global, source: &str, callback: Box<dyn BoxedCallback>) -> Re
     Ok(noted)
 }
 
+/// A callback that answers by so many bytes.
+fn answering_by(
+    alloc: Global,
+    bytes: usize,
+    title: &'static str,
+) -> Result<Box<dyn BoxedCallback>, Fail> {
+    let boxed: Box<dyn BoxedCallback> = Box::new(
+        alloc,
+        Repeating {
+            alloc,
+            bytes,
+            title,
+        },
+    )?;
+    Ok(boxed)
+}
+
 #[test]
 fn answers(rt: HostRuntime) -> Result<(), Fail> {
     let alloc = rt.alloc();
-    let numbering = Box::new(alloc, Numbering { alloc, asked: 0 })?;
+    let numbering: Box<dyn BoxedCallback> = Box::new(alloc, Numbering { alloc, asked: 0 })?;
     let links = answered(alloc, "[a] [b]", numbering)?;
     assert_eq!(rt;
         links.as_str(),
         "ShortcutUnknown (/1) () (a); ShortcutUnknown (/2) () (b); "
     );
-    let world = Box::new(alloc, World)?;
+    let world: Box<dyn BoxedCallback> = Box::new(alloc, World)?;
     let links = answered(alloc, "This is a link w/o def: [hello][world]", world)?;
     assert_eq!(rt; links.as_str(), "ReferenceUnknown (YOLO) (SWAG) (world); ");
-    let empty = Repeating {
-        alloc,
-        bytes: 0,
-        title: "",
-    };
-    let links = answered(alloc, "[a]", Box::new(alloc, empty)?)?;
+    let links = answered(alloc, "[a]", answering_by(alloc, 0, "")?)?;
     assert_eq!(rt; links.as_str(), "ShortcutUnknown () () (a); ");
-    let titled = Repeating {
-        alloc,
-        bytes: 1,
-        title: "my example website",
-    };
-    let links = answered(alloc, "check out [my website][].", Box::new(alloc, titled)?)?;
+    let titled = answering_by(alloc, 1, "my example website")?;
+    let links = answered(alloc, "check out [my website][].", titled)?;
     assert_eq!(rt;
         links.as_str(),
         "CollapsedUnknown (x) (my example website) (my website); "
@@ -371,21 +385,19 @@ fn answers(rt: HostRuntime) -> Result<(), Fail> {
     Ok(())
 }
 
-/// How many links a text has, where each question is answered by so many bytes.
-fn links_with(alloc: Global, source: &str, bytes: usize) -> Result<usize, Fail> {
-    let long: Box<dyn BoxedCallback> = Box::new(
-        alloc,
-        Repeating {
-            alloc,
-            bytes,
-            title: "",
-        },
-    )?;
-    let mut parser: Parser<'_, Box<dyn BoxedCallback>> = Parser::new_with_broken_link_callback(
+/// How many links a text has, with a callback.
+fn links_with<'a, F: BrokenLinkCallback<'a>>(
+    alloc: Global,
+    source: &'a str,
+    callback: F,
+) -> Result<usize, Fail>
+    requires { F.can_ask callback }
+{
+    let mut parser = Parser::new_with_broken_link_callback(
         alloc,
         source,
         Options::empty(),
-        Some(long),
+        Some(callback),
     )?;
     let mut links = 0usize;
     'events: while let Some(item) = parser.next() {
@@ -400,8 +412,11 @@ fn links_with(alloc: Global, source: &str, bytes: usize) -> Result<usize, Fail> 
 
 #[test]
 fn references_expand_up_to_a_limit(rt: HostRuntime) -> Result<(), Fail> {
-    assert_eq!(rt; links_with(rt.alloc(), "[a] [b]", 200000)?, 1);
-    assert_eq!(rt; links_with(rt.alloc(), "[a] [b] [c] [d]", 60000)?, 2);
+    let alloc = rt.alloc();
+    let long = answering_by(alloc, 200000, "")?;
+    assert_eq!(rt; links_with(alloc, "[a] [b]", long)?, 1);
+    let shorter = answering_by(alloc, 60000, "")?;
+    assert_eq!(rt; links_with(alloc, "[a] [b] [c] [d]", shorter)?, 2);
     Ok(())
 }
 
