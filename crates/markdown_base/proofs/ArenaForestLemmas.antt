@@ -43,12 +43,15 @@ pub record Opened (k : Links) (p : ℕ → Type 0) (i : ℕ) : Type 0 where
   pub below : Reaches k p (k.child i)
   pub after : Reaches k p (k.next i)
 
-open_at : (n : ℕ) (k : Links) (p : ℕ → Type 0) (i : ℕ) → n ≡ k.size → Spells k (Some i) (followed n k (Some i)) → Each p (followed n k (Some i))
+open_at : (n : ℕ) (k : Links) (p : ℕ → Type 0) (i : ℕ) → n ≡ k.size → Spells k (Some i) (followed n k (Some i))
+    → Each p (followed n k (Some i))
     → followed n k (Some i) ≡ forest_at k (Some i) → Opened k p i
 open_at zero k p i e s q m = cc
 open_at (suc n) k p i e s q m =
-    let a : forest_at k (k.child i) ≡ followed n k (k.child i) = forest_at-fits k (k.child i) (followed n k (k.child i)) s.2 (omega (arith, height-followed n k (k.child i))) in
-    let b : forest_at k (k.next i) ≡ followed n k (k.next i) = forest_at-fits k (k.next i) (followed n k (k.next i)) s.3 (omega (arith, height-followed n k (k.next i))) in
+    let a : forest_at k (k.child i) ≡ followed n k (k.child i) = forest_at-fits k (k.child i) (followed n k (k.child i)) s.2
+    (omega (arith, height-followed n k (k.child i))) in
+    let b : forest_at k (k.next i) ≡ followed n k (k.next i) = forest_at-fits k (k.next i) (followed n k (k.next i)) s.3
+    (omega (arith, height-followed n k (k.next i))) in
     record {
       within = s.1;
       holds = q.0;

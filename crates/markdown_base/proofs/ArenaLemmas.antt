@@ -1,5 +1,6 @@
 -- Laws of an arena's nodes: what a write and a new node leave as it was.
-use Rattle.std.proofs.Common.{◌≡◌, ℕ, zero, suc, ◌+◌, ◌<◌, ◌≤◌, List, [], ◌∷◌, ◌++◌, Option, Some, None, length, get_or, set, refl, ap, subst, arith}
+use Rattle.std.proofs.Common.{◌≡◌, ℕ, zero, suc, ◌+◌, ◌<◌, ◌≤◌, List, [], ◌∷◌, ◌++◌, Option, Some, None, length, get_or, set, refl, ap}
+use Rattle.std.proofs.Common.{subst, arith}
 use Rattle.std.specs.Prelude.{IfSome}
 use Rattle.std.specs.List.{AllByRecursion}
 use Rattle.std.proofs.lemmas.List.{length-append}
@@ -15,7 +16,8 @@ set-changed_at (m ∷ nodes) zero n change l e = ap (λ x. change x ∷ nodes) e
 set-changed_at (m ∷ nodes) (suc ix) n change l e = ap (λ x. m ∷ x) (set-changed_at nodes ix n change (omega (arith, l)) e)
 
 -- a change keeps the count
-pub length-changed_at : {T : Type 0} (ix : ℕ) (change : Node T → Node T) (nodes : List (Node T)) → length (changed_at ix change nodes) ≡ length nodes
+pub length-changed_at : {T : Type 0} (ix : ℕ) (change : Node T → Node T) (nodes : List (Node T)) → length (changed_at ix change nodes)
+    ≡ length nodes
 length-changed_at ix change [] = refl
 length-changed_at zero change (n ∷ nodes) = refl
 length-changed_at (suc ix) change (n ∷ nodes) = ap suc (length-changed_at ix change nodes)
@@ -28,7 +30,8 @@ below_more (Some x) a b l h = omega (arith, l, h)
 pub leads_more : {T : Type 0} (a b : ℕ) (n : Node T) → a ≤ b → LeadsBelow a n → LeadsBelow b n
 leads_more a b n l h = record { child = below_more n.child a b l h.child; next = below_more n.next a b l h.next }
 
-links_more : {T : Type 0} (a b : ℕ) (nodes : List (Node T)) → a ≤ b → AllByRecursion (LeadsBelow a) nodes → AllByRecursion (LeadsBelow b) nodes
+links_more : {T : Type 0} (a b : ℕ) (nodes : List (Node T)) → a ≤ b → AllByRecursion (LeadsBelow a) nodes
+    → AllByRecursion (LeadsBelow b) nodes
 links_more a b [] l h = tt
 links_more a b (n ∷ nodes) l h = (leads_more a b n l h.0, links_more a b nodes l h.1)
 
@@ -64,7 +67,8 @@ within_more arena n w h =
       rooted = omega (arith, s, w.rooted);
       cursor = below_more arena.cursor _ _ m w.cursor;
       spine = spine_more _ _ arena.spine m w.spine;
-      links = All-snoc (LeadsBelow (length (arena.nodes ++ n ∷ []))) arena.nodes n (links_more _ _ arena.nodes m w.links) (leads_more _ _ n m h);
+      links = All-snoc (LeadsBelow (length (arena.nodes ++ n ∷ []))) arena.nodes n (links_more _ _ arena.nodes m w.links)
+          (leads_more _ _ n m h);
     }
 
 -- a node changed so that its links still lead to nodes
@@ -82,12 +86,14 @@ within_changed arena ix change w k =
     }
 
 -- the links of a node
-pub child_within : {T : Type 0} (nodes : List (Node T)) (size ix : ℕ) → AllByRecursion (LeadsBelow size) nodes → IfSome (child_of nodes ix) (λ below. below < size)
+pub child_within : {T : Type 0} (nodes : List (Node T)) (size ix : ℕ) → AllByRecursion (LeadsBelow size) nodes
+    → IfSome (child_of nodes ix) (λ below. below < size)
 child_within [] size ix h = tt
 child_within (n ∷ nodes) size zero h = h.0.child
 child_within (n ∷ nodes) size (suc ix) h = child_within nodes size ix h.1
 
-pub sibling_within : {T : Type 0} (nodes : List (Node T)) (size ix : ℕ) → AllByRecursion (LeadsBelow size) nodes → IfSome (sibling_of nodes ix) (λ after. after < size)
+pub sibling_within : {T : Type 0} (nodes : List (Node T)) (size ix : ℕ) → AllByRecursion (LeadsBelow size) nodes
+    → IfSome (sibling_of nodes ix) (λ after. after < size)
 sibling_within [] size ix h = tt
 sibling_within (n ∷ nodes) size zero h = h.0.next
 sibling_within (n ∷ nodes) size (suc ix) h = sibling_within nodes size ix h.1
@@ -99,7 +105,8 @@ innermost-snoc (x ∷ []) ix = refl
 innermost-snoc (x ∷ y ∷ outer) ix = innermost-snoc (y ∷ outer) ix
 
 -- a link at the cursor's place keeps the count
-pub length-led_to : {T : Type 0} (ix : ℕ) (spine : List ℕ) (cursor : Option ℕ) (nodes : List (Node T)) → length (led_to ix spine cursor nodes) ≡ length nodes
+pub length-led_to : {T : Type 0} (ix : ℕ) (spine : List ℕ) (cursor : Option ℕ) (nodes : List (Node T))
+    → length (led_to ix spine cursor nodes) ≡ length nodes
 length-led_to ix spine (Some before) nodes = length-changed_at before (λ n. record n { next = Some ix }) nodes
 length-led_to ix spine None nodes = length-changed_at (innermost spine) (λ n. record n { child = Some ix }) nodes
 
@@ -110,9 +117,12 @@ innermost_within size (x ∷ []) r h = h.0
 innermost_within size (x ∷ y ∷ spine) r h = innermost_within size (y ∷ spine) r h.1
 
 -- the nodes of an arena, where one is read, changed and written back
-pub arena_changed : {T : Type 0} (s : Arena T) (nodes : List (Node T)) (spine : List ℕ) (cursor : Option ℕ) (ix : ℕ) (n : Node T) (change : Node T → Node T)
+pub arena_changed : {T : Type 0} (s : Arena T) (nodes : List (Node T)) (spine : List ℕ) (cursor : Option ℕ) (ix : ℕ) (n : Node T)
+    (change : Node T → Node T)
     → record { nodes = nodes; spine = spine; cursor = cursor } ≡ s → ix < length s.nodes → n ≡ get_or nodes ix n
     → record { nodes = set nodes ix (change n); spine = spine; cursor = cursor } ≡ record s { nodes = changed_at ix change s.nodes }
 arena_changed {T} s nodes spine cursor ix n change v l e =
-    let P : Arena T → Type 0 = λ a. ix < length a.nodes → record { nodes = set nodes ix (change n); spine = spine; cursor = cursor } ≡ record a { nodes = changed_at ix change a.nodes } in
-    subst P v (λ m. ap (λ (ns : List (Node T)). record { nodes = ns; spine = spine; cursor = cursor }) (set-changed_at nodes ix n change m e)) l
+    let P : Arena T → Type 0 = λ a. ix < length a.nodes → record { nodes = set nodes ix (change n); spine = spine; cursor = cursor }
+    ≡ record a { nodes = changed_at ix change a.nodes } in
+    subst P v (λ m. ap (λ (ns : List (Node T)). record { nodes = ns; spine = spine; cursor = cursor })
+    (set-changed_at nodes ix n change m e)) l

@@ -14,11 +14,13 @@ use Rattle.markdown_base.specs.WellFormed.{PartCounts, AllKeepRules}
 use Rattle.markdown_base.proofs.ArenaForestLemmas.{height, forest_at-fits}
 
 -- the trees from a link on are those that it spells
-pub trees_at-fits : (nodes : List (Node Item)) (l : Option ℕ) (f : Forest ℕ) → Spells (links_of nodes) l f → height f ≤ length nodes → trees_at nodes l ≡ relabelled (numbered nodes) f
+pub trees_at-fits : (nodes : List (Node Item)) (l : Option ℕ) (f : Forest ℕ) → Spells (links_of nodes) l f → height f ≤ length nodes
+    → trees_at nodes l ≡ relabelled (numbered nodes) f
 trees_at-fits nodes l f s h = ap (relabelled (numbered nodes)) (forest_at-fits (links_of nodes) l f s h)
 
 -- and the first of them is that of its number
-first_spelled : (nodes : List (Node Item)) (l : Option ℕ) (f : Forest ℕ) → Spells (links_of nodes) l f → option_map (numbered nodes) l ≡ first_root (relabelled (numbered nodes) f)
+first_spelled : (nodes : List (Node Item)) (l : Option ℕ) (f : Forest ℕ) → Spells (links_of nodes) l f
+    → option_map (numbered nodes) l ≡ first_root (relabelled (numbered nodes) f)
 first_spelled nodes l nil s = rw s refl
 first_spelled nodes l (node ix below after) s = rw s.0 refl
 
@@ -29,7 +31,8 @@ record Opens (nodes : List (Node Item)) (ix : ℕ) (below after : Forest ℕ) : 
   low : height below ≤ length nodes
   flat : height after ≤ length nodes
 
-node_opens : (nodes : List (Node Item)) (l : Option ℕ) (ix : ℕ) (below after : Forest ℕ) → Spells (links_of nodes) l (node ix below after) → height (node ix below after) ≤ length nodes → Opens nodes ix below after
+node_opens : (nodes : List (Node Item)) (l : Option ℕ) (ix : ℕ) (below after : Forest ℕ) → Spells (links_of nodes) l (node ix below after)
+    → height (node ix below after) ≤ length nodes → Opens nodes ix below after
 node_opens nodes l ix below after s h = record {
   inside = trees_at-fits nodes (child_of nodes ix) below s.2 (omega (arith, h));
   next = first_spelled nodes (sibling_of nodes ix) after s.3;

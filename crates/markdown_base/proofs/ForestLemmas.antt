@@ -5,7 +5,8 @@ use Rattle.std.proofs.lemmas.List.{map-append}
 use Rattle.markdown_base.specs.Forest.{Forest, nil, node, Throughout, Each, preorder, roots, relabelled}
 
 -- what follows from a fact holds where the fact does
-pub Throughout-weaker : {A : Type 0} (p q : A → Forest A → Forest A → Type 0) → ((a : A) (below after : Forest A) → p a below after → q a below after)
+pub Throughout-weaker : {A : Type 0} (p q : A → Forest A → Forest A → Type 0) → ((a : A) (below after : Forest A) → p a below after
+    → q a below after)
     → (f : Forest A) → Throughout p f → Throughout q f
 Throughout-weaker p q h nil t = tt
 Throughout-weaker p q h (node a below after) t =
@@ -25,7 +26,8 @@ relabelled-Throughout f p (node a below after) h =
     (h.0, relabelled-Throughout f p below h.1, relabelled-Throughout f p after h.2)
 
 -- relabelled twice
-pub relabelled-relabelled : {A B C : Type 0} (f : A → B) (g : B → C) (t : Forest A) → relabelled g (relabelled f t) ≡ relabelled (λ a. g (f a)) t
+pub relabelled-relabelled : {A B C : Type 0} (f : A → B) (g : B → C) (t : Forest A)
+    → relabelled g (relabelled f t) ≡ relabelled (λ a. g (f a)) t
 relabelled-relabelled f g nil = refl
 relabelled-relabelled f g (node a below after) =
     ap (λ x. node (g (f a)) x (relabelled g (relabelled f after))) (relabelled-relabelled f g below)
@@ -60,7 +62,11 @@ All-weaker p q h (x ∷ xs) a = (h x a.0, All-weaker p q h xs a.1)
 -- a fact holds of each label just where it holds of the labels in preorder
 pub preorder-Each : {A : Type 0} (p : A → Type 0) (f : Forest A) → Each p f → AllByRecursion p (preorder f)
 preorder-Each p nil e = tt
-preorder-Each p (node a below after) e = (e.0, All-append p (preorder below) (preorder after) (preorder-Each p below e.1) (preorder-Each p after e.2))
+preorder-Each p (node a below after) e = (
+  e.0,
+  All-append p (preorder below) (preorder after) (preorder-Each p below e.1)
+      (preorder-Each p after e.2),
+)
 
 pub Each-preorder : {A : Type 0} (p : A → Type 0) (f : Forest A) → AllByRecursion p (preorder f) → Each p f
 Each-preorder p nil a = tt

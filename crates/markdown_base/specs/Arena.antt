@@ -26,6 +26,7 @@ siblings_of nodes = map (λ n. n.next) nodes
 abbrev pub child_of : {T : Type 0} → List (Node T) → ℕ → Option ℕ
 child_of nodes ix = slice_index_or (children_of nodes) ix None
 
+-- the node after a node in its chain
 abbrev pub sibling_of : {T : Type 0} → List (Node T) → ℕ → Option ℕ
 sibling_of nodes ix = slice_index_or (siblings_of nodes) ix None
 

@@ -11,13 +11,15 @@ pub record Links : Type 0 where
   pub child : ℕ → Option ℕ
   pub next : ℕ → Option ℕ
 
+-- the links of an arena's nodes
 abbrev pub links_of : {T : Type 0} → List (Node T) → Links
 links_of nodes = record { size = length nodes; child = child_of nodes; next = sibling_of nodes }
 
 -- from the link l on the links lead through the forest f of node numbers
 abbrev pub Spells : Links → Option ℕ → Forest ℕ → Type 0
 Spells k l nil = l ≡ None
-Spells k l (node ix below after) = (l ≡ Some ix) × (ix < k.size) × Spells k (k.child ix) below × Spells k (k.next ix) after
+Spells k l (node ix below after) = (l ≡ Some ix) × (ix < k.size) × Spells k (k.child ix) below
+    × Spells k (k.next ix) after
 
 -- what the links lead through from l on, no more than n of them in a row
 abbrev pub followed : ℕ → Links → Option ℕ → Forest ℕ
@@ -33,9 +35,11 @@ forest_at k l = followed k.size k l
 abbrev pub numbers_below : {T : Type 0} → List (Node T) → Forest ℕ
 numbers_below nodes = forest_at (links_of nodes) (child_of nodes 0)
 
+-- two links are equal in one way at most
 pub link-set : (a b : Option ℕ) → IsProp (a ≡ b)
 link-set a b = Coded-set (coded_option coded_ℕ) a b
 
+-- so is a forest spelled in one way at most
 pub Spells-prop : (k : Links) (l : Option ℕ) (f : Forest ℕ) → IsProp (Spells k l f)
 Spells-prop k l nil = link-set l None
 Spells-prop k l (node ix below after) =

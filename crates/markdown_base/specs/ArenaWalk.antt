@@ -19,13 +19,16 @@ pub record IsWalk (k : Links) (p : ℕ → Type 0) (l : Option ℕ) (spine : Lis
   pub here : Reaches k p l
   pub above : AllReach k p spine
 
+-- it has one proof at most, where the fact of a node has
 pub Reaches-prop : (k : Links) (p : ℕ → Type 0) → ((ix : ℕ) → IsProp (p ix)) → (l : Option ℕ) → IsProp (Reaches k p l)
 Reaches-prop k p h l =
     let spelled = Spells-prop k l (forest_at k l) in
     let each = Throughout-prop (λ ix below after. p ix) (λ ix below after. h ix) (forest_at k l) in
     hlevel
 
-pub AllReach-prop : (k : Links) (p : ℕ → Type 0) → ((ix : ℕ) → IsProp (p ix)) → (spine : List ℕ) → IsProp (AllReach k p spine)
+-- so has this
+pub AllReach-prop : (k : Links) (p : ℕ → Type 0) → ((ix : ℕ) → IsProp (p ix)) → (spine : List ℕ)
+    → IsProp (AllReach k p spine)
 AllReach-prop k p h [] = Unit-prop
 AllReach-prop k p h (ix ∷ deeper) =
     let within : IsProp (ix < k.size) = le_prop in
@@ -33,5 +36,7 @@ AllReach-prop k p h (ix ∷ deeper) =
     let others = AllReach-prop k p h deeper in
     hlevel
 
-pub IsWalk-prop : (k : Links) (p : ℕ → Type 0) → ((ix : ℕ) → IsProp (p ix)) → (l : Option ℕ) (spine : List ℕ) → IsProp (IsWalk k p l spine)
+-- and this
+pub IsWalk-prop : (k : Links) (p : ℕ → Type 0) → ((ix : ℕ) → IsProp (p ix)) → (l : Option ℕ) (spine : List ℕ)
+    → IsProp (IsWalk k p l spine)
 IsWalk-prop k p h l spine = let here = Reaches-prop k p h l in let above = AllReach-prop k p h spine in hlevel

@@ -11,6 +11,7 @@ pub record DefinitionView : Type 0 where
   pub title : Option (List ℕ)
   pub span : Range ℕ
 
+-- what a definition of a link says
 abbrev pub definition_view : LinkDef → DefinitionView
 definition_view d = record {
   destination = text_of d.dest;

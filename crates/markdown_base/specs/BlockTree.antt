@@ -20,6 +20,7 @@ no_item = record { start = 0; end = 0; body = body.Root }
 abbrev pub item_at : List (Node Item) → ℕ → Item
 item_at nodes ix = slice_index_or (items_of nodes) ix no_item
 
+-- the item of a node, with its number
 abbrev pub numbered : List (Node Item) → ℕ → Numbered
 numbered nodes ix = record { number = ix; item = item_at nodes ix }
 

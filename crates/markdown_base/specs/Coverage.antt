@@ -24,5 +24,6 @@ is_covered tree parts at = is_in_block tree at || list_any (λ d. is_inside at d
 
 -- each byte that is no ASCII white space is covered, and each definition's span begins with a `[`
 pub record Covers (text : List ℕ) (nodes : List (Node Item)) (parts : BlockParts) : Type 0 where
-  pub bytes : (at : ℕ) → at < length text → is_ascii_whitespace (slice_index text at) ≡ false → IsTrue (is_covered (tree_of nodes) parts at)
+  pub bytes : (at : ℕ) → at < length text → is_ascii_whitespace (slice_index text at) ≡ false
+      → IsTrue (is_covered (tree_of nodes) parts at)
   pub definitions : AllByRecursion (λ d. slice_index text d.1.span.start ≡ 91) parts.definitions.items

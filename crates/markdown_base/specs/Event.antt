@@ -81,10 +81,12 @@ pub data EventView : Type 0 where
 abbrev pub attribute_view : CowStr × Option CowStr → List ℕ × Option (List ℕ)
 attribute_view attribute = (text_of attribute.0, option_map text_of attribute.1)
 
+-- the tag of a code block, by its texts
 abbrev pub code_block_view : CodeBlockKind → TagView
 code_block_view code_block.Indented = indented_code
 code_block_view (code_block.Fenced info) = fenced_code (text_of info)
 
+-- a tag, by its texts
 abbrev pub tag_view : Tag → TagView
 tag_view opens.Paragraph = paragraph
 tag_view (opens.Heading level id classes attrs) = heading (record {
@@ -125,6 +127,7 @@ tag_view (opens.Image kind destination title label) = image (record {
 })
 tag_view (opens.MetadataBlock kind) = metadata_block kind
 
+-- an event, by its texts
 abbrev pub event_view : Event → EventView
 event_view (step.Start tag) = start (tag_view tag)
 event_view (step.End tag) = end tag

@@ -35,7 +35,9 @@ abbrev pub relabelled : {A B : Type 0} → (A → B) → Forest A → Forest B
 relabelled f nil = nil
 relabelled f (node a below after) = node (f a) (relabelled f below) (relabelled f after)
 
-pub Throughout-prop : {A : Type 0} (p : A → Forest A → Forest A → Type 0) → ((a : A) (below after : Forest A) → IsProp (p a below after)) → (f : Forest A) → IsProp (Throughout p f)
+-- it has one proof at most, where the fact of a tree has
+pub Throughout-prop : {A : Type 0} (p : A → Forest A → Forest A → Type 0)
+    → ((a : A) (below after : Forest A) → IsProp (p a below after)) → (f : Forest A) → IsProp (Throughout p f)
 Throughout-prop p h nil = Unit-prop
 Throughout-prop p h (node a below after) =
     let here = h a below after in

@@ -97,5 +97,6 @@ pub record LiesIn (text : List ℕ) (item : Item) : Type 0 where
   pub start : IsCharBoundary text item.start
   pub end : IsCharBoundary text item.end
 
+-- it has one proof at most
 pub LiesIn-prop : (text : List ℕ) (item : Item) → IsProp (LiesIn text item)
 LiesIn-prop text item = hlevel props

@@ -9,6 +9,7 @@ pub mod BlockTree
 pub mod WellFormed
 pub mod Coverage
 pub mod Questions
+pub mod FaultText
 -- facts of a representation
 pub mod InlineText
 pub mod ArenaBounds

@@ -15,7 +15,8 @@ use Rattle.markdown_base.specs.ArenaForest.{links_of, numbers_below, Spells-prop
 use Rattle.markdown_base.specs.BlockTree.{Numbered, tree_of}
 use Rattle.markdown_base.specs.Forest.{Forest, nil, node, first_root, Throughout-prop}
 use Rattle.markdown_base.specs.Item.{LiesIn-prop}
-use Rattle.markdown_base.specs.WellFormed.{IsReachedOnce, StandsOverMarkup, source_of, RunCharacter, GoesOn, RunGoesOn, StandsInRun, PartCounts, counts_of, KeepsRules, IsWellFormed}
+use Rattle.markdown_base.specs.WellFormed.{IsReachedOnce, StandsOverMarkup, source_of, RunCharacter, GoesOn, RunGoesOn}
+use Rattle.markdown_base.specs.WellFormed.{StandsInRun, PartCounts, counts_of, KeepsRules, IsWellFormed}
 
 -- an equation of `nil` with a forest, taken to that of `nil` with itself where it can be
 from_nil : {A : Type 0} (f : Forest A) → nil ≡ f → nil ≡ f
@@ -33,19 +34,23 @@ unfolding from_nil
 from_nil-one nil d e = refl
 from_nil-one (node a below after) d e = cc d
 
+-- that a forest is empty
 nil-prop : {A : Type 0} (f : Forest A) → IsProp (f ≡ nil)
 nil-prop nil d e = sym (from_nil-same nil d) ∙ (from_nil-one nil d e ∙ from_nil-same nil e)
 nil-prop (node a below after) d e = cc d
 
+-- that each node is reached once
 IsReachedOnce-prop : (nodes : List (Node Item)) → IsProp (IsReachedOnce nodes)
 IsReachedOnce-prop nodes =
     let finite = Spells-prop (links_of nodes) (child_of nodes 0) (numbers_below nodes) in
     let once = IsDistinct-prop nat_eq in
     hlevel (props, finite, once)
 
+-- that two texts are equal
 bytes-prop : (xs ys : List ℕ) → IsProp (xs ≡ ys)
 bytes-prop xs ys = Coded-set (coded_list coded_ℕ) xs ys
 
+-- that an item stands over its markup
 StandsOverMarkup-prop : (source : List ℕ) (b : ItemBody) → IsProp (StandsOverMarkup source b)
 StandsOverMarkup-prop source (body.MaybeMath opens closes context) = bytes-prop source _
 StandsOverMarkup-prop source (body.MaybeSmartQuote quote opens closes) = hlevel (props, bytes-prop)
@@ -56,36 +61,49 @@ StandsOverMarkup-prop source (body.MaybeLinkClose reference) = bytes-prop source
 StandsOverMarkup-prop source body.MaybeImage = bytes-prop source _
 StandsOverMarkup-prop source other = hlevel
 
+-- characters of runs, by what they hold
 abbrev coded_character : Coded RunCharacter
 coded_character =
-    code_by (ℕ × (Bool × Bool)) (coded× coded_ℕ (coded× coded_bool coded_bool)) (λ c. (c.count, (c.can_open, c.can_close)))
+    code_by (ℕ × (Bool × Bool)) (coded× coded_ℕ (coded× coded_bool coded_bool))
+    (λ c. (c.count, (c.can_open, c.can_close)))
     (λ p. record { count = p.0; can_open = p.1.0; can_close = p.1.1 }) (λ c. refl)
 
+-- that two characters of runs are equal
 character-prop : (a b : Option RunCharacter) → IsProp (a ≡ b)
 character-prop a b = Coded-set (coded_option coded_character) a b
 
-GoesOn-prop : (text : List ℕ) (a b : Numbered) (count : ℕ) (opens closes : Bool) → IsProp (GoesOn text a b count opens closes)
+-- that a run goes on in the next item
+GoesOn-prop : (text : List ℕ) (a b : Numbered) (count : ℕ) (opens closes : Bool)
+    → IsProp (GoesOn text a b count opens closes)
 GoesOn-prop text a b count opens closes = hlevel (props, character-prop)
 
-RunGoesOn-prop : (text : List ℕ) (a : Numbered) (count : ℕ) (opens closes : Bool) (next : Option Numbered) → IsProp (RunGoesOn text a count opens closes next)
+-- that it does where it has to
+RunGoesOn-prop : (text : List ℕ) (a : Numbered) (count : ℕ) (opens closes : Bool) (next : Option Numbered)
+    → IsProp (RunGoesOn text a count opens closes next)
 RunGoesOn-prop text a zero opens closes next = hlevel
 RunGoesOn-prop text a (suc zero) opens closes next = hlevel props
 RunGoesOn-prop text a (suc (suc count)) opens closes None = hlevel
 RunGoesOn-prop text a (suc (suc count)) opens closes (Some b) = GoesOn-prop text a b (suc count) opens closes
 
-StandsInRun-prop : (text : List ℕ) (a : Numbered) (next : Option Numbered) (c : RunCharacter) → IsProp (StandsInRun text a next c)
+-- that an item stands in a run as the rules ask
+StandsInRun-prop : (text : List ℕ) (a : Numbered) (next : Option Numbered) (c : RunCharacter)
+    → IsProp (StandsInRun text a next c)
 StandsInRun-prop text a next c =
     let goes_on = RunGoesOn-prop text a c.count c.can_open c.can_close next in
     hlevel (props, goes_on)
 
-KeepsRules-prop : (text : List ℕ) (counts : PartCounts) (a : Numbered) (below : Forest Numbered) (next : Option Numbered) → IsProp (KeepsRules text counts a below next)
+-- that an item keeps the rules
+KeepsRules-prop : (text : List ℕ) (counts : PartCounts) (a : Numbered) (below : Forest Numbered)
+    (next : Option Numbered) → IsProp (KeepsRules text counts a below next)
 KeepsRules-prop text counts a below next =
     let range = LiesIn-prop text a.item in
     let markup = StandsOverMarkup-prop (source_of text a.item) a.item.body in
     let run = StandsInRun-prop text a next in
     hlevel (props, nil-prop {A = Numbered}, range, markup, run)
 
-pub IsWellFormed-prop : (text : List ℕ) (nodes : List (Node Item)) (parts : BlockParts) → IsProp (IsWellFormed text nodes parts)
+-- that a block result is well formed
+pub IsWellFormed-prop : (text : List ℕ) (nodes : List (Node Item)) (parts : BlockParts)
+    → IsProp (IsWellFormed text nodes parts)
 IsWellFormed-prop text nodes parts =
     let reached = IsReachedOnce-prop nodes in
     let rules =

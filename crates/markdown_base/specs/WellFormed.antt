@@ -1,7 +1,8 @@
 -- A well-formed block result: the nine rules that every block pass keeps, and every walk relies on. Rules 2 to 9
 -- speak of an item, of the forest below it and of the item after it (`KeepsRules`); what rules 4 and 8 say of more
 -- than that stands in `IsWellFormed`. The root is no item: its own range and body say nothing.
-use Rattle.std.specs.Prelude.{◌≡◌, ℕ, zero, suc, ◌<◌, ◌≤◌, Bool, false, IsTrue, ◌==◌, ◌||◌, List, [], ◌∷◌, Option, Some, None, IfSome, nat_eq, codes, length, replicate, slice_index, slice_range}
+use Rattle.std.specs.Prelude.{◌≡◌, ℕ, zero, suc, ◌<◌, ◌≤◌, Bool, false, IsTrue, ◌==◌, ◌||◌, List, [], ◌∷◌, Option, Some}
+use Rattle.std.specs.Prelude.{None, IfSome, nat_eq, codes, length, replicate, slice_index, slice_range}
 use Rattle.std.specs.List.{IsDistinct, filter_map, list_all, list_any}
 use Rattle.markdown_base.specs.declared.block_parts.BlockParts.{BlockParts}
 use Rattle.markdown_base.specs.declared.item.Item.{Item}
@@ -12,7 +13,8 @@ use Rattle.markdown_base.specs.Arena.{child_of}
 use Rattle.markdown_base.specs.ArenaForest.{links_of, Spells, numbers_below}
 use Rattle.markdown_base.specs.BlockTree.{Numbered, tree_of}
 use Rattle.markdown_base.specs.Forest.{Forest, nil, Throughout, preorder, roots, first_root}
-use Rattle.markdown_base.specs.Item.{LiesIn, is_open, is_inline, is_childless, is_resolved, is_tight_paragraph, is_unplaced, text_named, alignments_named, attributes_named}
+use Rattle.markdown_base.specs.Item.{LiesIn, is_open, is_inline, is_childless, is_resolved, is_tight_paragraph}
+use Rattle.markdown_base.specs.Item.{is_unplaced, text_named, alignments_named, attributes_named}
 
 -- 1. The tree is finite, and no node is reached twice, nor the root again.
 pub record IsReachedOnce (nodes : List (Node Item)) : Type 0 where
@@ -36,6 +38,7 @@ InlineInOrder a next = IfSome next (λ b. IsTrue (is_inline a.item.body) → IsT
 abbrev pub has_open : Forest Numbered → Bool
 has_open chain = list_any (λ n. is_open n.item.body) (roots chain)
 
+-- each item of a chain is an inline item
 abbrev pub all_inline : Forest Numbered → Bool
 all_inline chain = list_all (λ n. is_inline n.item.body) (roots chain)
 
@@ -56,7 +59,8 @@ source_of text item = slice_range text item.start item.end
 -- an open item stands over the markup that it is named for
 abbrev pub StandsOverMarkup : List ℕ → ItemBody → Type 0
 StandsOverMarkup source (body.MaybeMath opens closes context) = source ≡ codes "$"
-StandsOverMarkup source (body.MaybeSmartQuote quote opens closes) = (source ≡ quote ∷ []) × IsTrue ((quote == 34) || (quote == 39))
+StandsOverMarkup source (body.MaybeSmartQuote quote opens closes) = (source ≡ quote ∷ [])
+    × IsTrue ((quote == 34) || (quote == 39))
 StandsOverMarkup source (body.MaybeCode count escaped) = (source ≡ replicate count 96) × (1 ≤ count)
 StandsOverMarkup source body.MaybeHtml = source ≡ codes "<"
 StandsOverMarkup source body.MaybeLinkOpen = source ≡ codes "["
@@ -75,8 +79,10 @@ pub record RunCharacter : Type 0 where
   pub can_open : Bool
   pub can_close : Bool
 
+-- what an item says of the delimiter run in which it stands
 abbrev pub run_character : ItemBody → Option RunCharacter
-run_character (body.MaybeEmphasis count opens closes) = Some (record { count = count; can_open = opens; can_close = closes })
+run_character (body.MaybeEmphasis count opens closes) =
+    Some (record { count = count; can_open = opens; can_close = closes })
 run_character other = None
 
 -- one of the characters of delimiter runs
@@ -96,7 +102,8 @@ pub record GoesOn (text : List ℕ) (a b : Numbered) (count : ℕ) (opens closes
 
 -- a run's last character is not followed by one of the same kind
 abbrev pub EndsRun : List ℕ → Numbered → Option Numbered → Type 0
-EndsRun text a next = IfSome next (λ b. IfSome (run_character b.item.body) (λ c. (byte_of text b.item == byte_of text a.item) ≡ false))
+EndsRun text a next = IfSome next (λ b. IfSome (run_character b.item.body)
+    (λ c. (byte_of text b.item == byte_of text a.item) ≡ false))
 
 -- what follows a run's character, by how many there are up to the run's end
 abbrev pub RunGoesOn : List ℕ → Numbered → ℕ → Bool → Bool → Option Numbered → Type 0
@@ -122,6 +129,7 @@ pub record PartCounts : Type 0 where
   pub alignments : ℕ
   pub attributes : ℕ
 
+-- how many parts of each kind there are
 abbrev pub counts_of : BlockParts → PartCounts
 counts_of parts = record {
   texts = length parts.cows.items;
@@ -145,7 +153,8 @@ pub record BlocksAreSettled (above : ItemBody) (below : Forest Numbered) : Type 
   pub tight : IsTrue (is_tight_paragraph above) → has_tight_paragraph below ≡ false
 
 -- rules 2 to 9 at one item, with the forest below it and the item after it
-pub record KeepsRules (text : List ℕ) (counts : PartCounts) (a : Numbered) (below : Forest Numbered) (next : Option Numbered) : Type 0 where
+pub record KeepsRules (text : List ℕ) (counts : PartCounts) (a : Numbered) (below : Forest Numbered)
+    (next : Option Numbered) : Type 0 where
   pub ranges_lie_in : RangesLieIn text a.item
   pub inline_in_order : InlineInOrder a next
   pub chains_are_kept : ChainsAreKept a.item.body below

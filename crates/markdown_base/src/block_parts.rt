@@ -1,10 +1,9 @@
 //! What a block result holds beside its tree.
-ghost use Rattle.std.specs.Prelude.{◌≡◌, ◌≤◌, length, IfOk, IfErr, IfSome, IsOk};
-ghost use Rattle.std.specs.Option.{option_map};
-ghost use Rattle.markdown_base.specs.CowText.{text_of};
+ghost use Rattle.std.specs.Prelude.{◌≡◌, IfOk, IfErr, IsOk};
 ghost use Rattle.markdown_base.specs.BlockParts.{definition_view, HasShortTexts};
 ghost use Rattle.markdown_base.specs.declared.fault.Fault.{Fault};
 
+use crate::copies::{clone_optional, static_optional};
 use crate::cow_str::CowStr;
 use crate::fault::Fault;
 use crate::tag::Alignment;
@@ -29,7 +28,7 @@ impl<'a> LinkDef<'a> {
         ensures refused { IfErr result (λ fault. fault ≡ Fault.Memory) }
     {
         let dest = self.dest.try_clone(alloc)?;
-        let title = clone_title(&self.title, alloc)?;
+        let title = clone_optional(&self.title, alloc)?;
         Ok(LinkDef {
             dest,
             title,
@@ -45,36 +44,12 @@ impl<'a> LinkDef<'a> {
         ensures refused { IfErr result (λ fault. fault ≡ Fault.Memory) }
     {
         let dest = self.dest.into_static(alloc)?;
-        let title = static_title(self.title, alloc)?;
+        let title = static_optional(self.title, alloc)?;
         Ok(LinkDef {
             dest,
             title,
             span: self.span,
         })
-    }
-}
-
-/// The same title once more, where there is one.
-fn clone_title<'a>(title: &Option<CowStr<'a>>, alloc: Global) -> Result<Option<CowStr<'a>>, Fault>
-    ensures same { IfOk result (λ copy. option_map text_of copy ≡ option_map text_of title.now) }
-    ensures short { IfSome title.now (λ text. length (text_of text) ≤ 22) → IsOk result }
-    ensures refused { IfErr result (λ fault. fault ≡ Fault.Memory) }
-{
-    match title {
-        None => Ok(None),
-        Some(text) => Ok(Some(text.try_clone(alloc)?)),
-    }
-}
-
-/// The same title, borrowed from nothing, where there is one.
-fn static_title(title: Option<CowStr<'_>>, alloc: Global) -> Result<Option<CowStr<'static>>, Fault>
-    ensures same { IfOk result (λ made. option_map text_of made ≡ option_map text_of title.entry) }
-    ensures short { IfSome title.entry (λ text. length (text_of text) ≤ 22) → IsOk result }
-    ensures refused { IfErr result (λ fault. fault ≡ Fault.Memory) }
-{
-    match title {
-        None => Ok(None),
-        Some(text) => Ok(Some(text.into_static(alloc)?)),
     }
 }
 

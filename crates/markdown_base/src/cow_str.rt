@@ -1,5 +1,6 @@
 //! A text that is boxed, borrowed from the source, or short and held in place.
-ghost use Rattle.std.specs.Prelude.{◌≡◌, ◌<◌, ◌≤◌, length, IfOk, IsOk, IsOkAnd, Some, nat_eq, encode_utf8, string_bytes};
+ghost use Rattle.std.specs.Prelude.{◌≡◌, ◌<◌, ◌≤◌, length, IfOk, IsOk, IsOkAnd, Some, nat_eq, encode_utf8};
+ghost use Rattle.std.specs.Prelude.{string_bytes};
 ghost use Rattle.std.specs.Str.{bytes_eq};
 ghost use Rattle.std.specs.Hash as fed;
 ghost use Rattle.std.specs.Cmp;
@@ -11,6 +12,7 @@ ghost use Rattle.std.proofs.Common.{rules};
 use crate::inline_str::InlineStr;
 use std::alloc::{AllocError, Global};
 use std::boxed::BoxedStr;
+use std::convert::AsStr;
 use std::fmt;
 use std::hash::{Hash, Hasher};
 
@@ -60,7 +62,7 @@ impl<'a> CowStr<'a> {
         match self {
             CowStr::Boxed(boxed) => CowStr::owned(alloc, boxed.as_str()),
             CowStr::Borrowed(borrowed) => Ok(CowStr::Borrowed(borrowed)),
-            CowStr::Inlined(inlined) => Ok(CowStr::Inlined(inlined.duplicate())),
+            CowStr::Inlined(inlined) => Ok(CowStr::Inlined(*inlined)),
         }
     }
 
@@ -88,6 +90,16 @@ impl<'a> CowStr<'a> {
             CowStr::Borrowed(borrowed) => String::from_str(alloc, borrowed),
             CowStr::Inlined(inlined) => String::from_str(alloc, inlined.as_str()),
         }
+    }
+}
+
+impl<'a> AsStr for CowStr<'a> {
+    ghost use Rattle.markdown_base.specs.CowText.{text_of};
+
+    ghost text = { text_of };
+
+    fn as_str(&self) -> &str {
+        CowStr::as_str(self)
     }
 }
 

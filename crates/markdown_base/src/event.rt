@@ -1,6 +1,12 @@
 //! What a document is read as.
+ghost use Rattle.std.specs.Prelude.{◌≡◌, IfOk, IfErr};
+ghost use Rattle.markdown_base.specs.Event.{event_view};
+ghost use Rattle.markdown_base.specs.declared.fault.Fault.{Fault};
+
 use crate::cow_str::CowStr;
+use crate::fault::Fault;
 use crate::tag::{Tag, TagEnd};
+use std::alloc::Global;
 
 /// A step of a document's reading, in preorder.
 #[derive(Debug, PartialEq, Drop)]
@@ -26,4 +32,51 @@ pub enum Event<'a> {
     Rule,
     /// Whether the task is done.
     TaskListMarker(bool),
+}
+
+impl<'a> Event<'a> {
+    /// The same event once more. Slices of the source stay such. The only error is `Fault::Memory`.
+    pub fn try_clone(&self, alloc: Global) -> Result<Event<'a>, Fault>
+        ensures same { IfOk result (λ copy. event_view copy ≡ event_view self.now) }
+        ensures refused { IfErr result (λ fault. fault ≡ Fault.Memory) }
+    {
+        Ok(match self {
+            Event::Start(tag) => Event::Start(tag.try_clone(alloc)?),
+            Event::End(tag) => Event::End(*tag),
+            Event::Text(text) => Event::Text(text.try_clone(alloc)?),
+            Event::Code(text) => Event::Code(text.try_clone(alloc)?),
+            Event::InlineMath(text) => Event::InlineMath(text.try_clone(alloc)?),
+            Event::DisplayMath(text) => Event::DisplayMath(text.try_clone(alloc)?),
+            Event::Html(text) => Event::Html(text.try_clone(alloc)?),
+            Event::InlineHtml(text) => Event::InlineHtml(text.try_clone(alloc)?),
+            Event::FootnoteReference(text) => Event::FootnoteReference(text.try_clone(alloc)?),
+            Event::SoftBreak => Event::SoftBreak,
+            Event::HardBreak => Event::HardBreak,
+            Event::Rule => Event::Rule,
+            Event::TaskListMarker(done) => Event::TaskListMarker(*done),
+        })
+    }
+
+    /// The same event, borrowed from nothing, so that it can outlive the text. The only error is `Fault::Memory`; then
+    /// the event is gone.
+    pub fn into_static(self, alloc: Global) -> Result<Event<'static>, Fault>
+        ensures same { IfOk result (λ made. event_view made ≡ event_view self.entry) }
+        ensures refused { IfErr result (λ fault. fault ≡ Fault.Memory) }
+    {
+        Ok(match self {
+            Event::Start(tag) => Event::Start(tag.into_static(alloc)?),
+            Event::End(tag) => Event::End(tag),
+            Event::Text(text) => Event::Text(text.into_static(alloc)?),
+            Event::Code(text) => Event::Code(text.into_static(alloc)?),
+            Event::InlineMath(text) => Event::InlineMath(text.into_static(alloc)?),
+            Event::DisplayMath(text) => Event::DisplayMath(text.into_static(alloc)?),
+            Event::Html(text) => Event::Html(text.into_static(alloc)?),
+            Event::InlineHtml(text) => Event::InlineHtml(text.into_static(alloc)?),
+            Event::FootnoteReference(text) => Event::FootnoteReference(text.into_static(alloc)?),
+            Event::SoftBreak => Event::SoftBreak,
+            Event::HardBreak => Event::HardBreak,
+            Event::Rule => Event::Rule,
+            Event::TaskListMarker(done) => Event::TaskListMarker(done),
+        })
+    }
 }

@@ -2,6 +2,8 @@
 ghost use Rattle.std.specs.Prelude.{◌≡◌};
 
 use std::alloc::{AllocError, AllocFailed};
+use std::error::Error;
+use std::fmt;
 
 /// Why a call gave no value.
 #[derive(Debug, Clone, Copy, PartialEq, Eq, Drop)]
@@ -36,3 +38,20 @@ impl<T: Drop> From<AllocFailed<T>> for Fault {
         Fault::Memory
     }
 }
+
+impl fmt::Display for Fault {
+    ghost use Rattle.std.specs.Prelude.{Some};
+    ghost use Rattle.markdown_base.specs.FaultText.{fault_text};
+
+    ghost output = { λ fault. Some (fault_text fault) };
+
+    fn fmt<W: fmt::Write>(&self, f: &mut fmt::Formatter<W>) -> fmt::Result {
+        match self {
+            Fault::Memory => f.write_str("out of memory"),
+            Fault::Blocks => f.write_str("bad block result"),
+            Fault::Depth => f.write_str("image nested too deeply"),
+        }
+    }
+}
+
+impl Error for Fault {}

@@ -8,7 +8,7 @@ use std::str::from_utf8_unchecked;
 pub const MAX_INLINE_STR_LEN: usize = 22;
 
 /// At most 22 bytes of text, held in place.
-#[derive(Drop)]
+#[derive(Clone, Copy)]
 pub struct InlineStr {
     bytes: [u8; MAX_INLINE_STR_LEN],
     len: u8,
@@ -21,7 +21,8 @@ impl InlineStr {
 
     /// A copy of a text of at most 22 bytes; of a longer one there is none.
     pub fn new(text: &str) -> Option<InlineStr>
-        ensures { MatchOption result (22 < length text.now) (λ held. (inline_text held ≡ text.now) × (length text.now ≤ 22)) }
+        ensures { MatchOption result (22 < length text.now) (λ held. (inline_text held ≡ text.now)
+            × (length text.now ≤ 22)) }
     {
         let len = text.as_bytes().len();
         if len > MAX_INLINE_STR_LEN {
@@ -40,16 +41,6 @@ impl InlineStr {
         ensures { result.now ≡ inline_text self.now }
     {
         unsafe { from_utf8_unchecked(&self.bytes[..self.len as usize]) }
-    }
-
-    /// The same text once more.
-    pub fn duplicate(&self) -> InlineStr
-        ensures { inline_text result ≡ inline_text self.now }
-    {
-        InlineStr {
-            bytes: self.bytes,
-            len: self.len,
-        }
     }
 }
 

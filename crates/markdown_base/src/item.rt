@@ -88,7 +88,9 @@ pub struct Item {
 
 impl ItemBody {
     ghost use Rattle.std.specs.Prelude.{◌≡◌};
-    ghost use Rattle.markdown_base.specs.Item.{is_open, is_inline, is_childless, is_resolved, is_tight_paragraph, is_unplaced, text_named, alignments_named, attributes_named};
+    ghost use Rattle.std.specs.Option.{option_map};
+    ghost use Rattle.markdown_base.specs.Item.{is_open, is_inline, is_childless, is_resolved, is_tight_paragraph};
+    ghost use Rattle.markdown_base.specs.Item.{is_unplaced, text_named, alignments_named, attributes_named};
 
     /// Whether its meaning is decided when its chain is resolved: one of the eight `Maybe` bodies from
     /// `MaybeEmphasis` to `MaybeImage`.
@@ -176,37 +178,37 @@ impl ItemBody {
     }
 
     /// The number of the heading attributes that it names.
-    pub fn attributes_named(self) -> Option<usize>
-        ensures { result ≡ attributes_named self }
+    pub fn attributes_named(self) -> Option<HeadingIndex>
+        ensures { option_map (λ ix. ix.0) result ≡ attributes_named self }
     {
         match self {
-            ItemBody::Heading(_, Some(ix)) => Some(ix.0),
+            ItemBody::Heading(_, named) => named,
             _ => None,
         }
     }
 
     /// The number of the text that it names.
-    pub fn text_named(self) -> Option<usize>
-        ensures { result ≡ text_named self }
+    pub fn text_named(self) -> Option<CowIndex>
+        ensures { option_map (λ ix. ix.0) result ≡ text_named self }
     {
         match self {
-            ItemBody::Math(CowIndex(ix), _)
-            | ItemBody::Code(CowIndex(ix))
-            | ItemBody::FootnoteReference(CowIndex(ix))
-            | ItemBody::OwnedInlineHtml(CowIndex(ix))
-            | ItemBody::SynthesizeText(CowIndex(ix))
-            | ItemBody::FencedCodeBlock(CowIndex(ix))
-            | ItemBody::FootnoteDefinition(CowIndex(ix)) => Some(ix),
+            ItemBody::Math(ix, _)
+            | ItemBody::Code(ix)
+            | ItemBody::FootnoteReference(ix)
+            | ItemBody::OwnedInlineHtml(ix)
+            | ItemBody::SynthesizeText(ix)
+            | ItemBody::FencedCodeBlock(ix)
+            | ItemBody::FootnoteDefinition(ix) => Some(ix),
             _ => None,
         }
     }
 
     /// The number of the alignments that it names.
-    pub fn alignments_named(self) -> Option<usize>
-        ensures { result ≡ alignments_named self }
+    pub fn alignments_named(self) -> Option<AlignmentIndex>
+        ensures { option_map (λ ix. ix.0) result ≡ alignments_named self }
     {
         match self {
-            ItemBody::Table(ix) => Some(ix.0),
+            ItemBody::Table(ix) => Some(ix),
             _ => None,
         }
     }

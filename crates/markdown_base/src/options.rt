@@ -9,20 +9,36 @@ pub struct Options(u32);
 
 bitflag_items! {
     impl Options: u32 {
+        /// Tables. No table is made of a text yet: this changes nothing.
         const ENABLE_TABLES = 1 << 1;
+        /// Footnotes: definitions `[^name]: ..` and references `[^name]`. A name that is defined nowhere stays text.
         const ENABLE_FOOTNOTES = 1 << 2;
+        /// Strikethrough, `~text~` or `~~text~~`.
         const ENABLE_STRIKETHROUGH = 1 << 3;
+        /// List items that begin with `[ ]` or `[x]`. No such mark is made of a text yet: this changes nothing.
         const ENABLE_TASKLISTS = 1 << 4;
+        /// Quotation marks that curl. Dashes and dots stay as they are.
         const ENABLE_SMART_PUNCTUATION = 1 << 5;
+        /// An id, classes and attributes in braces behind a heading. None are made of a text yet: this changes nothing.
         const ENABLE_HEADING_ATTRIBUTES = 1 << 6;
+        /// Metadata between lines of `---`. No such block is made of a text yet: this changes nothing.
         const ENABLE_YAML_STYLE_METADATA_BLOCKS = 1 << 7;
+        /// Metadata between lines of `+++`. No such block is made of a text yet: this changes nothing.
         const ENABLE_PLUSES_DELIMITED_METADATA_BLOCKS = 1 << 8;
+        /// Footnotes of the older style, in which a name that is defined nowhere is a reference too. It has the bit of
+        /// `ENABLE_FOOTNOTES` with its own.
         const ENABLE_OLD_FOOTNOTES = (1 << 9) | (1 << 2);
+        /// Math, `$text$`, and display math, `$$text$$`.
         const ENABLE_MATH = 1 << 10;
+        /// The kinds of block quotes that GitHub has, as `[!NOTE]`. None are made of a text yet: this changes nothing.
         const ENABLE_GFM = 1 << 11;
+        /// Definition lists. None are made of a text yet: this changes nothing.
         const ENABLE_DEFINITION_LIST = 1 << 12;
+        /// Superscript, `^text^`.
         const ENABLE_SUPERSCRIPT = 1 << 13;
+        /// Subscript, `~text~`; with `ENABLE_STRIKETHROUGH` only `~~text~~` is strikethrough.
         const ENABLE_SUBSCRIPT = 1 << 14;
+        /// Wikilinks, `[[name]]` and `[[name|text]]`.
         const ENABLE_WIKILINKS = 1 << 15;
     }
 }
@@ -32,7 +48,13 @@ impl Flags for Options {
 
     ghost exact = { ⊤ };
 
-    ghost table = { (codes "ENABLE_TABLES", 2) ∷ (codes "ENABLE_FOOTNOTES", 4) ∷ (codes "ENABLE_STRIKETHROUGH", 8) ∷ (codes "ENABLE_TASKLISTS", 16) ∷ (codes "ENABLE_SMART_PUNCTUATION", 32) ∷ (codes "ENABLE_HEADING_ATTRIBUTES", 64) ∷ (codes "ENABLE_YAML_STYLE_METADATA_BLOCKS", 128) ∷ (codes "ENABLE_PLUSES_DELIMITED_METADATA_BLOCKS", 256) ∷ (codes "ENABLE_OLD_FOOTNOTES", 516) ∷ (codes "ENABLE_MATH", 1024) ∷ (codes "ENABLE_GFM", 2048) ∷ (codes "ENABLE_DEFINITION_LIST", 4096) ∷ (codes "ENABLE_SUPERSCRIPT", 8192) ∷ (codes "ENABLE_SUBSCRIPT", 16384) ∷ (codes "ENABLE_WIKILINKS", 32768) ∷ [] };
+    ghost table = { (codes "ENABLE_TABLES", 2) ∷ (codes "ENABLE_FOOTNOTES", 4) ∷ (codes "ENABLE_STRIKETHROUGH", 8)
+        ∷ (codes "ENABLE_TASKLISTS", 16) ∷ (codes "ENABLE_SMART_PUNCTUATION", 32)
+        ∷ (codes "ENABLE_HEADING_ATTRIBUTES", 64) ∷ (codes "ENABLE_YAML_STYLE_METADATA_BLOCKS", 128)
+        ∷ (codes "ENABLE_PLUSES_DELIMITED_METADATA_BLOCKS", 256) ∷ (codes "ENABLE_OLD_FOOTNOTES", 516)
+        ∷ (codes "ENABLE_MATH", 1024) ∷ (codes "ENABLE_GFM", 2048) ∷ (codes "ENABLE_DEFINITION_LIST", 4096)
+        ∷ (codes "ENABLE_SUPERSCRIPT", 8192) ∷ (codes "ENABLE_SUBSCRIPT", 16384) ∷ (codes "ENABLE_WIKILINKS", 32768)
+        ∷ [] };
 
     ghost set_of = { λ options. options.0 };
 

@@ -1,7 +1,14 @@
 //! What an event opens and closes.
-ghost use Rattle.std.specs.Prelude.{◌≡◌};
+ghost use Rattle.std.specs.Prelude.{◌≡◌, IfOk, IfErr};
+ghost use Rattle.markdown_base.specs.Event.{code_block_view, tag_view};
+ghost use Rattle.markdown_base.specs.declared.fault.Fault.{Fault};
 
+use crate::copies::{
+    clone_attributes, clone_optional, clone_texts, static_attributes, static_optional, static_texts,
+};
 use crate::cow_str::CowStr;
+use crate::fault::Fault;
+use std::alloc::Global;
 
 /// How a link or an image was written (CommonMark 6.3, 6.5).
 #[derive(Clone, Copy, Debug, PartialEq, Eq, Drop)]
@@ -72,6 +79,30 @@ pub enum Alignment {
 pub enum CodeBlockKind<'a> {
     Indented,
     Fenced(CowStr<'a>),
+}
+
+impl<'a> CodeBlockKind<'a> {
+    /// The same kind once more. The only error is `Fault::Memory`.
+    pub fn try_clone(&self, alloc: Global) -> Result<CodeBlockKind<'a>, Fault>
+        ensures same { IfOk result (λ copy. code_block_view copy ≡ code_block_view self.now) }
+        ensures refused { IfErr result (λ fault. fault ≡ Fault.Memory) }
+    {
+        match self {
+            CodeBlockKind::Indented => Ok(CodeBlockKind::Indented),
+            CodeBlockKind::Fenced(info) => Ok(CodeBlockKind::Fenced(info.try_clone(alloc)?)),
+        }
+    }
+
+    /// The same kind, borrowed from nothing. The only error is `Fault::Memory`; then the kind is gone.
+    pub fn into_static(self, alloc: Global) -> Result<CodeBlockKind<'static>, Fault>
+        ensures same { IfOk result (λ made. code_block_view made ≡ code_block_view self.entry) }
+        ensures refused { IfErr result (λ fault. fault ≡ Fault.Memory) }
+    {
+        match self {
+            CodeBlockKind::Indented => Ok(CodeBlockKind::Indented),
+            CodeBlockKind::Fenced(info) => Ok(CodeBlockKind::Fenced(info.into_static(alloc)?)),
+        }
+    }
 }
 
 /// What a Start opens.
@@ -152,7 +183,7 @@ pub enum TagEnd {
 }
 
 impl<'a> Tag<'a> {
-    ghost use Rattle.markdown_base.specs.Event.{end_of, tag_view};
+    ghost use Rattle.markdown_base.specs.Event.{end_of};
 
     /// The End that belongs to this Start.
     pub fn to_end(&self) -> TagEnd
@@ -183,5 +214,129 @@ impl<'a> Tag<'a> {
             Tag::Image { .. } => TagEnd::Image,
             Tag::MetadataBlock(kind) => TagEnd::MetadataBlock(*kind),
         }
+    }
+
+    /// The same tag once more. Slices of the source stay such. The only error is `Fault::Memory`.
+    pub fn try_clone(&self, alloc: Global) -> Result<Tag<'a>, Fault>
+        ensures same { IfOk result (λ copy. tag_view copy ≡ tag_view self.now) }
+        ensures refused { IfErr result (λ fault. fault ≡ Fault.Memory) }
+    {
+        Ok(match self {
+            Tag::Heading {
+                level,
+                id,
+                classes,
+                attrs,
+            } => Tag::Heading {
+                level: *level,
+                id: clone_optional(id, alloc)?,
+                classes: clone_texts(classes, alloc)?,
+                attrs: clone_attributes(attrs, alloc)?,
+            },
+            Tag::BlockQuote(kind) => Tag::BlockQuote(*kind),
+            Tag::CodeBlock(kind) => Tag::CodeBlock(kind.try_clone(alloc)?),
+            Tag::List(start) => Tag::List(*start),
+            Tag::FootnoteDefinition(name) => Tag::FootnoteDefinition(name.try_clone(alloc)?),
+            Tag::Table(alignments) => Tag::Table(alignments.clone()?),
+            Tag::Link {
+                link_type,
+                dest_url,
+                title,
+                id,
+            } => Tag::Link {
+                link_type: *link_type,
+                dest_url: dest_url.try_clone(alloc)?,
+                title: title.try_clone(alloc)?,
+                id: id.try_clone(alloc)?,
+            },
+            Tag::Image {
+                link_type,
+                dest_url,
+                title,
+                id,
+            } => Tag::Image {
+                link_type: *link_type,
+                dest_url: dest_url.try_clone(alloc)?,
+                title: title.try_clone(alloc)?,
+                id: id.try_clone(alloc)?,
+            },
+            Tag::MetadataBlock(kind) => Tag::MetadataBlock(*kind),
+            Tag::Paragraph => Tag::Paragraph,
+            Tag::HtmlBlock => Tag::HtmlBlock,
+            Tag::Item => Tag::Item,
+            Tag::DefinitionList => Tag::DefinitionList,
+            Tag::DefinitionListTitle => Tag::DefinitionListTitle,
+            Tag::DefinitionListDefinition => Tag::DefinitionListDefinition,
+            Tag::TableHead => Tag::TableHead,
+            Tag::TableRow => Tag::TableRow,
+            Tag::TableCell => Tag::TableCell,
+            Tag::Emphasis => Tag::Emphasis,
+            Tag::Strong => Tag::Strong,
+            Tag::Strikethrough => Tag::Strikethrough,
+            Tag::Superscript => Tag::Superscript,
+            Tag::Subscript => Tag::Subscript,
+        })
+    }
+
+    /// The same tag, borrowed from nothing. The only error is `Fault::Memory`; then the tag is gone.
+    pub fn into_static(self, alloc: Global) -> Result<Tag<'static>, Fault>
+        ensures same { IfOk result (λ made. tag_view made ≡ tag_view self.entry) }
+        ensures refused { IfErr result (λ fault. fault ≡ Fault.Memory) }
+    {
+        Ok(match self {
+            Tag::Heading {
+                level,
+                id,
+                classes,
+                attrs,
+            } => Tag::Heading {
+                level: level,
+                id: static_optional(id, alloc)?,
+                classes: static_texts(classes, alloc)?,
+                attrs: static_attributes(attrs, alloc)?,
+            },
+            Tag::BlockQuote(kind) => Tag::BlockQuote(kind),
+            Tag::CodeBlock(kind) => Tag::CodeBlock(kind.into_static(alloc)?),
+            Tag::List(start) => Tag::List(start),
+            Tag::FootnoteDefinition(name) => Tag::FootnoteDefinition(name.into_static(alloc)?),
+            Tag::Table(alignments) => Tag::Table(alignments),
+            Tag::Link {
+                link_type,
+                dest_url,
+                title,
+                id,
+            } => Tag::Link {
+                link_type: link_type,
+                dest_url: dest_url.into_static(alloc)?,
+                title: title.into_static(alloc)?,
+                id: id.into_static(alloc)?,
+            },
+            Tag::Image {
+                link_type,
+                dest_url,
+                title,
+                id,
+            } => Tag::Image {
+                link_type: link_type,
+                dest_url: dest_url.into_static(alloc)?,
+                title: title.into_static(alloc)?,
+                id: id.into_static(alloc)?,
+            },
+            Tag::MetadataBlock(kind) => Tag::MetadataBlock(kind),
+            Tag::Paragraph => Tag::Paragraph,
+            Tag::HtmlBlock => Tag::HtmlBlock,
+            Tag::Item => Tag::Item,
+            Tag::DefinitionList => Tag::DefinitionList,
+            Tag::DefinitionListTitle => Tag::DefinitionListTitle,
+            Tag::DefinitionListDefinition => Tag::DefinitionListDefinition,
+            Tag::TableHead => Tag::TableHead,
+            Tag::TableRow => Tag::TableRow,
+            Tag::TableCell => Tag::TableCell,
+            Tag::Emphasis => Tag::Emphasis,
+            Tag::Strong => Tag::Strong,
+            Tag::Strikethrough => Tag::Strikethrough,
+            Tag::Superscript => Tag::Superscript,
+            Tag::Subscript => Tag::Subscript,
+        })
     }
 }

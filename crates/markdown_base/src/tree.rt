@@ -1,6 +1,8 @@
 //! A tree of items: nodes by number, with a cursor that goes into nodes and out of them.
-ghost use Rattle.std.specs.Prelude.{◌≡◌, ℕ, ◌<◌, ◌^◌, ◌++◌, ◌∷◌, [], length, slice_index_or, MatchOption, MatchResult, IfOk, IfSome, OnErr};
-ghost use Rattle.markdown_base.specs.Arena.{items_of, child_of, sibling_of, innermost, single, changed_at, follower, led_to, appended};
+ghost use Rattle.std.specs.Prelude.{◌≡◌, ℕ, ◌<◌, ◌^◌, ◌++◌, ◌∷◌, [], length, slice_index_or, MatchOption, MatchResult};
+ghost use Rattle.std.specs.Prelude.{IfOk, IfSome, OnErr};
+ghost use Rattle.markdown_base.specs.Arena.{items_of, child_of, sibling_of, innermost, single, changed_at, follower};
+ghost use Rattle.markdown_base.specs.Arena.{led_to, appended};
 ghost use Rattle.markdown_base.specs.declared.item.ItemBody.TheVariants as body;
 
 use crate::item::{Item, ItemBody};
@@ -30,7 +32,13 @@ impl<T> Model for Tree<T> {
 impl Tree<Item> {
     /// A root alone, which is gone into: the first node appended is its first child.
     pub fn new(alloc: Global) -> Result<Tree<Item>, AllocError>
-        ensures { IfOk result (λ made. made ≡ record { nodes = single (record { start = 0; end = 0; body = body.Root }) ∷ []; spine = []; cursor = None }) }
+        ensures { IfOk result (λ made. made
+            ≡ record {
+              nodes = single (record { start = 0; end = 0; body = body.Root }) ∷ [];
+              spine = [];
+              cursor =
+                  None;
+            }) }
     {
         let item = Item {
             start: 0,
@@ -97,7 +105,8 @@ impl<T: Drop> Tree<T> {
 
     /// The node gone into last.
     pub fn peek_up(&self) -> Option<usize>
-        ensures value { MatchOption result (self.now.spine ≡ []) (λ ix. (outer : _) × (self.now.spine ≡ outer ++ ix ∷ [])) }
+        ensures value { MatchOption result (self.now.spine ≡ []) (λ ix. (outer : _)
+            × (self.now.spine ≡ outer ++ ix ∷ [])) }
         ensures within { IfSome result (λ ix. ix < length self.now.nodes) }
     {
         self.spine.last().copied()
@@ -140,7 +149,10 @@ impl<T: Drop> Tree<T> {
     fn add_node(&mut self, item: T, next: Option<usize>) -> Result<usize, AllocError>
         requires { IfSome next (λ after. after < length self.old.nodes) }
         ensures number { IfOk result (λ ix. ix ≡ length self.old.nodes) }
-        ensures made { IfOk result (λ _. self.new ≡ record self.old { nodes = self.old.nodes ++ record { item = item; child = None; next = next } ∷ [] }) }
+        ensures made { IfOk result (λ _. self.new ≡ record self.old {
+          nodes = self.old.nodes
+              ++ record { item = item; child = None; next = next } ∷ [];
+        }) }
         ensures refused { OnErr result (self.new ≡ self.old) }
     {
         let ix = self.nodes.len();
@@ -224,7 +236,8 @@ impl<T: Drop> Tree<T> {
     /// Goes into the node in focus: its first child is in focus then. After a refusal all is as before.
     pub fn push(&mut self) -> Result<usize, AllocError>
         requires { (ix : ℕ) × (self.old.cursor ≡ Some ix) }
-        ensures goes { IfOk result (λ ix. (self.old.cursor ≡ Some ix) × (self.new ≡ record self.old { spine = self.old.spine ++ ix ∷ []; cursor = child_of self.old.nodes ix })) }
+        ensures goes { IfOk result (λ ix. (self.old.cursor ≡ Some ix)
+            × (self.new ≡ record self.old { spine = self.old.spine ++ ix ∷ []; cursor = child_of self.old.nodes ix })) }
         ensures refused { OnErr result (self.new ≡ self.old) }
     {
         let ix = self.cur.unwrap();
@@ -237,7 +250,8 @@ impl<T: Drop> Tree<T> {
     pub fn pop(&mut self) -> Option<usize>
         ensures goes { MatchOption result
             ((self.old.spine ≡ []) × (self.new ≡ self.old))
-            (λ ix. (outer : _) × (self.old.spine ≡ outer ++ ix ∷ []) × (self.new ≡ record self.old { spine = outer; cursor = Some ix })) }
+            (λ ix. (outer : _) × (self.old.spine ≡ outer ++ ix ∷ [])
+            × (self.new ≡ record self.old { spine = outer; cursor = Some ix })) }
         ensures within { IfSome result (λ ix. ix < length self.old.nodes) }
     {
         let outer = self.spine.pop()?;

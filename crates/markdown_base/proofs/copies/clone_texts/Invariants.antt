@@ -1,0 +1,7 @@
+-- The texts so far are copied.
+use Rattle.std.proofs.Common.{◌≡◌, map, take}
+use Rattle.markdown_base.specs.CowText.{text_of}
+use Rattle.markdown_base.proofs.copies.clone_texts.Given as goal
+
+abbrev pub invariant-loop-text : goal.invariant-loop-text
+invariant-loop-text l = map text_of l.copies.items ≡ map text_of (take l.text-index l.texts)

@@ -1,0 +1,121 @@
+//! Copies of what an event or a definition holds, and forms of it that are borrowed from nothing. Slices of the source
+//! are copied as slices.
+ghost use Rattle.std.specs.Prelude.{◌≡◌, ◌≤◌, length, map, IfOk, IfErr, IfSome, IsOk};
+ghost use Rattle.std.specs.Option.{option_map};
+ghost use Rattle.markdown_base.specs.CowText.{text_of};
+ghost use Rattle.markdown_base.specs.Event.{attribute_view};
+ghost use Rattle.markdown_base.specs.declared.fault.Fault.{Fault};
+
+use crate::cow_str::CowStr;
+use crate::fault::Fault;
+use std::alloc::Global;
+
+/// The same text once more, where there is one.
+pub fn clone_optional<'a>(
+    text: &Option<CowStr<'a>>,
+    alloc: Global,
+) -> Result<Option<CowStr<'a>>, Fault>
+    ensures same { IfOk result (λ copy. option_map text_of copy ≡ option_map text_of text.now) }
+    ensures short { IfSome text.now (λ text. length (text_of text) ≤ 22) → IsOk result }
+    ensures refused { IfErr result (λ fault. fault ≡ Fault.Memory) }
+{
+    match text {
+        None => Ok(None),
+        Some(text) => Ok(Some(text.try_clone(alloc)?)),
+    }
+}
+
+/// The same text, borrowed from nothing, where there is one.
+pub fn static_optional(
+    text: Option<CowStr<'_>>,
+    alloc: Global,
+) -> Result<Option<CowStr<'static>>, Fault>
+    ensures same { IfOk result (λ made. option_map text_of made ≡ option_map text_of text.entry) }
+    ensures short { IfSome text.entry (λ text. length (text_of text) ≤ 22) → IsOk result }
+    ensures refused { IfErr result (λ fault. fault ≡ Fault.Memory) }
+{
+    match text {
+        None => Ok(None),
+        Some(text) => Ok(Some(text.into_static(alloc)?)),
+    }
+}
+
+/// The same texts once more.
+pub fn clone_texts<'a>(texts: &[CowStr<'a>], alloc: Global) -> Result<Vec<CowStr<'a>>, Fault>
+    ensures same { IfOk result (λ copies. map text_of copies.items ≡ map text_of texts.now) }
+    ensures refused { IfErr result (λ fault. fault ≡ Fault.Memory) }
+{
+    let mut copies = Vec::new(alloc);
+    for text in texts {
+        copies.push(text.try_clone(alloc)?)?;
+    }
+    Ok(copies)
+}
+
+/// The same texts, borrowed from nothing.
+pub fn static_texts(texts: Vec<CowStr<'_>>, alloc: Global) -> Result<Vec<CowStr<'static>>, Fault>
+    ensures same { IfOk result (λ made. map text_of made.items ≡ map text_of texts.entry.items) }
+    ensures refused { IfErr result (λ fault. fault ≡ Fault.Memory) }
+{
+    let mut made = Vec::new(alloc);
+    for text in texts {
+        made.push(text.into_static(alloc)?)?;
+    }
+    Ok(made)
+}
+
+/// A name with its value once more.
+fn clone_attribute<'a>(
+    attribute: &(CowStr<'a>, Option<CowStr<'a>>),
+    alloc: Global,
+) -> Result<(CowStr<'a>, Option<CowStr<'a>>), Fault>
+    ensures same { IfOk result (λ copy. attribute_view copy ≡ attribute_view attribute.now) }
+    ensures refused { IfErr result (λ fault. fault ≡ Fault.Memory) }
+{
+    let name = attribute.0.try_clone(alloc)?;
+    let value = clone_optional(&attribute.1, alloc)?;
+    Ok((name, value))
+}
+
+/// A name with its value, borrowed from nothing.
+fn static_attribute(
+    attribute: (CowStr<'_>, Option<CowStr<'_>>),
+    alloc: Global,
+) -> Result<(CowStr<'static>, Option<CowStr<'static>>), Fault>
+    ensures same { IfOk result (λ made. attribute_view made ≡ attribute_view attribute.entry) }
+    ensures refused { IfErr result (λ fault. fault ≡ Fault.Memory) }
+{
+    let name = attribute.0.into_static(alloc)?;
+    let value = static_optional(attribute.1, alloc)?;
+    Ok((name, value))
+}
+
+/// The same names with their values once more.
+pub fn clone_attributes<'a>(
+    attributes: &[(CowStr<'a>, Option<CowStr<'a>>)],
+    alloc: Global,
+) -> Result<Vec<(CowStr<'a>, Option<CowStr<'a>>)>, Fault>
+    ensures same { IfOk result (λ copies. map attribute_view copies.items ≡ map attribute_view attributes.now) }
+    ensures refused { IfErr result (λ fault. fault ≡ Fault.Memory) }
+{
+    let mut copies = Vec::new(alloc);
+    for attribute in attributes {
+        copies.push(clone_attribute(attribute, alloc)?)?;
+    }
+    Ok(copies)
+}
+
+/// The same names with their values, borrowed from nothing.
+pub fn static_attributes(
+    attributes: Vec<(CowStr<'_>, Option<CowStr<'_>>)>,
+    alloc: Global,
+) -> Result<Vec<(CowStr<'static>, Option<CowStr<'static>>)>, Fault>
+    ensures same { IfOk result (λ made. map attribute_view made.items ≡ map attribute_view attributes.entry.items) }
+    ensures refused { IfErr result (λ fault. fault ≡ Fault.Memory) }
+{
+    let mut made = Vec::new(alloc);
+    for attribute in attributes {
+        made.push(static_attribute(attribute, alloc)?)?;
+    }
+    Ok(made)
+}
