@@ -1,5 +1,6 @@
 -- Where a text may be cut: before and after an ASCII byte of what follows a byte.
-use Rattle.std.proofs.Common.{◌≡◌, suc, zero, [], ◌∷◌, Bool, true, ◌&&◌, ℕ, ◌+◌, ◌<◌, ◌≤◌, List, length, get_or, take, drop, arith, length-drop}
+use Rattle.std.proofs.Common.{◌≡◌, suc, zero, [], ◌∷◌, Bool, true, ◌&&◌, ℕ, ◌+◌, ◌<◌, ◌≤◌, List, length, get_or, take, drop, arith}
+use Rattle.std.proofs.Common.{length-drop}
 use Rattle.std.specs.Str.{IsUtf8, IsCharBoundary}
 use Rattle.std.proofs.lemmas.List.{get_or-drop, get_or-take, length-take}
 use Rattle.std.proofs.lemmas.Str.{IsCharBoundary-before_ascii, IsCharBoundary-after_ascii, IsCharBoundary-from_take, IsUtf8-from_ascii}
@@ -8,19 +9,22 @@ use Rattle.std.specs.List.{list_all}
 use Rattle.std.specs.Char.{is_ascii}
 
 -- before an ASCII byte of what follows byte i
-pub before_ascii_of_rest : (text : List ℕ) (i n : ℕ) → n < length (drop i text) → get_or (drop i text) n 0 < 128 → IsCharBoundary text (i + n)
+pub before_ascii_of_rest : (text : List ℕ) (i n : ℕ) → n < length (drop i text) → get_or (drop i text) n 0 < 128
+    → IsCharBoundary text (i + n)
 before_ascii_of_rest text i n inside ascii =
     let within : i + n < length text = omega (arith, rw length-drop at inside) in
     IsCharBoundary-before_ascii text (i + n) within (rw get_or-drop at ascii)
 
 -- after an ASCII byte of what follows byte i
-pub after_ascii_of_rest : (text : List ℕ) (i n : ℕ) → IsUtf8 text → n < length (drop i text) → get_or (drop i text) n 0 < 128 → IsCharBoundary text (i + n + 1)
+pub after_ascii_of_rest : (text : List ℕ) (i n : ℕ) → IsUtf8 text → n < length (drop i text) → get_or (drop i text) n 0 < 128
+    → IsCharBoundary text (i + n + 1)
 after_ascii_of_rest text i n utf8 inside ascii =
     let within : i + n < length text = omega (arith, rw length-drop at inside) in
     IsCharBoundary-after_ascii text (i + n) utf8 within (rw get_or-drop at ascii)
 
 -- after an ASCII byte of so many bytes that follow byte i
-pub after_ascii_of_part : (text : List ℕ) (i m n : ℕ) → IsUtf8 text → n < length (take m (drop i text)) → get_or (take m (drop i text)) n 0 < 128 → IsCharBoundary text (i + n + 1)
+pub after_ascii_of_part : (text : List ℕ) (i m n : ℕ) → IsUtf8 text → n < length (take m (drop i text))
+    → get_or (take m (drop i text)) n 0 < 128 → IsCharBoundary text (i + n + 1)
 after_ascii_of_part text i m n utf8 inside ascii =
     let bound = rw length-take at inside in
     let below : n < m = omega (arith, bound) in
@@ -40,6 +44,7 @@ ascii_at (x ∷ xs) all zero = first_is_ascii x (list_all is_ascii xs) all
 ascii_at (x ∷ xs) all (suc i) = ascii_at xs (rest_is_ascii x (list_all is_ascii xs) all) i
 
 -- after ASCII bytes
-pub after_ascii_bytes : (text : List ℕ) (n : ℕ) → IsUtf8 text → n ≤ length text → list_all is_ascii (take n text) ≡ true → IsCharBoundary text n
+pub after_ascii_bytes : (text : List ℕ) (n : ℕ) → IsUtf8 text → n ≤ length text → list_all is_ascii (take n text) ≡ true
+    → IsCharBoundary text n
 after_ascii_bytes text n utf8 within all =
     IsCharBoundary-from_take text n utf8 within (IsUtf8-from_ascii (take n text) (ascii_at (take n text) all))

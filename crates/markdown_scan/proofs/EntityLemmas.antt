@@ -1,12 +1,13 @@
 -- The number of a numeric reference: it stays small while its digits are read.
-use Rattle.std.proofs.Common.{◌≡◌, ℕ, ◌+◌, ◌*◌, ◌^◌, ◌<◌, ◌≤◌, true, List, Some, length, get_or, take, drop, nat_le, codes, arith, lit<, add-one, ap, ◌∙◌, refl}
+use Rattle.std.proofs.Common.{◌≡◌, ℕ, ◌+◌, ◌*◌, ◌^◌, ◌<◌, ◌≤◌, true, List, Some, length, get_or, take, drop, nat_le, codes, arith, lit<}
+use Rattle.std.proofs.Common.{add-one, ap, ◌∙◌, refl}
 use Rattle.std.proofs.Math.Nat.{mul-le-mul_right, pow-le-pow_right, pow-suc}
 use Rattle.std.proofs.lemmas.Bool.Decides.{nat_tests}
 use Rattle.std.proofs.lemmas.List.Sums.{fold_more}
 use Rattle.std.proofs.lemmas.List.{length-take, take_min}
 use Rattle.std.specs.List.{prefix_len}
 use Rattle.std.specs.Char.{digit_value, is_digit}
-use Rattle.markdown_scan.specs.Entity.{number_of, digits_of, numbered, character_of}
+use Rattle.markdown_scan.specs.Entity.{number_of, digits_of, numeric_reference, character_of}
 use Rattle.markdown_scan.specs.Beginnings.{begins_with}
 
 -- one digit more
@@ -42,7 +43,7 @@ pub numbered_is : (start radix most count character : ℕ) (bytes : List ℕ)
     → count ≡ length (digits_of radix (drop start bytes)) → 1 ≤ count → count ≤ most
     → begins_with (codes ";") (drop (start + count) bytes) ≡ true
     → character ≡ character_of (number_of radix (take count (drop start bytes)))
-    → Some (start + count + 1, character) ≡ numbered start radix most bytes
+    → Some (start + count + 1, character) ≡ numeric_reference start radix most bytes
 numbered_is start radix most count character bytes many some few closed is =
     let digits = digits_of radix (drop start bytes) in
     let at_least : nat_le 1 (length digits) ≡ true = rw (← many) (grind (arith, nat_tests)) in

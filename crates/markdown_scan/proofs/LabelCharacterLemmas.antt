@@ -1,5 +1,6 @@
 -- A label's definitions at a whole character.
-use Rattle.std.proofs.Common.{◌≡◌, ℕ, suc, ◌+◌, ◌≤◌, ◌<◌, List, [], ◌∷◌, ◌++◌, Bool, true, false, Option, Some, None, length, drop, get_or, inl, inr, refl, sym, ◌∙◌, ap, arith, ◌==◌}
+use Rattle.std.proofs.Common.{◌≡◌, ℕ, suc, ◌+◌, ◌≤◌, ◌<◌, List, [], ◌∷◌, ◌++◌, Bool, true, false, Option, Some, None, length, drop, get_or}
+use Rattle.std.proofs.Common.{inl, inr, refl, sym, ◌∙◌, ap, arith, ◌==◌}
 use Rattle.std.specs.Prelude.{encode_utf8}
 use Rattle.std.proofs.lemmas.List.{append-nil}
 use Rattle.std.proofs.lemmas.Str.{encode_ascii, inside_one, length-encode, len_utf8_bounds}
@@ -7,7 +8,7 @@ use Rattle.std.proofs.lemmas.Option.{same_Some}
 use Rattle.std.proofs.lemmas.Bool.Decides.{nat_tests, leb_tells}
 use Rattle.markdown_scan.specs.AsciiKinds.{is_white_space}
 use Rattle.markdown_scan.specs.Backslash.{backslash, is_bare}
-use Rattle.markdown_scan.specs.Label.{label_bytes, body, put_before, shown, with_shown, squeeze, gap}
+use Rattle.markdown_scan.specs.Label.{label_bytes, body, put_before, shown, with_shown, collapse_whitespace, gap}
 use Rattle.markdown_scan.specs.LinePrefix.{prefix_after}
 use Rattle.markdown_scan.specs.LabelScan.{character_shown, found_in}
 use Rattle.markdown_scan.proofs.LabelLemmas.{body_step, found_step, put_before_twice, put_before_none}
@@ -39,18 +40,20 @@ high_is_solid : (x : ℕ) → 128 ≤ x → is_white_space x ≡ false
 high_is_solid x high = grind (arith, nat_tests)
 
 -- squeezed bytes of which none is ASCII, in the middle of a word
-pub squeeze_high : (xs rest : List ℕ) → IsHigh xs → squeeze true false (xs ++ rest) ≡ xs ++ squeeze true false rest
+pub squeeze_high : (xs rest : List ℕ) → IsHigh xs → collapse_whitespace true false (xs ++ rest) ≡ xs ++ collapse_whitespace true false rest
 squeeze_high [] rest high = refl
 squeeze_high (x ∷ xs) rest high = rw (high_is_solid x high.0) (ap (λ (ys : List ℕ). x ∷ ys) (squeeze_high xs rest high.1))
 
-squeeze_high_first : (begun waiting : Bool) (xs rest : List ℕ) → IsHigh xs → 0 < length xs → squeeze begun waiting (xs ++ rest) ≡ gap begun waiting ++ (xs ++ squeeze true false rest)
+squeeze_high_first : (begun waiting : Bool) (xs rest : List ℕ) → IsHigh xs → 0 < length xs → collapse_whitespace begun waiting (xs ++ rest)
+    ≡ gap begun waiting ++ (xs ++ collapse_whitespace true false rest)
 squeeze_high_first begun waiting [] rest high some = absurd (omega arith)
 squeeze_high_first begun waiting (x ∷ xs) rest high some =
     rw (high_is_solid x high.0) (ap (λ (ys : List ℕ). gap begun waiting ++ x ∷ ys) (squeeze_high xs rest high.1))
 
 -- a character that is no white space, squeezed
 pub squeeze_character : (begun waiting : Bool) (c : ℕ) (rest : List ℕ) → is_white_space c ≡ false
-    → squeeze begun waiting (encode_utf8 c ++ rest) ≡ gap begun waiting ++ (encode_utf8 c ++ squeeze true false rest)
+    → collapse_whitespace begun waiting (encode_utf8 c ++ rest) ≡ gap begun waiting
+    ++ (encode_utf8 c ++ collapse_whitespace true false rest)
 squeeze_character begun waiting c rest solid = elim (leb_tells 128 c) [
   | inl high ↦ squeeze_high_first begun waiting (encode_utf8 c) rest (high_encode c high.1) (encode_nonempty c)
   | inr low ↦ rw (encode_ascii c low.1, solid)
@@ -61,7 +64,7 @@ white_is_low c white = grind (arith, nat_tests)
 
 -- white space, squeezed
 pub squeeze_white : (begun waiting : Bool) (c : ℕ) (rest : List ℕ) → is_white_space c ≡ true
-    → squeeze begun waiting (encode_utf8 c ++ rest) ≡ squeeze begun true rest
+    → collapse_whitespace begun waiting (encode_utf8 c ++ rest) ≡ collapse_whitespace begun true rest
 squeeze_white begun waiting c rest white = let low = white_is_low c white in rw (encode_ascii c low, white)
 
 high_is_not : (x k : ℕ) → 128 ≤ x → k < 128 → (x == k) ≡ false
@@ -79,9 +82,11 @@ high_ends_no_line skipped x rest high =
 
 shown_high : (in_table : Bool) (xs rest : List ℕ) → IsHigh xs → shown in_table (xs ++ rest) ≡ xs ++ shown in_table rest
 shown_high in_table [] rest high = refl
-shown_high in_table (x ∷ xs) rest high = rw (high_is_not x 92 high.0 (omega arith)) (ap (λ (ys : List ℕ). x ∷ ys) (shown_high in_table xs rest high.1))
+shown_high in_table (x ∷ xs) rest high = rw (high_is_not x 92 high.0 (omega arith))
+    (ap (λ (ys : List ℕ). x ∷ ys) (shown_high in_table xs rest high.1))
 
-with_shown_high : (in_table : Bool) (m : ℕ) (xs : List ℕ) (o : Option (ℕ × List ℕ)) → IsHigh xs → with_shown in_table (put_before m xs o) ≡ put_before m xs (with_shown in_table o)
+with_shown_high : (in_table : Bool) (m : ℕ) (xs : List ℕ) (o : Option (ℕ × List ℕ)) → IsHigh xs → with_shown in_table (put_before m xs o)
+    ≡ put_before m xs (with_shown in_table o)
 with_shown_high in_table m xs None high = refl
 with_shown_high in_table m xs (Some f) high = rw (shown_high in_table xs f.1 high)
 
@@ -92,7 +97,8 @@ character_shown_high in_table c next high = rw (high_is_not c 92 high (omega ari
 high_step : (skipped : List ℕ → Option ℕ) (escaped : Bool) (x : ℕ) (rest : List ℕ) → 128 ≤ x
     → body escaped (label_bytes skipped 0 (x ∷ rest)) ≡ put_before 1 (x ∷ []) (body false (label_bytes skipped 0 rest))
 high_step skipped escaped x rest high =
-    let step = body_step skipped escaped x rest 0 (high_is_not_bare escaped x 93 high (omega arith)) (high_is_not_bare escaped x 91 high (omega arith)) (high_ends_no_line skipped x rest high) (omega arith) in
+    let step = body_step skipped escaped x rest 0 (high_is_not_bare escaped x 93 high (omega arith))
+    (high_is_not_bare escaped x 91 high (omega arith)) (high_ends_no_line skipped x rest high) (omega arith) in
     step ∙ ap (λ (e : Bool). put_before 1 (x ∷ []) (body e (label_bytes skipped 0 rest))) (high_is_not_bare escaped x 92 high (omega arith))
 
 -- bytes of a label of which none is ASCII

@@ -1,5 +1,7 @@
 -- Steps of the scans of a label.
-use Rattle.std.proofs.Common.{◌≡◌, ℕ, suc, zero, ◌+◌, ◌≤◌, ◌<◌, List, [], ◌∷◌, ◌++◌, Bool, true, false, ◌&&◌, ◌||◌, Option, Some, None, if◌then◌else◌, length, drop, refl, sym, ◌∙◌, ap, arith, append_assoc, count_by, nat_le, ◌==◌, is_none, unwrap_or, IfSome}
+use Rattle.std.proofs.Common.{◌≡◌, ℕ, suc, zero, ◌+◌, ◌≤◌, ◌<◌, List, [], ◌∷◌, ◌++◌, Bool, true, false, ◌&&◌, ◌||◌, Option, Some, None}
+use Rattle.std.proofs.Common.{if◌then◌else◌, length, drop, refl, sym, ◌∙◌, ap, arith, append_assoc, count_by, nat_le, ◌==◌, is_none}
+use Rattle.std.proofs.Common.{unwrap_or, IfSome}
 use Rattle.std.specs.List.{list_any}
 use Rattle.std.proofs.lemmas.List.Sums.{sum_by-append}
 use Rattle.std.proofs.lemmas.List.Folds.{list_any-append}
@@ -7,12 +9,14 @@ use Rattle.std.proofs.lemmas.Bool.{cond_both}
 use Rattle.std.proofs.lemmas.Bool.Decides.{nat_tests}
 use Rattle.markdown_scan.specs.AsciiKinds.{pipe}
 use Rattle.markdown_scan.specs.Backslash.{backslash, begins_pipe, escapes_pipe, is_bare}
-use Rattle.markdown_scan.specs.Label.{LabelByte, kept, refused, label_bytes, body, put_before, shown, with_shown, begins_character, is_no_white_space}
+use Rattle.markdown_scan.specs.Label.{LabelByte, kept, refused, label_bytes, body, put_before, shown, with_shown, begins_character}
+use Rattle.markdown_scan.specs.Label.{is_not_white_space}
 use Rattle.markdown_scan.specs.LinePrefix.{prefix_after}
 use Rattle.markdown_scan.specs.LabelScan.{byte_shown, end_after, found_in}
 
 -- what stands before what stands before
-pub put_before_twice : (n m : ℕ) (xs ys : List ℕ) (o : Option (ℕ × List ℕ)) → put_before n xs (put_before m ys o) ≡ put_before (n + m) (xs ++ ys) o
+pub put_before_twice : (n m : ℕ) (xs ys : List ℕ) (o : Option (ℕ × List ℕ)) → put_before n xs (put_before m ys o)
+    ≡ put_before (n + m) (xs ++ ys) o
 put_before_twice n m xs ys None = refl
 put_before_twice n m xs ys (Some r) =
     let sum : n + (m + r.0) ≡ n + m + r.0 = omega arith in
@@ -38,7 +42,8 @@ body_past_prefix skipped escaped (suc n) (b ∷ bs) h =
 -- a byte that is no bracket, and the prefix after it
 pub body_step : (skipped : List ℕ → Option ℕ) (escaped : Bool) (b : ℕ) (tail : List ℕ) (n : ℕ)
     → is_bare escaped b 93 ≡ false → is_bare escaped b 91 ≡ false → prefix_after skipped b tail ≡ Some n → n ≤ length tail
-    → body escaped (label_bytes skipped 0 (b ∷ tail)) ≡ put_before (1 + n) (b ∷ []) (body (is_bare escaped b backslash) (label_bytes skipped 0 (drop n tail)))
+    → body escaped (label_bytes skipped 0 (b ∷ tail))
+    ≡ put_before (1 + n) (b ∷ []) (body (is_bare escaped b backslash) (label_bytes skipped 0 (drop n tail)))
 body_step skipped escaped b tail n no_end no_start after within =
     let past = body_past_prefix skipped (is_bare escaped b backslash) n tail within in
     let joined = put_before_twice 1 n (b ∷ []) [] (body (is_bare escaped b backslash) (label_bytes skipped 0 (drop n tail))) in
@@ -52,7 +57,8 @@ put_begins_pipe : (x : ℕ) (o : Option (ℕ × List ℕ)) → IfSome (put_befor
 put_begins_pipe x None = tt
 put_begins_pipe x (Some f) = refl
 
-kept_begins_pipe : (escaped : Bool) (x : ℕ) (rest : List LabelByte) → IfSome (body escaped (kept x ∷ rest)) (λ f. begins_pipe f.1 ≡ (x == pipe))
+kept_begins_pipe : (escaped : Bool) (x : ℕ) (rest : List LabelByte)
+    → IfSome (body escaped (kept x ∷ rest)) (λ f. begins_pipe f.1 ≡ (x == pipe))
 kept_begins_pipe escaped x rest =
     let P = λ (o : Option (ℕ × List ℕ)). IfSome o (λ f. begins_pipe f.1 ≡ (x == pipe)) in
     let later = body (is_bare escaped x backslash) rest in
@@ -66,7 +72,8 @@ pub begins_pipe_alike : (skipped : List ℕ → Option ℕ) (escaped : Bool) (by
     → IfSome (body escaped (label_bytes skipped 0 bytes)) (λ f. begins_pipe f.1 ≡ begins_pipe bytes)
 begins_pipe_alike skipped escaped [] = tt
 begins_pipe_alike skipped escaped (x ∷ xs) =
-    kept_begins_pipe escaped x (if is_none (prefix_after skipped x xs) then refused ∷ [] else label_bytes skipped (unwrap_or (prefix_after skipped x xs) 0) xs)
+    kept_begins_pipe escaped x (if is_none (prefix_after skipped x xs) then refused ∷ []
+    else label_bytes skipped (unwrap_or (prefix_after skipped x xs) 0) xs)
 
 one_shown : (goes : Bool) (b : ℕ) (text : List ℕ) → (if goes then text else b ∷ text) ≡ (if goes then [] else b ∷ []) ++ text
 one_shown true b text = refl
@@ -81,7 +88,8 @@ shown_before in_table m b bytes (Some f) same = rw (same, one_shown (escapes_pip
 -- the same of the text as it is shown
 pub found_step : (skipped : List ℕ → Option ℕ) (in_table escaped : Bool) (b : ℕ) (tail : List ℕ) (n : ℕ)
     → is_bare escaped b 93 ≡ false → is_bare escaped b 91 ≡ false → prefix_after skipped b tail ≡ Some n → n ≤ length tail
-    → found_in skipped in_table escaped (b ∷ tail) ≡ put_before (1 + n) (byte_shown in_table b (drop n tail)) (found_in skipped in_table (is_bare escaped b backslash) (drop n tail))
+    → found_in skipped in_table escaped (b ∷ tail) ≡ put_before (1 + n) (byte_shown in_table b (drop n tail))
+    (found_in skipped in_table (is_bare escaped b backslash) (drop n tail))
 found_step skipped in_table escaped b tail n no_end no_start after within =
     let later = is_bare escaped b backslash in
     let rest = drop n tail in
@@ -95,20 +103,23 @@ or_assoc false b c = refl
 -- the end after what is found after a text
 pub end_of_put : (at characters n : ℕ) (solid : Bool) (text : List ℕ) (o : Option (ℕ × List ℕ))
     → end_after at characters solid (put_before n text o)
-    ≡ end_after (at + n) (characters + count_by begins_character text) (solid || list_any is_no_white_space text) o
+    ≡ end_after (at + n) (characters + count_by begins_character text) (solid || list_any is_not_white_space text) o
 end_of_put at characters n solid text None = refl
 end_of_put at characters n solid text (Some f) =
     let place : at + (n + f.0) ≡ at + n + f.0 = omega arith in
     let counted = sum_by-append (λ x. if begins_character x then 1 else 0) text f.1 in
-    let sum : characters + (count_by begins_character text + count_by begins_character f.1) ≡ characters + count_by begins_character text + count_by begins_character f.1 = omega arith in
-    let any = list_any-append is_no_white_space text f.1 in
-    rw (place, counted, sum, any, or_assoc solid (list_any is_no_white_space text) (list_any is_no_white_space f.1))
+    let sum : characters + (count_by begins_character text + count_by begins_character f.1) ≡ characters + count_by begins_character text
+    + count_by begins_character f.1 = omega arith in
+    let any = list_any-append is_not_white_space text f.1 in
+    rw (place, counted, sum, any, or_assoc solid (list_any is_not_white_space text) (list_any is_not_white_space f.1))
 
 -- the invariant of the scan for the end, after a byte
-pub end_step : (whole : Option ℕ) (skipped : List ℕ → Option ℕ) (in_table escaped solid : Bool) (at characters b : ℕ) (tail : List ℕ) (n : ℕ)
+pub end_step : (whole : Option ℕ) (skipped : List ℕ → Option ℕ) (in_table escaped solid : Bool) (at characters b : ℕ) (tail : List ℕ)
+    (n : ℕ)
     → whole ≡ end_after at characters solid (found_in skipped in_table escaped (b ∷ tail))
     → is_bare escaped b 93 ≡ false → is_bare escaped b 91 ≡ false → prefix_after skipped b tail ≡ Some n → n ≤ length tail
-    → whole ≡ end_after (at + 1 + n) (characters + count_by begins_character (byte_shown in_table b (drop n tail))) (solid || list_any is_no_white_space (byte_shown in_table b (drop n tail)))
+    → whole ≡ end_after (at + 1 + n) (characters + count_by begins_character (byte_shown in_table b (drop n tail))) (solid
+    || list_any is_not_white_space (byte_shown in_table b (drop n tail)))
     (found_in skipped in_table (is_bare escaped b backslash) (drop n tail))
 end_step whole skipped in_table escaped solid at characters b tail n was no_end no_start after within =
     let later = found_in skipped in_table (is_bare escaped b backslash) (drop n tail) in
@@ -124,4 +135,4 @@ pub too_long : (at characters : ℕ) (solid : Bool) (o : Option (ℕ × List ℕ
 too_long at characters solid None more = refl
 too_long at characters solid (Some f) more =
     let still : 999 < characters + count_by begins_character f.1 = omega arith in
-    too_many (characters + count_by begins_character f.1) (solid || list_any is_no_white_space f.1) (Some (at + f.0)) still
+    too_many (characters + count_by begins_character f.1) (solid || list_any is_not_white_space f.1) (Some (at + f.0)) still

@@ -1,5 +1,6 @@
 -- Steps of the reader of a label's text.
-use Rattle.std.proofs.Common.{◌≡◌, ◌≢◌, ℕ, ◌+◌, ◌≤◌, ◌<◌, List, [], ◌++◌, Bool, true, false, Option, Some, None, length, take, drop, refl, sym, ◌∙◌, ap, arith, append_assoc, length-append, length-drop, String, Global, string_bytes}
+use Rattle.std.proofs.Common.{◌≡◌, ◌≢◌, ℕ, ◌+◌, ◌≤◌, ◌<◌, List, [], ◌++◌, Bool, true, false, Option, Some, None, length, take, drop, refl}
+use Rattle.std.proofs.Common.{sym, ◌∙◌, ap, arith, append_assoc, length-append, length-drop, String, Global, string_bytes}
 use Rattle.std.specs.Prelude.{encode_utf8, Result, Ok, Err, OnErr, IfSome, ◌||◌}
 use Rattle.std.specs.Option.{option_map}
 use Rattle.std.proofs.lemmas.Option.{none-some, same_Some}
@@ -7,7 +8,7 @@ use Rattle.std.proofs.lemmas.List.{append-nil, take-append-drop, append_cancel_l
 use Rattle.std.proofs.lemmas.Str.{encode_same, length-encode, len_utf8_bounds}
 use Rattle.markdown_scan.specs.LabelScan.{IsNoBeginning, own_or}
 use Rattle.markdown_scan.specs.AsciiKinds.{is_white_space}
-use Rattle.markdown_scan.specs.Label.{squeeze, gap, put_before}
+use Rattle.markdown_scan.specs.Label.{collapse_whitespace, gap, put_before}
 use Rattle.markdown_scan.proofs.LabelCharacterLemmas.{squeeze_character, encode_nonempty}
 
 -- no character begins an empty text
@@ -19,11 +20,13 @@ empty_begins_with_none text c empty tail e =
     absurd (omega (arith, sum, one, empty))
 
 -- a text begins with one character only
-pub begins_with_one : (text rest : List ℕ) (first c : ℕ) → text ≡ encode_utf8 first ++ rest → first ≢ c → (tail : List ℕ) → text ≢ encode_utf8 c ++ tail
+pub begins_with_one : (text rest : List ℕ) (first c : ℕ) → text ≡ encode_utf8 first ++ rest → first ≢ c → (tail : List ℕ)
+    → text ≢ encode_utf8 c ++ tail
 begins_with_one text rest first c e other tail begins = other (encode_same first c rest tail (sym e ∙ begins)).0
 
 -- the beginning of a source, and what follows it there
-pub take_past : (source xs ys : List ℕ) (i n : ℕ) → i ≤ length source → drop i source ≡ xs ++ ys → length xs ≡ n → take (i + n) source ≡ take i source ++ xs
+pub take_past : (source xs ys : List ℕ) (i n : ℕ) → i ≤ length source → drop i source ≡ xs ++ ys → length xs ≡ n
+    → take (i + n) source ≡ take i source ++ xs
 take_past source xs ys i n within e size =
     let before : length (take i source) ≡ i = length-take-le i source within in
     let parts : source ≡ take i source ++ (xs ++ ys) = sym (take-append-drop i source) ∙ ap (λ (zs : List ℕ). take i source ++ zs) e in
@@ -32,16 +35,19 @@ take_past source xs ys i n within e size =
     ap (λ (zs : List ℕ). take (i + n) zs) both ∙ take_at (take i source ++ xs) ys (i + n) size'
 
 -- what follows the beginning of a source in a beginning of it follows it in the source
-pub no_beginning : (source xs : List ℕ) (i : ℕ) → ((tail : List ℕ) → drop i source ≢ xs ++ tail) → IsNoBeginning (take i source ++ xs) source
+pub no_beginning : (source xs : List ℕ) (i : ℕ) → ((tail : List ℕ) → drop i source ≢ xs ++ tail)
+    → IsNoBeginning (take i source ++ xs) source
 no_beginning source xs i differs rest n e =
     let whole = sym (take-append-drop n source) in
     let parts = take-append-drop i source in
     let joined : take i source ++ drop i source ≡ take i source ++ (xs ++ (rest ++ drop n source)) =
-    parts ∙ whole ∙ ap (λ (ys : List ℕ). ys ++ drop n source) (sym e) ∙ append_assoc (take i source ++ xs) rest (drop n source) ∙ append_assoc (take i source) xs (rest ++ drop n source) in
+    parts ∙ whole ∙ ap (λ (ys : List ℕ). ys ++ drop n source) (sym e) ∙ append_assoc (take i source ++ xs) rest (drop n source)
+    ∙ append_assoc (take i source) xs (rest ++ drop n source) in
     differs (rest ++ drop n source) (append_cancel_left (take i source) (drop i source) (xs ++ (rest ++ drop n source)) joined)
 
 -- without a text of its own it is the beginning of the source
-pub own_or_none : (own : Option (String Global)) (beginning : List ℕ) → ((x : String Global) → own ≡ Some x → ⊥) → own_or own beginning ≡ beginning
+pub own_or_none : (own : Option (String Global)) (beginning : List ℕ) → ((x : String Global) → own ≡ Some x → ⊥)
+    → own_or own beginning ≡ beginning
 own_or_none None beginning none = refl
 own_or_none (Some x) beginning none = absurd (none x refl)
 
@@ -53,22 +59,26 @@ on_err (Err e) P p = p
 -- a character put after the white space before it
 pub put_text : (so mid new : List ℕ) (begun waiting : Bool) (c : ℕ) → is_white_space c ≡ false
     → mid ≡ so ++ gap begun waiting → new ≡ mid ++ encode_utf8 c
-    → (rest : List ℕ) → new ++ squeeze true false rest ≡ so ++ squeeze begun waiting (encode_utf8 c ++ rest)
+    → (rest : List ℕ) → new ++ collapse_whitespace true false rest ≡ so ++ collapse_whitespace begun waiting (encode_utf8 c ++ rest)
 put_text so mid new begun waiting c solid first second rest =
     let whole : new ≡ (so ++ gap begun waiting) ++ encode_utf8 c = second ∙ ap (λ (xs : List ℕ). xs ++ encode_utf8 c) first in
-    rw (whole, squeeze_character begun waiting c rest solid) (append_assoc (so ++ gap begun waiting) (encode_utf8 c) (squeeze true false rest) ∙ append_assoc so (gap begun waiting) (encode_utf8 c ++ squeeze true false rest))
+    rw (whole, squeeze_character begun waiting c rest solid) (append_assoc (so ++ gap begun waiting) (encode_utf8 c)
+    (collapse_whitespace true false rest) ∙ append_assoc so (gap begun waiting) (encode_utf8 c ++ collapse_whitespace true false rest))
 
 -- a space before the character that is in no beginning of the source
-pub gap_differs : (so source : List ℕ) (begun waiting : Bool) (c : ℕ) → is_white_space c ≡ false → IsNoBeginning (so ++ gap begun waiting) source
-    → (rest : List ℕ) (n : ℕ) → so ++ squeeze begun waiting (encode_utf8 c ++ rest) ≢ take n source
+pub gap_differs : (so source : List ℕ) (begun waiting : Bool) (c : ℕ) → is_white_space c ≡ false
+    → IsNoBeginning (so ++ gap begun waiting) source
+    → (rest : List ℕ) (n : ℕ) → so ++ collapse_whitespace begun waiting (encode_utf8 c ++ rest) ≢ take n source
 gap_differs so source begun waiting c solid differs rest n e =
-    differs (encode_utf8 c ++ squeeze true false rest) n (append_assoc so (gap begun waiting) (encode_utf8 c ++ squeeze true false rest) ∙ ap (λ (xs : List ℕ). so ++ xs) (sym (squeeze_character begun waiting c rest solid)) ∙ e)
+    differs (encode_utf8 c ++ collapse_whitespace true false rest) n (append_assoc so (gap begun waiting) (encode_utf8 c
+    ++ collapse_whitespace true false rest) ∙ ap (λ (xs : List ℕ). so ++ xs) (sym (squeeze_character begun waiting c rest solid)) ∙ e)
 
 -- a character that is in no beginning of the source
-pub put_differs : (so mid source : List ℕ) (begun waiting : Bool) (c : ℕ) → is_white_space c ≡ false → mid ≡ so ++ gap begun waiting → IsNoBeginning (mid ++ encode_utf8 c) source
-    → (rest : List ℕ) (n : ℕ) → so ++ squeeze begun waiting (encode_utf8 c ++ rest) ≢ take n source
+pub put_differs : (so mid source : List ℕ) (begun waiting : Bool) (c : ℕ) → is_white_space c ≡ false → mid ≡ so ++ gap begun waiting
+    → IsNoBeginning (mid ++ encode_utf8 c) source
+    → (rest : List ℕ) (n : ℕ) → so ++ collapse_whitespace begun waiting (encode_utf8 c ++ rest) ≢ take n source
 put_differs so mid source begun waiting c solid first differs rest n e =
-    differs (squeeze true false rest) n (put_text so mid (mid ++ encode_utf8 c) begun waiting c solid first refl rest ∙ e)
+    differs (collapse_whitespace true false rest) n (put_text so mid (mid ++ encode_utf8 c) begun waiting c solid first refl rest ∙ e)
 
 -- a text of its own is no beginning of the source
 pub borrowed_if_same : (own : Option (String Global)) (same source text : List ℕ) (B : Type 0)
@@ -112,4 +122,5 @@ read_differs None found later m text source squeezed before was goes_on differs 
 read_differs (Some h) found None m text source squeezed before was goes_on differs =
     absurd (none-some (squeezed h.1) (sym (was ∙ ap (option_map (λ (f : ℕ × List ℕ). before f.1)) goes_on)))
 read_differs (Some h) found (Some g) m text source squeezed before was goes_on differs = λ n e.
-    differs g.1 n (sym (same_Some (squeezed h.1) (before (text ++ g.1)) (was ∙ ap (option_map (λ (f : ℕ × List ℕ). before f.1)) goes_on)) ∙ e)
+    differs g.1 n (sym (same_Some (squeezed h.1) (before (text ++ g.1)) (was ∙ ap (option_map (λ (f : ℕ × List ℕ). before f.1)) goes_on))
+    ∙ e)

@@ -2,7 +2,8 @@
 use Rattle.std.proofs.Common.{◌≡◌, inl, inr, ℕ, zero, suc, ◌+◌, ◌-◌, ◌≤◌, ◌<◌, List, [], ◌∷◌, true, ◌==◌, refl, sym, ◌∙◌, ap, arith}
 use Rattle.std.proofs.lemmas.Bool.Decides.{nat_tests, leb_tells}
 use Rattle.markdown_scan.specs.LineStart.{LineLeft, Space, space_width, column_after, wider, no_space, space_from, space}
-use Rattle.markdown_scan.proofs.LineStartLemmas.{eq_test_false, le_test_false, le_test_true, lt_test_true, lt_test_false, no_space_from, space_unowed, wider_none, wider_twice}
+use Rattle.markdown_scan.proofs.LineStartLemmas.{eq_test_false, le_test_false, le_test_true, lt_test_true, lt_test_false, no_space_from}
+use Rattle.markdown_scan.proofs.LineStartLemmas.{space_unowed, wider_none, wider_twice}
 
 -- n columns of those that are owed, and m more
 owed_more : (n m : ℕ) (left : LineLeft) → n ≤ left.owed

@@ -1,5 +1,7 @@
 -- Lemmas of the laws of what is scanned.
-use Rattle.std.proofs.Common.{◌++◌, zero, ◌-◌, ◌&&◌, ◌≤◌, ◌<◌, ◌||◌, ◌⊎◌, inl, inr, nat_le, codes, lit<, lit≤, sym, ◌≡◌, suc, arith, ℕ, ◌+◌, ◌==◌, not, List, [], ◌∷◌, Bool, true, false, Option, Some, None, if◌then◌else◌, take, drop, length, get_or, refl, ap, ◌∙◌, option_and_then}
+use Rattle.std.proofs.Common.{◌++◌, zero, ◌-◌, ◌&&◌, ◌≤◌, ◌<◌, ◌||◌, ◌⊎◌, inl, inr, nat_le, codes, lit<, lit≤, sym, ◌≡◌, suc, arith, ℕ, ◌+◌}
+use Rattle.std.proofs.Common.{◌==◌, not, List, [], ◌∷◌, Bool, true, false, Option, Some, None, if◌then◌else◌, take, drop, length, get_or}
+use Rattle.std.proofs.Common.{refl, ap, ◌∙◌, option_and_then}
 use Rattle.std.proofs.lemmas.Bool.{and_parts, cond_both}
 use Rattle.std.proofs.lemmas.Bool.Decides.{nat_tests}
 use Rattle.std.proofs.lemmas.Str.{encode_ascii}
@@ -9,13 +11,14 @@ use Rattle.std.specs.List.{list_all, position_or_len, prefix_len}
 use Rattle.std.proofs.lemmas.List.Folds.{length-prefix_len}
 use Rattle.std.specs.Option.{option_map}
 use Rattle.markdown_scan.specs.Beginnings.{begins_with, StandsBetween}
-use Rattle.markdown_scan.specs.Entity.{character_of, digits_of, entity, number_of, numbered}
+use Rattle.markdown_scan.specs.Entity.{character_of, digits_of, entity, number_of, numeric_reference}
 use Rattle.markdown_scan.proofs.BeginsWithLemmas.{begins_with-reads}
 use Rattle.std.proofs.lemmas.List.{get_or-drop}
 use Rattle.markdown_scan.specs.AsciiKinds.{is_control_or_space}
 use Rattle.markdown_scan.specs.Backslash.{backslash, is_bare}
 use Rattle.markdown_scan.specs.Destination.{bare_destination, bare_length, end_of_bare, is_past_bare, is_too_deep, open_after}
-use Rattle.markdown_scan.specs.Label.{LabelByte, body, dropped, fits_label, kept, label_body, label_bytes, put_before, refused, shown, with_shown}
+use Rattle.markdown_scan.specs.Label.{LabelByte, body, dropped, fits_label, kept, label_body, label_bytes, put_before, refused, shown}
+use Rattle.markdown_scan.specs.Label.{with_shown}
 use Rattle.markdown_scan.proofs.LabelTextLemmas.{neither}
 use Rattle.markdown_scan.proofs.LineStartLemmas.{no_space_from}
 use Rattle.markdown_scan.specs.ScanLaws.{holds_bare_bracket, is_in_bare, is_plain, TabGoesToTheNextStop}
@@ -23,7 +26,8 @@ use Rattle.markdown_scan.specs.Unescape.{reference, unescaped}
 use Rattle.markdown_scan.proofs.UnescapeLemmas.{step_byte, step_reference}
 
 -- as many elements as pass a test from the front on pass it
-passing_first : (p : ℕ → Bool) (x : ℕ) (xs : List ℕ) (b : Bool) → p x ≡ b → list_all p (take (prefix_len p xs) xs) ≡ true → list_all p (take (prefix_len p (x ∷ xs)) (x ∷ xs)) ≡ true
+passing_first : (p : ℕ → Bool) (x : ℕ) (xs : List ℕ) (b : Bool) → p x ≡ b → list_all p (take (prefix_len p xs) xs) ≡ true
+    → list_all p (take (prefix_len p (x ∷ xs)) (x ∷ xs)) ≡ true
 passing_first p x xs true passes rest =
     let one : 1 + prefix_len p xs ≡ suc (prefix_len p xs) = omega arith in
     rw (passes, one, passes) rest
@@ -41,7 +45,8 @@ all_taken p xs =
 
 -- what a clause says of the text that was found
 pub if_found : (b : Bool) (at n : ℕ) (bytes : List ℕ) (p : ℕ → Bool) → list_all p (take n bytes) ≡ true
-    → IfSome {T = ℕ × List ℕ} (option_map (λ m. (at + m + 1, take m bytes)) (if b then Some n else None)) (λ found. IsTrue (list_all p found.1))
+    → IfSome {T = ℕ × List ℕ} (option_map (λ m. (at + m + 1, take m bytes)) (if b then Some n else None))
+    (λ found. IsTrue (list_all p found.1))
 if_found true at n bytes p all = all
 if_found false at n bytes p all = tt
 
@@ -109,7 +114,7 @@ between_text first last text bytes e some is =
 
 -- a numeric reference
 numbered_between : (start radix most : ℕ) (bytes : List ℕ) → get_or bytes 0 0 ≡ 38
-    → IfSome (numbered start radix most bytes) (λ r. StandsBetween 38 59 bytes r.0)
+    → IfSome (numeric_reference start radix most bytes) (λ r. StandsBetween 38 59 bytes r.0)
 numbered_between start radix most bytes first =
     let count = length (digits_of radix (drop start bytes)) in
     let rest = drop (start + count) bytes in
@@ -135,12 +140,12 @@ entity_between bytes =
     (λ e. cond_both _ _ _ P (λ e. between_text 38 59 (codes "&gt;") bytes e (lit≤ tt) (refl, refl))
     (λ e. cond_both _ _ _ P (λ e. between_text 38 59 (codes "&quot;") bytes e (lit≤ tt) (refl, refl))
     (λ e. cond_both (begins_with (codes "&#x") bytes || begins_with (codes "&#X") bytes)
-    (numbered 3 16 6 bytes) (if begins_with (codes "&#") bytes then numbered 2 10 7 bytes else None) P
+    (numeric_reference 3 16 6 bytes) (if begins_with (codes "&#") bytes then numeric_reference 2 10 7 bytes else None) P
     (λ e. numbered_between 3 16 6 bytes (elim (or_cases _ _ e) [
       | inl x ↦ begins_with-reads (codes "&#x") bytes 0 x (lit< tt)
       | inr x ↦ begins_with-reads (codes "&#X") bytes 0 x (lit< tt)
     ]))
-    (λ e. cond_both (begins_with (codes "&#") bytes) (numbered 2 10 7 bytes) None P
+    (λ e. cond_both (begins_with (codes "&#") bytes) (numeric_reference 2 10 7 bytes) None P
     (λ e. numbered_between 2 10 7 bytes (begins_with-reads (codes "&#") bytes 0 e (lit< tt)))
     (λ e. tt))))))
   where

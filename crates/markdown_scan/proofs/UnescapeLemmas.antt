@@ -1,12 +1,14 @@
 -- What a text stands for, step by step, and that a reference is longer than what it stands for.
-use Rattle.std.proofs.Common.{◌≡◌, ℕ, suc, zero, ◌+◌, ◌-◌, ◌<◌, ◌≤◌, Bool, true, ◌&&◌, ◌||◌, ◌==◌, List, [], ◌∷◌, ◌++◌, Option, Some, None, IfSome, length, get_or, take, drop, nat_le, codes, encode_utf8, cond, append_assoc, arith, refl, sym, ap, ◌∙◌, lit<, lit≤, IsUtf8, IsCharBoundary}
+use Rattle.std.proofs.Common.{◌≡◌, ℕ, suc, zero, ◌+◌, ◌-◌, ◌<◌, ◌≤◌, Bool, true, ◌&&◌, ◌||◌, ◌==◌, List, [], ◌∷◌, ◌++◌, Option, Some, None}
+use Rattle.std.proofs.Common.{IfSome, length, get_or, take, drop, nat_le, codes, encode_utf8, cond, append_assoc, arith, refl, sym, ap, ◌∙◌}
+use Rattle.std.proofs.Common.{lit<, lit≤, IsUtf8, IsCharBoundary}
 use Rattle.std.proofs.lemmas.Bool.{cond_both, and_parts, leb-true}
 use Rattle.std.proofs.lemmas.Bool.Decides.{nat_tests}
 use Rattle.std.proofs.lemmas.List.{get_or-drop, length-drop, length-take-le, length-append, drop_more, take_more, drop-drop}
 use Rattle.std.proofs.lemmas.Str.{length-encode, len_utf8_bounds, len_utf8_ascii, IsCharBoundary-after_ascii}
 use Rattle.std.specs.Char.{digit_value, len_utf8, is_ascii_punctuation}
 use Rattle.std.specs.Option.{option_or, option_map_or}
-use Rattle.markdown_scan.specs.Entity.{character_of, digits_of, entity, is_no_scalar, number_of, numbered}
+use Rattle.markdown_scan.specs.Entity.{character_of, digits_of, entity, is_no_scalar, number_of, numeric_reference}
 use Rattle.markdown_scan.specs.AsciiKinds.{pipe}
 use Rattle.markdown_scan.specs.Backslash.{backslash}
 use Rattle.markdown_scan.specs.Beginnings.{begins_with}
@@ -48,9 +50,9 @@ character_small n small = cond_both ((n == 0) || is_no_scalar n) 0xFFFD n (λ c.
     (λ e. lit≤ tt) (λ e. let one : len_utf8 n ≡ 1 = len_utf8_ascii n (omega arith) in omega (arith, one))
 
 -- a numeric reference
-IsReference-numbered : (start radix most : ℕ) (bytes : List ℕ) → 2 ≤ start
-    → IfSome (numbered start radix most bytes) (IsReference bytes)
-IsReference-numbered start radix most bytes two =
+IsReference-numeric_reference : (start radix most : ℕ) (bytes : List ℕ) → 2 ≤ start
+    → IfSome (numeric_reference start radix most bytes) (IsReference bytes)
+IsReference-numeric_reference start radix most bytes two =
     let digits = digits_of radix (drop start bytes) in
     let count = length digits in
     let rest = drop (start + count) bytes in
@@ -91,10 +93,10 @@ IsReference-entity bytes =
     (λ e. cond_both _ _ _ P (λ e. IsReference-text (codes "&gt;") bytes 62 e (lit≤ tt) (lit< tt) (lit< tt))
     (λ e. cond_both _ _ _ P (λ e. IsReference-text (codes "&quot;") bytes 34 e (lit≤ tt) (lit< tt) (lit< tt))
     (λ e. cond_both (begins_with (codes "&#x") bytes || begins_with (codes "&#X") bytes)
-    (numbered 3 16 6 bytes) (cond (begins_with (codes "&#") bytes) (numbered 2 10 7 bytes) None) P
-    (λ e. IsReference-numbered 3 16 6 bytes (lit≤ tt))
-    (λ e. cond_both (begins_with (codes "&#") bytes) (numbered 2 10 7 bytes) None P
-    (λ e. IsReference-numbered 2 10 7 bytes (lit≤ tt)) (λ e. tt))))))
+    (numeric_reference 3 16 6 bytes) (cond (begins_with (codes "&#") bytes) (numeric_reference 2 10 7 bytes) None) P
+    (λ e. IsReference-numeric_reference 3 16 6 bytes (lit≤ tt))
+    (λ e. cond_both (begins_with (codes "&#") bytes) (numeric_reference 2 10 7 bytes) None P
+    (λ e. IsReference-numeric_reference 2 10 7 bytes (lit≤ tt)) (λ e. tt))))))
 
 -- an escape
 IsReference-escape : (bytes : List ℕ) → IfSome (escape bytes) (IsReference bytes)

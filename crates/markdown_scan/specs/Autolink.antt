@@ -1,5 +1,6 @@
 -- Absolute-URI autolinks (CommonMark 6.5): a URI in angle brackets.
-use Rattle.std.specs.Prelude.{ℕ, ◌+◌, ◌==◌, Bool, not, ◌&&◌, ◌||◌, nat_le, List, length, take, drop, take_while, slice_index, Option, Some, None, if◌then◌else◌}
+use Rattle.std.specs.Prelude.{ℕ, ◌+◌, ◌==◌, Bool, not, ◌&&◌, ◌||◌, nat_le, List, length, take, drop, take_while}
+use Rattle.std.specs.Prelude.{slice_index, Option, Some, None, if◌then◌else◌}
 use Rattle.std.specs.Option.{option_map}
 use Rattle.std.specs.Char.{is_ascii_alphanumeric}
 use Rattle.markdown_scan.specs.AsciiKinds.{is_control_or_space}
@@ -33,5 +34,5 @@ closed_uri bytes =
     if begins_scheme bytes && (slice_index bytes (uri_length bytes) == 62) then Some (uri_length bytes) else None
 
 -- the byte after the autolink of which the `<` stands before this byte, and its URI
-abbrev pub web_autolink : List ℕ → ℕ → Option (ℕ × List ℕ)
-web_autolink text at = option_map (λ n. (at + n + 1, take n (drop at text))) (closed_uri (drop at text))
+abbrev pub uri_autolink : List ℕ → ℕ → Option (ℕ × List ℕ)
+uri_autolink text at = option_map (λ n. (at + n + 1, take n (drop at text))) (closed_uri (drop at text))

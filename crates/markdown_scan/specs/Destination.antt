@@ -1,6 +1,7 @@
 -- Link destinations (CommonMark 6.3), as they stand in the text. A backslash escapes ASCII
 -- punctuation only, and so neither a control character nor a space.
-use Rattle.std.specs.Prelude.{ℕ, ◌+◌, ◌-◌, Bool, false, ◌&&◌, ◌||◌, ◌==◌, nat_lt, List, [], ◌∷◌, take, drop, slice_index, Option, Some, None, if◌then◌else◌}
+use Rattle.std.specs.Prelude.{ℕ, ◌+◌, ◌-◌, Bool, false, ◌&&◌, ◌||◌, ◌==◌, nat_lt, List, [], ◌∷◌, take, drop}
+use Rattle.std.specs.Prelude.{slice_index, Option, Some, None, if◌then◌else◌}
 use Rattle.std.specs.Option.{option_map}
 use Rattle.markdown_scan.specs.AsciiKinds.{is_control_or_space}
 use Rattle.markdown_scan.specs.Backslash.{backslash, is_bare}
@@ -41,7 +42,8 @@ bare_length max_nesting escaped opened [] = end_of_bare opened
 bare_length max_nesting escaped opened (b ∷ bytes) =
     if is_past_bare escaped opened b then end_of_bare opened
     else if is_too_deep max_nesting escaped opened b then None
-    else option_map (λ n. 1 + n) (bare_length max_nesting (is_bare escaped b backslash) (open_after escaped b opened) bytes)
+    else option_map (λ n. 1 + n) (bare_length max_nesting (is_bare escaped b backslash) (open_after escaped b opened)
+    bytes)
 
 -- in angle brackets: the length through the closing one, and what stands between them
 abbrev pub angle_destination : List ℕ → Option (ℕ × List ℕ)

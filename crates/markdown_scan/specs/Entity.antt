@@ -1,6 +1,7 @@
 -- Entities and numeric character references (CommonMark 2.5): `&amp;`, `&lt;`, `&gt;` and `&quot;`
 -- by name, and any character by its number.
-use Rattle.std.specs.Prelude.{ℕ, ◌+◌, ◌*◌, Bool, ◌&&◌, ◌||◌, ◌==◌, nat_le, List, Option, Some, None, if◌then◌else◌, length, drop, take_while, fold, codes}
+use Rattle.std.specs.Prelude.{ℕ, ◌+◌, ◌*◌, Bool, ◌&&◌, ◌||◌, ◌==◌, nat_le, List, Option, Some, None, if◌then◌else◌}
+use Rattle.std.specs.Prelude.{length, drop, take_while, fold, codes}
 use Rattle.std.specs.Char.{digit_value, is_digit}
 use Rattle.markdown_scan.specs.Beginnings.{begins_with}
 
@@ -22,8 +23,8 @@ digits_of radix bytes = take_while (λ b. is_digit b radix) bytes
 
 -- after `start` bytes one digit or more, at most `most` of them, and a semicolon: the length of all
 -- that, and the character
-abbrev pub numbered : ℕ → ℕ → ℕ → List ℕ → Option (ℕ × ℕ)
-numbered start radix most bytes =
+abbrev pub numeric_reference : ℕ → ℕ → ℕ → List ℕ → Option (ℕ × ℕ)
+numeric_reference start radix most bytes =
     let digits = digits_of radix (drop start bytes) in
     if (nat_le 1 (length digits) && nat_le (length digits) most)
     && begins_with (codes ";") (drop (start + length digits) bytes)
@@ -38,6 +39,6 @@ entity bytes =
     else if begins_with (codes "&gt;") bytes then Some (4, 62)
     else if begins_with (codes "&quot;") bytes then Some (6, 34)
     else if begins_with (codes "&#x") bytes || begins_with (codes "&#X") bytes
-    then numbered 3 16 6 bytes
-    else if begins_with (codes "&#") bytes then numbered 2 10 7 bytes
+    then numeric_reference 3 16 6 bytes
+    else if begins_with (codes "&#") bytes then numeric_reference 2 10 7 bytes
     else None

@@ -1,6 +1,7 @@
 -- Link labels (CommonMark 6.3), from the byte after the opening bracket on. `skipped` says how many
 -- bytes of what follows a line ending are its line's prefix, if the line ending may stand there.
-use Rattle.std.specs.Prelude.{ℕ, zero, suc, ◌+◌, List, [], ◌∷◌, ◌++◌, Bool, true, false, not, ◌&&◌, ◌||◌, Option, Some, None, if◌then◌else◌, unwrap_or, is_none, nat_le, nat_lt, count_by, option_and_then}
+use Rattle.std.specs.Prelude.{ℕ, zero, suc, ◌+◌, List, [], ◌∷◌, ◌++◌, Bool, true, false, not, ◌&&◌, ◌||◌, Option, Some}
+use Rattle.std.specs.Prelude.{None, if◌then◌else◌, unwrap_or, is_none, nat_le, nat_lt, count_by, option_and_then}
 use Rattle.std.specs.List.{list_any}
 use Rattle.std.specs.Option.{option_map}
 use Rattle.markdown_scan.specs.AsciiKinds.{is_white_space}
@@ -55,28 +56,31 @@ gap begun waiting = if begun && waiting then 32 ∷ [] else []
 
 -- each inner run of white space as one space, none at the ends; `begun` once a byte was given,
 -- `waiting` after white space
-abbrev pub squeeze : Bool → Bool → List ℕ → List ℕ
-squeeze begun waiting [] = []
-squeeze begun waiting (b ∷ bytes) =
-    if is_white_space b then squeeze begun true bytes else gap begun waiting ++ b ∷ squeeze true false bytes
+abbrev pub collapse_whitespace : Bool → Bool → List ℕ → List ℕ
+collapse_whitespace begun waiting [] = []
+collapse_whitespace begun waiting (b ∷ bytes) =
+    if is_white_space b then collapse_whitespace begun true bytes else gap begun waiting
+    ++ b ∷ collapse_whitespace true false bytes
 
 -- the first byte of a character in UTF-8
 abbrev pub begins_character : ℕ → Bool
 begins_character b = nat_lt b 128 || nat_le 192 b
 
-abbrev pub is_no_white_space : ℕ → Bool
-is_no_white_space b = not (is_white_space b)
+-- no white space
+abbrev pub is_not_white_space : ℕ → Bool
+is_not_white_space b = not (is_white_space b)
 
 -- at most 999 characters, and one that is no white space
 abbrev pub fits_label : List ℕ → Bool
-fits_label text = nat_le (count_by begins_character text) 999 && list_any is_no_white_space text
+fits_label text = nat_le (count_by begins_character text) 999 && list_any is_not_white_space text
 
 -- the place of the closing bracket, and the text before it
 abbrev pub label_body : (List ℕ → Option ℕ) → Bool → List ℕ → Option (ℕ × List ℕ)
 label_body skipped in_table bytes =
-    option_and_then (λ f. if fits_label f.1 then Some f else None) (with_shown in_table (body false (label_bytes skipped 0 bytes)))
+    option_and_then (λ f. if fits_label f.1 then Some f else None)
+    (with_shown in_table (body false (label_bytes skipped 0 bytes)))
 
 -- the label that the bytes begin with: its length through the closing bracket, and its text
 abbrev pub link_label : (List ℕ → Option ℕ) → Bool → List ℕ → Option (ℕ × List ℕ)
 link_label skipped in_table bytes =
-    option_map (λ f. (f.0 + 1, squeeze false false f.1)) (label_body skipped in_table bytes)
+    option_map (λ f. (f.0 + 1, collapse_whitespace false false f.1)) (label_body skipped in_table bytes)

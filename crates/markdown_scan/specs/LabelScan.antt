@@ -1,14 +1,16 @@
 -- The scan of a label in progress. It gives no meaning: `Label` does.
-use Rattle.std.specs.Prelude.{◌≡◌, ◌≢◌, IfSome, ℕ, ◌+◌, List, [], ◌∷◌, ◌++◌, take, Bool, ◌&&◌, ◌||◌, Option, Some, None, if◌then◌else◌, nat_le, count_by, option_and_then, encode_utf8, String, string_bytes}
+use Rattle.std.specs.Prelude.{◌≡◌, ◌≢◌, IfSome, ℕ, ◌+◌, List, [], ◌∷◌, ◌++◌, take, Bool, ◌&&◌, ◌||◌, Option, Some, None}
+use Rattle.std.specs.Prelude.{if◌then◌else◌, nat_le, count_by, option_and_then, encode_utf8, String, string_bytes}
 use Rattle.std.specs.List.{list_any}
 use Rattle.markdown_scan.specs.Backslash.{backslash, escapes_pipe, is_bare}
-use Rattle.markdown_scan.specs.Label.{label_bytes, body, put_before, with_shown, begins_character, is_no_white_space}
+use Rattle.markdown_scan.specs.Label.{label_bytes, body, put_before, with_shown, begins_character, is_not_white_space}
 
 -- the place of the closing bracket, where so many bytes and characters stand before what was found,
 -- and whether one of them is no white space
 abbrev pub end_after : ℕ → ℕ → Bool → Option (ℕ × List ℕ) → Option ℕ
 end_after at characters solid found =
-    option_and_then (λ f. if nat_le (characters + count_by begins_character f.1) 999 && (solid || list_any is_no_white_space f.1) then Some (at + f.0) else None) found
+    option_and_then (λ f. if nat_le (characters + count_by begins_character f.1) 999
+    && (solid || list_any is_not_white_space f.1) then Some (at + f.0) else None) found
 
 -- no text that begins so is a beginning of the source
 abbrev pub IsNoBeginning : List ℕ → List ℕ → Type 0
@@ -36,7 +38,7 @@ abbrev pub EndsHere : (List ℕ → Option ℕ) → Bool → Bool → List ℕ �
 EndsHere skipped in_table escaped bytes = IfSome (found_in skipped in_table escaped bytes) (λ f. f.1 ≡ [])
 
 -- a label's text goes on with this character, and after it with these bytes
-abbrev pub GoesOn : (List ℕ → Option ℕ) → Bool → Bool → List ℕ → ℕ → List ℕ → Type 0
-GoesOn skipped in_table escaped bytes c tail =
+abbrev pub LabelGoesOn : (List ℕ → Option ℕ) → Bool → Bool → List ℕ → ℕ → List ℕ → Type 0
+LabelGoesOn skipped in_table escaped bytes c tail =
     (m : ℕ) × (found_in skipped in_table escaped bytes
     ≡ put_before m (character_shown in_table c tail) (found_in skipped in_table (is_bare escaped c backslash) tail))

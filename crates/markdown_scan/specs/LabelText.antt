@@ -1,7 +1,7 @@
 -- The text of a label while it is read. It gives no meaning: `Label` does.
 use Rattle.std.specs.Prelude.{ℕ, List, ◌++◌, take}
 use Rattle.markdown_scan.specs.declared.label_text.LabelText.{LabelText}
-use Rattle.markdown_scan.specs.Label.{squeeze}
+use Rattle.markdown_scan.specs.Label.{collapse_whitespace}
 use Rattle.markdown_scan.specs.LabelScan.{own_or}
 
 -- the text so far
@@ -10,4 +10,4 @@ so_far label = own_or label.own (take label.same label.source.now)
 
 -- the whole text, if these bytes are still to be squeezed
 abbrev pub completed : LabelText → List ℕ → List ℕ
-completed label rest = so_far label ++ squeeze label.begun label.waiting rest
+completed label rest = so_far label ++ collapse_whitespace label.begun label.waiting rest

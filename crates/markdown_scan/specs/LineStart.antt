@@ -1,6 +1,7 @@
 -- The beginning of a line, read by columns (CommonMark 2.2): a tab goes to the next multiple of 4
 -- columns. A tab of which a column is used is taken; its other columns are owed to what is read next.
-use Rattle.std.specs.Prelude.{ℕ, ◌+◌, ◌-◌, Bool, true, ◌&&◌, ◌||◌, ◌==◌, nat_le, nat_lt, List, [], ◌∷◌, drop, slice_index, if◌then◌else◌}
+use Rattle.std.specs.Prelude.{ℕ, ◌+◌, ◌-◌, Bool, true, ◌&&◌, ◌||◌, ◌==◌, nat_le, nat_lt, List, [], ◌∷◌, drop}
+use Rattle.std.specs.Prelude.{slice_index, if◌then◌else◌}
 use Rattle.markdown_scan.specs.LineEnd.{line_feed, carriage_return}
 
 -- what is left of a line: the bytes that were scanned, the columns of space that a cut tab owes, and
@@ -32,6 +33,7 @@ column_after column b = if b == 9 then 0 else next_column column
 abbrev pub wider : ℕ → Space → Space
 wider n space = record { columns = n + space.columns; after = space.after }
 
+-- no column is taken
 abbrev pub no_space : LineLeft → Space
 no_space left = record { columns = 0; after = left }
 
@@ -42,8 +44,18 @@ space_from n scanned column (b ∷ bytes) =
     if (n == 0) || (space_width column b == 0)
     then no_space (record { scanned = scanned; owed = 0; column = column; bytes = b ∷ bytes })
     else if nat_lt n (space_width column b)
-    then record { columns = n; after = record { scanned = scanned + 1; owed = space_width column b - n; column = column_after column b; bytes = bytes } }
-    else wider (space_width column b) (space_from (n - space_width column b) (scanned + 1) (column_after column b) bytes)
+    then record {
+      columns = n;
+      after = record {
+        scanned = scanned + 1;
+        owed = space_width column b - n;
+        column =
+            column_after column b;
+        bytes = bytes;
+      };
+    }
+    else wider (space_width column b) (space_from (n - space_width column b) (scanned + 1) (column_after column b)
+    bytes)
 
 -- at most n columns of space of what is left: those that are owed first
 abbrev pub space : ℕ → LineLeft → Space
@@ -58,6 +70,7 @@ past_space_from scanned column (b ∷ bytes) =
     if space_width column b == 0 then record { scanned = scanned; owed = 0; column = column; bytes = b ∷ bytes }
     else past_space_from (scanned + 1) (column_after column b) bytes
 
+-- past the white space at the start of a line
 abbrev pub past_space : LineLeft → LineLeft
 past_space left = past_space_from left.scanned left.column left.bytes
 
@@ -72,7 +85,13 @@ begins_marker left = (left.owed == 0) && (slice_index left.bytes 0 == 62)
 
 -- what is left after the > that comes next
 abbrev pub past_byte : LineLeft → LineLeft
-past_byte left = record { scanned = left.scanned + 1; owed = 0; column = next_column left.column; bytes = drop 1 left.bytes }
+past_byte left = record {
+  scanned = left.scanned + 1;
+  owed = 0;
+  column = next_column left.column;
+  bytes =
+      drop 1 left.bytes;
+}
 
 -- what is left after a block quote marker and at most one column of space
 abbrev pub past_marker : LineLeft → LineLeft

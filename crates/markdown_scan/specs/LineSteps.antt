@@ -7,11 +7,18 @@ abbrev pub width_of : ℕ → List ℕ → ℕ
 width_of column [] = 0
 width_of column (b ∷ bytes) = space_width column b
 
+-- past the first byte, of which at most so many columns are taken
 abbrev pub past_first : ℕ → ℕ → ℕ → List ℕ → LineLeft
 past_first most scanned column [] = record { scanned = scanned; owed = 0; column = column; bytes = [] }
 past_first most scanned column (b ∷ bytes) =
     if space_width column b == 0 then record { scanned = scanned; owed = 0; column = column; bytes = b ∷ bytes }
-    else record { scanned = scanned + 1; owed = space_width column b - most; column = column_after column b; bytes = bytes }
+    else record {
+      scanned = scanned + 1;
+      owed = space_width column b - most;
+      column = column_after column b;
+      bytes =
+          bytes;
+    }
 
 -- the columns of the space or tab that comes next
 abbrev pub width_next : LineLeft → ℕ

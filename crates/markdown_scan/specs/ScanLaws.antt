@@ -1,8 +1,9 @@
 -- Laws of what is scanned, in a reader's words.
-use Rattle.std.specs.Prelude.{◌+◌, ◌||◌, [], ◌∷◌, suc, zero, take, Option, ◌≤◌, false, ℕ, Bool, not, ◌&&◌, ◌==◌, ◌≡◌, List, IfSome, IsTrue}
+use Rattle.std.specs.Prelude.{◌+◌, ◌||◌, [], ◌∷◌, suc, zero, take, Option, ◌≤◌, false, ℕ, Bool, not, ◌&&◌, ◌==◌, ◌≡◌}
+use Rattle.std.specs.Prelude.{List, IfSome, IsTrue}
 use Rattle.std.specs.Char.{is_ascii_punctuation}
 use Rattle.std.specs.List.{list_all}
-use Rattle.markdown_scan.specs.Autolink.{web_autolink, is_uri_byte}
+use Rattle.markdown_scan.specs.Autolink.{uri_autolink, is_uri_byte}
 use Rattle.markdown_scan.specs.AsciiKinds.{is_control_or_space, pipe}
 use Rattle.markdown_scan.specs.Backslash.{backslash, is_bare}
 use Rattle.markdown_scan.specs.Destination.{bare_destination}
@@ -15,7 +16,7 @@ use Rattle.markdown_scan.specs.WikilinkPipe.{wikilink_pipe}
 
 -- an autolink's text holds no space, no control character and no angle bracket
 abbrev pub AutolinkIsPlain : List ℕ → ℕ → Type 0
-AutolinkIsPlain text at = IfSome (web_autolink text at) (λ found. IsTrue (list_all is_uri_byte found.1))
+AutolinkIsPlain text at = IfSome (uri_autolink text at) (λ found. IsTrue (list_all is_uri_byte found.1))
 
 -- neither a backslash nor a `&`
 abbrev pub is_plain : ℕ → Bool

@@ -1,5 +1,6 @@
 -- What a text stands for once its backslash escapes (CommonMark 2.4) and its entities (2.5) are read.
-use Rattle.std.specs.Prelude.{ℕ, suc, zero, ◌-◌, Bool, ◌&&◌, ◌==◌, List, [], ◌∷◌, ◌++◌, Option, Some, None, if◌then◌else◌, encode_utf8}
+use Rattle.std.specs.Prelude.{ℕ, suc, zero, ◌-◌, Bool, ◌&&◌, ◌==◌, List, [], ◌∷◌, ◌++◌, Option, Some, None}
+use Rattle.std.specs.Prelude.{if◌then◌else◌, encode_utf8}
 use Rattle.std.specs.Option.{option_map_or, option_or}
 use Rattle.std.specs.Char.{is_ascii_punctuation}
 use Rattle.markdown_scan.specs.Entity.{entity}

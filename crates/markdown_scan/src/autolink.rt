@@ -2,7 +2,7 @@
 ghost use Rattle.std.specs.Prelude.{◌≡◌, ◌≤◌, ◌<◌, IfSome, length, slice_index};
 ghost use Rattle.std.specs.Option.{option_map};
 ghost use Rattle.std.specs.Str.{IsCharBoundary};
-ghost use Rattle.markdown_scan.specs.Autolink.{web_autolink, closed_uri};
+ghost use Rattle.markdown_scan.specs.Autolink.{uri_autolink, closed_uri};
 ghost use Rattle.markdown_scan.specs.Autolink as autolink;
 
 use crate::ascii_kinds::{begins_with_letter, is_control_or_space};
@@ -64,9 +64,9 @@ fn closed_uri(bytes: &[u8]) -> Option<usize>
 
 /// The byte after the `>` and the text between the brackets, where an absolute-URI autolink stands
 /// whose `<` is the byte before `at`. Upstream: `scan_uri`.
-pub fn scan_web_autolink(text: &str, at: usize) -> Option<(usize, &str)>
+pub fn scan_uri_autolink(text: &str, at: usize) -> Option<(usize, &str)>
     requires { IsCharBoundary text.now at }
-    ensures value { option_map (λ p. (p.0, p.1.now)) result ≡ web_autolink text.now at }
+    ensures value { option_map (λ p. (p.0, p.1.now)) result ≡ uri_autolink text.now at }
     ensures within { IfSome result (λ p. p.0 ≤ length text.now) }
     ensures boundary { IfSome result (λ p. IsCharBoundary text.now p.0) }
 {

@@ -1,7 +1,7 @@
 //! Entities and numeric character references (CommonMark 2.5).
 ghost use Rattle.std.specs.Prelude.{◌≡◌, ◌≤◌, IfSome, length, take_while};
 ghost use Rattle.std.specs.Char.{digit_value, is_digit};
-ghost use Rattle.markdown_scan.specs.Entity.{character_of, entity, number_of, numbered};
+ghost use Rattle.markdown_scan.specs.Entity.{character_of, entity, number_of, numeric_reference};
 
 /// The value of a digit or a letter, and 36 for any other byte.
 fn digit_value(byte: u8) -> u32
@@ -53,12 +53,17 @@ fn count_digits(bytes: &[u8], radix: u32) -> usize
 
 /// At most so many digits and a semicolon after `start` bytes: the length of all that, and the
 /// character of the number.
-fn scan_numbered(bytes: &[u8], start: usize, radix: u32, most: usize) -> Option<(usize, char)>
+fn scan_numeric_reference(
+    bytes: &[u8],
+    start: usize,
+    radix: u32,
+    most: usize,
+) -> Option<(usize, char)>
     requires start { start ≤ length bytes.now }
     requires low { 2 ≤ radix }
     requires high { radix ≤ 16 }
     requires few { most ≤ 7 }
-    ensures value { result ≡ numbered start radix most bytes.now }
+    ensures value { result ≡ numeric_reference start radix most bytes.now }
     ensures within { IfSome result (λ found. found.0 ≤ length bytes.now) }
 {
     let digits = &bytes[start..];
@@ -87,9 +92,9 @@ pub fn scan_entity(bytes: &[u8]) -> Option<(usize, char)>
     } else if bytes.starts_with(b"&quot;") {
         Some((6, '"'))
     } else if bytes.starts_with(b"&#x") || bytes.starts_with(b"&#X") {
-        scan_numbered(bytes, 3, 16, 6)
+        scan_numeric_reference(bytes, 3, 16, 6)
     } else if bytes.starts_with(b"&#") {
-        scan_numbered(bytes, 2, 10, 7)
+        scan_numeric_reference(bytes, 2, 10, 7)
     } else {
         None
     }

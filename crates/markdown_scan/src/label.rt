@@ -1,12 +1,13 @@
 //! Link labels (CommonMark 6.3).
-ghost use Rattle.std.specs.Prelude.{◌≡◌, ◌≢◌, ◌≤◌, ◌<◌, ◌-◌, ◌+◌, ℕ, Bool, false, Some, None, IfSome, IfNone, IfOk, IsOk, OnErr, take, length};
+ghost use Rattle.std.specs.Prelude.{◌≡◌, ◌≢◌, ◌≤◌, ◌<◌, ◌-◌, ◌+◌, ℕ, Bool, false, Some, None, IfSome, IfNone, IfOk};
+ghost use Rattle.std.specs.Prelude.{IsOk, OnErr, take, length};
 ghost use Rattle.std.specs.Option.{option_map};
 ghost use Rattle.std.specs.Str.{IsUtf8, IsCharBoundary};
 ghost use Rattle.markdown_base.specs.CowText.{text_of, IsBorrowed};
 ghost use Rattle.markdown_scan.specs.Label as label;
 ghost use Rattle.markdown_scan.specs.Label.{link_label};
 ghost use Rattle.markdown_scan.specs.LinePrefix.{prefix_after};
-ghost use Rattle.markdown_scan.specs.LabelScan.{EndsHere, GoesOn, found_in};
+ghost use Rattle.markdown_scan.specs.LabelScan.{EndsHere, LabelGoesOn, found_in};
 
 use crate::label_end::label_end;
 use crate::label_text::{LabelText, is_bare, split_first};
@@ -42,7 +43,8 @@ fn next_character<'a, R: LineRule>(
     rest: &'a str,
 ) -> Option<(char, &'a str)>
     ensures end { IfNone result ((in_table : Bool) → EndsHere (R.skipped rule.now) in_table escaped rest.now) }
-    ensures next { IfSome result (λ p. (in_table : Bool) → GoesOn (R.skipped rule.now) in_table escaped rest.now p.0 p.1.now) }
+    ensures next { IfSome result (λ p. (in_table : Bool)
+        → LabelGoesOn (R.skipped rule.now) in_table escaped rest.now p.0 p.1.now) }
     ensures shorter { IfSome result (λ p. length p.1.now < length rest.now) }
     ensures text { IfSome result (λ p. IsUtf8 p.1.now) }
 {
@@ -62,9 +64,11 @@ fn label_text<'t, R: LineRule>(
     rule: &R,
     in_table: bool,
 ) -> Result<CowStr<'t>, AllocError>
-    ensures value { IfOk result (λ found. IfSome (found_in (R.skipped rule.now) in_table false text.now) (λ f. text_of found ≡ label.squeeze false false f.1)) }
+    ensures value { IfOk result (λ found. IfSome (found_in (R.skipped rule.now) in_table false text.now)
+        (λ f. text_of found ≡ label.collapse_whitespace false false f.1)) }
     ensures borrowed { IfOk result (λ found. (n : ℕ) → text_of found ≡ take n source.now → IsBorrowed found) }
-    ensures differs { OnErr result (IfSome (found_in (R.skipped rule.now) in_table false text.now) (λ f. (n : ℕ) → label.squeeze false false f.1 ≢ take n source.now)) }
+    ensures differs { OnErr result (IfSome (found_in (R.skipped rule.now) in_table false text.now) (λ f. (n : ℕ)
+        → label.collapse_whitespace false false f.1 ≢ take n source.now)) }
 {
     let mut found = LabelText::new(source);
     let mut rest = text;
@@ -89,10 +93,12 @@ pub fn scan_link_label<'t, R: LineRule>(
     rule: &R,
     in_table: bool,
 ) -> Result<Option<(usize, CowStr<'t>)>, AllocError>
-    ensures value { IfOk result (λ found. option_map (λ p. (p.0, text_of p.1)) found ≡ link_label (R.skipped rule.now) in_table text.now) }
+    ensures value { IfOk result (λ found. option_map (λ p. (p.0, text_of p.1)) found
+        ≡ link_label (R.skipped rule.now) in_table text.now) }
     // What did not change is a slice of the source, and takes no memory.
     ensures borrowed { IfOk result (λ found. IfSome found (λ p. text_of p.1 ≡ take (p.0 - 1) text.now → IsBorrowed p.1)) }
-    ensures unchanged { (n : ℕ) → link_label (R.skipped rule.now) in_table text.now ≡ Some (n + 1, take n text.now) → IsOk result }
+    ensures unchanged { (n : ℕ) → link_label (R.skipped rule.now) in_table text.now ≡ Some (n + 1, take n text.now)
+        → IsOk result }
     ensures refused { link_label (R.skipped rule.now) in_table text.now ≡ None → IsOk result }
 
     ensures within { IfOk result (λ found. IfSome found (λ p. p.0 ≤ length text.now)) }

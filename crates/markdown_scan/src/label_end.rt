@@ -1,5 +1,6 @@
 //! Where a link label ends (CommonMark 6.3): the scan that takes no memory.
-ghost use Rattle.std.specs.Prelude.{◌≡◌, ◌≤◌, ◌<◌, ◌||◌, ◌∷◌, [], false, IfSome, IsTrue, take, length, slice_index, count_by};
+ghost use Rattle.std.specs.Prelude.{◌≡◌, ◌≤◌, ◌<◌, ◌||◌, ◌∷◌, [], false, IfSome, IsTrue, take, length, slice_index};
+ghost use Rattle.std.specs.Prelude.{count_by};
 ghost use Rattle.std.specs.List.{list_any, list_all};
 ghost use Rattle.std.specs.Char.{is_ascii};
 ghost use Rattle.markdown_scan.specs.Label as label;
@@ -35,7 +36,7 @@ fn characters_shown(in_table: bool, byte: u8, next: &[u8]) -> usize
 
 // Whether the text has a character that is no white space, once the byte before the next ones is added.
 fn solid_after(solid: bool, in_table: bool, byte: u8, next: &[u8]) -> bool
-    ensures { result ≡ (solid || list_any label.is_no_white_space (scan.byte_shown in_table byte next.now)) }
+    ensures { result ≡ (solid || list_any label.is_not_white_space (scan.byte_shown in_table byte next.now)) }
 {
     solid || !(escapes_pipe(in_table, byte, next) || is_white_space(byte))
 }

@@ -1,5 +1,6 @@
 //! The text of a link label (CommonMark 6.3): the source itself as long as nothing changes.
-ghost use Rattle.std.specs.Prelude.{◌≡◌, ◌≢◌, ◌++◌, ℕ, List, [], false, take, length, encode_utf8, string_bytes, IsTrue, IsFalse, None, IfOk, OnOk, OnErr, MatchOption};
+ghost use Rattle.std.specs.Prelude.{◌≡◌, ◌≢◌, ◌++◌, ℕ, List, [], false, take, length, encode_utf8, string_bytes};
+ghost use Rattle.std.specs.Prelude.{IsTrue, IsFalse, None, IfOk, OnOk, OnErr, MatchOption};
 ghost use Rattle.std.specs.Option.{ForSome};
 ghost use Rattle.std.specs.Str.{IsCharBoundary};
 ghost use Rattle.markdown_base.specs.CowText.{text_of, IsBorrowed};
@@ -124,7 +125,8 @@ impl<'t> LabelText<'t> {
     fn put_gap(&mut self, alloc: Global) -> Result<(), AllocError>
         ensures text { OnOk result (so_far self.new ≡ so_far self.old ++ label.gap self.old.begun self.old.waiting) }
         ensures source { self.new.source ≡ self.old.source }
-        ensures differs { OnErr result (IsNoBeginning (so_far self.old ++ label.gap self.old.begun self.old.waiting) self.old.source.now) }
+        ensures differs { OnErr result (IsNoBeginning (so_far self.old ++ label.gap self.old.begun self.old.waiting)
+            self.old.source.now) }
     {
         if self.begun && self.waiting {
             return self.push(alloc, ' ');
@@ -134,9 +136,11 @@ impl<'t> LabelText<'t> {
 
     // Adds a character, white space squeezed.
     fn put(&mut self, alloc: Global, c: char) -> Result<(), AllocError>
-        ensures text { OnOk result ((rest : List ℕ) → completed self.new rest ≡ completed self.old (encode_utf8 c ++ rest)) }
+        ensures text { OnOk result ((rest : List ℕ)
+            → completed self.new rest ≡ completed self.old (encode_utf8 c ++ rest)) }
         ensures source { self.new.source ≡ self.old.source }
-        ensures differs { OnErr result ((rest : List ℕ) (n : ℕ) → completed self.old (encode_utf8 c ++ rest) ≢ take n self.old.source.now) }
+        ensures differs { OnErr result ((rest : List ℕ) (n : ℕ)
+            → completed self.old (encode_utf8 c ++ rest) ≢ take n self.old.source.now) }
     {
         if is_white_space(c) {
             self.waiting = true;
@@ -158,9 +162,11 @@ impl<'t> LabelText<'t> {
         c: char,
         next: &str,
     ) -> Result<(), AllocError>
-        ensures text { OnOk result ((rest : List ℕ) → completed self.new rest ≡ completed self.old (scan.character_shown in_table c next.now ++ rest)) }
+        ensures text { OnOk result ((rest : List ℕ)
+            → completed self.new rest ≡ completed self.old (scan.character_shown in_table c next.now ++ rest)) }
         ensures source { self.new.source ≡ self.old.source }
-        ensures differs { OnErr result ((rest : List ℕ) (n : ℕ) → completed self.old (scan.character_shown in_table c next.now ++ rest) ≢ take n self.old.source.now) }
+        ensures differs { OnErr result ((rest : List ℕ) (n : ℕ)
+            → completed self.old (scan.character_shown in_table c next.now ++ rest) ≢ take n self.old.source.now) }
     {
         if escapes_pipe(in_table, c, next) {
             return Ok(());

@@ -131,7 +131,8 @@ impl<'t> LineStart<'t> {
     /// Takes `n` columns of space where there are so many, and nothing else: whether there are.
     pub fn scan_space(&mut self, n: usize) -> bool
         ensures value { result ≡ ((spec.space n (line_left self.old)).columns == n) }
-        ensures left { line_left self.new ≡ (if result then (spec.space n (line_left self.old)).after else line_left self.old) }
+        ensures left { line_left self.new ≡ (if result then (spec.space n (line_left self.old)).after
+            else line_left self.old) }
     {
         let mut after = self.copy();
         if after.scan_space_upto(n) != n {
@@ -165,7 +166,8 @@ impl<'t> LineStart<'t> {
     /// whether it comes next.
     pub fn scan_blockquote_marker(&mut self) -> bool
         ensures value { result ≡ spec.begins_marker (line_left self.old) }
-        ensures left { line_left self.new ≡ (if result then spec.past_marker (line_left self.old) else line_left self.old) }
+        ensures left { line_left self.new ≡ (if result then spec.past_marker (line_left self.old)
+            else line_left self.old) }
     {
         match self.rest.split_first() {
             Some((b'>', tail)) if self.owed == 0 => {

@@ -1,5 +1,6 @@
 //! Backslash escapes (CommonMark 2.4) and entities (2.5) in a text, replaced by what they stand for.
-ghost use Rattle.std.specs.Prelude.{◌≡◌, ◌≢◌, ◌<◌, ◌≤◌, ◌++◌, IfNone, IfOk, IfSome, IsOk, encode_utf8, length, string_bytes};
+ghost use Rattle.std.specs.Prelude.{◌≡◌, ◌≢◌, ◌<◌, ◌≤◌, ◌++◌, IfNone, IfOk, IfSome, IsOk, encode_utf8, length};
+ghost use Rattle.std.specs.Prelude.{string_bytes};
 ghost use Rattle.markdown_base.specs.CowText.{text_of, IsBorrowed};
 ghost use Rattle.markdown_scan.specs.Unescape.{reference, unescaped};
 

@@ -1,11 +1,11 @@
 //! Autolinks: the examples of CommonMark 6.5, and the bounds of a scheme.
-use markdown_scan::autolink::scan_web_autolink;
+use markdown_scan::autolink::scan_uri_autolink;
 use std::test::Fail;
 
 // What an autolink gives whose `<` is the first byte.
 fn autolink_of(text: &str) -> Option<(usize, &str)> {
     if text.is_char_boundary(1) {
-        scan_web_autolink(text, 1)
+        scan_uri_autolink(text, 1)
     } else {
         None
     }

@@ -28,7 +28,7 @@ impl LineRule for Quoted {
 // Whether a tag of this length stands there that is no copy.
 fn has_tag(alloc: Global, text: &str, length: usize) -> Result<bool, AllocError> {
     match scan_html_tag(alloc, text, 0, &NoPrefix)? {
-        Some((end, bytes)) => Ok(end == length && bytes.is_none()),
+        Some(tag) => Ok(tag.end == length && tag.without_prefixes.is_none()),
         None => Ok(false),
     }
 }
@@ -117,15 +117,19 @@ fn no_front_of_a_tag_is_one(rt: HostRuntime) -> Result<(), Fail> {
 #[test]
 fn prefixes_of_lines_are_left_out(rt: HostRuntime) -> Result<(), Fail> {
     let text = "x <a\n> b='c\r\n>d' e\r> > f";
-    let Some((end, Some(bytes))) = scan_html_tag(rt.alloc(), text, 2, &Quoted)? else {
+    let Some(tag) = scan_html_tag(rt.alloc(), text, 2, &Quoted)? else {
         return Err("no tag with prefixes".into());
     };
-    assert_eq!(rt; end, 22);
+    assert_eq!(rt; tag.end, 22);
+    let Some(bytes) = tag.without_prefixes else {
+        return Err("no bytes without prefixes".into());
+    };
     assert_eq!(rt; bytes.as_slice(), b"<a\nb='c\r\nd' e\r>".as_slice());
-    let Some((end, None)) = scan_html_tag(rt.alloc(), text, 2, &NoPrefix)? else {
+    let Some(tag) = scan_html_tag(rt.alloc(), text, 2, &NoPrefix)? else {
         return Err("no tag without prefixes".into());
     };
-    assert_eq!(rt; end, 6);
+    assert_eq!(rt; tag.end, 6);
+    assert!(rt; tag.without_prefixes.is_none());
     Ok(())
 }
 

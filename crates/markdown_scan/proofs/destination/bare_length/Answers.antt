@@ -12,6 +12,8 @@ loop-first-preserved c =
       here = drop_next c.args.bytes.now c.in-Some.tail.now c.loop-first.at c.in-Some.first.now (sym split.0 ∙ invariant.here);
       few = omega (arith, invariant.few, c.open_after-opened.ensures.more);
       value = rw (c.is_bare-escaped.ensures, c.open_after-opened.ensures.value) (
-          bare_step c.args.max_nesting (bare_length c.args.max_nesting false 0 c.args.bytes.now) c.loop-first.escaped c.loop-first.opened c.loop-first.at c.in-Some.first.now c.in-Some.tail.now
-          (rw split.0 at invariant.value) (sym c.is_past_bare.ensures ∙ c.if-is_past_bare.false) (sym c.is_too_deep.ensures ∙ c.if-is_too_deep.false));
+          bare_step c.args.max_nesting (bare_length c.args.max_nesting false 0 c.args.bytes.now) c.loop-first.escaped c.loop-first.opened
+          c.loop-first.at c.in-Some.first.now c.in-Some.tail.now
+          (rw split.0 at invariant.value) (sym c.is_past_bare.ensures ∙ c.if-is_past_bare.false) (sym c.is_too_deep.ensures
+          ∙ c.if-is_too_deep.false));
     }

@@ -15,7 +15,8 @@ pub returns-then-begins_angle-clause-boundary : goal.returns-then-begins_angle-c
 returns-then-begins_angle-clause-boundary c =
     let n = c.in_ok-length.length in
     let inside = drop-drop 1 c.args.at c.args.text.now in
-    let here = rw (c.as_bytes-then-begins_angle.ensures.value, take_rest, c.range_from-rest.ensures.value, inside) at c.in_ok-length.ensures.here in
+    let here = rw (c.as_bytes-then-begins_angle.ensures.value, take_rest, c.range_from-rest.ensures.value, inside) at
+    c.in_ok-length.ensures.here in
     let ascii : get_or (drop (c.args.at + 1) c.args.text.now) n 0 < 128 = omega (arith, here.1) in
     let place : c.args.at + (n + 2) ≡ c.args.at + 1 + n + 1 = omega arith in
     rw place (after_ascii_of_rest c.args.text.now (c.args.at + 1) n c.utf8.text here.0 ascii)

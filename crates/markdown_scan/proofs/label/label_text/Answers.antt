@@ -1,7 +1,7 @@
 use Rattle.std.proofs.Common.{sym, ◌∙◌, ap, false, take}
 use Rattle.std.specs.Option.{option_map}
 use Rattle.markdown_scan.specs.Backslash.{backslash, is_bare}
-use Rattle.markdown_scan.specs.Label.{squeeze}
+use Rattle.markdown_scan.specs.Label.{collapse_whitespace}
 use Rattle.markdown_scan.specs.LabelScan.{character_shown, found_in}
 use Rattle.markdown_scan.specs.LabelText.{completed}
 use Rattle.markdown_scan.proofs.LabelTextLemmas.{on_err, read_step, read_differs}
@@ -15,8 +15,9 @@ returns-in_err-put_shown-clause-differs g c =
     let next = c.in-Some.ensures.next in_table in
     on_err c.from_residual.result _ (
     read_differs (found_in skipped in_table false c.args.text.now) (found_in skipped in_table escaped c.loop-c.rest.now)
-    (found_in skipped in_table (is_bare escaped c.in-Some.c backslash) c.in-Some.tail.now) next.0 (character_shown in_table c.in-Some.c c.in-Some.tail.now) c.args.source.now
-    (squeeze false false) (completed c.loop-c.found) c.loop-c.invariant.value next.1
+    (found_in skipped in_table (is_bare escaped c.in-Some.c backslash) c.in-Some.tail.now) next.0
+    (character_shown in_table c.in-Some.c c.in-Some.tail.now) c.args.source.now
+    (collapse_whitespace false false) (completed c.loop-c.found) c.loop-c.invariant.value next.1
     (λ rest n e. c.in_err-put_shown.ensures.differs rest n (e ∙ ap (take n) (sym c.loop-c.invariant.source))))
 
 pub loop-c-preserved : goal.loop-c-preserved
@@ -29,7 +30,9 @@ loop-c-preserved g c =
       utf8 = c.in-Some.ensures.text;
       source = ap (λ source. source.now) c.in_ok-put_shown.ensures.source ∙ c.loop-c.invariant.source;
       value = rw c.is_bare-escaped.ensures (
-          read_step (option_map (λ f. squeeze false false f.1) (found_in skipped in_table false c.args.text.now)) (found_in skipped in_table escaped c.loop-c.rest.now)
-          (found_in skipped in_table (is_bare escaped c.in-Some.c backslash) c.in-Some.tail.now) next.0 (character_shown in_table c.in-Some.c c.in-Some.tail.now)
+          read_step (option_map (λ f. collapse_whitespace false false f.1) (found_in skipped in_table false c.args.text.now))
+          (found_in skipped in_table escaped c.loop-c.rest.now)
+          (found_in skipped in_table (is_bare escaped c.in-Some.c backslash) c.in-Some.tail.now) next.0
+          (character_shown in_table c.in-Some.c c.in-Some.tail.now)
           (completed c.loop-c.found) (completed c.put_shown.new.self) c.loop-c.invariant.value next.1 c.in_ok-put_shown.ensures.text);
     }

@@ -13,10 +13,14 @@ returns-then-characters-gt-MAX_LABEL_CHARACTERS-clause-value g c =
     let skipped = g.R.LineRule.skipped c.args.rule.now in
     let many : 999 < c.loop-first.characters + c.characters_shown-characters.result = omega arith in
     let more = rw (c.characters_shown-characters.ensures.value, take_rest) at many in
-    too_long (c.loop-first.at + 1 + c.in-Some-prefix_after.skipped) (c.loop-first.characters + count_by begins_character (byte_shown c.args.in_table c.in-Some.first.now (drop c.in-Some-prefix_after.skipped c.in-Some.tail.now))) _ _ more
+    too_long (c.loop-first.at + 1 + c.in-Some-prefix_after.skipped) (c.loop-first.characters
+    + count_by begins_character (byte_shown c.args.in_table c.in-Some.first.now
+    (drop c.in-Some-prefix_after.skipped c.in-Some.tail.now))) _ _ more
     ∙ sym (end_step (end_after 0 0 false (found_in skipped c.args.in_table false c.args.bytes.now))
-    skipped c.args.in_table c.loop-first.escaped c.loop-first.solid c.loop-first.at c.loop-first.characters c.in-Some.first.now c.in-Some.tail.now c.in-Some-prefix_after.skipped
-    (rw split.0 at c.loop-first.invariant.value) (sym c.is_bare.ensures ∙ c.if-is_bare.false) (sym c.is_bare-in-Some.ensures ∙ c.if-is_bare-2.false) (sym c.in-Some-prefix_after.ensures.value) within)
+    skipped c.args.in_table c.loop-first.escaped c.loop-first.solid c.loop-first.at c.loop-first.characters c.in-Some.first.now
+    c.in-Some.tail.now c.in-Some-prefix_after.skipped
+    (rw split.0 at c.loop-first.invariant.value) (sym c.is_bare.ensures ∙ c.if-is_bare.false) (sym c.is_bare-in-Some.ensures
+    ∙ c.if-is_bare-2.false) (sym c.in-Some-prefix_after.ensures.value) within)
 
 pub loop-first-preserved : goal.loop-first-preserved
 loop-first-preserved g c =
@@ -30,6 +34,8 @@ loop-first-preserved g c =
       few = omega arith;
       value = rw (c.characters_shown-characters.ensures.value, c.solid_after-solid.ensures, c.is_bare-escaped.ensures, take_rest) (
           end_step (end_after 0 0 false (found_in (g.R.LineRule.skipped c.args.rule.now) c.args.in_table false c.args.bytes.now))
-          (g.R.LineRule.skipped c.args.rule.now) c.args.in_table c.loop-first.escaped c.loop-first.solid c.loop-first.at c.loop-first.characters c.in-Some.first.now c.in-Some.tail.now c.in-Some-prefix_after.skipped
-          (rw split.0 at invariant.value) (sym c.is_bare.ensures ∙ c.if-is_bare.false) (sym c.is_bare-in-Some.ensures ∙ c.if-is_bare-2.false) (sym c.in-Some-prefix_after.ensures.value) within);
+          (g.R.LineRule.skipped c.args.rule.now) c.args.in_table c.loop-first.escaped c.loop-first.solid c.loop-first.at
+          c.loop-first.characters c.in-Some.first.now c.in-Some.tail.now c.in-Some-prefix_after.skipped
+          (rw split.0 at invariant.value) (sym c.is_bare.ensures ∙ c.if-is_bare.false) (sym c.is_bare-in-Some.ensures
+          ∙ c.if-is_bare-2.false) (sym c.in-Some-prefix_after.ensures.value) within);
     }

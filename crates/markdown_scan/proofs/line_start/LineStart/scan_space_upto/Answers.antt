@@ -16,7 +16,9 @@ loop-taken-preserved c =
       within = omega (arith, c.take_white-columns.ensures.columns);
       none_owed = λ more.
           let less : c.take_white-columns.result < c.args.n - c.loop-taken.taken = omega (arith, more) in
-          none_owed (n - taken) columns (line_left c.loop-taken.self) (line_left c.take_white-columns.new.self) c.take_white-columns.ensures.columns c.take_white-columns.ensures.left less;
-      value = space_step (space n (line_left c.args.self.now)) n taken columns (line_left c.loop-taken.self) (line_left c.take_white-columns.new.self)
+          none_owed (n - taken) columns (line_left c.loop-taken.self) (line_left c.take_white-columns.new.self)
+          c.take_white-columns.ensures.columns c.take_white-columns.ensures.left less;
+      value = space_step (space n (line_left c.args.self.now)) n taken columns (line_left c.loop-taken.self)
+          (line_left c.take_white-columns.new.self)
           invariant.value owed c.loop-taken-test.true c.take_white-columns.ensures.columns c.take_white-columns.ensures.left some;
     }

@@ -3,7 +3,7 @@ use Rattle.std.proofs.lemmas.Bool.Decides.{nat_tests}
 use Rattle.std.proofs.lemmas.List.{take_rest}
 use Rattle.markdown_scan.specs.Entity.{character_of}
 use Rattle.markdown_scan.proofs.EntityLemmas.{numbered_is}
-use Rattle.markdown_scan.proofs.entity.scan_numbered.Goals as goal
+use Rattle.markdown_scan.proofs.entity.scan_numeric_reference.Goals as goal
 
 pub returns-clause-value : goal.returns-clause-value
 returns-clause-value c =

@@ -1,7 +1,7 @@
 -- The closing bracket is ASCII: the text may be cut after it.
 use Rattle.std.proofs.Common.{◌<◌, drop, arith, get_or}
 use Rattle.markdown_scan.proofs.BoundaryLemmas.{after_ascii_of_rest}
-use Rattle.markdown_scan.proofs.autolink.scan_web_autolink.Goals as goal
+use Rattle.markdown_scan.proofs.autolink.scan_uri_autolink.Goals as goal
 
 pub returns-clause-boundary : goal.returns-clause-boundary
 returns-clause-boundary c =
