@@ -1,21 +1,24 @@
 -- Parts of tags: none takes more bytes than there are, and a part that comes often.
-use Rattle.std.proofs.Common.{◌≡◌, ℕ, suc, zero, ◌+◌, ◌-◌, ◌<◌, ◌≤◌, ◌==◌, List, [], ◌∷◌, Bool, not, Option, Some, None, IfSome, option_and_then, unwrap_or, length, drop, refl, arith, sym, ap}
+use Rattle.std.proofs.Common.{◌≡◌, ℕ, suc, zero, ◌+◌, ◌-◌, ◌<◌, ◌≤◌, ◌==◌, List, [], ◌∷◌, Bool, not, Option, Some, None, IfSome}
+use Rattle.std.proofs.Common.{option_and_then, unwrap_or, length, drop, refl, arith, sym, ap}
 use Rattle.std.proofs.lemmas.Bool.{cond_both}
 use Rattle.std.proofs.lemmas.List.{length-drop}
 use Rattle.std.specs.List.{prefix_len}
 use Rattle.std.specs.Char.{is_ascii_alphabetic}
 use Rattle.std.specs.Option.{option_map, option_map_or, option_or}
-use Rattle.markdown_raw_html.specs.HtmlTag.{Part, all, attribute, both, byte, either, html_tag, nonempty, nonzero, often, often_past, one, optional, quoted_value, tag_name, white_space, is_blank, in_tag_name, in_attribute, in_unquoted, begins_attribute}
+use Rattle.markdown_raw_html.specs.HtmlTag.{TagPart, all, attribute, both, byte, either, html_tag, nonempty, nonzero, often, often_past}
+use Rattle.markdown_raw_html.specs.HtmlTag.{one, optional, quoted_value, tag_name, white_space, is_tag_blank, in_tag_name, in_attribute}
+use Rattle.markdown_raw_html.specs.HtmlTag.{in_unquoted, begins_attribute}
 use Rattle.markdown_raw_html.specs.TagSteps.{after_part}
 use Rattle.markdown_raw_html.specs.TagText.{source_after, source_after_byte, text_in}
 use Rattle.markdown_scan.specs.LinePrefix.{prefix_after}
 use Rattle.markdown_raw_html.proofs.TagTextLemmas.{source_after-more, text_in-cons, text_in-source_after}
 
 -- a part takes no more bytes than there are
-pub record IsWithin (part : Part) : Type 0 where
+pub record IsWithin (part : TagPart) : Type 0 where
   pub is : (bytes : List ℕ) → IfSome (part bytes) (λ n. n ≤ length bytes)
 
-pub IsWithin-both : (first second : Part) → IsWithin first → IsWithin second
+pub IsWithin-both : (first second : TagPart) → IsWithin first → IsWithin second
     → IsWithin (both first second)
 unfolding both
 IsWithin-both first second p q = record { is = λ bytes. cases bytes (first bytes) (p.is bytes) }
@@ -32,7 +35,7 @@ IsWithin-both first second p q = record { is = λ bytes. cases bytes (first byte
     cases bytes None h = tt
     cases bytes (Some n) h = more bytes n (second (drop n bytes)) h (q.is (drop n bytes))
 
-pub IsWithin-either : (first second : Part) → IsWithin first → IsWithin second
+pub IsWithin-either : (first second : TagPart) → IsWithin first → IsWithin second
     → IsWithin (either first second)
 unfolding either
 IsWithin-either first second p q = record {
@@ -45,7 +48,7 @@ IsWithin-either first second p q = record {
     cases bytes None found h k = k
     cases bytes (Some n) found h k = h
 
-pub IsWithin-optional : (part : Part) → IsWithin part → IsWithin (optional part)
+pub IsWithin-optional : (part : TagPart) → IsWithin part → IsWithin (optional part)
 unfolding optional
 IsWithin-optional part p = record { is = λ bytes. cases bytes (part bytes) (p.is bytes) }
   where
@@ -54,7 +57,7 @@ IsWithin-optional part p = record { is = λ bytes. cases bytes (part bytes) (p.i
     cases bytes None h = omega arith
     cases bytes (Some n) h = h
 
-pub IsWithin-nonempty : (part : Part) → IsWithin part → IsWithin (nonempty part)
+pub IsWithin-nonempty : (part : TagPart) → IsWithin part → IsWithin (nonempty part)
 unfolding nonempty
 IsWithin-nonempty part p = record { is = λ bytes. cases bytes (part bytes) (p.is bytes) }
   where
@@ -85,7 +88,7 @@ unfolding all
 IsWithin-all kind = record { is = λ bytes. prefix_len_within kind bytes }
 
 -- how many bytes a part takes as often as it comes
-often_past_within : (part : Part) (n : ℕ) (bytes : List ℕ) → often_past part n bytes ≤ length bytes
+often_past_within : (part : TagPart) (n : ℕ) (bytes : List ℕ) → often_past part n bytes ≤ length bytes
 unfolding often_past
 often_past_within part n [] = omega arith
 often_past_within part (suc n) (b ∷ bytes) = omega (arith, often_past_within part n bytes)
@@ -97,7 +100,7 @@ often_past_within part zero (b ∷ bytes) =
     cases None h = omega arith
     cases (Some n) h = omega (arith, h (n - 1))
 
-pub IsWithin-often : (part : Part) → IsWithin (often part)
+pub IsWithin-often : (part : TagPart) → IsWithin (often part)
 unfolding often
 IsWithin-often part = record { is = λ bytes. often_past_within part 0 bytes }
 
@@ -107,9 +110,9 @@ IsWithin-byte mark = IsWithin-one (λ b. b == mark)
 
 pub IsWithin-white_space : IsWithin white_space
 IsWithin-white_space =
-    IsWithin-both _ _ (IsWithin-all is_blank) (IsWithin-both _ _ (IsWithin-optional _
+    IsWithin-both _ _ (IsWithin-all is_tag_blank) (IsWithin-both _ _ (IsWithin-optional _
     (IsWithin-either _ _ (IsWithin-byte 10) (IsWithin-both _ _ (IsWithin-byte 13)
-    (IsWithin-optional _ (IsWithin-byte 10))))) (IsWithin-all is_blank))
+    (IsWithin-optional _ (IsWithin-byte 10))))) (IsWithin-all is_tag_blank))
 
 pub IsWithin-attribute : IsWithin attribute
 IsWithin-attribute =
@@ -162,7 +165,7 @@ source_after_shorter skipped (suc n) (b ∷ source) h =
     )
 
 -- a part that took a byte or more
-pub nonempty_yes : (skipped : List ℕ → Option ℕ) (part : Part) (source rest : List ℕ)
+pub nonempty_yes : (skipped : List ℕ → Option ℕ) (part : TagPart) (source rest : List ℕ)
     → IsWithin part → Some rest ≡ after_part skipped part source → length rest < length source
     → Some rest ≡ after_part skipped (nonempty part) source
 unfolding after_part nonempty
@@ -177,7 +180,7 @@ nonempty_yes skipped part source rest p e h = cases (part (text_in skipped sourc
         absurd (omega (arith, ap length same))
     cases (Some (suc n)) e = e
 
-pub nonempty_no : (skipped : List ℕ → Option ℕ) (part : Part) (source rest : List ℕ)
+pub nonempty_no : (skipped : List ℕ → Option ℕ) (part : TagPart) (source rest : List ℕ)
     → IsWithin part → Some rest ≡ after_part skipped part source → length source ≤ length rest
     → None ≡ after_part skipped (nonempty part) source
 unfolding after_part nonempty
@@ -196,10 +199,10 @@ nonempty_no skipped part source rest p e h =
         absurd (omega (arith, ap length left, source_after_shorter skipped (suc n) source k))
 
 -- a part that takes a byte or more where it comes
-pub record IsSome (part : Part) : Type 0 where
+pub record IsSome (part : TagPart) : Type 0 where
   pub is : (bytes : List ℕ) → IfSome (part bytes) (λ n. 1 ≤ n)
 
-IsSome-nonempty : (part : Part) → IsSome (nonempty part)
+IsSome-nonempty : (part : TagPart) → IsSome (nonempty part)
 unfolding nonempty
 IsSome-nonempty part = record { is = λ bytes. cases (part bytes) }
   where
@@ -209,7 +212,7 @@ IsSome-nonempty part = record { is = λ bytes. cases (part bytes) }
     cases (Some zero) = tt
     cases (Some (suc n)) = omega arith
 
-IsSome-both : (first second : Part) → IsSome first → IsSome (both first second)
+IsSome-both : (first second : TagPart) → IsSome first → IsSome (both first second)
 unfolding both
 IsSome-both first second p = record { is = λ bytes. cases bytes (first bytes) (p.is bytes) }
   where
@@ -227,7 +230,7 @@ pub IsSome-attribute : IsSome attribute
 IsSome-attribute = IsSome-both _ _ (IsSome-nonempty white_space)
 
 -- what is left after it is shorter
-pub rest_shorter : (skipped : List ℕ → Option ℕ) (part : Part) (source rest : List ℕ)
+pub rest_shorter : (skipped : List ℕ → Option ℕ) (part : TagPart) (source rest : List ℕ)
     → IsWithin part → IsSome part → Some rest ≡ after_part skipped part source
     → length rest < length source
 unfolding after_part
@@ -245,7 +248,7 @@ rest_shorter skipped part source rest p q e =
         omega (arith, ap length left, source_after_shorter skipped n source h)
 
 -- bytes that the part before took
-often_past_is : (part : Part) (n : ℕ) (bytes : List ℕ) → n ≤ length bytes
+often_past_is : (part : TagPart) (n : ℕ) (bytes : List ℕ) → n ≤ length bytes
     → often_past part n bytes ≡ n + often_past part 0 (drop n bytes)
 unfolding often_past
 often_past_is part zero bytes h = omega arith
@@ -256,7 +259,7 @@ often_past_is part (suc n) (b ∷ bytes) h =
     omega (arith, later)
 
 -- a part that came, and then as often as it comes
-often_more : (part : Part) (n : ℕ) (bytes : List ℕ) → part bytes ≡ Some n → 1 ≤ n
+often_more : (part : TagPart) (n : ℕ) (bytes : List ℕ) → part bytes ≡ Some n → 1 ≤ n
     → n ≤ length bytes → often_past part 0 bytes ≡ n + often_past part 0 (drop n bytes)
 unfolding often_past nonempty
 often_more part zero bytes e h k = absurd (omega arith)
@@ -269,7 +272,7 @@ often_more part (suc n) (b ∷ bytes) e h k =
     ≡ suc n + often_past part 0 (drop n bytes) = omega arith in
     rw (e, one, later) sum
 
-pub after_often_more : (skipped : List ℕ → Option ℕ) (part : Part) (source rest : List ℕ)
+pub after_often_more : (skipped : List ℕ → Option ℕ) (part : TagPart) (source rest : List ℕ)
     → IsWithin part → IsSome part → Some rest ≡ after_part skipped part source
     → after_part skipped (often part) source ≡ after_part skipped (often part) rest
 unfolding after_part often
@@ -291,12 +294,12 @@ after_often_more skipped part source rest p q e =
         rw (left, text_in-source_after skipped n source, count)
         (ap Some (sym (source_after-more skipped n (often_past part 0 (drop n text)) source)))
 
-often_none : (part : Part) (bytes : List ℕ) → part bytes ≡ None → often_past part 0 bytes ≡ 0
+often_none : (part : TagPart) (bytes : List ℕ) → part bytes ≡ None → often_past part 0 bytes ≡ 0
 unfolding often_past nonempty
 often_none part [] is = refl
 often_none part (b ∷ bytes) is = rw is refl
 
-pub after_often_none : (skipped : List ℕ → Option ℕ) (part : Part) (source : List ℕ)
+pub after_often_none : (skipped : List ℕ → Option ℕ) (part : TagPart) (source : List ℕ)
     → None ≡ after_part skipped part source → Some source ≡ after_part skipped (often part) source
 unfolding after_part often
 after_often_none skipped part source e = cases (part (text_in skipped source)) refl e

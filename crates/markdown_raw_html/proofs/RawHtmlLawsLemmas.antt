@@ -1,20 +1,21 @@
 -- Lemmas of the laws of raw HTML.
-use Rattle.std.proofs.Common.{zero, ◌-◌, ◌<◌, ◌≡◌, suc, arith, ℕ, ◌+◌, ◌==◌, List, [], ◌∷◌, false, Option, Some, None, drop, length, get_or, option_and_then}
+use Rattle.std.proofs.Common.{zero, ◌-◌, ◌<◌, ◌≡◌, suc, arith, ℕ, ◌+◌, ◌==◌, List, [], ◌∷◌, false, Option, Some, None, drop, length, get_or}
+use Rattle.std.proofs.Common.{option_and_then}
 use Rattle.std.proofs.lemmas.Bool.{cond_both, eqb-true}
 use Rattle.std.specs.Prelude.{IfSome}
 use Rattle.std.specs.Option.{option_map, option_or}
 use Rattle.markdown_scan.specs.Beginnings.{begins_with, StandsBetween}
 use Rattle.markdown_raw_html.specs.RawHtml.{through_first}
-use Rattle.markdown_raw_html.specs.HtmlTag.{Part, both, byte, closing_tag, either, html_tag, one, open_tag}
+use Rattle.markdown_raw_html.specs.HtmlTag.{TagPart, both, byte, closing_tag, either, html_tag, one, open_tag}
 use Rattle.markdown_raw_html.specs.RawHtmlLaws.{IsFirstClose}
 use Rattle.markdown_raw_html.proofs.RawHtmlLemmas.{EndsWith}
 use Rattle.markdown_raw_html.proofs.TagSourceLemmas.{Closes-html_tag}
 
 -- a part that begins with `<`
-record Opens (part : Part) : Type 0 where
+record Opens (part : TagPart) : Type 0 where
   is : (bytes : List ℕ) → IfSome (part bytes) (λ n. get_or bytes 0 0 ≡ 60)
 
-Opens-both : (first second : Part) → Opens first → Opens (both first second)
+Opens-both : (first second : TagPart) → Opens first → Opens (both first second)
 unfolding both
 Opens-both first second p = record { is = λ bytes. cases bytes (first bytes) (p.is bytes) }
   where
@@ -29,7 +30,7 @@ Opens-both first second p = record { is = λ bytes. cases bytes (first bytes) (p
     cases bytes None h = tt
     cases bytes (Some n) h = more bytes n (second (drop n bytes)) h
 
-Opens-either : (first second : Part) → Opens first → Opens second → Opens (either first second)
+Opens-either : (first second : TagPart) → Opens first → Opens second → Opens (either first second)
 unfolding either
 Opens-either first second p q = record {
   is = λ bytes. cases bytes (first bytes) (second bytes) (p.is bytes) (q.is bytes);

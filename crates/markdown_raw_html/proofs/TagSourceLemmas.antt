@@ -1,10 +1,11 @@
 -- A tag in its source: how many bytes it has, and that it ends with `>` there.
-use Rattle.std.proofs.Common.{◌≡◌, ℕ, suc, zero, ◌+◌, ◌-◌, ◌<◌, ◌≤◌, ◌==◌, List, [], ◌∷◌, ◌++◌, Option, Some, None, IfSome, option_and_then, unwrap_or, length, drop, take, get_or, refl, arith, ◌∙◌, sym, ap, IsUtf8, IsCharBoundary, ◌⊎◌, inl, inr}
+use Rattle.std.proofs.Common.{◌≡◌, ℕ, suc, zero, ◌+◌, ◌-◌, ◌<◌, ◌≤◌, ◌==◌, List, [], ◌∷◌, ◌++◌, Option, Some, None, IfSome, option_and_then}
+use Rattle.std.proofs.Common.{unwrap_or, length, drop, take, get_or, refl, arith, ◌∙◌, sym, ap, IsUtf8, IsCharBoundary, ◌⊎◌, inl, inr}
 use Rattle.std.proofs.lemmas.Bool.{cases_lt, cond_both, eqb-true}
 use Rattle.std.proofs.lemmas.List.{drop-drop, drop_all, drop_more, get_or-drop, length-drop, take_more}
 use Rattle.std.proofs.lemmas.Str.{IsCharBoundary-after_ascii}
 use Rattle.std.specs.Option.{option_map, option_map_or, option_or}
-use Rattle.markdown_raw_html.specs.HtmlTag.{Part, both, byte, closing_tag, either, html_tag, open_tag, one}
+use Rattle.markdown_raw_html.specs.HtmlTag.{TagPart, both, byte, closing_tag, either, html_tag, open_tag, one}
 use Rattle.markdown_raw_html.specs.TagSource.{tag_lengths}
 use Rattle.markdown_raw_html.specs.TagSteps.{after_part, first_byte}
 use Rattle.markdown_raw_html.specs.TagText.{source_after, source_after_byte, text_in}
@@ -129,10 +130,10 @@ none_left skipped source [] count is e =
 none_left skipped source (b ∷ left) count is e = cc
 
 -- a part that ends with `>`
-pub record Closes (part : Part) : Type 0 where
+pub record Closes (part : TagPart) : Type 0 where
   pub is : (bytes : List ℕ) → IfSome (part bytes) (EndsWith 62 bytes)
 
-Closes-both : (first second : Part) → Closes second → Closes (both first second)
+Closes-both : (first second : TagPart) → Closes second → Closes (both first second)
 unfolding both
 Closes-both first second q = record { is = λ bytes. cases bytes (first bytes) }
   where
@@ -142,7 +143,7 @@ Closes-both first second q = record { is = λ bytes. cases bytes (first bytes) }
     cases bytes None = tt
     cases bytes (Some n) = EndsWith-after 62 n bytes (second (drop n bytes)) (q.is (drop n bytes))
 
-Closes-either : (first second : Part) → Closes first → Closes second
+Closes-either : (first second : TagPart) → Closes first → Closes second
     → Closes (either first second)
 unfolding either
 Closes-either first second p q = record {

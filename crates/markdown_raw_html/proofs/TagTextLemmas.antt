@@ -1,8 +1,9 @@
 -- The text of a tag and the source that is left after a part of it.
-use Rattle.std.proofs.Common.{◌≡◌, ℕ, suc, zero, ◌+◌, List, [], ◌∷◌, Bool, true, false, Option, Some, None, option_and_then, unwrap_or, drop, refl, arith, ◌∙◌, sym, ap}
+use Rattle.std.proofs.Common.{◌≡◌, ℕ, suc, zero, ◌+◌, List, [], ◌∷◌, Bool, true, false, Option, Some, None, option_and_then, unwrap_or}
+use Rattle.std.proofs.Common.{drop, refl, arith, ◌∙◌, sym, ap}
 use Rattle.std.specs.List.{prefix_len}
 use Rattle.std.specs.Option.{option_map, option_map_or, option_or}
-use Rattle.markdown_raw_html.specs.HtmlTag.{Part, all, both, either, one, optional}
+use Rattle.markdown_raw_html.specs.HtmlTag.{TagPart, all, both, either, one, optional}
 use Rattle.markdown_raw_html.specs.TagSteps.{after_part, first_byte}
 use Rattle.markdown_raw_html.specs.TagText.{source_after, source_after_byte, text_in, text_past}
 use Rattle.markdown_scan.specs.LinePrefix.{prefix_after}
@@ -124,7 +125,7 @@ after_all_yes skipped kind source b rest e is =
     rw (begins.text, is, more, begins.after count) refl
 
 -- one part and then another
-pub after_both : (skipped : List ℕ → Option ℕ) (first second : Part) (source : List ℕ)
+pub after_both : (skipped : List ℕ → Option ℕ) (first second : TagPart) (source : List ℕ)
     → after_part skipped (both first second) source
     ≡ option_and_then (λ rest. after_part skipped second rest) (after_part skipped first source)
 unfolding after_part both
@@ -148,13 +149,13 @@ after_both skipped first second source = cases (first (text_in skipped source))
         ∙ ap (λ bytes. option_map (λ m. source_after skipped m (source_after skipped n source))
         (second bytes)) (sym (text_in-source_after skipped n source))
 
-pub both_none : (skipped : List ℕ → Option ℕ) (first second : Part) (source : List ℕ)
+pub both_none : (skipped : List ℕ → Option ℕ) (first second : TagPart) (source : List ℕ)
     → None ≡ after_part skipped first source → None ≡ after_part skipped (both first second) source
 both_none skipped first second source e =
     sym (after_both skipped first second source
     ∙ ap (option_and_then (λ rest. after_part skipped second rest)) (sym e))
 
-pub both_some : (skipped : List ℕ → Option ℕ) (first second : Part) (source rest : List ℕ)
+pub both_some : (skipped : List ℕ → Option ℕ) (first second : TagPart) (source rest : List ℕ)
     (found : Option (List ℕ)) → Some rest ≡ after_part skipped first source
     → found ≡ after_part skipped second rest
     → found ≡ after_part skipped (both first second) source
@@ -163,7 +164,7 @@ both_some skipped first second source rest found e f =
     ∙ ap (option_and_then (λ rest. after_part skipped second rest)) (sym e))
 
 -- one part, or else another
-pub either_some : (skipped : List ℕ → Option ℕ) (first second : Part) (source rest : List ℕ)
+pub either_some : (skipped : List ℕ → Option ℕ) (first second : TagPart) (source rest : List ℕ)
     → Some rest ≡ after_part skipped first source
     → Some rest ≡ after_part skipped (either first second) source
 unfolding after_part either
@@ -176,7 +177,7 @@ either_some skipped first second source rest e = cases (first (text_in skipped s
     cases None e = cc
     cases (Some n) e = e
 
-pub either_none : (skipped : List ℕ → Option ℕ) (first second : Part) (source : List ℕ)
+pub either_none : (skipped : List ℕ → Option ℕ) (first second : TagPart) (source : List ℕ)
     (found : Option (List ℕ)) → None ≡ after_part skipped first source
     → found ≡ after_part skipped second source
     → found ≡ after_part skipped (either first second) source
@@ -190,7 +191,7 @@ either_none skipped first second source found e f = cases (first (text_in skippe
     cases (Some n) e = cc
 
 -- a part or nothing
-pub optional_some : (skipped : List ℕ → Option ℕ) (part : Part) (source rest : List ℕ)
+pub optional_some : (skipped : List ℕ → Option ℕ) (part : TagPart) (source rest : List ℕ)
     → Some rest ≡ after_part skipped part source
     → Some rest ≡ after_part skipped (optional part) source
 unfolding after_part optional
@@ -201,7 +202,7 @@ optional_some skipped part source rest e = cases (part (text_in skipped source))
     cases None e = cc
     cases (Some n) e = e
 
-pub optional_none : (skipped : List ℕ → Option ℕ) (part : Part) (source : List ℕ)
+pub optional_none : (skipped : List ℕ → Option ℕ) (part : TagPart) (source : List ℕ)
     → None ≡ after_part skipped part source
     → Some source ≡ after_part skipped (optional part) source
 unfolding after_part optional

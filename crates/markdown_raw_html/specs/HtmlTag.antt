@@ -1,25 +1,26 @@
 -- Open and closing tags (CommonMark 6.6), as a grammar over the bytes of a text. Each part answers
 -- how many of the bytes it takes, as many as it can, or None.
-use Rattle.std.specs.Prelude.{ℕ, ◌+◌, ◌-◌, suc, zero, Bool, not, ◌||◌, ◌==◌, List, [], ◌∷◌, Option, Some, None, if◌then◌else◌, option_and_then, unwrap_or, drop, codes}
+use Rattle.std.specs.Prelude.{ℕ, ◌+◌, ◌-◌, suc, zero, Bool, not, ◌||◌, ◌==◌, List, [], ◌∷◌, Option, Some, None}
+use Rattle.std.specs.Prelude.{if◌then◌else◌, option_and_then, unwrap_or, drop, codes}
 use Rattle.std.specs.List.{list_any, prefix_len}
 use Rattle.std.specs.Option.{option_map, option_map_or, option_or}
 use Rattle.std.specs.Char.{is_ascii_alphabetic, is_ascii_alphanumeric}
 
 -- what begins a text: how many bytes it takes
-abbrev pub Part : Type 0
-Part = List ℕ → Option ℕ
+abbrev pub TagPart : Type 0
+TagPart = List ℕ → Option ℕ
 
 -- one part and then another
-unfoldable pub both : Part → Part → Part
+unfoldable pub both : TagPart → TagPart → TagPart
 both first second bytes =
     option_and_then (λ n. option_map (λ m. n + m) (second (drop n bytes))) (first bytes)
 
 -- one part, or else another
-unfoldable pub either : Part → Part → Part
+unfoldable pub either : TagPart → TagPart → TagPart
 either first second bytes = option_or (first bytes) (second bytes)
 
 -- a part or nothing
-unfoldable pub optional : Part → Part
+unfoldable pub optional : TagPart → TagPart
 optional part bytes = Some (unwrap_or (part bytes) 0)
 
 -- a number that is not zero
@@ -28,27 +29,27 @@ nonzero zero = None
 nonzero (suc n) = Some (suc n)
 
 -- a part that takes a byte or more
-unfoldable pub nonempty : Part → Part
+unfoldable pub nonempty : TagPart → TagPart
 nonempty part bytes = option_and_then nonzero (part bytes)
 
 -- how many bytes a part takes as often as it comes, the first `passed` of which it took before
-unfoldable pub often_past : Part → ℕ → List ℕ → ℕ
+unfoldable pub often_past : TagPart → ℕ → List ℕ → ℕ
 often_past part passed [] = 0
 often_past part (suc passed) (b ∷ bytes) = 1 + often_past part passed bytes
 often_past part zero (b ∷ bytes) =
     option_map_or (λ n. 1 + often_past part (n - 1) bytes) (nonempty part (b ∷ bytes)) 0
 
 -- a part as often as it comes, maybe never
-unfoldable pub often : Part → Part
+unfoldable pub often : TagPart → TagPart
 often part bytes = Some (often_past part 0 bytes)
 
 -- one byte of a kind
-unfoldable pub one : (ℕ → Bool) → Part
+unfoldable pub one : (ℕ → Bool) → TagPart
 one kind [] = None
 one kind (b ∷ bytes) = if kind b then Some 1 else None
 
 -- all bytes of a kind that come, maybe none
-unfoldable pub all : (ℕ → Bool) → Part
+unfoldable pub all : (ℕ → Bool) → TagPart
 all kind bytes = Some (prefix_len kind bytes)
 
 -- the byte is one of these
@@ -56,8 +57,8 @@ abbrev pub is_of : List ℕ → ℕ → Bool
 is_of marks b = list_any (λ mark. mark == b) marks
 
 -- a space or a tab
-abbrev pub is_blank : ℕ → Bool
-is_blank = is_of (32 ∷ 9 ∷ [])
+abbrev pub is_tag_blank : ℕ → Bool
+is_tag_blank = is_of (32 ∷ 9 ∷ [])
 
 -- what stands in a tag's name after its first letter
 abbrev pub in_tag_name : ℕ → Bool
@@ -76,57 +77,57 @@ abbrev pub in_unquoted : ℕ → Bool
 in_unquoted b = not (is_of (32 ∷ 9 ∷ 10 ∷ 13 ∷ 34 ∷ 39 ∷ 61 ∷ 60 ∷ 62 ∷ 96 ∷ []) b)
 
 -- this byte
-abbrev pub byte : ℕ → Part
+abbrev pub byte : ℕ → TagPart
 byte mark = one (λ b. b == mark)
 
 -- a line feed, or a carriage return and the line feed that follows it, if one does
-abbrev pub line_end : Part
+abbrev pub line_end : TagPart
 line_end = either (byte 10) (both (byte 13) (optional (byte 10)))
 
 -- spaces and tabs, and up to one line ending
-abbrev pub white_space : Part
-white_space = both (all is_blank) (both (optional line_end) (all is_blank))
+abbrev pub white_space : TagPart
+white_space = both (all is_tag_blank) (both (optional line_end) (all is_tag_blank))
 
 -- an ASCII letter, and then letters, digits and hyphens
-abbrev pub tag_name : Part
+abbrev pub tag_name : TagPart
 tag_name = both (one is_ascii_alphabetic) (all in_tag_name)
 
 -- a letter, `_` or `:`, and then letters, digits, `_`, `.`, `:` and `-`
-abbrev pub attribute_name : Part
+abbrev pub attribute_name : TagPart
 attribute_name = both (one begins_attribute) (all in_attribute)
 
 -- a value without quotes has a byte or more
-abbrev pub unquoted_value : Part
+abbrev pub unquoted_value : TagPart
 unquoted_value = both (one in_unquoted) (all in_unquoted)
 
 -- a value between two of these marks, which does not hold the mark
-abbrev pub quoted_value : ℕ → Part
+abbrev pub quoted_value : ℕ → TagPart
 quoted_value mark = both (byte mark) (both (all (λ b. not (b == mark))) (byte mark))
 
 -- a value: without quotes, in single (39) or in double (34) quotes
-abbrev pub attribute_value : Part
+abbrev pub attribute_value : TagPart
 attribute_value = either unquoted_value (either (quoted_value 39) (quoted_value 34))
 
 -- `=` and a value, maybe white space before each of them
-abbrev pub value_specification : Part
+abbrev pub value_specification : TagPart
 value_specification = both white_space (both (byte 61) (both white_space attribute_value))
 
 -- white space, a name, and maybe a value
-abbrev pub attribute : Part
+abbrev pub attribute : TagPart
 attribute = both (nonempty white_space) (both attribute_name (optional value_specification))
 
 -- maybe white space, maybe `/`, and `>`
-abbrev pub open_tag_end : Part
+abbrev pub open_tag_end : TagPart
 open_tag_end = both white_space (both (optional (byte 47)) (byte 62))
 
 -- `<`, a name, attributes, and the end
-abbrev pub open_tag : Part
+abbrev pub open_tag : TagPart
 open_tag = both (byte 60) (both tag_name (both (often attribute) open_tag_end))
 
 -- `</`, a name, maybe white space, and `>`
-abbrev pub closing_tag : Part
+abbrev pub closing_tag : TagPart
 closing_tag = both (byte 60) (both (byte 47) (both tag_name (both white_space (byte 62))))
 
 -- a tag
-abbrev pub html_tag : Part
+abbrev pub html_tag : TagPart
 html_tag = either open_tag closing_tag

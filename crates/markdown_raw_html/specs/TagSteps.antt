@@ -2,7 +2,7 @@
 -- `HtmlTag` and `TagSource` do.
 use Rattle.std.specs.Prelude.{ℕ, List, [], ◌∷◌, Option, Some, None}
 use Rattle.std.specs.Option.{option_map}
-use Rattle.markdown_raw_html.specs.HtmlTag.{Part}
+use Rattle.markdown_raw_html.specs.HtmlTag.{TagPart}
 use Rattle.markdown_raw_html.specs.TagText.{source_after, source_after_byte, text_in}
 
 -- the next byte of the text, and the source from the one after it on
@@ -11,6 +11,6 @@ first_byte skipped [] = None
 first_byte skipped (b ∷ source) = Some (b, source_after_byte skipped b source)
 
 -- the source after a part
-unfoldable pub after_part : (List ℕ → Option ℕ) → Part → List ℕ → Option (List ℕ)
+unfoldable pub after_part : (List ℕ → Option ℕ) → TagPart → List ℕ → Option (List ℕ)
 after_part skipped part source =
     option_map (λ n. source_after skipped n source) (part (text_in skipped source))

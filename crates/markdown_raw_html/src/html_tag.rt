@@ -12,6 +12,15 @@ use crate::tag_text::first_byte;
 use markdown_scan::line_rule::LineRule;
 use std::alloc::{AllocError, Global};
 
+/// A tag that was found.
+#[derive(Debug, Drop)]
+pub struct ScannedTag {
+    /// The place just after it.
+    pub end: usize,
+    /// Its bytes without the prefixes of lines, where such prefixes stand inside it.
+    pub without_prefixes: Option<Vec<u8>>,
+}
+
 /// How many bytes the tag has that stands before `rest`, without prefixes.
 fn count_tag<R: LineRule>(rule: &R, source: &[u8], rest: &[u8]) -> usize
     requires { Some rest.now ≡ after_part (R.skipped rule.now) html_tag source.now }
@@ -62,31 +71,36 @@ fn copy_text<R: LineRule>(
     Ok(made)
 }
 
-/// The open or closing tag (CommonMark 6.6) whose `<` stands at the byte `at`: the place just after
-/// it, and, where prefixes of lines stand inside it, its bytes without them. None where no tag
-/// begins there, or where a line ending stands in it after which the rule lets no text go on. Memory
-/// is taken, and can run out, only for those bytes.
+/// The open or closing tag (CommonMark 6.6) whose `<` stands at the byte `at`. None where no tag begins there, or
+/// where a line ending stands in it after which the rule lets no text go on. Memory is taken, and can run out, only
+/// for a tag's bytes without prefixes.
 pub fn scan_html_tag<R: LineRule>(
     alloc: Global,
     text: &str,
     at: usize,
     rule: &R,
-) -> Result<Option<(usize, Option<Vec<u8>>)>, AllocError>
+) -> Result<Option<ScannedTag>, AllocError>
     requires { at ≤ length text.now }
     ensures value { IfOk result (λ found.
-        option_map (λ tag. (tag.0, option_map (λ bytes. bytes.items) tag.1)) found
+        option_map (λ tag. (tag.end, option_map (λ bytes. bytes.items) tag.without_prefixes)) found
         ≡ tag_at (R.skipped rule.now) text.now at) }
     ensures plain { option_and_then (λ tag. tag.1) (tag_at (R.skipped rule.now) text.now at) ≡ None
         → IsOk result }
-    ensures boundary { IfOk result (λ found. IfSome found (λ tag. IsCharBoundary text.now tag.0)) }
+    ensures boundary { IfOk result (λ found. IfSome found (λ tag. IsCharBoundary text.now tag.end)) }
 {
     let source = &text.as_bytes()[at..];
     let Some((read, count)) = read_tag(rule, source) else {
         return Ok(None);
     };
     if count == read {
-        return Ok(Some((at + read, None)));
+        return Ok(Some(ScannedTag {
+            end: at + read,
+            without_prefixes: None,
+        }));
     }
     let bytes = copy_text(alloc, rule, source, count)?;
-    Ok(Some((at + read, Some(bytes))))
+    Ok(Some(ScannedTag {
+        end: at + read,
+        without_prefixes: Some(bytes),
+    }))
 }

@@ -1,6 +1,7 @@
 //! Raw HTML that ends at its first closing bytes (CommonMark 6.6).
 ghost use Rattle.std.specs.Prelude.{◌≡◌, ◌-◌, ◌≤◌, IfSome, codes, length, slice_index};
-ghost use Rattle.markdown_raw_html.specs.RawHtml.{cdata_section, comment, declaration, end_from, processing_instruction};
+ghost use Rattle.markdown_raw_html.specs.RawHtml.{cdata_section, comment, declaration, end_from};
+ghost use Rattle.markdown_raw_html.specs.RawHtml.{processing_instruction};
 
 use crate::closing::ClosingGuard;
 use markdown_scan::ascii_kinds::begins_with_letter;

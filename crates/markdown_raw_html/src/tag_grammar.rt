@@ -1,7 +1,8 @@
 //! Open and closing tags (CommonMark 6.6), each as the source after it.
 ghost use Rattle.std.specs.Prelude.{◌≡◌, Some};
 ghost use Rattle.std.specs.Option.{option_copied};
-ghost use Rattle.markdown_raw_html.specs.HtmlTag.{attribute, both, byte, closing_tag, html_tag, nonempty, often, open_tag, open_tag_end, optional, tag_name, white_space};
+ghost use Rattle.markdown_raw_html.specs.HtmlTag.{attribute, both, byte, closing_tag, html_tag, nonempty, often};
+ghost use Rattle.markdown_raw_html.specs.HtmlTag.{open_tag, open_tag_end, optional, tag_name, white_space};
 ghost use Rattle.markdown_raw_html.specs.TagSteps.{after_part};
 
 use crate::byte_kind::ByteKind;

@@ -3,7 +3,9 @@
 ghost use Rattle.std.specs.Prelude.{◌≡◌, ◌==◌, Some, not};
 ghost use Rattle.std.specs.Option.{option_copied};
 ghost use Rattle.markdown_raw_html.specs.ByteKinds.{in_kind};
-ghost use Rattle.markdown_raw_html.specs.HtmlTag.{all, attribute, attribute_name, attribute_value, both, byte, either, is_blank, line_end, nonempty, one, optional, quoted_value, tag_name, unquoted_value, value_specification, white_space};
+ghost use Rattle.markdown_raw_html.specs.HtmlTag.{all, attribute, attribute_name, attribute_value, both, byte, either};
+ghost use Rattle.markdown_raw_html.specs.HtmlTag.{is_tag_blank, line_end, nonempty, one, optional, quoted_value};
+ghost use Rattle.markdown_raw_html.specs.HtmlTag.{tag_name, unquoted_value, value_specification, white_space};
 ghost use Rattle.markdown_raw_html.specs.TagSteps.{after_part};
 
 use crate::byte_kind::ByteKind;
@@ -60,7 +62,7 @@ fn take_optional_line_end<'t, R: LineRule>(rule: &R, source: &'t [u8]) -> &'t [u
 #[tactic(auto, using(crate::proofs::TagTextLemmas::both_none, crate::proofs::TagTextLemmas::both_some))]
 fn take_next_line<'t, R: LineRule>(rule: &R, source: &'t [u8]) -> &'t [u8]
     ensures { Some result.now
-        ≡ after_part (R.skipped rule.now) (both (optional line_end) (all is_blank)) source.now }
+        ≡ after_part (R.skipped rule.now) (both (optional line_end) (all is_tag_blank)) source.now }
 {
     let line = take_optional_line_end(rule, source);
     take_all(rule, line, ByteKind::Blank)
