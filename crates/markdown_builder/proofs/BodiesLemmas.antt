@@ -10,8 +10,10 @@ use Rattle.markdown_base.specs.declared.item.ItemBody.TheVariants as body
 use Rattle.markdown_base.specs.declared.tag.HeadingLevel.{HeadingLevel}
 use Rattle.markdown_base.specs.BlockTree.{Numbered}
 use Rattle.markdown_base.specs.Forest.{nil, node}
-use Rattle.markdown_base.specs.Item.{LiesIn, is_open, is_inline, is_childless, is_resolved, is_tight_paragraph, is_unplaced, text_named, alignments_named, attributes_named}
-use Rattle.markdown_base.specs.WellFormed.{BlocksAreSettled, ChainsAreKept, MarkupIsThere, StandsOverMarkup, run_character, PartCounts, PartsAreNamed}
+use Rattle.markdown_base.specs.Item.{LiesIn, is_open, is_inline, is_childless, is_resolved, is_tight_paragraph, is_unplaced, text_named}
+use Rattle.markdown_base.specs.Item.{alignments_named, attributes_named}
+use Rattle.markdown_base.specs.WellFormed.{BlocksAreSettled, ChainsAreKept, MarkupIsThere, StandsOverMarkup, run_character, PartCounts}
+use Rattle.markdown_base.specs.WellFormed.{PartsAreNamed}
 use Rattle.markdown_base.proofs.WellFormedLemmas.{HasMore}
 use Rattle.markdown_builder.specs.Bodies.{is_leaf, is_plain_block, is_settled}
 use Rattle.markdown_builder.specs.BuilderRules.{ItemFits, NamesNew}
@@ -26,7 +28,8 @@ pub record IsPlain (b : ItemBody) : Type 0 where
   pub attributes : attributes_named b ≡ None
   pub loose : is_tight_paragraph b ≡ false
 
-pub plain : {b : ItemBody} → is_resolved b ≡ false → run_character b ≡ None → is_unplaced b ≡ false → text_named b ≡ None → alignments_named b ≡ None
+pub plain : {b : ItemBody} → is_resolved b ≡ false → run_character b ≡ None → is_unplaced b ≡ false → text_named b ≡ None
+    → alignments_named b ≡ None
     → attributes_named b ≡ None → is_tight_paragraph b ≡ false → IsPlain b
 plain unresolved no_run placed texts alignments attributes loose = record {
   unresolved = unresolved;
@@ -225,7 +228,8 @@ pub settled_alone : (b : ItemBody) → is_unplaced b ≡ false → BlocksAreSett
 settled_alone b placed = record { placed = placed; tight = λ t. refl }
 
 -- it fits wherever it lies in the text, over its markup
-pub placed_fits : (text : List ℕ) (few many : PartCounts) (start end : ℕ) (b : ItemBody) → MayBePlaced few many b → MarkupIsThere text (item_over start end b)
+pub placed_fits : (text : List ℕ) (few many : PartCounts) (start end : ℕ) (b : ItemBody) → MayBePlaced few many b
+    → MarkupIsThere text (item_over start end b)
     → LiesIn text (item_over start end b) → ItemFits text many (item_over start end b)
 placed_fits text few many start end b p markup range = record {
   ranges_lie_in = range;
@@ -254,7 +258,8 @@ pub record NamesText (b : ItemBody) (ix : ℕ) : Type 0 where
   pub loose : is_tight_paragraph b ≡ false
 
 -- the newest text may be named
-pub text_placed : (few many : PartCounts) (b : ItemBody) (ix : ℕ) → ix ≡ few.texts → one_text_more few many → NamesText b ix → MayBePlaced few many b
+pub text_placed : (few many : PartCounts) (b : ItemBody) (ix : ℕ) → ix ≡ few.texts → one_text_more few many → NamesText b ix
+    → MayBePlaced few many b
 text_placed few many b ix e more n = record {
   more = record { texts = omega (arith, more.0); alignments = omega (arith, more.1); attributes = omega (arith, more.2) };
   unresolved = n.unresolved;
@@ -283,7 +288,8 @@ synthesized_names ix =
     record { unresolved = refl; no_run = refl; placed = refl; text = refl; alignments = refl; attributes = refl; loose = refl }
 
 -- the newest alignments may be named by a table
-pub table_placed : (few many : PartCounts) (ix : AlignmentIndex) → ix.0 ≡ few.alignments → many.alignments ≡ few.alignments + 1 → many.texts ≡ few.texts
+pub table_placed : (few many : PartCounts) (ix : AlignmentIndex) → ix.0 ≡ few.alignments → many.alignments ≡ few.alignments + 1
+    → many.texts ≡ few.texts
     → many.attributes ≡ few.attributes → MayBePlaced few many (body.Table ix)
 table_placed few many ix e alignments texts attributes = record {
   more = record { texts = omega (arith, texts); alignments = omega (arith, alignments); attributes = omega (arith, attributes) };
@@ -297,7 +303,8 @@ table_placed few many ix e alignments texts attributes = record {
 }
 
 -- the newest attributes may be named by a heading
-pub heading_placed : (few many : PartCounts) (level : HeadingLevel) (ix : HeadingIndex) → ix.0 ≡ many.attributes → many.attributes ≡ few.attributes + 1
+pub heading_placed : (few many : PartCounts) (level : HeadingLevel) (ix : HeadingIndex) → ix.0 ≡ many.attributes
+    → many.attributes ≡ few.attributes + 1
     → many.texts ≡ few.texts → many.alignments ≡ few.alignments → MayBePlaced few many (body.Heading level (Some ix))
 heading_placed few many level ix e attributes texts alignments = record {
   more = record { texts = omega (arith, texts); alignments = omega (arith, alignments); attributes = omega (arith, attributes) };

@@ -1,5 +1,6 @@
 -- The rules at each number and link are kept by an append and by a written item.
-use Rattle.std.proofs.Common.{◌≡◌, ℕ, zero, suc, ◌<◌, ◌≤◌, List, Option, Some, None, Bool, true, false, length, refl, sym, ap, ◌∙◌, subst, arith, ◌⊎◌, inl, inr, ⊎_elim}
+use Rattle.std.proofs.Common.{◌≡◌, ℕ, zero, suc, ◌<◌, ◌≤◌, List, Option, Some, None, Bool, true, false, length, refl, sym, ap, ◌∙◌, subst}
+use Rattle.std.proofs.Common.{arith, ◌⊎◌, inl, inr, ⊎_elim}
 use Rattle.std.specs.Prelude.{IfSome}
 use Rattle.std.proofs.lemmas.Bool.{cases_lt}
 use Rattle.markdown_base.specs.declared.item.Item.{Item}
@@ -20,7 +21,8 @@ use Rattle.markdown_builder.proofs.NodeWriteLemmas.{Grows, Writes, item_beyond}
 pub same_or_not : (i j : ℕ) → (i ≡ j) ⊎ (i ≡ j → ⊥)
 same_or_not i j =
     ⊎_elim (λ (h : i < j). inr (λ e. absurd (omega (arith, h, e))))
-    (λ (h : j ≤ i). ⊎_elim (λ (k : j < i). inr (λ e. absurd (omega (arith, k, e)))) (λ (k : i ≤ j). inl (omega (arith, h, k))) (cases_lt j i))
+    (λ (h : j ≤ i). ⊎_elim (λ (k : j < i). inr (λ e. absurd (omega (arith, k, e)))) (λ (k : i ≤ j). inl (omega (arith, h, k)))
+    (cases_lt j i))
     (cases_lt i j)
 
 -- two places are one, or they are not
@@ -50,7 +52,8 @@ which_link old new down at x g d i j e =
         let b : Some j ≡ Some (length old) = sym e ∙ a in cc (b)
 
 -- links rise
-append_rising : (old new : List (Node Item)) (down : Bool) (at : ℕ) (x : Item) → at < length old → AreRising (links_of old) → Grows old new down at x
+append_rising : (old new : List (Node Item)) (down : Bool) (at : ℕ) (x : Item) → at < length old → AreRising (links_of old)
+    → Grows old new down at x
     → AreRising (links_of new)
 append_rising old new down at x low r g = record {
   rises = λ d i j e. ⊎_elim (λ (n : IsNewLink (length old) down d at i j). (omega (arith, n.from, n.to, low), omega (arith, n.to, g.size)))
@@ -103,17 +106,20 @@ low_names name nodes count none root low (suc i) t e =
     (cases_lt (suc i) (length nodes))
 
 -- names stand once where a new item's name is new
-once_more : (name : ItemBody → Option ℕ) (old new : List (Node Item)) (down : Bool) (at : ℕ) (x : Item) (count : ℕ) → Grows old new down at x
+once_more : (name : ItemBody → Option ℕ) (old new : List (Node Item)) (down : Bool) (at : ℕ) (x : Item) (count : ℕ)
+    → Grows old new down at x
     → ((i t : ℕ) → name (item_at old i).body ≡ Some t → t < count) → IfSome (name x.body) (λ ix. count ≤ ix)
     → ((i j t : ℕ) → name (item_at old i).body ≡ Some t → name (item_at old j).body ≡ Some t → i ≡ j)
     → (i j t : ℕ) → name (item_at new i).body ≡ Some t → name (item_at new j).body ≡ Some t → i ≡ j
 once_more name old new down at x count g low high once i j t e f =
     ⊎_elim (λ (p : i ≡ length old). ⊎_elim
     (λ (q : j ≡ length old). p ∙ sym q)
-    (λ (q : j ≡ length old → ⊥). let a = low j t (at_old j q f) in let b = of_name (name x.body) (λ ix. count ≤ ix) t high (at_new i p e) in absurd (omega (arith, a, b)))
+    (λ (q : j ≡ length old → ⊥). let a = low j t (at_old j q f) in let b = of_name (name x.body) (λ ix. count ≤ ix) t high (at_new i p e)
+    in absurd (omega (arith, a, b)))
     (same_or_not j (length old)))
     (λ (p : i ≡ length old → ⊥). ⊎_elim
-    (λ (q : j ≡ length old). let a = low i t (at_old i p e) in let b = of_name (name x.body) (λ ix. count ≤ ix) t high (at_new j q f) in absurd (omega (arith, a, b)))
+    (λ (q : j ≡ length old). let a = low i t (at_old i p e) in let b = of_name (name x.body) (λ ix. count ≤ ix) t high (at_new j q f)
+    in absurd (omega (arith, a, b)))
     (λ (q : j ≡ length old → ⊥). once i j t (at_old i p e) (at_old j q f))
     (same_or_not j (length old)))
     (same_or_not i (length old))
@@ -125,7 +131,8 @@ once_more name old new down at x count g low high once i j t e f =
     at_new i q e = subst (λ (y : Item). name y.body ≡ Some t) (ap (λ (m : ℕ). item_at new m) q ∙ g.new_item) e
 
 -- an append keeps all
-pub append_keeps : (text : List ℕ) (few many : PartCounts) (old new : List (Node Item)) (down : Bool) (at : ℕ) (x : Item) → KeepsNodes text few old
+pub append_keeps : (text : List ℕ) (few many : PartCounts) (old new : List (Node Item)) (down : Bool) (at : ℕ) (x : Item)
+    → KeepsNodes text few old
     → Grows old new down at x → at < length old → HasMore few many → ItemFits text many x → NamesNew few x
     → LinkFits down (numbered old at) (record { number = length old; item = x })
     → KeepsNodes text many new
@@ -144,11 +151,13 @@ append_keeps text few many old new down at x k g low more fits names link = reco
   texts = once_more text_named old new down at x few.texts g
       (low_names text_named old few.texts refl k.root (λ i a b. (k.items i a b).parts_are_named.text)) names.texts k.texts;
   alignments = once_more alignments_named old new down at x few.alignments g
-      (low_names alignments_named old few.alignments refl k.root (λ i a b. (k.items i a b).parts_are_named.alignments)) names.alignments k.alignments;
+      (low_names alignments_named old few.alignments refl k.root (λ i a b. (k.items i a b).parts_are_named.alignments)) names.alignments
+      k.alignments;
 }
   where
     before : (i : ℕ) → i < length new → (i ≡ length old → ⊥) → i < length old
-    before i b q = ⊎_elim (λ (h : i < length old). h) (λ (h : length old ≤ i). absurd (q (omega (arith, h, b, g.size)))) (cases_lt i (length old))
+    before i b q = ⊎_elim (λ (h : i < length old). h) (λ (h : length old ≤ i). absurd (q (omega (arith, h, b, g.size))))
+        (cases_lt i (length old))
 
     new_fits : (d : Bool) (i j : ℕ) → IsNewLink (length old) down d at i j → LinkFits d (numbered new i) (numbered new j)
     new_fits d i j n =
@@ -166,7 +175,8 @@ append_keeps text few many old new down at x k g low more fits names link = reco
 -- ---- a written item
 
 -- a link fits with another item at its start
-pub fits_from : (d : Bool) (a b : Numbered) (c : Numbered) → a.number ≡ b.number → MayReplace a.item b.item → LinkFits d a c → LinkFits d b c
+pub fits_from : (d : Bool) (a b : Numbered) (c : Numbered) → a.number ≡ b.number → MayReplace a.item b.item → LinkFits d a c
+    → LinkFits d b c
 fits_from true a b c e m l = record {
   kind = l.kind ∙ sym m.leaf;
   chains_are_kept = chain_of_one b.item.body c (m.childless ∙ parent_of_one a.item.body c l.chains_are_kept);
@@ -216,7 +226,8 @@ write_keeps text counts old new at x k w low fits m = record {
       (same_or_not i at);
   links = λ d i j e. right d i j (left d i j (k.links d i j (sym (w.all_links d i) ∙ e)));
   texts = λ i j t e f. k.texts i j t (named_before text_named m.texts i t e) (named_before text_named m.texts j t f);
-  alignments = λ i j t e f. k.alignments i j t (named_before alignments_named m.alignments i t e) (named_before alignments_named m.alignments j t f);
+  alignments = λ i j t e f. k.alignments i j t (named_before alignments_named m.alignments i t e)
+      (named_before alignments_named m.alignments j t f);
 }
   where
     replaced : (i : ℕ) → i ≡ at → MayReplace (item_at old i) x

@@ -1,6 +1,7 @@
 -- What each call of a builder keeps, by what its caller sees.
 use Rattle.std.specs.Prelude.{slice_index, slice_get, IfSome}
-use Rattle.std.proofs.Common.{◌≡◌, ℕ, suc, ◌+◌, ◌-◌, ◌<◌, ◌≤◌, List, [], ◌∷◌, ◌++◌, Option, Some, None, Bool, true, false, length, refl, sym, ap, ◌∙◌, subst, arith, ◌⊎◌, ⊎_elim}
+use Rattle.std.proofs.Common.{◌≡◌, ℕ, suc, ◌+◌, ◌-◌, ◌<◌, ◌≤◌, List, [], ◌∷◌, ◌++◌, Option, Some, None, Bool, true, false, length, refl}
+use Rattle.std.proofs.Common.{sym, ap, ◌∙◌, subst, arith, ◌⊎◌, ⊎_elim}
 use Rattle.std.specs.Str.{IsCharBoundary}
 use Rattle.std.proofs.lemmas.Str.{IsCharBoundary-after_ascii}
 use Rattle.markdown_base.specs.declared.block_parts.LinkDef.{LinkDef}
@@ -18,7 +19,9 @@ use Rattle.markdown_builder.specs.Bodies.{is_leaf, is_plain_block, is_settled, m
 use Rattle.markdown_builder.specs.BuilderView.{BuilderView, IsWhite, IsRunOf, follows_run, innermost_block, LastHasBody, LastBegins}
 use Rattle.markdown_builder.specs.Standing.{State, seen, open_item, with_item, AreOpen, IsSound}
 use Rattle.markdown_builder.specs.TreeSteps.{Tightens, texts_appended, run_marked}
-use Rattle.markdown_builder.proofs.BodiesLemmas.{item_over, MayBePlaced, plain_placed, placed_fits, placed_new, block_plain, block_parent, settled_plain, settled_inline, settled_markup, rule_plain, plain, one_text_more, NamesText, text_placed, synthesized_names}
+use Rattle.markdown_builder.proofs.BodiesLemmas.{item_over, MayBePlaced, plain_placed, placed_fits, placed_new, block_plain, block_parent}
+use Rattle.markdown_builder.proofs.BodiesLemmas.{settled_plain, settled_inline, settled_markup, rule_plain, plain, one_text_more, NamesText}
+use Rattle.markdown_builder.proofs.BodiesLemmas.{text_placed, synthesized_names}
 use Rattle.markdown_builder.proofs.MarkLemmas.{mark_facts, one_source, two_source, run_source, run_boundary}
 use Rattle.markdown_builder.proofs.RunMarkLemmas.{delimiter_ascii, run_sound}
 use Rattle.markdown_builder.proofs.RunStepLemmas.{TextsStand, texts_stand}
@@ -34,26 +37,33 @@ skip_keeps {s} now to k e =
     (skipped s to k)
 
 -- a block that goes into the tree with its parts
-pub placed_keeps : {s : State} (now : BuilderView) (many : PartCounts) (b : ItemBody) → IsSound s → seen s ≡ now → now.leaf ≡ false → MayBePlaced s.counts many b
+pub placed_keeps : {s : State} (now : BuilderView) (many : PartCounts) (b : ItemBody) → IsSound s → seen s ≡ now → now.leaf ≡ false
+    → MayBePlaced s.counts many b
     → is_childless b ≡ false → IsSound (after_opening s many b)
 placed_keeps {s} now many b k e outside placed parent = opened s many b k (ap (λ (v : BuilderView). v.leaf) e ∙ outside) placed parent
 
 -- a block whose parts were pushed, and that was not gone into
-pub refused_keeps : {s : State} (now : BuilderView) (many : PartCounts) (b : ItemBody) (tree : Arena Item) → IsSound s → seen s ≡ now → now.leaf ≡ false
+pub refused_keeps : {s : State} (now : BuilderView) (many : PartCounts) (b : ItemBody) (tree : Arena Item) → IsSound s → seen s ≡ now
+    → now.leaf ≡ false
     → MayBePlaced s.counts many b → is_childless b ≡ false → (tree ≡ s.tree) ⊎ (tree ≡ appended s.tree (item_over s.at s.at b))
     → IsSound (record s { counts = many; tree = tree })
 refused_keeps {s} now many b tree k e outside placed parent =
-    ⊎_elim (λ (q : tree ≡ s.tree). subst (λ (t : Arena Item). IsSound (record s { counts = many; tree = t })) (sym q) (more_parts s many placed.more k))
-    (λ (q : tree ≡ appended s.tree (item_over s.at s.at b)). subst (λ (t : Arena Item). IsSound (record s { counts = many; tree = t })) (sym q)
+    ⊎_elim (λ (q : tree ≡ s.tree). subst (λ (t : Arena Item). IsSound (record s { counts = many; tree = t })) (sym q)
+    (more_parts s many placed.more k))
+    (λ (q : tree ≡ appended s.tree (item_over s.at s.at b)). subst (λ (t : Arena Item). IsSound (record s { counts = many; tree = t }))
+    (sym q)
     (opened_alone s many b s.run k (ap (λ (v : BuilderView). v.leaf) e ∙ outside) placed parent))
 
 -- a block that names the text which was pushed: it goes into the tree
-pub named_keeps : {s : State} (now : BuilderView) (many : PartCounts) (b : ItemBody) (ix : CowIndex) → IsSound s → seen s ≡ now → now.leaf ≡ false
+pub named_keeps : {s : State} (now : BuilderView) (many : PartCounts) (b : ItemBody) (ix : CowIndex) → IsSound s → seen s ≡ now
+    → now.leaf ≡ false
     → ix.0 ≡ s.counts.texts → one_text_more s.counts many → NamesText b ix.0 → is_childless b ≡ false → IsSound (after_opening s many b)
-named_keeps {s} now many b ix k e outside n more names parent = placed_keeps now many b k e outside (text_placed s.counts many b ix.0 n more names) parent
+named_keeps {s} now many b ix k e outside n more names parent = placed_keeps now many b k e outside (text_placed s.counts many b ix.0 n more
+    names) parent
 
 -- or it was not gone into
-pub named_refused : {s : State} (now : BuilderView) (many : PartCounts) (b : ItemBody) (ix : CowIndex) (tree : Arena Item) → IsSound s → seen s ≡ now → now.leaf ≡ false
+pub named_refused : {s : State} (now : BuilderView) (many : PartCounts) (b : ItemBody) (ix : CowIndex) (tree : Arena Item) → IsSound s
+    → seen s ≡ now → now.leaf ≡ false
     → ix.0 ≡ s.counts.texts → one_text_more s.counts many → NamesText b ix.0 → is_childless b ≡ false
     → (tree ≡ s.tree) ⊎ (tree ≡ appended s.tree (item_over s.at s.at b)) → IsSound (record s { counts = many; tree = tree })
 named_refused {s} now many b ix tree k e outside n more names parent =
@@ -64,22 +74,28 @@ pub open_keeps : {s : State} (now : BuilderView) (b : ItemBody) → IsSound s �
     → IsSound (after_opening s s.counts b)
 open_keeps {s} now b k e h outside = placed_keeps now s.counts b k e outside (plain_placed s.counts b (block_plain b h)) (block_parent b h)
 
-pub open_refused : {s : State} (now : BuilderView) (b : ItemBody) (tree : Arena Item) → IsSound s → seen s ≡ now → is_plain_block b ≡ true → now.leaf ≡ false
+pub open_refused : {s : State} (now : BuilderView) (b : ItemBody) (tree : Arena Item) → IsSound s → seen s ≡ now → is_plain_block b ≡ true
+    → now.leaf ≡ false
     → (tree ≡ s.tree) ⊎ (tree ≡ appended s.tree (item_over s.at s.at b)) → IsSound (record s { tree = tree })
-open_refused {s} now b tree k e h outside = refused_keeps now s.counts b tree k e outside (plain_placed s.counts b (block_plain b h)) (block_parent b h)
+open_refused {s} now b tree k e h outside = refused_keeps now s.counts b tree k e outside (plain_placed s.counts b (block_plain b h))
+    (block_parent b h)
 
 -- `inline`
-pub inline_keeps : {s : State} (now : BuilderView) (end : ℕ) (b : ItemBody) → IsSound s → seen s ≡ now → is_settled b ≡ true → now.leaf ≡ true → now.at ≤ end
+pub inline_keeps : {s : State} (now : BuilderView) (end : ℕ) (b : ItemBody) → IsSound s → seen s ≡ now → is_settled b ≡ true
+    → now.leaf ≡ true → now.at ≤ end
     → IsCharBoundary now.text end → IsSound (after_item s s.counts end b None)
 inline_keeps {s} now end b k e h =
-    subst (λ (v : BuilderView). v.leaf ≡ true → v.at ≤ end → IsCharBoundary v.text end → IsSound (after_item s s.counts end b None)) e (λ within low boundary.
+    subst (λ (v : BuilderView). v.leaf ≡ true → v.at ≤ end → IsCharBoundary v.text end → IsSound (after_item s s.counts end b None)) e
+    (λ within low boundary.
     let placed = plain_placed s.counts b (settled_plain b h) in
     added s s.counts end b None k placed.more
-    (placed_fits s.text s.counts s.counts s.at end b placed (settled_markup b (source_of s.text (item_over s.at end b)) h) (record { ordered = low; start = k.stands.boundary; end = boundary }))
+    (placed_fits s.text s.counts s.counts s.at end b placed (settled_markup b (source_of s.text (item_over s.at end b)) h)
+    (record { ordered = low; start = k.stands.boundary; end = boundary }))
     (placed_new s.counts s.counts s.at end b placed) (settled_inline b h ∙ sym within) placed.no_run placed.loose)
 
 -- a spine that open blocks stand on ends with a number
-spine_last : (nodes : List (Node Item)) (spine : List ℕ) (blocks : List OpenBlock) (block : OpenBlock) → AreOpen nodes spine (blocks ++ block ∷ [])
+spine_last : (nodes : List (Node Item)) (spine : List ℕ) (blocks : List OpenBlock) (block : OpenBlock)
+    → AreOpen nodes spine (blocks ++ block ∷ [])
     → (outer : List ℕ) × (n : ℕ) × (spine ≡ outer ++ n ∷ [])
 spine_last nodes [] [] block o = absurd o
 spine_last nodes [] (b ∷ blocks) block o = absurd o
@@ -92,12 +108,18 @@ spine_last nodes (s ∷ spine) (b ∷ blocks) block o =
 pub innermost_open : (s : State) (rest : List OpenBlock) (block : OpenBlock) → IsSound s → s.blocks ≡ rest ++ block ∷ []
     → (outer : List ℕ) × (n : ℕ) × (s.tree.spine ≡ outer ++ n ∷ [])
 innermost_open s rest block k e =
-    spine_last s.tree.nodes s.tree.spine rest block (subst (λ (x : List OpenBlock). AreOpen s.tree.nodes s.tree.spine x) e k.stands.are_open)
+    spine_last s.tree.nodes s.tree.spine rest block (subst (λ (x : List OpenBlock). AreOpen s.tree.nodes s.tree.spine x) e
+    k.stands.are_open)
 
 -- `close`
 pub close_keeps : {s : State} (rest : List OpenBlock) (block : OpenBlock) (new : Arena Item) → IsSound s → s.blocks ≡ rest ++ block ∷ []
     → ((outer : List ℕ) (ix : ℕ) → s.tree.spine ≡ outer ++ ix ∷ []
-    → new ≡ record { nodes = changed_at ix (λ m. record m { item = item_over block.start s.at block.body }) s.tree.nodes; spine = outer; cursor = Some ix })
+    → new ≡ record {
+      nodes = changed_at ix (λ m. record m { item = item_over block.start s.at block.body }) s.tree.nodes;
+      spine =
+          outer;
+      cursor = Some ix;
+    })
     → IsSound (record s { tree = new; blocks = rest; leaf = false; run = None })
 close_keeps {s} rest block new k e left =
     let l = innermost_open s rest block k e in
@@ -105,23 +127,30 @@ close_keeps {s} rest block new k e left =
     (closed s l.0 rest l.1 block k e l.2)
 
 -- `rule`
-pub rule_keeps : {s : State} (now : BuilderView) (end : ℕ) → IsSound s → seen s ≡ now → now.leaf ≡ false → now.at ≤ end → IsCharBoundary now.text end
+pub rule_keeps : {s : State} (now : BuilderView) (end : ℕ) → IsSound s → seen s ≡ now → now.leaf ≡ false → now.at ≤ end
+    → IsCharBoundary now.text end
     → IsSound (after_item s s.counts end body.Rule None)
 rule_keeps {s} now end k e =
-    subst (λ (v : BuilderView). v.leaf ≡ false → v.at ≤ end → IsCharBoundary v.text end → IsSound (after_item s s.counts end body.Rule None)) e
+    subst (λ (v : BuilderView). v.leaf ≡ false → v.at ≤ end → IsCharBoundary v.text end
+    → IsSound (after_item s s.counts end body.Rule None)) e
     (λ outside low boundary. let placed = plain_placed s.counts body.Rule rule_plain in
     added s s.counts end body.Rule None k placed.more
-    (placed_fits s.text s.counts s.counts s.at end body.Rule placed tt (record { ordered = low; start = k.stands.boundary; end = boundary }))
+    (placed_fits s.text s.counts s.counts s.at end body.Rule placed tt
+    (record { ordered = low; start = k.stands.boundary; end = boundary }))
     (placed_new s.counts s.counts s.at end body.Rule placed) (sym outside) refl refl)
 
 -- `synthesize`
-pub synthesize_keeps : {s : State} (now : BuilderView) (many : PartCounts) (end : ℕ) (ix : CowIndex) → IsSound s → seen s ≡ now → ix.0 ≡ s.counts.texts
-    → one_text_more s.counts many → now.leaf ≡ true → now.at ≤ end → IsCharBoundary now.text end → IsSound (after_item s many end (body.SynthesizeText ix) None)
+pub synthesize_keeps : {s : State} (now : BuilderView) (many : PartCounts) (end : ℕ) (ix : CowIndex) → IsSound s → seen s ≡ now
+    → ix.0 ≡ s.counts.texts
+    → one_text_more s.counts many → now.leaf ≡ true → now.at ≤ end → IsCharBoundary now.text end
+    → IsSound (after_item s many end (body.SynthesizeText ix) None)
 synthesize_keeps {s} now many end ix k e n more =
-    subst (λ (v : BuilderView). v.leaf ≡ true → v.at ≤ end → IsCharBoundary v.text end → IsSound (after_item s many end (body.SynthesizeText ix) None)) e
+    subst (λ (v : BuilderView). v.leaf ≡ true → v.at ≤ end → IsCharBoundary v.text end
+    → IsSound (after_item s many end (body.SynthesizeText ix) None)) e
     (λ within low boundary. let placed = text_placed s.counts many (body.SynthesizeText ix) ix.0 n more (synthesized_names ix) in
     added s many end (body.SynthesizeText ix) None k placed.more
-    (placed_fits s.text s.counts many s.at end (body.SynthesizeText ix) placed tt (record { ordered = low; start = k.stands.boundary; end = boundary }))
+    (placed_fits s.text s.counts many s.at end (body.SynthesizeText ix) placed tt
+    (record { ordered = low; start = k.stands.boundary; end = boundary }))
     (placed_new s.counts many s.at end (body.SynthesizeText ix) placed) (sym within) refl refl)
 
 -- a text that was pushed, and is not named
@@ -133,7 +162,8 @@ pushed_keeps {s} many k more =
 pub mark_keeps : {s : State} (now : BuilderView) (b : ItemBody) → IsSound s → seen s ≡ now → now.leaf ≡ true → now.at < length now.text
     → mark_byte b ≡ Some (slice_index now.text now.at) → IsSound (after_item s s.counts (s.at + 1) b None)
 mark_keeps {s} now b k e =
-    subst (λ (v : BuilderView). v.leaf ≡ true → v.at < length v.text → mark_byte b ≡ Some (slice_index v.text v.at) → IsSound (after_item s s.counts (s.at + 1) b None)) e
+    subst (λ (v : BuilderView). v.leaf ≡ true → v.at < length v.text → mark_byte b ≡ Some (slice_index v.text v.at)
+    → IsSound (after_item s s.counts (s.at + 1) b None)) e
     (λ within low byte. let m = mark_facts b (slice_index s.text s.at) byte in
     let placed = plain_placed s.counts b m.plain in
     added s s.counts (s.at + 1) b None k placed.more
@@ -143,7 +173,8 @@ mark_keeps {s} now b k e =
 
 -- `image`
 pub image_keeps : {s : State} (now : BuilderView) → IsSound s → seen s ≡ now → now.leaf ≡ true → now.at + 1 < length now.text
-    → slice_index now.text now.at ≡ 33 → slice_index now.text (now.at + 1) ≡ 91 → IsSound (after_item s s.counts (s.at + 2) body.MaybeImage None)
+    → slice_index now.text now.at ≡ 33 → slice_index now.text (now.at + 1) ≡ 91
+    → IsSound (after_item s s.counts (s.at + 2) body.MaybeImage None)
 image_keeps {s} now k e =
     subst (λ (v : BuilderView). v.leaf ≡ true → v.at + 1 < length v.text → slice_index v.text v.at ≡ 33 → slice_index v.text (v.at + 1) ≡ 91
     → IsSound (after_item s s.counts (s.at + 2) body.MaybeImage None)) e (λ within low first second.
@@ -156,15 +187,22 @@ image_keeps {s} now k e =
     (placed_new s.counts s.counts s.at (s.at + 2) body.MaybeImage placed) (sym within) refl refl)
 
 -- `backticks`
-pub backticks_keeps : {s : State} (now : BuilderView) (end : ℕ) (escaped : Bool) → IsSound s → seen s ≡ now → now.leaf ≡ true → IsRunOf 96 now.text now.at end
+pub backticks_keeps : {s : State} (now : BuilderView) (end : ℕ) (escaped : Bool) → IsSound s → seen s ≡ now → now.leaf ≡ true
+    → IsRunOf 96 now.text now.at end
     → IsSound (after_item s s.counts end (body.MaybeCode (end - s.at) escaped) None)
 backticks_keeps {s} now end escaped k e =
-    subst (λ (v : BuilderView). v.leaf ≡ true → IsRunOf 96 v.text v.at end → IsSound (after_item s s.counts end (body.MaybeCode (end - s.at) escaped) None)) e
+    subst (λ (v : BuilderView). v.leaf ≡ true → IsRunOf 96 v.text v.at end
+    → IsSound (after_item s s.counts end (body.MaybeCode (end - s.at) escaped) None)) e
     (λ within run. let b = body.MaybeCode (end - s.at) escaped in
     let placed = plain_placed s.counts b (plain refl refl refl refl refl refl refl) in
     added s s.counts end b None k placed.more
     (placed_fits s.text s.counts s.counts s.at end b placed (run_source s.text s.at end 96 run, omega (arith, run.more))
-    (record { ordered = omega (arith, run.more); start = k.stands.boundary; end = run_boundary s.text s.at end 96 k.utf8 run (omega arith) end run.more (omega arith) }))
+    (record {
+      ordered = omega (arith, run.more);
+      start = k.stands.boundary;
+      end = run_boundary s.text s.at end 96 k.utf8 run (omega arith)
+          end run.more (omega arith);
+    }))
     (placed_new s.counts s.counts s.at end b placed) (sym within) refl refl)
 
 -- `run`: what it asks for
@@ -175,8 +213,10 @@ pub record RunMayCome (now : BuilderView) (byte end : ℕ) : Type 0 where
   pub other : follows_run now.run byte ≡ false
 
 -- its Texts so far
-run_texts : (s : State) (byte end count : ℕ) → IsSound s → RunMayCome (seen s) byte end → s.at + count ≤ end → TextsStand s byte count (texts_appended s.tree s.at count)
-run_texts s byte end count k may low = texts_stand s byte end count k may.inside may.whole (delimiter_ascii byte may.delimiter) may.other low
+run_texts : (s : State) (byte end count : ℕ) → IsSound s → RunMayCome (seen s) byte end → s.at + count ≤ end
+    → TextsStand s byte count (texts_appended s.tree s.at count)
+run_texts s byte end count k may low = texts_stand s byte end count k may.inside may.whole (delimiter_ascii byte may.delimiter) may.other
+    low
 
 -- there are nodes enough to make characters of
 pub run_nodes : {s : State} (now : BuilderView) (byte end : ℕ) → IsSound s → seen s ≡ now → RunMayCome now byte end
@@ -186,7 +226,8 @@ run_nodes {s} now byte end k e may =
     let p = run_texts s byte end (end - s.at) k here (omega (arith, here.whole.more)) in omega (arith, p.size)
 
 -- after a refusal some of its bytes are Texts
-pub run_refused : {s : State} (now : BuilderView) (byte end count : ℕ) → IsSound s → seen s ≡ now → RunMayCome now byte end → s.at + count ≤ end
+pub run_refused : {s : State} (now : BuilderView) (byte end count : ℕ) → IsSound s → seen s ≡ now → RunMayCome now byte end
+    → s.at + count ≤ end
     → IsSound (record s { tree = texts_appended s.tree s.at count; at = end })
 run_refused {s} now byte end count k e may low =
     let here : RunMayCome (seen s) byte end = subst (λ (v : BuilderView). RunMayCome v byte end) (sym e) may in
@@ -198,16 +239,24 @@ run_refused {s} now byte end count k e may low =
 
 -- and else all are its characters
 pub run_keeps : {s : State} (now : BuilderView) (byte end : ℕ) (opens closes : Bool) → IsSound s → seen s ≡ now → RunMayCome now byte end
-    → IsSound (record s { tree = run_marked (texts_appended s.tree s.at (end - s.at)) end opens closes (end - s.at); at = end; run = Some byte })
+    → IsSound (record s {
+      tree = run_marked (texts_appended s.tree s.at (end - s.at)) end opens closes (end - s.at);
+      at = end;
+      run =
+          Some byte;
+    })
 run_keeps {s} now byte end opens closes k e may =
     let here : RunMayCome (seen s) byte end = subst (λ (v : BuilderView). RunMayCome v byte end) (sym e) may in
     run_sound s byte end (end - s.at) opens closes k here.inside here.whole here.delimiter here.other (omega (arith, here.whole.more))
 
 -- `define`
-pub define_keeps : {s : State} (now : BuilderView) (to : ℕ) (d : CowStr × LinkDef) → IsSound s → seen s ≡ now → now.at ≤ to → IsCharBoundary now.text to
-    → slice_index now.text now.at ≡ 91 → d.1.span ≡ record { start = s.at; end = to } → IsSound (record s { definitions = s.definitions ++ d ∷ []; at = to })
+pub define_keeps : {s : State} (now : BuilderView) (to : ℕ) (d : CowStr × LinkDef) → IsSound s → seen s ≡ now → now.at ≤ to
+    → IsCharBoundary now.text to
+    → slice_index now.text now.at ≡ 91 → d.1.span ≡ record { start = s.at; end = to }
+    → IsSound (record s { definitions = s.definitions ++ d ∷ []; at = to })
 define_keeps {s} now to d k e =
-    subst (λ (v : BuilderView). v.at ≤ to → IsCharBoundary v.text to → slice_index v.text v.at ≡ 91 → d.1.span ≡ record { start = s.at; end = to }
+    subst (λ (v : BuilderView). v.at ≤ to → IsCharBoundary v.text to → slice_index v.text v.at ≡ 91
+    → d.1.span ≡ record { start = s.at; end = to }
     → IsSound (record s { definitions = s.definitions ++ d ∷ []; at = to })) e (defined s to d k)
 
 -- two lists that end with a block are one
@@ -234,7 +283,8 @@ ends_with (b ∷ []) block e = record { outer = []; whole = ap (λ (x : OpenBloc
 ends_with (b ∷ c ∷ blocks) block e =
     let next : length (b ∷ c ∷ blocks) - 1 ≡ suc (length blocks) = omega arith in
     let same : length blocks ≡ length (c ∷ blocks) - 1 = omega arith in
-    let inner : Some block ≡ innermost_block (c ∷ blocks) = e ∙ (ap (λ (n : ℕ). slice_get (b ∷ c ∷ blocks) n) next ∙ ap (λ (n : ℕ). slice_get (c ∷ blocks) n) same) in
+    let inner : Some block ≡ innermost_block (c ∷ blocks) = e ∙ (ap (λ (n : ℕ). slice_get (b ∷ c ∷ blocks) n) next
+    ∙ ap (λ (n : ℕ). slice_get (c ∷ blocks) n) same) in
     let r = ends_with (c ∷ blocks) block inner in
     record { outer = b ∷ r.outer; whole = ap (λ (x : List OpenBlock). b ∷ x) r.whole }
 
@@ -246,19 +296,23 @@ abbrev pub IsReplaced : List OpenBlock → List OpenBlock → OpenBlock → Type
 IsReplaced old new block = (outer : List OpenBlock) (last : OpenBlock) → old ≡ outer ++ last ∷ [] → new ≡ outer ++ block ∷ []
 
 -- `change`
-pub change_keeps : {s : State} (now : BuilderView) (inner : OpenBlock) (b : ItemBody) (blocks : List OpenBlock) (new : Arena Item) → IsSound s → seen s ≡ now
-    → is_plain_block b ≡ true → is_leaf b ≡ now.leaf → Some inner ≡ innermost_block s.blocks → IsReplaced s.blocks blocks (record inner { body = b })
+pub change_keeps : {s : State} (now : BuilderView) (inner : OpenBlock) (b : ItemBody) (blocks : List OpenBlock) (new : Arena Item)
+    → IsSound s → seen s ≡ now
+    → is_plain_block b ≡ true → is_leaf b ≡ now.leaf → Some inner ≡ innermost_block s.blocks
+    → IsReplaced s.blocks blocks (record inner { body = b })
     → IsRewritten s.tree new (record inner { body = b }) → IsSound (record s { tree = new; blocks = blocks })
 change_keeps {s} now inner b blocks new k e h leaf last replace write =
     let r = ends_with s.blocks inner last in
     let l = innermost_open s r.outer inner k r.whole in
     let p = block_plain b h in
     rw (replace r.outer inner r.whole, write l.0 l.1 l.2)
-    (changed s l.0 r.outer l.1 inner b k r.whole l.2 (leaf ∙ sym (ap (λ (v : BuilderView). v.leaf) e)) (plain_placed s.counts b p) p.texts p.alignments
+    (changed s l.0 r.outer l.1 inner b k r.whole l.2 (leaf ∙ sym (ap (λ (v : BuilderView). v.leaf) e)) (plain_placed s.counts b p) p.texts
+    p.alignments
     (block_parent b h))
 
 -- it has the other body
-pub body_changed : (old new : List OpenBlock) (inner : OpenBlock) (b : ItemBody) → Some inner ≡ innermost_block old → IsReplaced old new (record inner { body = b })
+pub body_changed : (old new : List OpenBlock) (inner : OpenBlock) (b : ItemBody) → Some inner ≡ innermost_block old
+    → IsReplaced old new (record inner { body = b })
     → LastHasBody old new b
 body_changed old new inner b last replace outer block h =
     let r = ends_with old inner last in
@@ -266,12 +320,14 @@ body_changed old new inner b last replace outer block h =
     replace outer block h ∙ rw same.1 refl
 
 -- `begin_later`
-pub begin_later_keeps : {s : State} (now : BuilderView) (inner : OpenBlock) (start : ℕ) (blocks : List OpenBlock) (new : Arena Item) → IsSound s → seen s ≡ now
+pub begin_later_keeps : {s : State} (now : BuilderView) (inner : OpenBlock) (start : ℕ) (blocks : List OpenBlock) (new : Arena Item)
+    → IsSound s → seen s ≡ now
     → start ≤ now.at → IsCharBoundary now.text start → IfSome (innermost_block now.blocks) (λ block. IsWhite now.text block.start start)
     → Some inner ≡ innermost_block s.blocks → IsReplaced s.blocks blocks (record inner { start = start })
     → IsRewritten s.tree new (record inner { start = start }) → IsSound (record s { tree = new; blocks = blocks })
 begin_later_keeps {s} now inner start blocks new k e low boundary white last replace write =
-    subst (λ (v : BuilderView). start ≤ v.at → IsCharBoundary v.text start → IfSome (innermost_block v.blocks) (λ block. IsWhite v.text block.start start)
+    subst (λ (v : BuilderView). start ≤ v.at → IsCharBoundary v.text start
+    → IfSome (innermost_block v.blocks) (λ block. IsWhite v.text block.start start)
     → IsSound (record s { tree = new; blocks = blocks })) e (λ here between behind.
     let r = ends_with s.blocks inner last in
     let l = innermost_open s r.outer inner k r.whole in
@@ -280,7 +336,8 @@ begin_later_keeps {s} now inner start blocks new k e low boundary white last rep
     (subst (λ (o : Option OpenBlock). IfSome o (λ block. IsWhite s.text block.start start)) (sym last) behind))) low boundary white
 
 -- it begins there
-pub start_changed : (old new : List OpenBlock) (inner : OpenBlock) (start : ℕ) → Some inner ≡ innermost_block old → IsReplaced old new (record inner { start = start })
+pub start_changed : (old new : List OpenBlock) (inner : OpenBlock) (start : ℕ) → Some inner ≡ innermost_block old
+    → IsReplaced old new (record inner { start = start })
     → LastBegins old new start
 start_changed old new inner start last replace outer block h =
     let r = ends_with old inner last in

@@ -20,7 +20,8 @@ use Rattle.markdown_builder.proofs.RisingLemmas.{IsRoot, top_is_root}
 use Rattle.markdown_builder.proofs.StepLemmas.{either_passes}
 
 -- what stands on top is not inline
-top_inline : (text : List ℕ) (counts : PartCounts) (nodes : List (Node Item)) (j : ℕ) → KeepsNodes text counts nodes → IsOnTop (links_of nodes) j
+top_inline : (text : List ℕ) (counts : PartCounts) (nodes : List (Node Item)) (j : ℕ) → KeepsNodes text counts nodes
+    → IsOnTop (links_of nodes) j
     → is_inline (item_at nodes j).body ≡ false
 top_inline text counts nodes j k (first_block _ e) =
     let x : StandsUnder (numbered nodes 0) (numbered nodes j) = k.links true 0 j e in
@@ -31,12 +32,14 @@ top_inline text counts nodes j k (next_block i _ t e) =
     x.kind ∙ top_inline text counts nodes i k t
 
 -- nor resolved, so it is a block
-top_low : (text : List ℕ) (counts : PartCounts) (nodes : List (Node Item)) (j : ℕ) → KeepsNodes text counts nodes → IsOnTop (links_of nodes) j
+top_low : (text : List ℕ) (counts : PartCounts) (nodes : List (Node Item)) (j : ℕ) → KeepsNodes text counts nodes
+    → IsOnTop (links_of nodes) j
     → (0 < j) × (j < length nodes)
 top_low text counts nodes j k (first_block _ e) = k.rising.rises true 0 j e
 top_low text counts nodes j k (next_block i _ t e) = let r = k.rising.rises false i j e in (omega (arith, r.0), r.1)
 
-top_block : (text : List ℕ) (counts : PartCounts) (nodes : List (Node Item)) (j : ℕ) → KeepsNodes text counts nodes → IsOnTop (links_of nodes) j
+top_block : (text : List ℕ) (counts : PartCounts) (nodes : List (Node Item)) (j : ℕ) → KeepsNodes text counts nodes
+    → IsOnTop (links_of nodes) j
     → is_block (item_at nodes j).body ≡ true
 top_block text counts nodes j k t =
     let low = top_low text counts nodes j k t in
@@ -64,7 +67,8 @@ root_passes nodes test (node i below after) j r h =
 in_tree : (text : List ℕ) (counts : PartCounts) (nodes : List (Node Item)) (at : ℕ) → KeepsNodes text counts nodes → IsUnderTop nodes at
     → is_in_block (tree_of nodes) at ≡ true
 in_tree text counts nodes at k b =
-    root_passes nodes (λ n. is_block n.item.body && is_inside at (range_of n.item)) (numbers_below nodes) b.number (top_is_root nodes b.number k.rising b.top)
+    root_passes nodes (λ n. is_block n.item.body && is_inside at (range_of n.item)) (numbers_below nodes) b.number
+    (top_is_root nodes b.number k.rising b.top)
     (rw (top_block text counts nodes b.number k b.top, b.inside) refl)
 
 -- what is made when all blocks are closed and the whole text is read covers it
@@ -72,7 +76,8 @@ pub covers_at_end : {s : State} (now : BuilderView) (parts : BlockParts) → Sta
     → now.blocks ≡ [] → now.at ≡ length now.text → Covers now.text s.tree.nodes parts
 covers_at_end {s} now parts k e same =
     subst (λ (v : BuilderView). v.blocks ≡ [] → v.at ≡ length v.text → Covers v.text s.tree.nodes parts) e (λ closed read. record {
-      bytes = λ at low dark. either_passes (is_in_block (tree_of s.tree.nodes) at) (list_any (λ d. is_inside at d.1.span) parts.definitions.items)
+      bytes = λ at low dark. either_passes (is_in_block (tree_of s.tree.nodes) at)
+          (list_any (λ d. is_inside at d.1.span) parts.definitions.items)
           (⊎_elim (λ (b : IsUnderTop s.tree.nodes at). inl (in_tree s.text s.counts s.tree.nodes at k.nodes b))
           (λ (d : IsTrue (is_in_definition s.definitions at)). inr (rw (← same) d))
           (k.covered at (rw closed (omega (arith, low, read))) dark));

@@ -14,7 +14,8 @@ use Rattle.markdown_base.specs.ArenaRules.{next_at}
 use Rattle.markdown_base.specs.BlockTree.{Numbered, item_at, numbered, tree_of}
 use Rattle.markdown_base.specs.Forest.{Forest, nil, node, Throughout, preorder, roots, first_root, relabelled}
 use Rattle.markdown_base.specs.Item.{is_open, is_inline, is_childless, is_tight_paragraph, text_named, alignments_named}
-use Rattle.markdown_base.specs.WellFormed.{has_open, all_inline, InlineInOrder, RunsAreWhole, PartCounts, counts_of, has_tight_paragraph, all_named, KeepsRules, IsWellFormed}
+use Rattle.markdown_base.specs.WellFormed.{has_open, all_inline, InlineInOrder, RunsAreWhole, PartCounts, counts_of, has_tight_paragraph}
+use Rattle.markdown_base.specs.WellFormed.{all_named, KeepsRules, IsWellFormed}
 use Rattle.markdown_base.proofs.ForestLemmas.{Throughout-relabelled, preorder-relabelled}
 use Rattle.markdown_builder.specs.Bodies.{is_leaf}
 use Rattle.markdown_builder.specs.Rising.{AreRising}
@@ -30,7 +31,8 @@ each_node : (nodes : List (Node Item)) (p : Numbered → Forest Numbered → For
     → Throughout p (tree_of nodes)
 each_node nodes p r h =
     Throughout-relabelled (numbered nodes) p (numbers_below nodes)
-    (throughout_below nodes (λ i below after. p (numbered nodes i) (relabelled (numbered nodes) below) (relabelled (numbered nodes) after)) r
+    (throughout_below nodes (λ i below after. p (numbered nodes i) (relabelled (numbered nodes) below) (relabelled (numbered nodes) after))
+    r
     (λ i below after low high top. h i below after low high))
 
 -- the items of a chain are all inline, or none is
@@ -38,7 +40,8 @@ abbrev pub OfKind : Bool → Forest Numbered → Type 0
 OfKind v chain = AllByRecursion (λ n. is_inline n.item.body ≡ v) (roots chain)
 
 -- a chain goes on as it begins
-chain_kind : (text : List ℕ) (counts : PartCounts) (nodes : List (Node Item)) (v : Bool) (l : Option ℕ) (f : Forest ℕ) → KeepsNodes text counts nodes
+chain_kind : (text : List ℕ) (counts : PartCounts) (nodes : List (Node Item)) (v : Bool) (l : Option ℕ) (f : Forest ℕ)
+    → KeepsNodes text counts nodes
     → Spells (links_of nodes) l f → ((j : ℕ) → l ≡ Some j → is_inline (item_at nodes j).body ≡ v) → OfKind v (relabelled (numbered nodes) f)
 chain_kind text counts nodes v l nil k s h = tt
 chain_kind text counts nodes v l (node i below after) k s h =
@@ -56,12 +59,14 @@ below_kind text counts nodes i f k s =
     (λ j e. let x : StandsUnder (numbered nodes i) (numbered nodes j) = k.links true i j e in x.kind)
 
 -- a chain of blocks has nothing open
-blocks_closed : (chain : List Numbered) → AllByRecursion (λ n. is_inline n.item.body ≡ false) chain → list_any (λ n. is_open n.item.body) chain ≡ false
+blocks_closed : (chain : List Numbered) → AllByRecursion (λ n. is_inline n.item.body ≡ false) chain
+    → list_any (λ n. is_open n.item.body) chain ≡ false
 blocks_closed [] h = refl
 blocks_closed (n ∷ chain) h = rw (not_open n.item.body h.0, blocks_closed chain h.1) refl
 
 -- a chain of inline items is inline
-inline_chain : (chain : List Numbered) → AllByRecursion (λ n. is_inline n.item.body ≡ true) chain → list_all (λ n. is_inline n.item.body) chain ≡ true
+inline_chain : (chain : List Numbered) → AllByRecursion (λ n. is_inline n.item.body ≡ true) chain
+    → list_all (λ n. is_inline n.item.body) chain ≡ true
 inline_chain [] h = refl
 inline_chain (n ∷ chain) h = rw (h.0, inline_chain chain h.1) refl
 
@@ -84,7 +89,8 @@ not_in_tight b false chain e h t = let x = tight_leaf b t in cc (x, e)
 
 -- nothing is below a childless item
 childless : (text : List ℕ) (counts : PartCounts) (nodes : List (Node Item)) (i : ℕ) (f : Forest ℕ) → KeepsNodes text counts nodes
-    → Spells (links_of nodes) ((links_of nodes).child i) f → IsTrue (is_childless (item_at nodes i).body) → relabelled (numbered nodes) f ≡ nil
+    → Spells (links_of nodes) ((links_of nodes).child i) f → IsTrue (is_childless (item_at nodes i).body)
+    → relabelled (numbered nodes) f ≡ nil
 childless text counts nodes i nil k s c = refl
 childless text counts nodes i (node j below after) k s c =
     let x : StandsUnder (numbered nodes i) (numbered nodes j) = k.links true i j s.0 in let e = x.chains_are_kept.childless c in cc (e)
@@ -142,7 +148,8 @@ distinct_names name nodes (x ∷ xs) h d = put (name (item_at nodes x).body) (di
     put (Some t) rest e = (other_names name nodes x t xs h (sym e) d.0, rest)
 
 -- the numbers below the root are distinct
-below_distinct : (nodes : List (Node Item)) → IsDistinct nat_eq (0 ∷ preorder (numbers_below nodes)) → IsDistinct nat_eq (preorder (numbers_below nodes))
+below_distinct : (nodes : List (Node Item)) → IsDistinct nat_eq (0 ∷ preorder (numbers_below nodes))
+    → IsDistinct nat_eq (preorder (numbers_below nodes))
 unfolding IsDistinct
 below_distinct nodes d = d.1
 
@@ -155,8 +162,10 @@ tree_names name nodes h r =
     (distinct_names name nodes (preorder (numbers_below nodes)) h (below_distinct nodes (rising_reached nodes r).once))
 
 -- rules 2 to 9 at a node
-rules_at : (text : List ℕ) (counts : PartCounts) (nodes : List (Node Item)) (i : ℕ) (below after : Forest ℕ) → KeepsNodes text counts nodes → KeepsRuns text nodes
-    → 0 < i → i < length nodes → Spells (links_of nodes) ((links_of nodes).child i) below → Spells (links_of nodes) ((links_of nodes).next i) after
+rules_at : (text : List ℕ) (counts : PartCounts) (nodes : List (Node Item)) (i : ℕ) (below after : Forest ℕ) → KeepsNodes text counts nodes
+    → KeepsRuns text nodes
+    → 0 < i → i < length nodes → Spells (links_of nodes) ((links_of nodes).child i) below
+    → Spells (links_of nodes) ((links_of nodes).next i) after
     → KeepsRules text counts (numbered nodes i) (relabelled (numbered nodes) below) (first_root (relabelled (numbered nodes) after))
 rules_at text counts nodes i below after k runs low high s t =
     let item = k.items i low high in
@@ -170,7 +179,8 @@ rules_at text counts nodes i below after k runs low high s t =
       };
       nothing_resolved = item.nothing_resolved;
       markup_is_there = item.markup_is_there;
-      runs_are_whole = subst (λ (next : Option Numbered). RunsAreWhole text (numbered nodes i) next) (next_spelled nodes i after t) (runs i);
+      runs_are_whole = subst (λ (next : Option Numbered). RunsAreWhole text (numbered nodes i) next) (next_spelled nodes i after t)
+          (runs i);
       parts_are_named = item.parts_are_named;
       blocks_are_settled = record {
         placed = item.blocks_are_settled.placed;
@@ -179,14 +189,16 @@ rules_at text counts nodes i below after k runs low high s t =
     }
 
 -- the blocks on top are not inline
-pub top_kind : (text : List ℕ) (counts : PartCounts) (nodes : List (Node Item)) → KeepsNodes text counts nodes → OfKind false (tree_of nodes)
+pub top_kind : (text : List ℕ) (counts : PartCounts) (nodes : List (Node Item)) → KeepsNodes text counts nodes
+    → OfKind false (tree_of nodes)
 top_kind text counts nodes k =
     let b = below_kind text counts nodes 0 (numbers_below nodes) k (below_spelled nodes k.rising) in
     let e : is_leaf (item_at nodes 0).body ≡ false = rw k.root refl in
     subst (λ (v : Bool). OfKind v (tree_of nodes)) e b
 
 -- what a builder keeps makes a well-formed result
-pub keeps_formed : (text : List ℕ) (nodes : List (Node Item)) (parts : BlockParts) → KeepsNodes text (counts_of parts) nodes → KeepsRuns text nodes
+pub keeps_formed : (text : List ℕ) (nodes : List (Node Item)) (parts : BlockParts) → KeepsNodes text (counts_of parts) nodes
+    → KeepsRuns text nodes
     → IsWellFormed text nodes parts
 keeps_formed text nodes parts k runs =
     let counts = counts_of parts in

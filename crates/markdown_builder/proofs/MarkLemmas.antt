@@ -1,5 +1,6 @@
 -- The markup of open items: what stands in the text over which they are placed.
-use Rattle.std.proofs.Common.{◌≡◌, ℕ, zero, suc, ◌+◌, ◌-◌, ◌<◌, ◌≤◌, List, [], ◌∷◌, Some, None, Bool, true, false, cond, length, get_or, take, drop, replicate, refl, ap, ◌∙◌, subst, arith}
+use Rattle.std.proofs.Common.{◌≡◌, ℕ, zero, suc, ◌+◌, ◌-◌, ◌<◌, ◌≤◌, List, [], ◌∷◌, Some, None, Bool, true, false, cond, length, get_or}
+use Rattle.std.proofs.Common.{take, drop, replicate, refl, ap, ◌∙◌, subst, arith}
 use Rattle.std.specs.Prelude.{◌==◌, ◌||◌, slice_index, slice_range}
 use Rattle.std.specs.Str.{IsCharBoundary, IsUtf8}
 use Rattle.std.proofs.Math.Seq.{drop-cons}
@@ -33,7 +34,12 @@ run_source text from to byte r =
 pub one_source : (text : List ℕ) (at : ℕ) → at < length text → slice_range text at (at + 1) ≡ slice_index text at ∷ []
 one_source text at low =
     run_source text at (at + 1) (slice_index text at)
-    (record { more = omega arith; within = omega (arith, low); same = λ p a b. let e : p ≡ at = omega (arith, a, b) in ap (slice_index text) e })
+    (record {
+      more = omega arith;
+      within = omega (arith, low);
+      same = λ p a b. let e : p ≡ at = omega (arith, a, b)
+          in ap (slice_index text) e;
+    })
     ∙ (let n : (at + 1) - at ≡ 1 = omega arith in rw n refl)
 
 -- two bytes
@@ -42,11 +48,13 @@ pub two_source : (text : List ℕ) (at : ℕ) → at + 1 < length text
 two_source text at low =
     let n : (at + 2) - at ≡ 2 = omega arith in
     let next : suc at ≡ at + 1 = omega arith in
-    rw n (ap (take 2) (drop-cons text at 0 (omega (arith, low)) ∙ ap (λ (xs : List ℕ). slice_index text at ∷ xs) (drop-cons text (suc at) 0 (omega (arith, low))))
+    rw n (ap (take 2) (drop-cons text at 0 (omega (arith, low)) ∙ ap (λ (xs : List ℕ). slice_index text at ∷ xs)
+    (drop-cons text (suc at) 0 (omega (arith, low))))
     ∙ rw next refl)
 
 -- behind each byte of a run of ASCII a character begins
-pub run_boundary : (text : List ℕ) (from to byte : ℕ) → IsUtf8 text → IsRunOf byte text from to → byte < 128 → (p : ℕ) → from < p → p ≤ to → IsCharBoundary text p
+pub run_boundary : (text : List ℕ) (from to byte : ℕ) → IsUtf8 text → IsRunOf byte text from to → byte < 128 → (p : ℕ) → from < p → p ≤ to
+    → IsCharBoundary text p
 run_boundary text from to byte utf8 r ascii p low high =
     let back : (p - 1) + 1 ≡ p = omega (arith, low) in
     let here = r.same (p - 1) (omega (arith, low)) (omega (arith, low, high)) in
@@ -70,7 +78,13 @@ quote_ascii quote h = grind (arith, nat_tests)
 
 pub mark_facts : (b : ItemBody) (byte : ℕ) → mark_byte b ≡ Some byte → IsMark b byte
 mark_facts (body.MaybeMath opens closes context) byte h =
-    let e : byte ≡ 36 = cc (h) in record { plain = plain refl refl refl refl refl refl refl; inline = refl; ascii = omega (arith, e); markup = rw e refl }
+    let e : byte ≡ 36 = cc (h) in record {
+      plain = plain refl refl refl refl refl refl refl;
+      inline = refl;
+      ascii = omega (arith, e);
+      markup
+          = rw e refl;
+    }
 mark_facts (body.MaybeSmartQuote quote opens closes) byte h =
     let q = quote_is ((quote == 34) || (quote == 39)) quote byte h in
     record {
@@ -80,9 +94,27 @@ mark_facts (body.MaybeSmartQuote quote opens closes) byte h =
       markup = (rw q.0 refl, rw q.1 refl);
     }
 mark_facts body.MaybeHtml byte h =
-    let e : byte ≡ 60 = cc (h) in record { plain = plain refl refl refl refl refl refl refl; inline = refl; ascii = omega (arith, e); markup = rw e refl }
+    let e : byte ≡ 60 = cc (h) in record {
+      plain = plain refl refl refl refl refl refl refl;
+      inline = refl;
+      ascii = omega (arith, e);
+      markup
+          = rw e refl;
+    }
 mark_facts body.MaybeLinkOpen byte h =
-    let e : byte ≡ 91 = cc (h) in record { plain = plain refl refl refl refl refl refl refl; inline = refl; ascii = omega (arith, e); markup = rw e refl }
+    let e : byte ≡ 91 = cc (h) in record {
+      plain = plain refl refl refl refl refl refl refl;
+      inline = refl;
+      ascii = omega (arith, e);
+      markup
+          = rw e refl;
+    }
 mark_facts (body.MaybeLinkClose reference) byte h =
-    let e : byte ≡ 93 = cc (h) in record { plain = plain refl refl refl refl refl refl refl; inline = refl; ascii = omega (arith, e); markup = rw e refl }
+    let e : byte ≡ 93 = cc (h) in record {
+      plain = plain refl refl refl refl refl refl refl;
+      inline = refl;
+      ascii = omega (arith, e);
+      markup
+          = rw e refl;
+    }
 mark_facts other byte h = cc (h)

@@ -1,5 +1,6 @@
 -- What an append and a written item make of a list of nodes, number by number.
-use Rattle.std.proofs.Common.{◌≡◌, ℕ, zero, suc, ◌+◌, ◌<◌, ◌≤◌, List, [], ◌∷◌, ◌++◌, Option, Some, None, Bool, true, false, map, length, refl, sym, ap, ◌∙◌, arith}
+use Rattle.std.proofs.Common.{◌≡◌, ℕ, zero, suc, ◌+◌, ◌<◌, ◌≤◌, List, [], ◌∷◌, ◌++◌, Option, Some, None, Bool, true, false, map, length}
+use Rattle.std.proofs.Common.{refl, sym, ap, ◌∙◌, arith}
 use Rattle.std.specs.Prelude.{slice_index_or}
 use Rattle.std.proofs.lemmas.List.{length-append}
 use Rattle.markdown_base.specs.declared.item.Item.{Item}
@@ -41,7 +42,8 @@ field_none g d (n ∷ nodes) zero h = absurd (omega (arith, h))
 field_none g d (n ∷ nodes) (suc i) h = field_none g d nodes i (omega (arith, h))
 
 -- a change elsewhere
-field_elsewhere : {X : Type 0} (g : Node Item → X) (d : X) (change : Node Item → Node Item) (ix i : ℕ) (nodes : List (Node Item)) → (i ≡ ix → ⊥)
+field_elsewhere : {X : Type 0} (g : Node Item → X) (d : X) (change : Node Item → Node Item) (ix i : ℕ) (nodes : List (Node Item))
+    → (i ≡ ix → ⊥)
     → slice_index_or (map g (changed_at ix change nodes)) i d ≡ slice_index_or (map g nodes) i d
 field_elsewhere g d change ix i [] h = refl
 field_elsewhere g d change zero zero (n ∷ nodes) h = absurd (h refl)
@@ -133,17 +135,22 @@ grows_at down old at item h =
     let l : length more ≡ length old + 1 = length-append old (x ∷ []) in
     record {
       size = length-changed_at at change more ∙ omega (arith, l);
-      old_items = λ i k. field_kept (λ n. n.item) no_item change (item_linked down (length old)) at i more ∙ field_old (λ n. n.item) x no_item old i k;
-      new_item = field_kept (λ n. n.item) no_item change (item_linked down (length old)) at (length old) more ∙ field_new (λ n. n.item) x no_item old;
+      old_items = λ i k. field_kept (λ n. n.item) no_item change (item_linked down (length old)) at i more
+          ∙ field_old (λ n. n.item) x no_item old i k;
+      new_item = field_kept (λ n. n.item) no_item change (item_linked down (length old)) at (length old) more
+          ∙ field_new (λ n. n.item) x no_item old;
       other_links = λ d i k. link_field d new i
-          ∙ (others_linked down d (length old) at i more k ∙ (field_more (link d) x None (link_alone d item) old i ∙ sym (link_field d old i)));
-      new_link = link_field down new at ∙ field_here (link down) None (Some (length old)) change (link_linked down (length old)) at more (omega (arith, l, h));
+          ∙ (others_linked down d (length old) at i more k ∙ (field_more (link d) x None (link_alone d item) old i
+          ∙ sym (link_field d old i)));
+      new_link = link_field down new at ∙ field_here (link down) None (Some (length old)) change (link_linked down (length old)) at more
+          (omega (arith, l, h));
     }
 
 -- an append at a free place
 pub append_grows : (nodes : List (Node Item)) (spine : List ℕ) (cursor : Option ℕ) (item : Item)
     → place_at spine cursor < length nodes → link_of (links_of nodes) (place_down cursor) (place_at spine cursor) ≡ None
-    → Grows nodes (appended (record { nodes = nodes; spine = spine; cursor = cursor }) item).nodes (place_down cursor) (place_at spine cursor) item
+    → Grows nodes (appended (record { nodes = nodes; spine = spine; cursor = cursor }) item).nodes (place_down cursor)
+    (place_at spine cursor) item
 append_grows nodes spine (Some before) item h free = rw free (grows_at false nodes before item h)
 append_grows nodes spine None item h free = rw free (grows_at true nodes (innermost spine) item h)
 

@@ -1,5 +1,6 @@
 -- Laws of rising links: they spell a forest, and reach each number once.
-use Rattle.std.proofs.Common.{◌≡◌, ℕ, zero, suc, ◌+◌, ◌<◌, ◌≤◌, List, [], ◌∷◌, ◌++◌, Option, Some, None, Bool, true, false, length, refl, ◌∙◌, subst, arith, ◌⊎◌, inl, inr, ⊎_elim}
+use Rattle.std.proofs.Common.{◌≡◌, ℕ, zero, suc, ◌+◌, ◌<◌, ◌≤◌, List, [], ◌∷◌, ◌++◌, Option, Some, None, Bool, true, false, length, refl}
+use Rattle.std.proofs.Common.{◌∙◌, subst, arith, ◌⊎◌, inl, inr, ⊎_elim}
 use Rattle.std.specs.Prelude.{IfSome, nat_eq}
 use Rattle.std.specs.List.{AllByRecursion, IsDistinct}
 use Rattle.std.proofs.lemmas.Bool.Decides.{nat_tests}
@@ -81,7 +82,8 @@ distinct_both [] ys d e c = e
 distinct_both (x ∷ xs) ys d e c = (both_lists (λ y. nat_eq x y ≡ false) xs ys d.0 c.0, distinct_both xs ys d.1 e c.1)
 
 -- all that is spelled is larger than what bounds the link
-pub larger : (k : Links) (l : Option ℕ) (f : Forest ℕ) (low j : ℕ) → AreRising k → Spells k l f → IfSome l (λ h. (low < h) × (h < k.size)) → IsIn j f → low < j
+pub larger : (k : Links) (l : Option ℕ) (f : Forest ℕ) (low j : ℕ) → AreRising k → Spells k l f → IfSome l (λ h. (low < h) × (h < k.size))
+    → IsIn j f → low < j
 larger k l nil low j r s b i = absurd i
 larger k None (node h below after) low j r s b i = cc (s.0)
 larger k (Some g) (node h below after) low j r s b i =
@@ -129,7 +131,8 @@ step_back : (k : Links) (m : Option ℕ) (g part : Forest ℕ) (down : Bool) (h 
     → Spells k (link_of k down h) part → BeginsIn (link_of k down h) g → BeginsIn m part ⊎ IsIn h g
 step_back k m g part down h r s t b =
     ⊎_elim (λ (e : m ≡ Some b.at). inl (record { at = b.at; link = e; inside = begins k (link_of k down h) part b.at t b.link }))
-    (λ (e : IsLedTo k g b.at). inr (let same = r.once e.down down e.from h b.at e.link b.link in subst (λ (x : ℕ). IsIn x g) same.1 e.inside))
+    (λ (e : IsLedTo k g b.at). inr (let same = r.once e.down down e.from h b.at e.link b.link
+    in subst (λ (x : ℕ). IsIn x g) same.1 e.inside))
     (comes_from k m g b.at s b.inside)
 
 -- two forests that share a number: one begins in the other
@@ -214,7 +217,8 @@ rising_reached nodes r =
     record {
       finite = s;
       once = (
-        all_in (λ y. nat_eq 0 y ≡ false) (numbers_below nodes) (λ y i. apart 0 y (larger k (k.child 0) (numbers_below nodes) 0 y r s (leads k r true 0) i)),
+        all_in (λ y. nat_eq 0 y ≡ false) (numbers_below nodes)
+            (λ y i. apart 0 y (larger k (k.child 0) (numbers_below nodes) 0 y r s (leads k r true 0) i)),
         rising_distinct k (k.child 0) (numbers_below nodes) r s,
       );
     }

@@ -1,5 +1,6 @@
 -- The Texts over a delimiter run are made its characters, from the last one on: at each step the characters so far are a whole run.
-use Rattle.std.proofs.Common.{◌≡◌, ℕ, zero, suc, ◌+◌, ◌-◌, ◌<◌, ◌≤◌, List, Option, Some, None, Bool, true, false, length, refl, sym, ap, ◌∙◌, subst, arith, ⊎_elim}
+use Rattle.std.proofs.Common.{◌≡◌, ℕ, zero, suc, ◌+◌, ◌-◌, ◌<◌, ◌≤◌, List, Option, Some, None, Bool, true, false, length, refl, sym, ap}
+use Rattle.std.proofs.Common.{◌∙◌, subst, arith, ⊎_elim}
 use Rattle.std.specs.Prelude.{IfSome, IsTrue, ◌==◌, ⊤, slice_index}
 use Rattle.std.specs.Option.{option_map}
 use Rattle.std.proofs.lemmas.Bool.{cases_lt}
@@ -12,7 +13,8 @@ use Rattle.markdown_base.specs.ArenaRules.{next_at}
 use Rattle.markdown_base.specs.BlockTree.{Numbered, item_at, numbered}
 use Rattle.markdown_base.specs.Coverage.{is_inside}
 use Rattle.markdown_base.specs.Item.{range_of, is_inline}
-use Rattle.markdown_base.specs.WellFormed.{RunCharacter, run_character, is_delimiter, byte_of, EndsRun, RunGoesOn, StandsInRun, RunsAreWhole}
+use Rattle.markdown_base.specs.WellFormed.{RunCharacter, run_character, is_delimiter, byte_of, EndsRun, RunGoesOn, StandsInRun}
+use Rattle.markdown_base.specs.WellFormed.{RunsAreWhole}
 use Rattle.markdown_builder.specs.declared.open_block.OpenBlock.{OpenBlock}
 use Rattle.markdown_builder.specs.BuilderView.{IsRunOf, follows_run}
 use Rattle.markdown_builder.specs.Rising.{link_of}
@@ -60,14 +62,16 @@ stands_with_run s run h = record {
 }
 
 -- a Text is no open block
-text_not_open : (nodes : List (Node Item)) (n a start : ℕ) (b : OpenBlock) → item_at nodes n ≡ byte_text start → a ≡ n → IsOpenAt nodes a b → ⊥
+text_not_open : (nodes : List (Node Item)) (n a start : ℕ) (b : OpenBlock) → item_at nodes n ≡ byte_text start → a ≡ n → IsOpenAt nodes a b
+    → ⊥
 text_not_open nodes n a start b was z q =
     let inline : is_inline b.body ≡ true = sym (ap (λ (y : Item). is_inline y.body) q.item)
     ∙ (ap (λ (m : ℕ). is_inline (item_at nodes m).body) z ∙ ap (λ (y : Item). is_inline y.body) was) in
     let none = parent_not_inline b.body q.parent in cc (inline, none)
 
 -- a character of another byte ends a run
-byte_ends : (text : List ℕ) (byte : ℕ) (a c : Numbered) → byte_of text c.item ≡ byte → (byte == byte_of text a.item) ≡ false → EndsRun text a (Some c)
+byte_ends : (text : List ℕ) (byte : ℕ) (a c : Numbered) → byte_of text c.item ≡ byte → (byte == byte_of text a.item) ≡ false
+    → EndsRun text a (Some c)
 byte_ends text byte a c same f = of_character (run_character c.item.body)
   where
     of_character : (o : Option RunCharacter) → IfSome o (λ q. (byte_of text c.item == byte_of text a.item) ≡ false)
@@ -75,24 +79,29 @@ byte_ends text byte a c same f = of_character (run_character c.item.body)
     of_character (Some q) = subst (λ (b : ℕ). (b == byte_of text a.item) ≡ false) (sym same) f
 
 -- what may precede a run of a byte stays whole where its character is written for an item that is none
-before_run : (text : List ℕ) (byte : ℕ) (a b c : Numbered) → run_character b.item.body ≡ None → byte_of text c.item ≡ byte → MayPrecede text byte a.item
+before_run : (text : List ℕ) (byte : ℕ) (a b c : Numbered) → run_character b.item.body ≡ None → byte_of text c.item ≡ byte
+    → MayPrecede text byte a.item
     → RunsAreWhole text a (Some b) → RunsAreWhole text a (Some c)
 before_run text byte a b c none same may h = of_character (run_character a.item.body) may h
   where
-    of_character : (o : Option RunCharacter) → IfSome o (λ r. (byte == byte_of text a.item) ≡ false) → IfSome o (StandsInRun text a (Some b))
+    of_character : (o : Option RunCharacter) → IfSome o (λ r. (byte == byte_of text a.item) ≡ false)
+        → IfSome o (StandsInRun text a (Some b))
         → IfSome o (StandsInRun text a (Some c))
     of_character None f h = tt
     of_character (Some r) f h = character_replaced text a b c r none (byte_ends text byte a c same f) h
 
 -- the last item of a chain ends its run
-last_ends : (text : List ℕ) (nodes : List (Node Item)) (a : Numbered) (o : Option ℕ) → ((j : ℕ) → o ≡ Some j → ⊥) → EndsRun text a (option_map (numbered nodes) o)
+last_ends : (text : List ℕ) (nodes : List (Node Item)) (a : Numbered) (o : Option ℕ) → ((j : ℕ) → o ≡ Some j → ⊥)
+    → EndsRun text a (option_map (numbered nodes) o)
 last_ends text nodes a None h = tt
 last_ends text nodes a (Some j) h = absurd (h j refl)
 
 -- the character that is written next goes on with those behind it
-goes_on : (s : State) (byte end total : ℕ) (opens closes : Bool) (t old : Arena Item) (m : ℕ) → IsRunOf byte s.text s.at end → s.at + total ≡ end
+goes_on : (s : State) (byte end total : ℕ) (opens closes : Bool) (t old : Arena Item) (m : ℕ) → IsRunOf byte s.text s.at end
+    → s.at + total ≡ end
     → TextsStand s byte total t → RunStands s byte end opens closes t m old → suc m ≤ total
-    → RunGoesOn s.text (at_number (length t.nodes - suc m) (run_item end opens closes (suc m))) (suc m) opens closes (next_at old.nodes (length t.nodes - suc m))
+    → RunGoesOn s.text (at_number (length t.nodes - suc m) (run_item end opens closes (suc m))) (suc m) opens closes
+    (next_at old.nodes (length t.nodes - suc m))
 goes_on s byte end total opens closes t old zero run whole p r low =
     let n : ℕ = length t.nodes - 1 in
     last_ends s.text old.nodes (at_number n (run_item end opens closes 1)) (sibling_of old.nodes n)
@@ -100,12 +109,14 @@ goes_on s byte end total opens closes t old zero run whole p r low =
 goes_on s byte end total opens closes t old (suc m) run whole p r low =
     let n : ℕ = length t.nodes - suc (suc m) in
     let x : Item = run_item end opens closes (suc (suc m)) in
-    let link : sibling_of old.nodes n ≡ Some (suc n) = r.links false n ∙ p.next n (omega (arith, p.size, low)) (omega (arith, p.size, low)) in
+    let link : sibling_of old.nodes n ≡ Some (suc n) = r.links false n ∙ p.next n (omega (arith, p.size, low)) (omega (arith, p.size, low))
+    in
     let next : next_at old.nodes n ≡ Some (numbered old.nodes (suc n)) = ap (λ (o : Option ℕ). option_map (numbered old.nodes) o) link in
     let item : item_at old.nodes (suc n) ≡ run_item end opens closes (suc m) =
     r.marked (suc n) (suc m) (omega (arith, p.size, low)) (omega arith) (omega arith) in
     let behind : slice_index s.text (end - suc m) ≡ byte = run.same (end - suc m) (omega (arith, whole, low)) (omega (arith, run.more)) in
-    let here : slice_index s.text (end - suc (suc m)) ≡ byte = run.same (end - suc (suc m)) (omega (arith, whole, low)) (omega (arith, run.more)) in
+    let here : slice_index s.text (end - suc (suc m)) ≡ byte = run.same (end - suc (suc m)) (omega (arith, whole, low))
+    (omega (arith, run.more)) in
     let touches : end - suc m ≡ (end - suc (suc m)) + 1 = omega (arith, whole, low) in
     subst (λ (o : Option Numbered). RunGoesOn s.text (at_number n x) (suc (suc m)) opens closes o) (sym next) (record {
       body = ap (λ (y : Item). run_character y.body) item;
@@ -115,7 +126,8 @@ goes_on s byte end total opens closes t old (suc m) run whole p r low =
     })
 
 -- one Text more is made a character
-one_marked : (s : State) (byte end total : ℕ) (opens closes : Bool) (t old : Arena Item) (m : ℕ) → 0 < length s.tree.nodes → IsRunOf byte s.text s.at end
+one_marked : (s : State) (byte end total : ℕ) (opens closes : Bool) (t old : Arena Item) (m : ℕ) → 0 < length s.tree.nodes
+    → IsRunOf byte s.text s.at end
     → is_delimiter byte ≡ true → s.at + total ≡ end → TextsStand s byte total t → RunStands s byte end opens closes t m old → suc m ≤ total
     → RunStands s byte end opens closes t (suc m) (with_item old (length t.nodes - suc m) (run_item end opens closes (suc m)))
 one_marked s byte end total opens closes t old m rooted run delimiter whole p r low =
@@ -129,7 +141,8 @@ one_marked s byte end total opens closes t old m rooted run delimiter whole p r 
     let in_old : n < length old.nodes = omega (arith, within, r.size) in
     let w : Writes old.nodes new n x = item_writes old.nodes n x in_old in
     let offset : s.at + (n - length s.tree.nodes) ≡ start = omega (arith, p.size, low, whole) in
-    let was : item_at old.nodes n ≡ byte_text start = r.others n (omega (arith, p.size, low)) ∙ (p.texts n first within ∙ ap byte_text offset) in
+    let was : item_at old.nodes n ≡ byte_text start = r.others n (omega (arith, p.size, low))
+    ∙ (p.texts n first within ∙ ap byte_text offset) in
     let same : slice_index s.text start ≡ byte = run.same start (omega (arith, whole, low)) (omega (arith, run.more)) in
     let no_run : run_character (item_at old.nodes n).body ≡ None = ap (λ (y : Item). run_character y.body) was in
     let fit : ItemFits s.text s.counts (byte_text start) =
@@ -151,7 +164,8 @@ one_marked s byte end total opens closes t old m rooted run delimiter whole p r 
       end = λ e. refl;
     }) in
     let blocks : AreOpen new old.spine s.blocks =
-    open_written (λ a. ⊤) old.nodes new n x w (λ a b l q z. text_not_open old.nodes n a start b was z q) old.spine s.blocks (all_true old.spine) r.stands.are_open in
+    open_written (λ a. ⊤) old.nodes new n x w (λ a b l q z. text_not_open old.nodes n a start b was z q) old.spine s.blocks
+    (all_true old.spine) r.stands.are_open in
     let whole_here : RunsAreWhole s.text (at_number n x) (next_at old.nodes n) = record {
       one_byte = omega arith;
       delimiter = subst (λ (b : ℕ). IsTrue (is_delimiter b)) (sym same) delimiter;
@@ -180,7 +194,8 @@ one_marked s byte end total opens closes t old m rooted run delimiter whole p r 
     }
 
 -- so many Texts are made characters
-run_stands : (s : State) (byte end total : ℕ) (opens closes : Bool) (t : Arena Item) (m : ℕ) → 0 < length s.tree.nodes → IsRunOf byte s.text s.at end
+run_stands : (s : State) (byte end total : ℕ) (opens closes : Bool) (t : Arena Item) (m : ℕ) → 0 < length s.tree.nodes
+    → IsRunOf byte s.text s.at end
     → is_delimiter byte ≡ true → s.at + total ≡ end → TextsStand s byte total t → m ≤ total
     → RunStands s byte end opens closes t m (run_marked t end opens closes m)
 run_stands s byte end total opens closes t zero rooted run delimiter whole p low = record {
@@ -199,13 +214,15 @@ run_stands s byte end total opens closes t (suc m) rooted run delimiter whole p 
     (run_stands s byte end total opens closes t m rooted run delimiter whole p (omega (arith, low))) low
 
 -- all of them are: the run stands
-pub run_sound : (s : State) (byte end total : ℕ) (opens closes : Bool) → IsSound s → s.leaf ≡ true → IsRunOf byte s.text s.at end → is_delimiter byte ≡ true
+pub run_sound : (s : State) (byte end total : ℕ) (opens closes : Bool) → IsSound s → s.leaf ≡ true → IsRunOf byte s.text s.at end
+    → is_delimiter byte ≡ true
     → follows_run s.run byte ≡ false → s.at + total ≡ end
     → IsSound (record s { tree = run_marked (texts_appended s.tree s.at total) end opens closes total; at = end; run = Some byte })
 run_sound s byte end total opens closes k leaf run delimiter other whole =
     let texts = texts_appended s.tree s.at total in
     let t = run_marked texts end opens closes total in
-    let p : TextsStand s byte total texts = texts_stand s byte end total k leaf run (delimiter_ascii byte delimiter) other (omega (arith, whole)) in
+    let p : TextsStand s byte total texts = texts_stand s byte end total k leaf run (delimiter_ascii byte delimiter) other
+    (omega (arith, whole)) in
     let r : RunStands s byte end opens closes texts total t =
     run_stands s byte end total opens closes texts total k.stands.nodes.rooted run delimiter whole p (omega arith) in
     let last : ℕ = length s.tree.nodes + (total - 1) in
@@ -218,6 +235,7 @@ run_sound s byte end total opens closes k leaf run delimiter other whole =
       stands = r.stands;
       runs = r.runs;
       last_run = subst (λ (o : Option ℕ). LastRun s.text t.nodes o (Some byte)) (sym cursor)
-          (subst (λ (y : Item). IfSome (run_character y.body) (λ c. Some byte ≡ Some (byte_of s.text y))) (sym item) (ap (λ (b : ℕ). Some b) same));
+          (subst (λ (y : Item). IfSome (run_character y.body) (λ c. Some byte ≡ Some (byte_of s.text y))) (sym item)
+          (ap (λ (b : ℕ). Some b) same));
       loose = r.loose;
     }

@@ -1,5 +1,6 @@
 -- A delimiter run: a Text over each of its bytes is appended, and then each is made a character of the run, from the last one on.
-use Rattle.std.proofs.Common.{◌≡◌, ℕ, zero, suc, ◌+◌, ◌-◌, ◌<◌, ◌≤◌, List, Option, Some, None, Bool, true, false, length, refl, sym, ap, ◌∙◌, subst, arith, ⊎_elim}
+use Rattle.std.proofs.Common.{◌≡◌, ℕ, zero, suc, ◌+◌, ◌-◌, ◌<◌, ◌≤◌, List, Option, Some, None, Bool, true, false, length, refl, sym, ap}
+use Rattle.std.proofs.Common.{◌∙◌, subst, arith, ⊎_elim}
 use Rattle.std.specs.Prelude.{IfSome, ◌==◌}
 use Rattle.std.proofs.lemmas.Bool.{cases_lt}
 use Rattle.markdown_base.specs.declared.item.Item.{Item}
@@ -25,13 +26,16 @@ abbrev pub MayPrecede : List ℕ → ℕ → Item → Type 0
 MayPrecede text byte item = IfSome (run_character item.body) (λ c. (byte == byte_of text item) ≡ false)
 
 -- the item in focus may, where the run that callers see is of another character
-last_precedes : (text : List ℕ) (nodes : List (Node Item)) (cursor run : Option ℕ) (c byte : ℕ) → cursor ≡ Some c → LastRun text nodes cursor run
+last_precedes : (text : List ℕ) (nodes : List (Node Item)) (cursor run : Option ℕ) (c byte : ℕ) → cursor ≡ Some c
+    → LastRun text nodes cursor run
     → follows_run run byte ≡ false → MayPrecede text byte (item_at nodes c)
 last_precedes text nodes None run c byte e l f = cc (e)
 last_precedes text nodes (Some d) run c byte e l f =
-    let q : d ≡ c = cc (e) in subst (λ (n : ℕ). MayPrecede text byte (item_at nodes n)) q (of_character (run_character (item_at nodes d).body) l)
+    let q : d ≡ c = cc (e) in subst (λ (n : ℕ). MayPrecede text byte (item_at nodes n)) q
+    (of_character (run_character (item_at nodes d).body) l)
   where
-    of_character : (o : Option RunCharacter) → IfSome o (λ r. run ≡ Some (byte_of text (item_at nodes d))) → IfSome o (λ r. (byte == byte_of text (item_at nodes d)) ≡ false)
+    of_character : (o : Option RunCharacter) → IfSome o (λ r. run ≡ Some (byte_of text (item_at nodes d)))
+        → IfSome o (λ r. (byte == byte_of text (item_at nodes d)) ≡ false)
     of_character None h = tt
     of_character (Some r) h = subst (λ (o : Option ℕ). follows_run o byte ≡ false) h f
 
@@ -44,7 +48,8 @@ pub record TextsStand (s : State) (byte count : ℕ) (t : Arena Item) : Type 0 w
   pub before : (i n : ℕ) → length s.tree.nodes ≤ n → sibling_of t.nodes i ≡ Some n → MayPrecede s.text byte (item_at t.nodes i)
   pub cursor : (k : ℕ) → count ≡ suc k → t.cursor ≡ Some (length s.tree.nodes + k)
 
-pub texts_stand : (s : State) (byte end count : ℕ) → IsSound s → s.leaf ≡ true → IsRunOf byte s.text s.at end → byte < 128 → follows_run s.run byte ≡ false
+pub texts_stand : (s : State) (byte end count : ℕ) → IsSound s → s.leaf ≡ true → IsRunOf byte s.text s.at end → byte < 128
+    → follows_run s.run byte ≡ false
     → s.at + count ≤ end → TextsStand s byte count (texts_appended s.tree s.at count)
 texts_stand s byte end zero k leaf run ascii other low = record {
   sound = let e : s.at ≡ s.at + 0 = omega arith in subst (λ (a : ℕ). IsSound (record s { at = a })) e k;
@@ -83,7 +88,8 @@ texts_stand s byte end (suc count) k leaf run ascii other low =
           ap (λ (m : ℕ). item_at new m) q ∙ (g.new_item ∙ ap byte_text o)) (cases_lt n (length t.nodes));
       next = λ n lo hi. ⊎_elim (λ (h : suc n < length t.nodes). old_link false n (suc n) (p.next n lo h))
           (λ (h : length t.nodes ≤ suc n). newest n lo (omega (arith, h, hi, g.size)) p g) (cases_lt (suc n) (length t.nodes));
-      before = λ i n lo e. ⊎_elim (λ (q : IsNewLink (length t.nodes) (place_down t.cursor) false (place_at t.spine t.cursor) i n). first_before i q.side q.from p g)
+      before = λ i n lo e. ⊎_elim (λ (q : IsNewLink (length t.nodes) (place_down t.cursor) false (place_at t.spine t.cursor) i n).
+          first_before i q.side q.from p g)
           (λ (q : link_of (links_of t.nodes) false i ≡ Some n). let r = p.sound.stands.nodes.rising.rises false i n q in
           rw (g.old_items i (omega (arith, r.0, r.1))) (p.before i n lo q))
           (which_link t.nodes new (place_down t.cursor) (place_at t.spine t.cursor) x g false i n e);
@@ -94,7 +100,8 @@ texts_stand s byte end (suc count) k leaf run ascii other low =
     newest : (n : ℕ) → length s.tree.nodes ≤ n → suc n ≡ length (texts_appended s.tree s.at count).nodes
         → TextsStand s byte count (texts_appended s.tree s.at count)
         → Grows (texts_appended s.tree s.at count).nodes (appended (texts_appended s.tree s.at count) (byte_text (s.at + count))).nodes
-        (place_down (texts_appended s.tree s.at count).cursor) (place_at (texts_appended s.tree s.at count).spine (texts_appended s.tree s.at count).cursor)
+        (place_down (texts_appended s.tree s.at count).cursor) (place_at (texts_appended s.tree s.at count).spine
+        (texts_appended s.tree s.at count).cursor)
         (byte_text (s.at + count))
         → sibling_of (appended (texts_appended s.tree s.at count) (byte_text (s.at + count))).nodes n ≡ Some (suc n)
     newest n lo q p g =
@@ -111,7 +118,8 @@ texts_stand s byte end (suc count) k leaf run ascii other low =
         → i ≡ place_at (texts_appended s.tree s.at count).spine (texts_appended s.tree s.at count).cursor
         → TextsStand s byte count (texts_appended s.tree s.at count)
         → Grows (texts_appended s.tree s.at count).nodes (appended (texts_appended s.tree s.at count) (byte_text (s.at + count))).nodes
-        (place_down (texts_appended s.tree s.at count).cursor) (place_at (texts_appended s.tree s.at count).spine (texts_appended s.tree s.at count).cursor)
+        (place_down (texts_appended s.tree s.at count).cursor) (place_at (texts_appended s.tree s.at count).spine
+        (texts_appended s.tree s.at count).cursor)
         (byte_text (s.at + count))
         → MayPrecede s.text byte (item_at (appended (texts_appended s.tree s.at count) (byte_text (s.at + count))).nodes i)
     first_before i side from p g =
@@ -119,11 +127,14 @@ texts_stand s byte end (suc count) k leaf run ascii other low =
         let within : i < length t.nodes = omega (arith, from, p.sound.stands.low) in
         rw (g.old_items i within) (of_cursor t.cursor refl side from p)
       where
-        of_cursor : (o : Option ℕ) → (texts_appended s.tree s.at count).cursor ≡ o → false ≡ place_down (texts_appended s.tree s.at count).cursor
+        of_cursor : (o : Option ℕ) → (texts_appended s.tree s.at count).cursor ≡ o
+            → false ≡ place_down (texts_appended s.tree s.at count).cursor
             → i ≡ place_at (texts_appended s.tree s.at count).spine (texts_appended s.tree s.at count).cursor
-            → TextsStand s byte count (texts_appended s.tree s.at count) → MayPrecede s.text byte (item_at (texts_appended s.tree s.at count).nodes i)
+            → TextsStand s byte count (texts_appended s.tree s.at count)
+            → MayPrecede s.text byte (item_at (texts_appended s.tree s.at count).nodes i)
         of_cursor None e side from p = let d : false ≡ true = side ∙ ap place_down e in cc (d)
         of_cursor (Some c) e side from p =
             let t = texts_appended s.tree s.at count in
             let q : i ≡ c = from ∙ ap (place_at t.spine) e in
-            subst (λ (n : ℕ). MayPrecede s.text byte (item_at t.nodes n)) (sym q) (last_precedes s.text t.nodes t.cursor s.run c byte e p.sound.last_run other)
+            subst (λ (n : ℕ). MayPrecede s.text byte (item_at t.nodes n)) (sym q) (last_precedes s.text t.nodes t.cursor s.run c byte e
+            p.sound.last_run other)

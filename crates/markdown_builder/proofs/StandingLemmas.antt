@@ -1,5 +1,6 @@
 -- What each step of a builder keeps, whatever it appends.
-use Rattle.std.proofs.Common.{◌≡◌, ℕ, suc, ◌<◌, ◌≤◌, List, [], ◌∷◌, ◌++◌, Option, Some, None, Bool, true, false, length, refl, ◌∙◌, subst, arith, inl, inr, ⊎_elim}
+use Rattle.std.proofs.Common.{◌≡◌, ℕ, suc, ◌<◌, ◌≤◌, List, [], ◌∷◌, ◌++◌, Option, Some, None, Bool, true, false, length, refl, ◌∙◌, subst}
+use Rattle.std.proofs.Common.{arith, inl, inr, ⊎_elim}
 use Rattle.std.specs.Prelude.{IfSome, IsTrue}
 use Rattle.std.specs.List.{AllByRecursion}
 use Rattle.std.proofs.lemmas.Bool.Decides.{nat_tests}
@@ -18,7 +19,8 @@ use Rattle.markdown_base.proofs.WellFormedLemmas.{HasMore}
 use Rattle.markdown_builder.specs.declared.open_block.OpenBlock.{OpenBlock}
 use Rattle.markdown_builder.specs.Rising.{link_of, AreRising, IsOnTop, first_block, next_block, place_down, place_at}
 use Rattle.markdown_builder.specs.BuilderRules.{NamesNew, ItemFits, KeepsNodes}
-use Rattle.markdown_builder.specs.Standing.{State, IsOpenAt, AreOpen, IsTopPlace, IsUnderTop, is_in_definition, covered_to, AreCovered, Stands}
+use Rattle.markdown_builder.specs.Standing.{State, IsOpenAt, AreOpen, IsTopPlace, IsUnderTop, is_in_definition, covered_to, AreCovered}
+use Rattle.markdown_builder.specs.Standing.{Stands}
 use Rattle.markdown_builder.proofs.NodeWriteLemmas.{Grows, Writes, append_grows, item_beyond}
 use Rattle.markdown_builder.proofs.BuilderRulesLemmas.{same_or_not, same_item, append_keeps}
 
@@ -110,13 +112,15 @@ open_unsnoc nodes n block (s ∷ spine) (b ∷ blocks) o =
 -- ---- what an append keeps
 
 -- a link that led somewhere still does
-pub link_stays : (old new : List (Node Item)) (down : Bool) (at : ℕ) (x : Item) → Grows old new down at x → link_of (links_of old) down at ≡ None
+pub link_stays : (old new : List (Node Item)) (down : Bool) (at : ℕ) (x : Item) → Grows old new down at x
+    → link_of (links_of old) down at ≡ None
     → (d : Bool) (i j : ℕ) → link_of (links_of old) d i ≡ Some j → link_of (links_of new) d i ≡ Some j
 link_stays old new down at x g free d i j e =
     g.other_links d i (λ p. let h : link_of (links_of old) d i ≡ None = rw (p.0, p.1) free in cc (h, e)) ∙ e
 
 -- what is on top stays there
-pub top_stays : (old new : List (Node Item)) → ((d : Bool) (i j : ℕ) → link_of (links_of old) d i ≡ Some j → link_of (links_of new) d i ≡ Some j)
+pub top_stays : (old new : List (Node Item)) → ((d : Bool) (i j : ℕ) → link_of (links_of old) d i ≡ Some j
+    → link_of (links_of new) d i ≡ Some j)
     → (j : ℕ) → IsOnTop (links_of old) j → IsOnTop (links_of new) j
 top_stays old new h j (first_block _ e) = first_block j (h true 0 j e)
 top_stays old new h j (next_block i _ t e) = next_block i j (top_stays old new h i t) (h false i j e)
@@ -146,8 +150,10 @@ pub record Appended (s : State) (many : PartCounts) (x : Item) : Type 0 where
   pub covered : AreCovered s.text (appended s.tree x).nodes s.definitions (covered_to s.blocks s.at)
 
 -- the new node is on top, or what was on top stays there
-top_appended : (old new : List (Node Item)) (spine : List ℕ) (cursor : Option ℕ) (x : Item) → Grows old new (place_down cursor) (place_at spine cursor) x
-    → link_of (links_of old) (place_down cursor) (place_at spine cursor) ≡ None → IsTopPlace old spine cursor → IsTopPlace new spine (Some (length old))
+top_appended : (old new : List (Node Item)) (spine : List ℕ) (cursor : Option ℕ) (x : Item)
+    → Grows old new (place_down cursor) (place_at spine cursor) x
+    → link_of (links_of old) (place_down cursor) (place_at spine cursor) ≡ None → IsTopPlace old spine cursor
+    → IsTopPlace new spine (Some (length old))
 top_appended old new [] None x g free t = first_block (length old) g.new_link
 top_appended old new [] (Some before) x g free t =
     next_block before (length old) (top_stays old new (link_stays old new false before x g free) before t) g.new_link
@@ -162,7 +168,8 @@ off_place spine outer (Some before) b =
     All-weaker (λ s. s < before) (λ s. (false ≡ false) × (s ≡ before) → ⊥) (λ s l p. absurd (omega (arith, l, p.1))) spine b
 
 -- an item that fits is appended
-pub appended_fits : (s : State) (many : PartCounts) (x : Item) → Stands s → HasMore s.counts many → ItemFits s.text many x → NamesNew s.counts x
+pub appended_fits : (s : State) (many : PartCounts) (x : Item) → Stands s → HasMore s.counts many → ItemFits s.text many x
+    → NamesNew s.counts x
     → is_inline x.body ≡ s.leaf → s.at ≤ x.start → Appended s many x
 appended_fits s many x h more fits names kind low =
     let old = s.tree.nodes in
@@ -170,7 +177,8 @@ appended_fits s many x h more fits names kind low =
     let down = place_down s.tree.cursor in
     let place = place_at s.tree.spine s.tree.cursor in
     let g : Grows old new down place x = append_grows old s.tree.spine s.tree.cursor x h.low h.free in
-    let k : KeepsNodes s.text many new = append_keeps s.text s.counts many old new down place x h.nodes g h.low more fits names (h.fits x kind low) in
+    let k : KeepsNodes s.text many new = append_keeps s.text s.counts many old new down place x h.nodes g h.low more fits names
+    (h.fits x kind low) in
     record {
       grows = g;
       nodes = k;
@@ -188,7 +196,8 @@ appended_fits s many x h more fits names kind low =
     }
   where
     under_top : (p : ℕ) → IsUnderTop s.tree.nodes p
-        → Grows s.tree.nodes (appended s.tree x).nodes (place_down s.tree.cursor) (place_at s.tree.spine s.tree.cursor) x → IsUnderTop (appended s.tree x).nodes p
+        → Grows s.tree.nodes (appended s.tree x).nodes (place_down s.tree.cursor) (place_at s.tree.spine s.tree.cursor) x
+        → IsUnderTop (appended s.tree x).nodes p
     under_top p b g = record {
       number = b.number;
       top = top_stays s.tree.nodes (appended s.tree x).nodes (link_stays s.tree.nodes (appended s.tree x).nodes (place_down s.tree.cursor)

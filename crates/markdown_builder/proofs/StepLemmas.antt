@@ -1,5 +1,6 @@
 -- The steps of a builder: how it begins, what each step makes of it, and what it has made in the end.
-use Rattle.std.proofs.Common.{◌≡◌, ℕ, zero, suc, ◌<◌, ◌≤◌, List, [], ◌∷◌, ◌++◌, Option, Some, None, Bool, true, false, length, refl, sym, ap, ◌∙◌, subst, arith, ◌⊎◌, inl, inr, ⊎_elim}
+use Rattle.std.proofs.Common.{◌≡◌, ℕ, zero, suc, ◌<◌, ◌≤◌, List, [], ◌∷◌, ◌++◌, Option, Some, None, Bool, true, false, length, refl, sym}
+use Rattle.std.proofs.Common.{ap, ◌∙◌, subst, arith, ◌⊎◌, inl, inr, ⊎_elim}
 use Rattle.std.specs.Prelude.{IsTrue, ◌||◌, slice_index}
 use Rattle.std.specs.List.{AllByRecursion}
 use Rattle.std.specs.Str.{IsCharBoundary, IsUtf8}
@@ -27,12 +28,15 @@ use Rattle.markdown_builder.specs.Bodies.{is_leaf}
 use Rattle.markdown_builder.specs.BuilderView.{IsWhite}
 use Rattle.markdown_builder.specs.Rising.{link_of, IsOnTop, place_down, place_at}
 use Rattle.markdown_builder.specs.BuilderRules.{ItemFits, NamesNew, MayReplace, KeepsNodes}
-use Rattle.markdown_builder.specs.Standing.{State, open_item, entered, AreOpen, OnlyLastIsLeaf, IsTopPlace, IsUnderTop, is_in_definition, covered_to, AreCovered, NoneTight, IsSound}
-use Rattle.markdown_builder.proofs.BodiesLemmas.{item_over, MayBePlaced, placed_fits, placed_new, block_markup, block_no_run, chain_of_one, parent_not_inline}
+use Rattle.markdown_builder.specs.Standing.{State, open_item, entered, AreOpen, OnlyLastIsLeaf, IsTopPlace, IsUnderTop, is_in_definition}
+use Rattle.markdown_builder.specs.Standing.{covered_to, AreCovered, NoneTight, IsSound}
+use Rattle.markdown_builder.proofs.BodiesLemmas.{item_over, MayBePlaced, placed_fits, placed_new, block_markup, block_no_run, chain_of_one}
+use Rattle.markdown_builder.proofs.BodiesLemmas.{parent_not_inline}
 use Rattle.markdown_builder.proofs.BuilderRulesLemmas.{same_or_not, same_item, fits_more, write_keeps}
 use Rattle.markdown_builder.proofs.NodeWriteLemmas.{Grows, Writes, item_writes}
 use Rattle.markdown_builder.proofs.RunLemmas.{runs_appended, runs_written}
-use Rattle.markdown_builder.proofs.StandingLemmas.{appended_fits, IsInnermost, open_snoc, open_unsnoc, open_written, top_stays, not_inside, inside, covered_stays}
+use Rattle.markdown_builder.proofs.StandingLemmas.{appended_fits, IsInnermost, open_snoc, open_unsnoc, open_written, top_stays, not_inside}
+use Rattle.markdown_builder.proofs.StandingLemmas.{inside, covered_stays}
 
 -- of two tests one passes
 pub either_passes : (a b : Bool) → (a ≡ true) ⊎ IsTrue b → IsTrue (a || b)
@@ -46,14 +50,17 @@ either_passes false false h = ⊎_elim (λ (e : false ≡ true). cc (e)) (λ (e 
 none_tight_grown : (old new : List (Node Item)) (down : Bool) (at : ℕ) (x : Item) → Grows old new down at x → NoneTight old
     → is_tight_paragraph x.body ≡ false → NoneTight new
 none_tight_grown old new down at x g k h i = ⊎_elim
-    (λ (e : i ≡ length old). ap (λ (m : ℕ). is_tight_paragraph (item_at new m).body) e ∙ (ap (λ (y : Item). is_tight_paragraph y.body) g.new_item ∙ h))
+    (λ (e : i ≡ length old). ap (λ (m : ℕ). is_tight_paragraph (item_at new m).body) e
+    ∙ (ap (λ (y : Item). is_tight_paragraph y.body) g.new_item ∙ h))
     (λ (n : i ≡ length old → ⊥). ap (λ (y : Item). is_tight_paragraph y.body) (same_item old new down at x g i n) ∙ k i)
     (same_or_not i (length old))
 
 -- nor with one that is written
-pub none_tight_written : (old new : List (Node Item)) (at : ℕ) (x : Item) → Writes old new at x → NoneTight old → is_tight_paragraph x.body ≡ false → NoneTight new
+pub none_tight_written : (old new : List (Node Item)) (at : ℕ) (x : Item) → Writes old new at x → NoneTight old
+    → is_tight_paragraph x.body ≡ false → NoneTight new
 none_tight_written old new at x w k h i = ⊎_elim
-    (λ (e : i ≡ at). ap (λ (m : ℕ). is_tight_paragraph (item_at new m).body) e ∙ (ap (λ (y : Item). is_tight_paragraph y.body) w.new_item ∙ h))
+    (λ (e : i ≡ at). ap (λ (m : ℕ). is_tight_paragraph (item_at new m).body) e ∙ (ap (λ (y : Item). is_tight_paragraph y.body) w.new_item
+    ∙ h))
     (λ (n : i ≡ at → ⊥). ap (λ (y : Item). is_tight_paragraph y.body) (w.old_items i n) ∙ k i)
     (same_or_not i at)
 
@@ -85,7 +92,8 @@ beginning text counts tree =
     record { text = text; counts = counts; tree = tree; definitions = []; blocks = []; leaf = false; run = None; at = 0 }
 
 -- it begins with the root alone
-pub begun : (text : List ℕ) (counts : PartCounts) (tree : Arena Item) → IsUtf8 text → tree ≡ record { nodes = root_nodes; spine = []; cursor = None }
+pub begun : (text : List ℕ) (counts : PartCounts) (tree : Arena Item) → IsUtf8 text
+    → tree ≡ record { nodes = root_nodes; spine = []; cursor = None }
     → IsSound (beginning text counts tree)
 begun text counts tree utf8 e = subst (λ (t : Arena Item). IsSound (beginning text counts t)) (sym e) (record {
   utf8 = utf8;
@@ -126,14 +134,16 @@ begun text counts tree utf8 e = subst (λ (t : Arena Item). IsSound (beginning t
 -- ---- a step over bytes
 
 -- what is covered up to a place is covered over white space behind it
-pub covered_white : (text : List ℕ) (nodes : List (Node Item)) (definitions : List (CowStr × LinkDef)) (from to : ℕ) → AreCovered text nodes definitions from
+pub covered_white : (text : List ℕ) (nodes : List (Node Item)) (definitions : List (CowStr × LinkDef)) (from to : ℕ)
+    → AreCovered text nodes definitions from
     → IsWhite text from to → AreCovered text nodes definitions to
 covered_white text nodes definitions from to c w p l dark =
     ⊎_elim (λ (h : p < from). c p h dark) (λ (h : from ≤ p). let q = w p h l in cc (q, dark)) (cases_lt p from)
 
 -- a builder goes on to a place, where that much is covered, by the definitions that it has then
 moved : (s : State) (to : ℕ) (definitions : List (CowStr × LinkDef)) → IsSound s → s.at ≤ to → IsCharBoundary s.text to
-    → AreCovered s.text s.tree.nodes definitions (covered_to s.blocks to) → AllByRecursion (λ d. slice_index s.text d.1.span.start ≡ 91) definitions
+    → AreCovered s.text s.tree.nodes definitions (covered_to s.blocks to)
+    → AllByRecursion (λ d. slice_index s.text d.1.span.start ≡ 91) definitions
     → IsSound (record s { definitions = definitions; at = to })
 moved s to definitions k low boundary covered brackets = record {
   utf8 = k.utf8;
@@ -157,7 +167,8 @@ moved s to definitions k low boundary covered brackets = record {
 }
 
 -- bytes are stepped over: white space, where no block is open
-pub skipped : (s : State) (to : ℕ) → IsSound s → s.at ≤ to → IsCharBoundary s.text to → (s.leaf ≡ false → s.blocks ≡ [] → IsWhite s.text s.at to)
+pub skipped : (s : State) (to : ℕ) → IsSound s → s.at ≤ to → IsCharBoundary s.text to
+    → (s.leaf ≡ false → s.blocks ≡ [] → IsWhite s.text s.at to)
     → IsSound (record s { at = to })
 skipped s to k low boundary white =
     moved s to s.definitions k low boundary (over s.blocks k.stands.leaves k.stands.covered white) k.stands.brackets
@@ -170,7 +181,8 @@ skipped s to k low boundary white =
 -- ---- an item without children
 
 -- what is covered, with a new item on top or inside a block
-covered_added : (text : List ℕ) (nodes : List (Node Item)) (definitions : List (CowStr × LinkDef)) (spine : List ℕ) (blocks : List OpenBlock) (number at to : ℕ) (b : ItemBody)
+covered_added : (text : List ℕ) (nodes : List (Node Item)) (definitions : List (CowStr × LinkDef)) (spine : List ℕ)
+    (blocks : List OpenBlock) (number at to : ℕ) (b : ItemBody)
     → AreOpen nodes spine blocks → IsTopPlace nodes spine (Some number) → item_at nodes number ≡ item_over at to b
     → AreCovered text nodes definitions (covered_to blocks at) → AreCovered text nodes definitions (covered_to blocks to)
 covered_added text nodes definitions [] [] number at to b o t e c =
@@ -193,27 +205,35 @@ added s many to b run k more fits names kind no_run loose =
     let a = appended_fits s many x k.stands more fits names kind (omega arith) in
     let low : s.at ≤ to = fits.ranges_lie_in.ordered in
     let n = length s.tree.nodes in
-    let none : run_character (item_at (appended s.tree x).nodes n).body ≡ None = ap (λ (y : Item). run_character y.body) a.grows.new_item ∙ no_run in
+    let none : run_character (item_at (appended s.tree x).nodes n).body ≡ None = ap (λ (y : Item). run_character y.body) a.grows.new_item
+    ∙ no_run in
     record {
       utf8 = k.utf8;
       stands = record {
         nodes = a.nodes;
         low = omega (arith, a.grows.size);
         free = a.free false;
-        fits = λ y e l. rw a.grows.new_item (record { kind = e ∙ sym kind; inline_in_order = λ h i. record { ends = l; numbers = omega (arith, a.grows.size) } });
+        fits = λ y e l. rw a.grows.new_item (record {
+          kind = e
+              ∙ sym kind;
+          inline_in_order = λ h i. record { ends = l; numbers = omega (arith, a.grows.size) };
+        });
         are_open = a.are_open;
         leaves = k.stands.leaves;
         behind = a.behind;
         top = a.top;
-        covered = covered_added s.text (appended s.tree x).nodes s.definitions s.tree.spine s.blocks n s.at to b a.are_open a.top a.grows.new_item a.covered;
+        covered = covered_added s.text (appended s.tree x).nodes s.definitions s.tree.spine s.blocks n s.at to b a.are_open a.top
+            a.grows.new_item a.covered;
         boundary = fits.ranges_lie_in.end;
         begun = All-weaker (λ q. q.start ≤ s.at) (λ q. q.start ≤ to) (λ q h. omega (arith, h, low)) s.blocks k.stands.begun;
         brackets = k.stands.brackets;
       };
-      runs = runs_appended s.text s.tree.nodes (appended s.tree x).nodes (place_down s.tree.cursor) (place_at s.tree.spine s.tree.cursor) x k.stands.nodes.rising
+      runs = runs_appended s.text s.tree.nodes (appended s.tree x).nodes (place_down s.tree.cursor) (place_at s.tree.spine s.tree.cursor) x
+          k.stands.nodes.rising
           a.grows k.stands.free no_run k.runs;
       last_run = rw none tt;
-      loose = none_tight_grown s.tree.nodes (appended s.tree x).nodes (place_down s.tree.cursor) (place_at s.tree.spine s.tree.cursor) x a.grows k.loose loose;
+      loose = none_tight_grown s.tree.nodes (appended s.tree x).nodes (place_down s.tree.cursor) (place_at s.tree.spine s.tree.cursor) x
+          a.grows k.loose loose;
     }
 
 -- ---- a block is opened
@@ -229,7 +249,8 @@ top_open nodes [] n t = t
 top_open nodes (s ∷ spine) n t = t
 
 -- a block is open inside blocks that are no leaves
-leaves_open : (blocks : List OpenBlock) (block : OpenBlock) → OnlyLastIsLeaf blocks false → OnlyLastIsLeaf (blocks ++ block ∷ []) (is_leaf block.body)
+leaves_open : (blocks : List OpenBlock) (block : OpenBlock) → OnlyLastIsLeaf blocks false
+    → OnlyLastIsLeaf (blocks ++ block ∷ []) (is_leaf block.body)
 leaves_open [] block h = refl
 leaves_open (b ∷ []) block h = (sym h, refl)
 leaves_open (b ∷ c ∷ blocks) block h = (h.0, leaves_open (c ∷ blocks) block h.1)
@@ -241,14 +262,17 @@ after_opening s many b =
     record s { counts = many; tree = entered s.tree (open_item block); blocks = s.blocks ++ block ∷ []; leaf = is_leaf b; run = None }
 
 -- a block is appended and gone into
-pub opened : (s : State) (many : PartCounts) (b : ItemBody) → IsSound s → s.leaf ≡ false → MayBePlaced s.counts many b → is_childless b ≡ false
+pub opened : (s : State) (many : PartCounts) (b : ItemBody) → IsSound s → s.leaf ≡ false → MayBePlaced s.counts many b
+    → is_childless b ≡ false
     → IsSound (after_opening s many b)
 opened s many b k outside placed parent =
     let block : OpenBlock = record { start = s.at; body = b } in
     let x : Item = open_item block in
     let n = length s.tree.nodes in
-    let fits = placed_fits s.text s.counts many s.at s.at b placed (block_markup b (source_of s.text (item_over s.at s.at b)) (parent_not_inline b parent)) (record { ordered = omega arith; start = k.stands.boundary; end = k.stands.boundary }) in
-    let a = appended_fits s many x k.stands placed.more fits (placed_new s.counts many s.at s.at b placed) ((parent_not_inline b parent) ∙ sym outside) (omega arith) in
+    let fits = placed_fits s.text s.counts many s.at s.at b placed (block_markup b (source_of s.text (item_over s.at s.at b))
+    (parent_not_inline b parent)) (record { ordered = omega arith; start = k.stands.boundary; end = k.stands.boundary }) in
+    let a = appended_fits s many x k.stands placed.more fits (placed_new s.counts many s.at s.at b placed) ((parent_not_inline b parent)
+    ∙ sym outside) (omega arith) in
     let i = innermost-snoc s.tree.spine n in
     let new = (appended s.tree x).nodes in
     let below : child_of new n ≡ None = a.free true in
@@ -258,7 +282,8 @@ opened s many b k outside placed parent =
         nodes = a.nodes;
         low = rw i (omega (arith, a.grows.size));
         free = rw i (a.free true);
-        fits = λ y e l. rw (i, a.grows.new_item) (record { kind = e; chains_are_kept = chain_of_one b (record { number = length new; item = y }) parent });
+        fits = λ y e l. rw (i, a.grows.new_item)
+            (record { kind = e; chains_are_kept = chain_of_one b (record { number = length new; item = y }) parent });
         are_open = open_snoc new n block s.tree.spine s.blocks a.are_open a.behind (record {
           positive = k.stands.nodes.rooted;
           low = omega (arith, a.grows.size);
@@ -277,15 +302,18 @@ opened s many b k outside placed parent =
       runs = runs_appended s.text s.tree.nodes new (place_down s.tree.cursor) (place_at s.tree.spine s.tree.cursor) x k.stands.nodes.rising
           a.grows k.stands.free placed.no_run k.runs;
       last_run = tt;
-      loose = none_tight_grown s.tree.nodes new (place_down s.tree.cursor) (place_at s.tree.spine s.tree.cursor) x a.grows k.loose placed.loose;
+      loose = none_tight_grown s.tree.nodes new (place_down s.tree.cursor) (place_at s.tree.spine s.tree.cursor) x a.grows k.loose
+          placed.loose;
     })
 
 -- a block is appended alone
-pub opened_alone : (s : State) (many : PartCounts) (b : ItemBody) (run : Option ℕ) → IsSound s → s.leaf ≡ false → MayBePlaced s.counts many b → is_childless b ≡ false
+pub opened_alone : (s : State) (many : PartCounts) (b : ItemBody) (run : Option ℕ) → IsSound s → s.leaf ≡ false
+    → MayBePlaced s.counts many b → is_childless b ≡ false
     → IsSound (after_item s many s.at b run)
 opened_alone s many b run k outside placed parent =
     added s many s.at b run k placed.more
-    (placed_fits s.text s.counts many s.at s.at b placed (block_markup b (source_of s.text (item_over s.at s.at b)) (parent_not_inline b parent)) (record { ordered = omega arith; start = k.stands.boundary; end = k.stands.boundary }))
+    (placed_fits s.text s.counts many s.at s.at b placed (block_markup b (source_of s.text (item_over s.at s.at b))
+    (parent_not_inline b parent)) (record { ordered = omega arith; start = k.stands.boundary; end = k.stands.boundary }))
     (placed_new s.counts many s.at s.at b placed) ((parent_not_inline b parent) ∙ sym outside) placed.no_run placed.loose
 
 -- with more parts all stands as before
@@ -322,8 +350,10 @@ more_parts s many more k = record {
 -- ---- a block is closed
 
 -- a block with another end or body in place of the open one
-pub block_replaces : (a b : Item) → is_inline a.body ≡ false → is_inline b.body ≡ false → is_leaf b.body ≡ is_leaf a.body → is_childless b.body ≡ is_childless a.body
-    → ((t : ℕ) → text_named b.body ≡ Some t → text_named a.body ≡ Some t) → ((t : ℕ) → alignments_named b.body ≡ Some t → alignments_named a.body ≡ Some t)
+pub block_replaces : (a b : Item) → is_inline a.body ≡ false → is_inline b.body ≡ false → is_leaf b.body ≡ is_leaf a.body
+    → is_childless b.body ≡ is_childless a.body
+    → ((t : ℕ) → text_named b.body ≡ Some t → text_named a.body ≡ Some t) → ((t : ℕ) → alignments_named b.body ≡ Some t
+    → alignments_named a.body ≡ Some t)
     → MayReplace a b
 block_replaces a b was inline leaf childless texts alignments = record {
   inline = inline ∙ sym was;
@@ -336,7 +366,8 @@ block_replaces a b was inline leaf childless texts alignments = record {
 }
 
 -- it fits where the open one did
-closed_fits : (text : List ℕ) (counts : PartCounts) (b : ItemBody) (start end : ℕ) → is_inline b ≡ false → start ≤ end → IsCharBoundary text end
+closed_fits : (text : List ℕ) (counts : PartCounts) (b : ItemBody) (start end : ℕ) → is_inline b ≡ false → start ≤ end
+    → IsCharBoundary text end
     → ItemFits text counts (item_over start start b) → ItemFits text counts (item_over start end b)
 closed_fits text counts b start end h low boundary f = record {
   ranges_lie_in = record { ordered = low; start = f.ranges_lie_in.start; end = boundary };
@@ -347,13 +378,15 @@ closed_fits text counts b start end h low boundary f = record {
 }
 
 -- the outermost open block, or the one that was left, is on top
-top_closed : (old new : List (Node Item)) (spine : List ℕ) (n : ℕ) → ((d : Bool) (i j : ℕ) → link_of (links_of old) d i ≡ Some j → link_of (links_of new) d i ≡ Some j)
+top_closed : (old new : List (Node Item)) (spine : List ℕ) (n : ℕ) → ((d : Bool) (i j : ℕ) → link_of (links_of old) d i ≡ Some j
+    → link_of (links_of new) d i ≡ Some j)
     → IsTopPlace old (spine ++ n ∷ []) None → IsTopPlace new spine (Some n)
 top_closed old new [] n h t = top_stays old new h n t
 top_closed old new (s ∷ spine) n h t = top_stays old new h s t
 
 -- what is covered where a block was closed
-covered_closed : (text : List ℕ) (nodes : List (Node Item)) (definitions : List (CowStr × LinkDef)) (spine : List ℕ) (blocks : List OpenBlock) (n at : ℕ) (block : OpenBlock)
+covered_closed : (text : List ℕ) (nodes : List (Node Item)) (definitions : List (CowStr × LinkDef)) (spine : List ℕ)
+    (blocks : List OpenBlock) (n at : ℕ) (block : OpenBlock)
     → AreOpen nodes spine blocks → IsTopPlace nodes spine (Some n) → item_at nodes n ≡ item_over block.start at block.body
     → AreCovered text nodes definitions (covered_to (blocks ++ block ∷ []) at) → AreCovered text nodes definitions (covered_to blocks at)
 covered_closed text nodes definitions [] [] n at block o t e c =
@@ -362,7 +395,8 @@ covered_closed text nodes definitions (s ∷ spine) [] n at block o t e c = absu
 covered_closed text nodes definitions spine (x ∷ blocks) n at block o t e c = c
 
 -- outside the innermost block no leaf is open
-leaves_closed : (blocks : List OpenBlock) (block : OpenBlock) (leaf : Bool) → OnlyLastIsLeaf (blocks ++ block ∷ []) leaf → OnlyLastIsLeaf blocks false
+leaves_closed : (blocks : List OpenBlock) (block : OpenBlock) (leaf : Bool) → OnlyLastIsLeaf (blocks ++ block ∷ []) leaf
+    → OnlyLastIsLeaf blocks false
 leaves_closed [] block leaf h = refl
 leaves_closed (b ∷ []) block leaf h = sym h.0
 leaves_closed (b ∷ c ∷ blocks) block leaf h = (h.0, leaves_closed (c ∷ blocks) block leaf h.1)
@@ -379,14 +413,20 @@ whole_top old (a ∷ all) (s ∷ spine) n cursor e t = let q : a ≡ s = cc (e) 
 abbrev pub after_closing : State → List ℕ → List OpenBlock → ℕ → OpenBlock → State
 after_closing s spine blocks n block =
     record s {
-      tree = record { nodes = changed_at n (λ m. record m { item = item_over block.start s.at block.body }) s.tree.nodes; spine = spine; cursor = Some n };
+      tree = record {
+        nodes = changed_at n (λ m. record m { item = item_over block.start s.at block.body }) s.tree.nodes;
+        spine =
+            spine;
+        cursor = Some n;
+      };
       blocks = blocks;
       leaf = false;
       run = None;
     }
 
 -- the innermost block is left, and its end is written
-pub closed : (s : State) (spine : List ℕ) (blocks : List OpenBlock) (n : ℕ) (block : OpenBlock) → IsSound s → s.blocks ≡ blocks ++ block ∷ []
+pub closed : (s : State) (spine : List ℕ) (blocks : List OpenBlock) (n : ℕ) (block : OpenBlock) → IsSound s
+    → s.blocks ≡ blocks ++ block ∷ []
     → s.tree.spine ≡ spine ++ n ∷ [] → IsSound (after_closing s spine blocks n block)
 closed s spine blocks n block k whole split =
     let at = s.at in
@@ -394,17 +434,22 @@ closed s spine blocks n block k whole split =
     let old = s.tree.nodes in
     let made = changed_at n (λ m. record m { item = x }) old in
     let both : AreOpen old (spine ++ n ∷ []) (blocks ++ block ∷ []) =
-    subst (λ (y : List ℕ). AreOpen old y (blocks ++ block ∷ [])) split (subst (λ (y : List OpenBlock). AreOpen old s.tree.spine y) whole k.stands.are_open) in
+    subst (λ (y : List ℕ). AreOpen old y (blocks ++ block ∷ [])) split (subst (λ (y : List OpenBlock). AreOpen old s.tree.spine y) whole
+    k.stands.are_open) in
     let o : IsInnermost old n block spine blocks = open_unsnoc old n block spine blocks both in
     let h = o.here in
     let w : Writes old made n x = item_writes old n x h.low in
-    let begun_all : AllByRecursion (λ b. b.start ≤ at) (blocks ++ block ∷ []) = subst (λ (y : List OpenBlock). AllByRecursion (λ b. b.start ≤ at) y) whole k.stands.begun in
+    let begun_all : AllByRecursion (λ b. b.start ≤ at) (blocks ++ block ∷ []) =
+    subst (λ (y : List OpenBlock). AllByRecursion (λ b. b.start ≤ at) y) whole k.stands.begun in
     let start : block.start ≤ at = All-last (λ b. b.start ≤ at) blocks block begun_all in
-    let fit : ItemFits s.text s.counts (open_item block) = subst (λ (y : Item). ItemFits s.text s.counts y) h.item (k.stands.nodes.items n h.positive h.low) in
+    let fit : ItemFits s.text s.counts (open_item block) = subst (λ (y : Item). ItemFits s.text s.counts y) h.item
+    (k.stands.nodes.items n h.positive h.low) in
     let nodes : KeepsNodes s.text s.counts made = write_keeps s.text s.counts old made n x k.stands.nodes w h.positive
     (closed_fits s.text s.counts block.body block.start at (parent_not_inline block.body h.parent) start k.stands.boundary fit)
-    (rw h.item (block_replaces (open_item block) x (parent_not_inline block.body h.parent) (parent_not_inline block.body h.parent) refl refl (λ t e. e) (λ t e. e))) in
-    let links : (d : Bool) (i j : ℕ) → link_of (links_of old) d i ≡ Some j → link_of (links_of made) d i ≡ Some j = λ d i j q. w.all_links d i ∙ q in
+    (rw h.item (block_replaces (open_item block) x (parent_not_inline block.body h.parent) (parent_not_inline block.body h.parent) refl refl
+    (λ t e. e) (λ t e. e))) in
+    let links : (d : Bool) (i j : ℕ) → link_of (links_of old) d i ≡ Some j
+    → link_of (links_of made) d i ≡ Some j = λ d i j q. w.all_links d i ∙ q in
     let opens : AreOpen made spine blocks =
     open_written (λ t. t < n) old made n x w (λ t b l q z. absurd (omega (arith, z, l))) spine blocks o.above o.others in
     let top_was : IsTopPlace old (spine ++ n ∷ []) None = whole_top old s.tree.spine spine n s.tree.cursor split k.stands.top in
@@ -420,7 +465,11 @@ closed s spine blocks n block k whole split =
         nodes = nodes;
         low = omega (arith, h.low, w.size);
         free = w.all_links false n ∙ h.last;
-        fits = λ y q l. rw w.new_item (record { kind = q ∙ sym (parent_not_inline block.body h.parent); inline_in_order = λ z v. let i = (parent_not_inline block.body h.parent) in cc (z, i) });
+        fits = λ y q l. rw w.new_item (record {
+          kind = q ∙ sym (parent_not_inline block.body h.parent);
+          inline_in_order = λ z v. let i =
+              (parent_not_inline block.body h.parent) in cc (z, i);
+        });
         are_open = opens;
         leaves = leaves_closed blocks block s.leaf (subst (λ (y : List OpenBlock). OnlyLastIsLeaf y s.leaf) whole k.stands.leaves);
         behind = o.above;

@@ -1,5 +1,6 @@
 -- Paragraphs made tight: those of a set of numbers, one after another, and of all tight lists in the end.
-use Rattle.std.proofs.Common.{◌≡◌, ℕ, ◌+◌, ◌-◌, ◌<◌, ◌≤◌, List, Option, Some, None, Bool, true, false, length, refl, sym, ap, ◌∙◌, subst, arith, ◌⊎◌, inl, inr, ⊎_elim}
+use Rattle.std.proofs.Common.{◌≡◌, ℕ, ◌+◌, ◌-◌, ◌<◌, ◌≤◌, List, Option, Some, None, Bool, true, false, length, refl, sym, ap, ◌∙◌, subst}
+use Rattle.std.proofs.Common.{arith, ◌⊎◌, inl, inr, ⊎_elim}
 use Rattle.std.specs.Prelude.{IfSome}
 use Rattle.std.proofs.lemmas.Bool.{cases_lt}
 use Rattle.markdown_base.specs.declared.item.Item.{Item}
@@ -56,7 +57,8 @@ made_more S Left D Fewer a b c m n within covers = record {
       (n.kept p);
 }
   where
-    still : (p : ℕ) → ((item_at b p).body ≡ body.Paragraph → ⊥) → (item_at c p ≡ item_at b p) ⊎ Tightened D b c p → (item_at c p).body ≡ body.Paragraph → ⊥
+    still : (p : ℕ) → ((item_at b p).body ≡ body.Paragraph → ⊥) → (item_at c p ≡ item_at b p) ⊎ Tightened D b c p
+        → (item_at c p).body ≡ body.Paragraph → ⊥
     still p q k e = ⊎_elim (λ (f : item_at c p ≡ item_at b p). q (ap (λ (y : Item). y.body) (sym f) ∙ e))
         (λ (t : Tightened D b c p). q t.was) k
 
@@ -70,12 +72,14 @@ no_paragraph : (b : ItemBody) → is_paragraph b ≡ false → b ≡ body.Paragr
 no_paragraph b h e = let p : is_paragraph b ≡ true = ap is_paragraph e in cc (h, p)
 
 -- a paragraph is made tight
-pub one_made : (old new : List (Node Item)) (number : ℕ) → Writes old new number (tight (item_at old number)) → is_paragraph (item_at old number).body ≡ true
+pub one_made : (old new : List (Node Item)) (number : ℕ) → Writes old new number (tight (item_at old number))
+    → is_paragraph (item_at old number).body ≡ true
     → MadeTight (λ p. p ≡ number) (λ p. ⊥) old new
 one_made old new number w h = record {
   size = w.size;
   links = w.all_links;
-  made = λ p e. inr (λ q. paragraph_or_tight (item_at new p).body q (ap (λ (n : ℕ). (item_at new n).body) e ∙ ap (λ (y : Item). y.body) w.new_item));
+  made = λ p e. inr (λ q. paragraph_or_tight (item_at new p).body q (ap (λ (n : ℕ). (item_at new n).body) e
+      ∙ ap (λ (y : Item). y.body) w.new_item));
   kept = λ p. ⊎_elim
       (λ (e : p ≡ number). inr (record {
         inside = e;
@@ -87,7 +91,8 @@ one_made old new number w h = record {
 }
 
 -- what is no paragraph stays
-pub none_made : (nodes : List (Node Item)) (number : ℕ) → is_paragraph (item_at nodes number).body ≡ false → MadeTight (λ p. p ≡ number) (λ p. ⊥) nodes nodes
+pub none_made : (nodes : List (Node Item)) (number : ℕ) → is_paragraph (item_at nodes number).body ≡ false
+    → MadeTight (λ p. p ≡ number) (λ p. ⊥) nodes nodes
 none_made nodes number h = record {
   size = refl;
   links = λ d i. refl;
@@ -134,7 +139,8 @@ list_same S Left old new list m = ⊎_elim
     (m.kept list)
 
 -- where all are made tight that stand in tight lists, those are tight and no others
-pub tight_in_tight_lists : (old new : List (Node Item)) → NoneTight old → MadeTight (IsInTightList old) (λ p. ⊥) old new → TightInTightLists new
+pub tight_in_tight_lists : (old new : List (Node Item)) → NoneTight old → MadeTight (IsInTightList old) (λ p. ⊥) old new
+    → TightInTightLists new
 tight_in_tight_lists old new loose m = record {
   all = λ p t. ⊎_elim (λ (no : ⊥). absurd no) (λ (q : (item_at new p).body ≡ body.Paragraph → ⊥). q) (m.made p (record {
     list = t.list;
@@ -174,33 +180,40 @@ pub record IsInTightListFrom (nodes : List (Node Item)) (from p : ℕ) : Type 0 
 
 -- behind a node fewer are left
 pub fewer_nodes : (nodes : List (Node Item)) (number : ℕ) → AreRising (links_of nodes) → number < length nodes
-    → (nodes_from (length nodes) (sibling_of nodes number) < length nodes - number) × IfSome (sibling_of nodes number) (λ j. j < length nodes)
+    → (nodes_from (length nodes) (sibling_of nodes number) < length nodes - number)
+    × IfSome (sibling_of nodes number) (λ j. j < length nodes)
 fewer_nodes nodes number r low = of_link (sibling_of nodes number) (λ j e. r.rises false number j e)
   where
-    of_link : (o : Option ℕ) → ((j : ℕ) → o ≡ Some j → (number < j) × (j < length nodes)) → (nodes_from (length nodes) o < length nodes - number) × IfSome o (λ j. j < length nodes)
+    of_link : (o : Option ℕ) → ((j : ℕ) → o ≡ Some j → (number < j) × (j < length nodes))
+        → (nodes_from (length nodes) o < length nodes - number) × IfSome o (λ j. j < length nodes)
     of_link None h = (omega (arith, low), tt)
     of_link (Some j) h = let q = h j refl in (omega (arith, q.0, q.1, low), q.1)
 
 -- the siblings from a link on, one of which is made tight
-pub sibling_made : (nodes old new : List (Node Item)) (first : Option ℕ) (number : ℕ) → MadeTight (λ p. IsInChain nodes first p) (λ p. IsInChain nodes (Some number) p) nodes old
+pub sibling_made : (nodes old new : List (Node Item)) (first : Option ℕ) (number : ℕ)
+    → MadeTight (λ p. IsInChain nodes first p) (λ p. IsInChain nodes (Some number) p) nodes old
     → MadeTight (λ p. p ≡ number) (λ p. ⊥) old new → ((p : ℕ) → IsInChain nodes (Some number) p → IsInChain nodes first p)
     → MadeTight (λ p. IsInChain nodes first p) (λ p. IsInChain nodes (sibling_of nodes number) p) nodes new
 sibling_made nodes old new first number m n within =
-    made_more (λ p. IsInChain nodes first p) (λ p. IsInChain nodes (Some number) p) (λ p. p ≡ number) (λ p. IsInChain nodes (sibling_of nodes number) p) nodes old new m n
+    made_more (λ p. IsInChain nodes first p) (λ p. IsInChain nodes (Some number) p) (λ p. p ≡ number)
+    (λ p. IsInChain nodes (sibling_of nodes number) p) nodes old new m n
     (λ p e. within p (subst (λ (q : ℕ). IsInChain nodes (Some number) q) (sym e) (first_of number)))
     (λ p c. first_or_later nodes number p c)
 
 -- the same for one of the items
-pub item_made : (nodes old new : List (Node Item)) (list number : ℕ) → MadeTight (IsInItemOf nodes list) (IsInItemFrom nodes (Some number)) nodes old
+pub item_made : (nodes old new : List (Node Item)) (list number : ℕ)
+    → MadeTight (IsInItemOf nodes list) (IsInItemFrom nodes (Some number)) nodes old
     → MadeTight (λ p. IsInChain old (child_of old number) p) (λ p. ⊥) old new
     → ((p : ℕ) → IsInChain nodes (Some number) p → IsInChain nodes (child_of nodes list) p)
     → MadeTight (IsInItemOf nodes list) (IsInItemFrom nodes (sibling_of nodes number)) nodes new
 item_made nodes old new list number m n within =
-    made_more (IsInItemOf nodes list) (IsInItemFrom nodes (Some number)) (λ p. IsInChain old (child_of old number) p) (IsInItemFrom nodes (sibling_of nodes number)) nodes old new m n
+    made_more (IsInItemOf nodes list) (IsInItemFrom nodes (Some number)) (λ p. IsInChain old (child_of old number) p)
+    (IsInItemFrom nodes (sibling_of nodes number)) nodes old new m n
     (λ p c. record {
       item = number;
       listed = within number (first_of number);
-      inside = chain_same old nodes (λ d i. sym (m.links d i)) (child_of nodes number) p (subst (λ (o : Option ℕ). IsInChain old o p) (m.links true number) c);
+      inside = chain_same old nodes (λ d i. sym (m.links d i)) (child_of nodes number) p (subst (λ (o : Option ℕ). IsInChain old o p)
+          (m.links true number) c);
     })
     (λ p i. ⊎_elim
     (λ (e : i.item ≡ number). inl (subst (λ (o : Option ℕ). IsInChain old o p) (sym (m.links true number))
@@ -213,7 +226,8 @@ pub list_made : (nodes old new : List (Node Item)) (number : ℕ) → MadeTight 
     → MadeTight (IsInItemOf old number) (λ p. ⊥) old new → is_tight_list (item_at old number).body ≡ true
     → MadeTight (IsInTightList nodes) (IsInTightListFrom nodes (number + 1)) nodes new
 list_made nodes old new number m n tight =
-    made_more (IsInTightList nodes) (IsInTightListFrom nodes number) (IsInItemOf old number) (IsInTightListFrom nodes (number + 1)) nodes old new m n
+    made_more (IsInTightList nodes) (IsInTightListFrom nodes number) (IsInItemOf old number) (IsInTightListFrom nodes (number + 1)) nodes
+    old new m n
     (λ p i. record {
       list = number;
       tight = sym (list_same (IsInTightList nodes) (IsInTightListFrom nodes number) nodes old number m) ∙ tight;
@@ -245,7 +259,8 @@ list_passed nodes old number m loose = record {
 }
 
 -- and no list comes behind the last
-pub lists_done : (nodes new : List (Node Item)) (size : ℕ) → MadeTight (IsInTightList nodes) (IsInTightListFrom nodes size) nodes new → length nodes ≤ size
+pub lists_done : (nodes new : List (Node Item)) (size : ℕ) → MadeTight (IsInTightList nodes) (IsInTightListFrom nodes size) nodes new
+    → length nodes ≤ size
     → MadeTight (IsInTightList nodes) (λ p. ⊥) nodes new
 lists_done nodes new size m high = record {
   size = m.size;
@@ -273,16 +288,20 @@ pub record ItemsLeft (nodes now : List (Node Item)) (list : ℕ) (link : Option 
   pub within : IfSome link (λ number. number < length nodes)
 
 -- a link leads to a node
-pub leads_to : (nodes now : List (Node Item)) (link : Option ℕ) (number : ℕ) → length now ≡ length nodes → IfSome link (λ j. j < length nodes) → link ≡ Some number
+pub leads_to : (nodes now : List (Node Item)) (link : Option ℕ) (number : ℕ) → length now ≡ length nodes
+    → IfSome link (λ j. j < length nodes) → link ≡ Some number
     → number < length now
-leads_to nodes now link number size h e = let q : number < length nodes = subst (λ (o : Option ℕ). IfSome o (λ j. j < length nodes)) e h in omega (arith, q, size)
+leads_to nodes now link number size h e = let q : number < length nodes = subst (λ (o : Option ℕ). IfSome o (λ j. j < length nodes)) e h
+    in omega (arith, q, size)
 
-pub sibling_step : (nodes old new : List (Node Item)) (first link next : Option ℕ) (number : ℕ) → AreRising (links_of nodes) → SiblingsLeft nodes old first link
+pub sibling_step : (nodes old new : List (Node Item)) (first link next : Option ℕ) (number : ℕ) → AreRising (links_of nodes)
+    → SiblingsLeft nodes old first link
     → link ≡ Some number → MakesTight (λ p. p ≡ number) old new → next ≡ sibling_of new number
     → SiblingsLeft nodes new first next × (nodes_from (length nodes) next < nodes_from (length nodes) link)
 sibling_step nodes old new first link next number r l e n f =
     let m = subst (λ (o : Option ℕ). MadeTight (λ p. IsInChain nodes first p) (λ p. IsInChain nodes o p) nodes old) e l.makes in
-    let here : (p : ℕ) → IsInChain nodes (Some number) p → IsInChain nodes first p = λ p c. l.inside p (subst (λ (o : Option ℕ). IsInChain nodes o p) (sym e) c) in
+    let here : (p : ℕ) → IsInChain nodes (Some number) p
+    → IsInChain nodes first p = λ p c. l.inside p (subst (λ (o : Option ℕ). IsInChain nodes o p) (sym e) c) in
     let behind : next ≡ sibling_of nodes number = f ∙ (n.links false number ∙ l.makes.links false number) in
     let fewer = fewer_nodes nodes number r (leads_to nodes nodes link number refl l.within e) in (
       record {
@@ -294,13 +313,15 @@ sibling_step nodes old new first link next number r l e n f =
       rw (behind, e) fewer.0,
     )
 
-pub item_step : (nodes old new : List (Node Item)) (list : ℕ) (link next first : Option ℕ) (number : ℕ) → AreRising (links_of nodes) → ItemsLeft nodes old list link
+pub item_step : (nodes old new : List (Node Item)) (list : ℕ) (link next first : Option ℕ) (number : ℕ) → AreRising (links_of nodes)
+    → ItemsLeft nodes old list link
     → link ≡ Some number → first ≡ child_of old number → MakesTight (λ p. IsInChain old first p) old new → next ≡ sibling_of new number
     → ItemsLeft nodes new list next × (nodes_from (length nodes) next < nodes_from (length nodes) link)
 item_step nodes old new list link next first number r l e below n f =
     let m = subst (λ (o : Option ℕ). MadeTight (IsInItemOf nodes list) (IsInItemFrom nodes o) nodes old) e l.makes in
     let d = subst (λ (o : Option ℕ). MakesTight (λ p. IsInChain old o p) old new) below n in
-    let here : (p : ℕ) → IsInChain nodes (Some number) p → IsInChain nodes (child_of nodes list) p = λ p c. l.inside p (subst (λ (o : Option ℕ). IsInChain nodes o p) (sym e) c) in
+    let here : (p : ℕ) → IsInChain nodes (Some number) p
+    → IsInChain nodes (child_of nodes list) p = λ p c. l.inside p (subst (λ (o : Option ℕ). IsInChain nodes o p) (sym e) c) in
     let behind : next ≡ sibling_of nodes number = f ∙ (n.links false number ∙ l.makes.links false number) in
     let fewer = fewer_nodes nodes number r (leads_to nodes nodes link number refl l.within e) in (
       record {
@@ -313,24 +334,28 @@ item_step nodes old new list link next first number r l e below n f =
     )
 
 -- links still rise
-pub rising_still : (S Left : ℕ → Type 0) (nodes now : List (Node Item)) → MadeTight S Left nodes now → AreRising (links_of nodes) → AreRising (links_of now)
+pub rising_still : (S Left : ℕ → Type 0) (nodes now : List (Node Item)) → MadeTight S Left nodes now → AreRising (links_of nodes)
+    → AreRising (links_of now)
 rising_still S Left nodes now m r = record {
   rises = λ d i j e. let q = r.rises d i j (sym (m.links d i) ∙ e) in (q.0, omega (arith, q.1, m.size));
   once = λ d b i h j e f. r.once d b i h j (sym (m.links d i) ∙ e) (sym (m.links b h) ∙ f);
 }
 
 -- nothing is left where a chain ends
-pub siblings_done : (nodes now : List (Node Item)) (first link : Option ℕ) → SiblingsLeft nodes now first link → ((number : ℕ) → link ≡ Some number → ⊥)
+pub siblings_done : (nodes now : List (Node Item)) (first link : Option ℕ) → SiblingsLeft nodes now first link
+    → ((number : ℕ) → link ≡ Some number → ⊥)
     → MakesTight (λ p. IsInChain nodes first p) nodes now
 siblings_done nodes now first link l none = record {
   size = l.makes.size;
   links = l.makes.links;
-  made = λ p s. ⊎_elim (λ (c : IsInChain nodes link p). absurd (nothing_in nodes link p none c)) (λ (q : (item_at now p).body ≡ body.Paragraph → ⊥). inr q)
+  made = λ p s. ⊎_elim (λ (c : IsInChain nodes link p). absurd (nothing_in nodes link p none c))
+      (λ (q : (item_at now p).body ≡ body.Paragraph → ⊥). inr q)
       (l.makes.made p s);
   kept = l.makes.kept;
 }
 
-pub items_done : (nodes now : List (Node Item)) (list : ℕ) (link : Option ℕ) → ItemsLeft nodes now list link → ((number : ℕ) → link ≡ Some number → ⊥)
+pub items_done : (nodes now : List (Node Item)) (list : ℕ) (link : Option ℕ) → ItemsLeft nodes now list link
+    → ((number : ℕ) → link ≡ Some number → ⊥)
     → MakesTight (IsInItemOf nodes list) nodes now
 items_done nodes now list link l none = record {
   size = l.makes.size;
@@ -347,7 +372,12 @@ items_left nodes list link e within = record {
   makes = record {
     size = refl;
     links = λ d i. refl;
-    made = λ p s. inl (record { item = s.item; listed = subst (λ (o : Option ℕ). IsInChain nodes o s.item) (sym e) s.listed; inside = s.inside });
+    made = λ p s. inl (record {
+      item = s.item;
+      listed = subst (λ (o : Option ℕ). IsInChain nodes o s.item) (sym e) s.listed;
+      inside =
+          s.inside;
+    });
     kept = λ p. inl refl;
   };
   inside = λ p c. subst (λ (o : Option ℕ). IsInChain nodes o p) e c;

@@ -1,5 +1,6 @@
 -- What a builder keeps where an item is written in the place of another: another open block, and, where none is open, a tight paragraph.
-use Rattle.std.proofs.Common.{◌≡◌, ℕ, ◌<◌, ◌≤◌, List, [], ◌∷◌, ◌++◌, Option, Some, None, Bool, true, false, length, refl, sym, ap, ◌∙◌, subst, arith, ⊎_elim}
+use Rattle.std.proofs.Common.{◌≡◌, ℕ, ◌<◌, ◌≤◌, List, [], ◌∷◌, ◌++◌, Option, Some, None, Bool, true, false, length, refl, sym, ap, ◌∙◌}
+use Rattle.std.proofs.Common.{subst, arith, ⊎_elim}
 use Rattle.std.specs.Prelude.{IfSome, ⊤}
 use Rattle.std.specs.List.{AllByRecursion}
 use Rattle.std.specs.Str.{IsCharBoundary}
@@ -22,9 +23,11 @@ use Rattle.markdown_builder.specs.Bodies.{is_leaf}
 use Rattle.markdown_builder.specs.BuilderView.{IsWhite}
 use Rattle.markdown_builder.specs.Rising.{link_of, place_down, place_at}
 use Rattle.markdown_builder.specs.BuilderRules.{ItemFits, LinkFits, MayReplace, KeepsNodes, KeepsRuns}
-use Rattle.markdown_builder.specs.Standing.{State, open_item, with_item, AreOpen, OnlyLastIsLeaf, IsTopPlace, covered_to, AreCovered, Stands, LastRun, IsSound}
+use Rattle.markdown_builder.specs.Standing.{State, open_item, with_item, AreOpen, OnlyLastIsLeaf, IsTopPlace, covered_to, AreCovered}
+use Rattle.markdown_builder.specs.Standing.{Stands, LastRun, IsSound}
 use Rattle.markdown_builder.specs.TreeSteps.{is_paragraph, tight, Tightens, none_tight, one_tight}
-use Rattle.markdown_builder.proofs.BodiesLemmas.{item_over, MayBePlaced, placed_fits, block_no_run, block_markup, settled_alone, parent_not_inline}
+use Rattle.markdown_builder.proofs.BodiesLemmas.{item_over, MayBePlaced, placed_fits, block_no_run, block_markup, settled_alone}
+use Rattle.markdown_builder.proofs.BodiesLemmas.{parent_not_inline}
 use Rattle.markdown_builder.proofs.BuilderRulesLemmas.{same_or_not, fits_from, stays_fit, write_keeps}
 use Rattle.markdown_builder.proofs.NodeWriteLemmas.{Writes, item_writes}
 use Rattle.markdown_builder.proofs.TightLemmas.{is_a_paragraph}
@@ -33,13 +36,16 @@ use Rattle.markdown_builder.proofs.StandingLemmas.{IsInnermost, open_snoc, open_
 use Rattle.markdown_builder.proofs.StepLemmas.{covered_white, none_tight_written, block_replaces}
 
 -- what may come at a place may come where an item of the same kind is written
-still_fits : (old new : List (Node Item)) (number place : ℕ) (x y : Item) (d : Bool) → Writes old new number x → MayReplace (item_at old number) x
-    → LinkFits d (numbered old place) (record { number = length old; item = y }) → LinkFits d (numbered new place) (record { number = length new; item = y })
+still_fits : (old new : List (Node Item)) (number place : ℕ) (x y : Item) (d : Bool) → Writes old new number x
+    → MayReplace (item_at old number) x
+    → LinkFits d (numbered old place) (record { number = length old; item = y })
+    → LinkFits d (numbered new place) (record { number = length new; item = y })
 still_fits old new number place x y d w m l =
     let z : Numbered = record { number = length old; item = y } in
     subst (λ (n : ℕ). LinkFits d (numbered new place) (record { number = n; item = y })) (sym w.size)
     (stays_fit (λ (a : Numbered). LinkFits d a z) old new number place x w
-    (λ q. fits_from d (numbered old place) (record { number = place; item = x }) z refl (subst (λ (n : ℕ). MayReplace (item_at old n) x) (sym q) m) l) l)
+    (λ q. fits_from d (numbered old place) (record { number = place; item = x }) z refl (subst (λ (n : ℕ). MayReplace (item_at old n) x)
+    (sym q) m) l) l)
 
 -- what stands on top stays there
 top_kept : (old new : List (Node Item)) → ((d : Bool) (i j : ℕ) → link_of (links_of old) d i ≡ Some j → link_of (links_of new) d i ≡ Some j)
@@ -59,7 +65,8 @@ written s number x blocks h positive low fits m stays opens leaves covered begun
     let old = s.tree.nodes in
     let new = (with_item s.tree number x).nodes in
     let w : Writes old new number x = item_writes old number x low in
-    let links : (d : Bool) (i j : ℕ) → link_of (links_of old) d i ≡ Some j → link_of (links_of new) d i ≡ Some j = λ d i j q. w.all_links d i ∙ q in
+    let links : (d : Bool) (i j : ℕ) → link_of (links_of old) d i ≡ Some j
+    → link_of (links_of new) d i ≡ Some j = λ d i j q. w.all_links d i ∙ q in
     record {
       nodes = write_keeps s.text s.counts old new number x h.nodes w positive fits m;
       low = omega (arith, h.low, w.size);
@@ -74,7 +81,8 @@ written s number x blocks h positive low fits m stays opens leaves covered begun
             number = b.number;
             top = top_stays old new links b.number b.top;
             inside = ⊎_elim
-                (λ (q : b.number ≡ number). rw (q, w.new_item) (stays p (subst (λ (n : ℕ). is_inside p (range_of (item_at old n)) ≡ true) q b.inside)))
+                (λ (q : b.number ≡ number). rw (q, w.new_item)
+                (stays p (subst (λ (n : ℕ). is_inside p (range_of (item_at old n)) ≡ true) q b.inside)))
                 (λ (q : b.number ≡ number → ⊥). rw (w.old_items b.number q) b.inside)
                 (same_or_not b.number number);
           }) covered;
@@ -90,7 +98,8 @@ last_written text old new number x None run w none l = tt
 last_written text old new number x (Some c) run w none l = ⊎_elim
     (λ (q : c ≡ number). let e : item_at new c ≡ x = ap (λ (n : ℕ). item_at new n) q ∙ w.new_item in
     let none_here : run_character (item_at new c).body ≡ None = ap (λ (y : Item). run_character y.body) e ∙ none in rw none_here tt)
-    (λ (q : c ≡ number → ⊥). subst (λ (y : Item). IfSome (run_character y.body) (λ r. run ≡ Some (byte_of text y))) (sym (w.old_items c q)) l)
+    (λ (q : c ≡ number → ⊥). subst (λ (y : Item). IfSome (run_character y.body) (λ r. run ≡ Some (byte_of text y))) (sym (w.old_items c q))
+    l)
     (same_or_not c number)
 
 -- a block is written in the place of a block
@@ -138,7 +147,8 @@ not_root text counts nodes number k p = ⊎_elim (λ (h : 0 < number). h)
     (cases_lt 0 number)
 
 -- a paragraph is made tight
-made_tight : (s : State) (number : ℕ) → StandsClosed s → number < length s.tree.nodes → is_paragraph (item_at s.tree.nodes number).body ≡ true
+made_tight : (s : State) (number : ℕ) → StandsClosed s → number < length s.tree.nodes → is_paragraph (item_at s.tree.nodes number).body
+    ≡ true
     → StandsClosed (record s { tree = with_item s.tree number (tight (item_at s.tree.nodes number)) })
 made_tight s number k low passes =
     let old = s.tree.nodes in
@@ -175,12 +185,14 @@ tightens_keeps s tree k (one_tight t number before low p) = made_tight (record s
 -- ---- another open block in the place of the innermost
 
 -- the innermost open block is a leaf just where a leaf is open
-leaf_last : (blocks : List OpenBlock) (block : OpenBlock) (leaf : Bool) → OnlyLastIsLeaf (blocks ++ block ∷ []) leaf → leaf ≡ is_leaf block.body
+leaf_last : (blocks : List OpenBlock) (block : OpenBlock) (leaf : Bool) → OnlyLastIsLeaf (blocks ++ block ∷ []) leaf
+    → leaf ≡ is_leaf block.body
 leaf_last [] block leaf h = h
 leaf_last (b ∷ []) block leaf h = h.1
 leaf_last (b ∷ c ∷ blocks) block leaf h = leaf_last (c ∷ blocks) block leaf h.1
 
-leaves_changed : (blocks : List OpenBlock) (block other : OpenBlock) (leaf : Bool) → leaf ≡ is_leaf other.body → OnlyLastIsLeaf (blocks ++ block ∷ []) leaf
+leaves_changed : (blocks : List OpenBlock) (block other : OpenBlock) (leaf : Bool) → leaf ≡ is_leaf other.body
+    → OnlyLastIsLeaf (blocks ++ block ∷ []) leaf
     → OnlyLastIsLeaf (blocks ++ other ∷ []) leaf
 leaves_changed [] block other leaf e h = e
 leaves_changed (b ∷ []) block other leaf e h = (h.0, e)
@@ -194,12 +206,14 @@ pub record StandsInnermost (s : State) (n : ℕ) (block : OpenBlock) (spine : Li
   pub begun : AllByRecursion (λ c. c.start ≤ s.at) (blocks ++ block ∷ [])
   pub covered : AreCovered s.text s.tree.nodes s.definitions (covered_to (blocks ++ block ∷ []) s.at)
 
-pub innermost_stands : (s : State) (spine : List ℕ) (blocks : List OpenBlock) (n : ℕ) (block : OpenBlock) → IsSound s → s.blocks ≡ blocks ++ block ∷ []
+pub innermost_stands : (s : State) (spine : List ℕ) (blocks : List OpenBlock) (n : ℕ) (block : OpenBlock) → IsSound s
+    → s.blocks ≡ blocks ++ block ∷ []
     → s.tree.spine ≡ spine ++ n ∷ [] → StandsInnermost s n block spine blocks
 innermost_stands s spine blocks n block k whole split =
     let old = s.tree.nodes in
     let both : AreOpen old (spine ++ n ∷ []) (blocks ++ block ∷ []) =
-    subst (λ (y : List ℕ). AreOpen old y (blocks ++ block ∷ [])) split (subst (λ (y : List OpenBlock). AreOpen old s.tree.spine y) whole k.stands.are_open) in
+    subst (λ (y : List ℕ). AreOpen old y (blocks ++ block ∷ [])) split (subst (λ (y : List OpenBlock). AreOpen old s.tree.spine y) whole
+    k.stands.are_open) in
     let o : IsInnermost old n block spine blocks = open_unsnoc old n block spine blocks both in
     record {
       innermost = o;
@@ -210,7 +224,8 @@ innermost_stands s spine blocks n block k whole split =
     }
 
 -- another block is open in its place: of the same kind, and all before it is covered
-pub replaced : (s : State) (spine : List ℕ) (blocks : List OpenBlock) (n : ℕ) (block other : OpenBlock) → IsSound s → s.tree.spine ≡ spine ++ n ∷ []
+pub replaced : (s : State) (spine : List ℕ) (blocks : List OpenBlock) (n : ℕ) (block other : OpenBlock) → IsSound s
+    → s.tree.spine ≡ spine ++ n ∷ []
     → StandsInnermost s n block spine blocks → ItemFits s.text s.counts (open_item other) → MayReplace (open_item block) (open_item other)
     → is_tight_paragraph other.body ≡ false → other.start ≤ s.at
     → AreCovered s.text s.tree.nodes s.definitions (covered_to (blocks ++ other ∷ []) s.at)
@@ -241,24 +256,32 @@ replaced s spine blocks n block other k split o fits may loose begun covered =
     (All-snoc (λ c. c.start ≤ s.at) blocks other (All-front (λ c. c.start ≤ s.at) blocks block o.begun) begun))
 
 -- as much is covered where it begins there too
-covered_changed : (text : List ℕ) (nodes : List (Node Item)) (definitions : List (CowStr × LinkDef)) (blocks : List OpenBlock) (block : OpenBlock) (b : ItemBody) (at : ℕ)
+covered_changed : (text : List ℕ) (nodes : List (Node Item)) (definitions : List (CowStr × LinkDef)) (blocks : List OpenBlock)
+    (block : OpenBlock) (b : ItemBody) (at : ℕ)
     → AreCovered text nodes definitions (covered_to (blocks ++ block ∷ []) at)
     → AreCovered text nodes definitions (covered_to (blocks ++ record block { body = b } ∷ []) at)
 covered_changed text nodes definitions [] block b at c = c
 covered_changed text nodes definitions (x ∷ blocks) block b at c = c
 
 -- and where it begins behind white space
-covered_later : (text : List ℕ) (nodes : List (Node Item)) (definitions : List (CowStr × LinkDef)) (blocks : List OpenBlock) (block : OpenBlock) (start at : ℕ)
+covered_later : (text : List ℕ) (nodes : List (Node Item)) (definitions : List (CowStr × LinkDef)) (blocks : List OpenBlock)
+    (block : OpenBlock) (start at : ℕ)
     → AreCovered text nodes definitions (covered_to (blocks ++ block ∷ []) at) → IsWhite text block.start start
     → AreCovered text nodes definitions (covered_to (blocks ++ record block { start = start } ∷ []) at)
 covered_later text nodes definitions [] block start at c w = covered_white text nodes definitions block.start start c w
 covered_later text nodes definitions (x ∷ blocks) block start at c w = c
 
 -- the innermost open block gets another body of the same kind
-pub changed : (s : State) (spine : List ℕ) (blocks : List OpenBlock) (n : ℕ) (block : OpenBlock) (b : ItemBody) → IsSound s → s.blocks ≡ blocks ++ block ∷ []
-    → s.tree.spine ≡ spine ++ n ∷ [] → is_leaf b ≡ s.leaf → MayBePlaced s.counts s.counts b → text_named b ≡ None → alignments_named b ≡ None
+pub changed : (s : State) (spine : List ℕ) (blocks : List OpenBlock) (n : ℕ) (block : OpenBlock) (b : ItemBody) → IsSound s
+    → s.blocks ≡ blocks ++ block ∷ []
+    → s.tree.spine ≡ spine ++ n ∷ [] → is_leaf b ≡ s.leaf → MayBePlaced s.counts s.counts b → text_named b ≡ None
+    → alignments_named b ≡ None
     → is_childless b ≡ false
-    → IsSound (record s { tree = with_item s.tree n (item_over block.start block.start b); blocks = blocks ++ record block { body = b } ∷ [] })
+    → IsSound (record s {
+      tree = with_item s.tree n (item_over block.start block.start b);
+      blocks = blocks
+          ++ record block { body = b } ∷ [];
+    })
 changed s spine blocks n block b k whole split leaf placed no_text no_alignments parent =
     let other : OpenBlock = record block { body = b } in
     let o = innermost_stands s spine blocks n block k whole split in
@@ -267,15 +290,21 @@ changed s spine blocks n block b k whole split leaf placed no_text no_alignments
     replaced s spine blocks n block other k split o
     (placed_fits s.text s.counts s.counts block.start block.start b placed (block_markup b (source_of s.text (open_item other)) inline)
     (record { ordered = omega arith; start = o.fits.ranges_lie_in.start; end = o.fits.ranges_lie_in.start }))
-    (block_replaces (open_item block) (open_item other) (parent_not_inline block.body o.innermost.here.parent) inline same_leaf (parent ∙ sym o.innermost.here.parent)
+    (block_replaces (open_item block) (open_item other) (parent_not_inline block.body o.innermost.here.parent) inline same_leaf (parent
+    ∙ sym o.innermost.here.parent)
     (λ t e. cc (no_text, e)) (λ t e. cc (no_alignments, e))) placed.loose
     (All-last (λ c. c.start ≤ s.at) blocks block o.begun)
     (covered_changed s.text s.tree.nodes s.definitions blocks block b s.at o.covered)
 
 -- the innermost open block begins later, behind white space
-pub begun_later : (s : State) (spine : List ℕ) (blocks : List OpenBlock) (n : ℕ) (block : OpenBlock) (start : ℕ) → IsSound s → s.blocks ≡ blocks ++ block ∷ []
+pub begun_later : (s : State) (spine : List ℕ) (blocks : List OpenBlock) (n : ℕ) (block : OpenBlock) (start : ℕ) → IsSound s
+    → s.blocks ≡ blocks ++ block ∷ []
     → s.tree.spine ≡ spine ++ n ∷ [] → start ≤ s.at → IsCharBoundary s.text start → IsWhite s.text block.start start
-    → IsSound (record s { tree = with_item s.tree n (item_over start start block.body); blocks = blocks ++ record block { start = start } ∷ [] })
+    → IsSound (record s {
+      tree = with_item s.tree n (item_over start start block.body);
+      blocks = blocks
+          ++ record block { start = start } ∷ [];
+    })
 begun_later s spine blocks n block start k whole split low boundary white =
     let b = block.body in
     let other : OpenBlock = record block { start = start } in

@@ -10,7 +10,8 @@ use Rattle.markdown_base.specs.ArenaRules.{next_at}
 use Rattle.markdown_base.specs.BlockTree.{Numbered, item_at, numbered}
 use Rattle.markdown_base.specs.Forest.{nil, node}
 use Rattle.markdown_base.specs.Item.{is_inline, is_childless, text_named, alignments_named}
-use Rattle.markdown_base.specs.WellFormed.{BlocksAreSettled, ChainsAreKept, InlineInOrder, MarkupIsThere, NothingResolved, PartCounts, PartsAreNamed, RangesLieIn, RunsAreWhole}
+use Rattle.markdown_base.specs.WellFormed.{BlocksAreSettled, ChainsAreKept, InlineInOrder, MarkupIsThere}
+use Rattle.markdown_base.specs.WellFormed.{NothingResolved, PartCounts, PartsAreNamed, RangesLieIn, RunsAreWhole}
 use Rattle.markdown_builder.specs.Bodies.{is_leaf}
 use Rattle.markdown_builder.specs.Rising.{link_of, AreRising}
 
@@ -43,9 +44,12 @@ pub record KeepsNodes (text : List ℕ) (counts : PartCounts) (nodes : List (Nod
   pub rooted : 0 < length nodes
   pub root : (item_at nodes 0).body ≡ body.Root
   pub items : (i : ℕ) → 0 < i → i < length nodes → ItemFits text counts (item_at nodes i)
-  pub links : (down : Bool) (i j : ℕ) → link_of (links_of nodes) down i ≡ Some j → LinkFits down (numbered nodes i) (numbered nodes j)
-  pub texts : (i j t : ℕ) → text_named (item_at nodes i).body ≡ Some t → text_named (item_at nodes j).body ≡ Some t → i ≡ j
-  pub alignments : (i j t : ℕ) → alignments_named (item_at nodes i).body ≡ Some t → alignments_named (item_at nodes j).body ≡ Some t → i ≡ j
+  pub links : (down : Bool) (i j : ℕ) → link_of (links_of nodes) down i ≡ Some j
+      → LinkFits down (numbered nodes i) (numbered nodes j)
+  pub texts : (i j t : ℕ) → text_named (item_at nodes i).body ≡ Some t → text_named (item_at nodes j).body ≡ Some t
+      → i ≡ j
+  pub alignments : (i j t : ℕ) → alignments_named (item_at nodes i).body ≡ Some t
+      → alignments_named (item_at nodes j).body ≡ Some t → i ≡ j
 
 -- and the rule of delimiter runs
 abbrev pub KeepsRuns : List ℕ → List (Node Item) → Type 0

@@ -1,5 +1,6 @@
 -- What callers see of a builder, and what its calls ask of the text.
-use Rattle.std.specs.Prelude.{◌≡◌, ℕ, ◌-◌, ◌<◌, ◌≤◌, Bool, true, false, ◌==◌, List, [], ◌∷◌, ◌++◌, Option, Some, None, length, slice_index, slice_get}
+use Rattle.std.specs.Prelude.{◌≡◌, ℕ, ◌-◌, ◌<◌, ◌≤◌, Bool, true, false, ◌==◌, List, [], ◌∷◌, ◌++◌, Option, Some, None}
+use Rattle.std.specs.Prelude.{length, slice_index, slice_get}
 use Rattle.std.specs.Char.{is_ascii_whitespace}
 use Rattle.markdown_base.specs.declared.item.ItemBody.{ItemBody}
 use Rattle.markdown_builder.specs.declared.open_block.OpenBlock.{OpenBlock}
@@ -34,7 +35,12 @@ follows_run (Some before) byte = byte == before
 
 -- a block with a body begins here, inside those that were open
 abbrev pub Opens : BuilderView → BuilderView → ItemBody → Type 0
-Opens old new body = new ≡ record old { blocks = old.blocks ++ record { start = old.at; body = body } ∷ []; leaf = is_leaf body; run = None }
+Opens old new body = new ≡ record old {
+  blocks = old.blocks ++ record { start = old.at; body = body } ∷ [];
+  leaf =
+      is_leaf body;
+  run = None;
+}
 
 -- the innermost of the open blocks
 abbrev pub innermost_block : List OpenBlock → Option OpenBlock
@@ -42,8 +48,10 @@ innermost_block blocks = slice_get blocks (length blocks - 1)
 
 -- the innermost open block, where there is one, has another body
 abbrev pub LastHasBody : List OpenBlock → List OpenBlock → ItemBody → Type 0
-LastHasBody old new body = (outer : List OpenBlock) (block : OpenBlock) → old ≡ outer ++ block ∷ [] → new ≡ outer ++ record block { body = body } ∷ []
+LastHasBody old new body = (outer : List OpenBlock) (block : OpenBlock) → old ≡ outer ++ block ∷ []
+    → new ≡ outer ++ record block { body = body } ∷ []
 
 -- the innermost open block, where there is one, begins at another place
 abbrev pub LastBegins : List OpenBlock → List OpenBlock → ℕ → Type 0
-LastBegins old new start = (outer : List OpenBlock) (block : OpenBlock) → old ≡ outer ++ block ∷ [] → new ≡ outer ++ record block { start = start } ∷ []
+LastBegins old new start = (outer : List OpenBlock) (block : OpenBlock) → old ≡ outer ++ block ∷ []
+    → new ≡ outer ++ record block { start = start } ∷ []

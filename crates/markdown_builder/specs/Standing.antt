@@ -1,5 +1,6 @@
 -- Where a builder stands: what it has made so far, and which blocks are open.
-use Rattle.std.specs.Prelude.{◌≡◌, ℕ, ◌<◌, ◌≤◌, Bool, true, false, IsTrue, List, [], ◌∷◌, ◌++◌, Option, Some, None, IfSome, ⊤, ◌⊎◌, length, slice_index}
+use Rattle.std.specs.Prelude.{◌≡◌, ℕ, ◌<◌, ◌≤◌, Bool, true, false, IsTrue, List, [], ◌∷◌, ◌++◌, Option, Some, None}
+use Rattle.std.specs.Prelude.{IfSome, ⊤, ◌⊎◌, length, slice_index}
 use Rattle.std.specs.Char.{is_ascii_whitespace}
 use Rattle.std.specs.List.{AllByRecursion, list_any}
 use Rattle.std.specs.Str.{IsCharBoundary, IsUtf8}
@@ -62,7 +63,8 @@ abbrev pub AreOpen : List (Node Item) → List ℕ → List OpenBlock → Type 0
 AreOpen nodes [] [] = ⊤
 AreOpen nodes [] (block ∷ blocks) = ⊥
 AreOpen nodes (s ∷ spine) [] = ⊥
-AreOpen nodes (s ∷ spine) (block ∷ blocks) = IsOpenAt nodes s block × AllByRecursion (λ t. s < t) spine × AreOpen nodes spine blocks
+AreOpen nodes (s ∷ spine) (block ∷ blocks) = IsOpenAt nodes s block × AllByRecursion (λ t. s < t) spine
+    × AreOpen nodes spine blocks
 
 -- no open block but the innermost is a leaf; whether that is one
 abbrev pub OnlyLastIsLeaf : List OpenBlock → Bool → Type 0
@@ -94,7 +96,8 @@ covered_to (block ∷ blocks) at = block.start
 -- each byte before a place that is no white space is covered
 abbrev pub AreCovered : List ℕ → List (Node Item) → List (CowStr × LinkDef) → ℕ → Type 0
 AreCovered text nodes definitions to =
-    (p : ℕ) → p < to → is_ascii_whitespace (slice_index text p) ≡ false → IsUnderTop nodes p ⊎ IsTrue (is_in_definition definitions p)
+    (p : ℕ) → p < to → is_ascii_whitespace (slice_index text p) ≡ false
+    → IsUnderTop nodes p ⊎ IsTrue (is_in_definition definitions p)
 
 -- a builder stands so, but for delimiter runs
 pub record Stands (s : State) : Type 0 where
@@ -102,7 +105,8 @@ pub record Stands (s : State) : Type 0 where
   pub low : place_at s.tree.spine s.tree.cursor < length s.tree.nodes
   pub free : link_of (links_of s.tree.nodes) (place_down s.tree.cursor) (place_at s.tree.spine s.tree.cursor) ≡ None
   pub fits : (x : Item) → is_inline x.body ≡ s.leaf → s.at ≤ x.start
-      → LinkFits (place_down s.tree.cursor) (numbered s.tree.nodes (place_at s.tree.spine s.tree.cursor)) (record { number = length s.tree.nodes; item = x })
+      → LinkFits (place_down s.tree.cursor) (numbered s.tree.nodes (place_at s.tree.spine s.tree.cursor))
+      (record { number = length s.tree.nodes; item = x })
   pub are_open : AreOpen s.tree.nodes s.tree.spine s.blocks
   pub leaves : OnlyLastIsLeaf s.blocks s.leaf
   pub behind : IfSome s.tree.cursor (λ c. AllByRecursion (λ o. o < c) s.tree.spine)
@@ -115,7 +119,8 @@ pub record Stands (s : State) : Type 0 where
 -- where the node in focus ends a run, callers see its character
 abbrev pub LastRun : List ℕ → List (Node Item) → Option ℕ → Option ℕ → Type 0
 LastRun text nodes cursor run =
-    IfSome cursor (λ c. IfSome (run_character (item_at nodes c).body) (λ r. run ≡ Some (byte_of text (item_at nodes c))))
+    IfSome cursor (λ c. IfSome (run_character (item_at nodes c).body) (λ r. run
+    ≡ Some (byte_of text (item_at nodes c))))
 
 -- no paragraph is tight yet
 abbrev pub NoneTight : List (Node Item) → Type 0

@@ -22,7 +22,8 @@ tight item = record { start = item.start; end = item.end; body = body.TightParag
 -- paragraphs are made tight, one after another
 pub data Tightens (old : Arena Item) : Arena Item → Type 0 where
   none_tight : Tightens old old
-  one_tight : (tree : Arena Item) (number : ℕ) → Tightens old tree → number < length tree.nodes → is_paragraph (item_at tree.nodes number).body ≡ true
+  one_tight : (tree : Arena Item) (number : ℕ) → Tightens old tree → number < length tree.nodes
+      → is_paragraph (item_at tree.nodes number).body ≡ true
       → Tightens old (with_item tree number (tight (item_at tree.nodes number)))
 
 -- a paragraph with a number of a set is tight now
@@ -53,10 +54,16 @@ texts_appended tree start (suc count) = appended (texts_appended tree start coun
 
 -- the character of a run before a place that so many characters of it stand before
 abbrev pub run_item : ℕ → Bool → Bool → ℕ → Item
-run_item stop opens closes count = record { start = stop - count; end = (stop - count) + 1; body = body.MaybeEmphasis count opens closes }
+run_item stop opens closes count = record {
+  start = stop - count;
+  end = (stop - count)
+      + 1;
+  body = body.MaybeEmphasis count opens closes;
+}
 
 -- so many of the last items are made the characters of a run that stops at a place, from the last one on
 abbrev pub run_marked : Arena Item → ℕ → Bool → Bool → ℕ → Arena Item
 run_marked tree stop opens closes zero = tree
 run_marked tree stop opens closes (suc count) =
-    with_item (run_marked tree stop opens closes count) (length tree.nodes - suc count) (run_item stop opens closes (suc count))
+    with_item (run_marked tree stop opens closes count) (length tree.nodes - suc count)
+    (run_item stop opens closes (suc count))

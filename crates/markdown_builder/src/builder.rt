@@ -41,7 +41,12 @@ impl<'a> Model for Builder<'a> {
 
     ghost invariant = { λ b. IsSound (record {
       text = b.text.now;
-      counts = record { texts = length b.cows.items; alignments = length b.alignments.items; attributes = length b.headings.items };
+      counts = record {
+        texts = length b.cows.items;
+        alignments = length b.alignments.items;
+        attributes =
+            length b.headings.items;
+      };
       tree = b.tree;
       definitions = b.definitions.items;
       blocks = b.blocks.items;
@@ -52,14 +57,16 @@ impl<'a> Model for Builder<'a> {
 }
 
 impl<'a> Builder<'a> {
-    ghost use Rattle.std.specs.Prelude.{◌≡◌, ℕ, ◌+◌, ◌≤◌, ◌<◌, ◌++◌, ◌∷◌, [], true, false, Some, None, length, slice_index, slice_get, IfOk, IfSome, MatchOption};
+    ghost use Rattle.std.specs.Prelude.{◌≡◌, ℕ, ◌+◌, ◌≤◌, ◌<◌, ◌++◌, ◌∷◌, [], true, false, Some, None, length};
+    ghost use Rattle.std.specs.Prelude.{slice_index, slice_get, IfOk, IfSome, MatchOption};
     ghost use Rattle.std.specs.Str.{IsCharBoundary};
     ghost use Rattle.markdown_base.specs.declared.item.ItemBody.TheVariants as variant;
     ghost use Rattle.markdown_base.specs.Coverage.{Covers};
     ghost use Rattle.markdown_base.specs.WellFormed.{IsWellFormed, is_delimiter};
     ghost use Rattle.markdown_builder.specs.declared.open_block.OpenBlock.{OpenBlock};
     ghost use Rattle.markdown_builder.specs.Bodies.{is_leaf, is_plain_block, is_settled, mark_byte};
-    ghost use Rattle.markdown_builder.specs.BuilderView.{IsWhite, IsRunOf, follows_run, innermost_block, Opens, LastHasBody, LastBegins};
+    ghost use Rattle.markdown_builder.specs.BuilderView.{IsWhite, IsRunOf, follows_run, innermost_block, Opens};
+    ghost use Rattle.markdown_builder.specs.BuilderView.{LastHasBody, LastBegins};
     ghost use Rattle.markdown_builder.specs.Tightness.{TightInTightLists};
 
     /// Nothing is made yet.
@@ -146,7 +153,8 @@ impl<'a> Builder<'a> {
     pub fn close(&mut self) -> Option<OpenBlock>
         ensures { MatchOption result
             ((self.old.blocks ≡ []) × (self.new ≡ self.old))
-            (λ block. (outer : _) × (self.old.blocks ≡ outer ++ block ∷ []) × (self.new ≡ record self.old { blocks = outer; leaf = false; run = None })) }
+            (λ block. (outer : _) × (self.old.blocks ≡ outer ++ block ∷ [])
+            × (self.new ≡ record self.old { blocks = outer; leaf = false; run = None })) }
     {
         let block = self.blocks.pop()?;
         let item = Item {

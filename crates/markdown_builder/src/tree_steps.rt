@@ -29,9 +29,12 @@ pub fn enter(
     start: usize,
     body: ItemBody,
 ) -> Result<(), AllocError>
-    ensures entered { IfOk result (λ _. tree.new ≡ entered tree.old (record { start = start; end = start; body = body })) }
-    ensures opened { IfOk result (λ _. blocks.new.items ≡ blocks.old.items ++ record { start = start; body = body } ∷ []) }
-    ensures refused { OnErr result ((tree.new ≡ tree.old) ⊎ (tree.new ≡ appended tree.old (record { start = start; end = start; body = body }))) }
+    ensures entered { IfOk result (λ _. tree.new
+        ≡ entered tree.old (record { start = start; end = start; body = body })) }
+    ensures opened { IfOk result (λ _. blocks.new.items ≡ blocks.old.items ++ record { start = start; body = body }
+        ∷ []) }
+    ensures refused { OnErr result ((tree.new ≡ tree.old) ⊎ (tree.new
+        ≡ appended tree.old (record { start = start; end = start; body = body }))) }
     ensures stays { OnErr result (blocks.new.items ≡ blocks.old.items) }
 {
     let item = Item {
@@ -51,7 +54,13 @@ pub fn enter(
 
 /// Goes out of the node gone into last, and writes its item.
 pub fn leave(tree: &mut Tree<Item>, item: Item)
-    ensures { (outer : List ℕ) (ix : ℕ) → tree.old.spine ≡ outer ++ ix ∷ [] → tree.new ≡ record { nodes = changed_at ix (λ n. record n { item = item }) tree.old.nodes; spine = outer; cursor = Some ix } }
+    ensures { (outer : List ℕ) (ix : ℕ) → tree.old.spine ≡ outer ++ ix ∷ []
+        → tree.new ≡ record {
+          nodes = changed_at ix (λ n. record n { item = item }) tree.old.nodes;
+          spine =
+              outer;
+          cursor = Some ix;
+        } }
 {
     match tree.pop() {
         Some(number) => tree.set_item(number, item),
@@ -61,7 +70,8 @@ pub fn leave(tree: &mut Tree<Item>, item: Item)
 
 /// Writes the item of the node gone into last: that of an open block.
 pub fn rewrite(tree: &mut Tree<Item>, block: OpenBlock)
-    ensures { (outer : List ℕ) (ix : ℕ) → tree.old.spine ≡ outer ++ ix ∷ [] → tree.new ≡ with_item tree.old ix (open_item block) }
+    ensures { (outer : List ℕ) (ix : ℕ) → tree.old.spine ≡ outer ++ ix ∷ []
+        → tree.new ≡ with_item tree.old ix (open_item block) }
 {
     let item = Item {
         start: block.start,
@@ -77,7 +87,8 @@ pub fn rewrite(tree: &mut Tree<Item>, block: OpenBlock)
 /// Puts a block in the place of the last one.
 pub fn replace_last(blocks: &mut Vec<OpenBlock>, block: OpenBlock)
     requires { 0 < length blocks.old.items }
-    ensures { (outer : List OpenBlock) (last : OpenBlock) → blocks.old.items ≡ outer ++ last ∷ [] → blocks.new.items ≡ outer ++ block ∷ [] }
+    ensures { (outer : List OpenBlock) (last : OpenBlock) → blocks.old.items ≡ outer ++ last ∷ []
+        → blocks.new.items ≡ outer ++ block ∷ [] }
 {
     let last = blocks.len() - 1;
     blocks[last] = block;
@@ -98,7 +109,8 @@ pub fn push_text<'a>(texts: &mut Vec<CowStr<'a>>, text: CowStr<'a>) -> Result<Co
 pub fn append_texts(tree: &mut Tree<Item>, start: usize, end: usize) -> Result<(), AllocError>
     requires { start ≤ end }
     ensures appended { IfOk result (λ _. tree.new ≡ texts_appended tree.old start (end - start)) }
-    ensures refused { OnErr result ((count : ℕ) × (start + count ≤ end) × (tree.new ≡ texts_appended tree.old start count)) }
+    ensures refused { OnErr result ((count : ℕ) × (start + count ≤ end)
+        × (tree.new ≡ texts_appended tree.old start count)) }
 {
     'bytes: for at in start..end {
         let text = Item {

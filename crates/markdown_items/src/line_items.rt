@@ -103,7 +103,8 @@ fn append_found(
 /// Items are delimiter runs with their flags (CommonMark 6.2), quotation marks with smart punctuation on, `$` with
 /// math on, backticks, `<`, `[`, `![` and `]`, and what entities stand for (2.5). A backslash before ASCII
 /// punctuation stands in no item (2.4). All else is text, one Text for what lies between two of these. For the flags a
-/// line ending stands before the content, and behind it what stands there in the text, as the backslash of a hard break.
+/// line ending stands before the content, and behind it what stands there in the text, as the backslash of a hard
+/// break.
 ///
 /// An error says that memory was refused: part of the items may have been appended then.
 #[tactic(auto, using(crate::proofs::ItemLemmas::goes_on))]

@@ -16,14 +16,18 @@ tighten_siblings-requires c = record {
 
 pub items-smaller : goal.items-smaller
 items-smaller c =
-    (item_step c.args.tree.now.nodes c.items.tree.nodes c.tighten_siblings.new.tree.nodes c.args.list c.items.link c.next-link.result c.child-first.result c.in-Some.item
-    c.requires.rising c.items.invariant.left c.in-Some.is c.child-first.ensures.value c.tighten_siblings.ensures.makes c.next-link.ensures.value).1
+    (item_step c.args.tree.now.nodes c.items.tree.nodes c.tighten_siblings.new.tree.nodes c.args.list c.items.link c.next-link.result
+    c.child-first.result c.in-Some.item
+    c.requires.rising c.items.invariant.left c.in-Some.is c.child-first.ensures.value c.tighten_siblings.ensures.makes
+    c.next-link.ensures.value).1
 
 pub items-preserved : goal.items-preserved
 items-preserved c = record {
   steps = λ start t. c.tighten_siblings.ensures.steps start (c.items.invariant.steps start t);
-  left = (item_step c.args.tree.now.nodes c.items.tree.nodes c.tighten_siblings.new.tree.nodes c.args.list c.items.link c.next-link.result c.child-first.result c.in-Some.item
-      c.requires.rising c.items.invariant.left c.in-Some.is c.child-first.ensures.value c.tighten_siblings.ensures.makes c.next-link.ensures.value).0;
+  left = (item_step c.args.tree.now.nodes c.items.tree.nodes c.tighten_siblings.new.tree.nodes c.args.list c.items.link c.next-link.result
+      c.child-first.result c.in-Some.item
+      c.requires.rising c.items.invariant.left c.in-Some.is c.child-first.ensures.value c.tighten_siblings.ensures.makes
+      c.next-link.ensures.value).0;
 }
 
 pub returns-clause-makes : goal.returns-clause-makes

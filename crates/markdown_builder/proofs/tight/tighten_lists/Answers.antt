@@ -19,10 +19,12 @@ lists-preserved c =
     elim c.if-is_tight_list.branch [
       | then-is_tight_list w ↦ rw w.tree-is (record {
         steps = w.tighten_items.ensures.steps _ c.lists.invariant.steps;
-        makes = list_made c.args.tree.now.nodes c.lists.tree.nodes _ c.lists.number c.lists.invariant.makes w.tighten_items.ensures.makes (same ∙ w.if-is_tight_list.true);
+        makes = list_made c.args.tree.now.nodes c.lists.tree.nodes _ c.lists.number c.lists.invariant.makes w.tighten_items.ensures.makes
+            (same ∙ w.if-is_tight_list.true);
       })
       | else-is_tight_list w ↦ rw w.tree-is (record {
         steps = c.lists.invariant.steps;
-        makes = list_passed c.args.tree.now.nodes c.lists.tree.nodes c.lists.number c.lists.invariant.makes (same ∙ w.if-is_tight_list.false);
+        makes = list_passed c.args.tree.now.nodes c.lists.tree.nodes c.lists.number c.lists.invariant.makes (same
+            ∙ w.if-is_tight_list.false);
       })
     ]

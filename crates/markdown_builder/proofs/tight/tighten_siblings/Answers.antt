@@ -26,18 +26,21 @@ next-link-requires c =
 
 pub siblings-smaller : goal.siblings-smaller
 siblings-smaller c =
-    (sibling_step c.args.tree.now.nodes c.siblings.tree.nodes c.tighten.new.tree.nodes c.args.first c.siblings.link c.next-link.result c.in-Some.number
+    (sibling_step c.args.tree.now.nodes c.siblings.tree.nodes c.tighten.new.tree.nodes c.args.first c.siblings.link c.next-link.result
+    c.in-Some.number
     c.requires.rising c.siblings.invariant.left c.in-Some.is c.tighten.ensures.makes c.next-link.ensures.value).1
 
 pub siblings-preserved : goal.siblings-preserved
 siblings-preserved c = record {
   steps = λ start t. c.tighten.ensures.steps start (c.siblings.invariant.steps start t);
-  left = (sibling_step c.args.tree.now.nodes c.siblings.tree.nodes c.tighten.new.tree.nodes c.args.first c.siblings.link c.next-link.result c.in-Some.number
+  left = (sibling_step c.args.tree.now.nodes c.siblings.tree.nodes c.tighten.new.tree.nodes c.args.first c.siblings.link c.next-link.result
+      c.in-Some.number
       c.requires.rising c.siblings.invariant.left c.in-Some.is c.tighten.ensures.makes c.next-link.ensures.value).0;
 }
 
 pub returns : goal.returns
 returns c = record {
   steps = λ start t. c.siblings.invariant.steps start t;
-  makes = siblings_done c.args.tree.now.nodes c.siblings.tree.nodes c.args.first c.siblings.link c.siblings.invariant.left c.in_default.not-Some;
+  makes = siblings_done c.args.tree.now.nodes c.siblings.tree.nodes c.args.first c.siblings.link c.siblings.invariant.left
+      c.in_default.not-Some;
 }

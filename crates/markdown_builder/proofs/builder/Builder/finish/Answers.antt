@@ -11,12 +11,14 @@ tighten_lists-requires c = c.self.invariant.stands.nodes.rising
 
 pub returns-clause-formed : goal.returns-clause-formed
 returns-clause-formed c =
-    let k = finish_keeps c.args.self c.tighten_lists.new.tree c.self.invariant c.self.view_is c.requires.closed c.tighten_lists.ensures.steps in
+    let k = finish_keeps c.args.self c.tighten_lists.new.tree c.self.invariant c.self.view_is c.requires.closed
+    c.tighten_lists.ensures.steps in
     rw (← c.self.view_is) (keeps_formed c.self.inside.text.now c.tighten_lists.new.tree.nodes _ k.stands.nodes k.runs)
 
 pub returns-clause-covered : goal.returns-clause-covered
 returns-clause-covered c =
-    let k = finish_keeps c.args.self c.tighten_lists.new.tree c.self.invariant c.self.view_is c.requires.closed c.tighten_lists.ensures.steps in
+    let k = finish_keeps c.args.self c.tighten_lists.new.tree c.self.invariant c.self.view_is c.requires.closed
+    c.tighten_lists.ensures.steps in
     covers_at_end c.args.self
     (record {
       definitions = c.self.inside.definitions;
@@ -27,4 +29,5 @@ returns-clause-covered c =
     }) k.stands c.self.view_is refl c.requires.closed c.requires.read
 
 pub returns-clause-tight : goal.returns-clause-tight
-returns-clause-tight c = tight_in_tight_lists c.self.inside.tree.nodes c.tighten_lists.new.tree.nodes c.self.invariant.loose c.tighten_lists.ensures.makes
+returns-clause-tight c = tight_in_tight_lists c.self.inside.tree.nodes c.tighten_lists.new.tree.nodes c.self.invariant.loose
+    c.tighten_lists.ensures.makes

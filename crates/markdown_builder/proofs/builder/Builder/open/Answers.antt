@@ -5,7 +5,8 @@ use Rattle.markdown_builder.proofs.builder.Builder.open.Goals as goal
 pub invariant_of-self : goal.invariant_of-self
 invariant_of-self c =
     rw c.in_err-enter.ensures.stays
-    (open_refused c.args.self.now c.args.body c.enter.new.tree c.self.invariant c.self.view_is c.requires.block c.requires.outside c.in_err-enter.ensures.refused)
+    (open_refused c.args.self.now c.args.body c.enter.new.tree c.self.invariant c.self.view_is c.requires.block c.requires.outside
+    c.in_err-enter.ensures.refused)
 
 pub invariant_of-self-2 : goal.invariant_of-self-2
 invariant_of-self-2 c =

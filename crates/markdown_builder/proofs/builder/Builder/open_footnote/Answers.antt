@@ -9,14 +9,16 @@ pub invariant_of-self-in_err-enter : goal.invariant_of-self-in_err-enter
 invariant_of-self-in_err-enter c =
     let ix = c.in_ok-ix.ix in
     rw c.in_err-enter.ensures.stays
-    (named_refused c.args.self.now _ (body.FootnoteDefinition ix) ix c.enter.new.tree c.self.invariant c.self.view_is c.requires c.in_ok-ix.ensures.number
+    (named_refused c.args.self.now _ (body.FootnoteDefinition ix) ix c.enter.new.tree c.self.invariant c.self.view_is c.requires
+    c.in_ok-ix.ensures.number
     (c.in_ok-ix.ensures.more, refl, refl) (footnote_names ix) refl c.in_err-enter.ensures.refused)
 
 pub invariant_of-self-2 : goal.invariant_of-self-2
 invariant_of-self-2 c =
     let ix = c.in_ok-ix.ix in
     rw (c.in_ok-enter.ensures.entered, c.in_ok-enter.ensures.opened)
-    (named_keeps c.args.self.now _ (body.FootnoteDefinition ix) ix c.self.invariant c.self.view_is c.requires c.in_ok-ix.ensures.number (c.in_ok-ix.ensures.more, refl, refl) (footnote_names ix) refl)
+    (named_keeps c.args.self.now _ (body.FootnoteDefinition ix) ix c.self.invariant c.self.view_is c.requires c.in_ok-ix.ensures.number
+    (c.in_ok-ix.ensures.more, refl, refl) (footnote_names ix) refl)
 
 pub returns : goal.returns
 returns c = rw (← c.self.view_is) (c.in_ok-ix.ix, rw c.in_ok-enter.ensures.opened refl)
