@@ -1,3 +1,10 @@
 -- the lines of a text
 pub mod Lines
+pub mod LineBytes
 pub mod LineBreaks
+-- what a line's content begins
+pub mod AtxHeadings
+pub mod CodeFences
+pub mod HtmlKinds
+pub mod ListMarkers
+pub mod ThematicBreaks

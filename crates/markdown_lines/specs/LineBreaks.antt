@@ -1,5 +1,5 @@
 -- What stands between two lines of a paragraph, by the bytes at the first one's end.
-use Rattle.std.specs.Prelude.{◌≡◌, ℕ, ◌-◌, ◌%◌, Bool, true, false, cond, ◌==◌, List, nat_lt}
+use Rattle.std.specs.Prelude.{◌≡◌, ℕ, ◌-◌, ◌%◌, true, false, cond, ◌==◌, List, nat_lt}
 use Rattle.markdown_base.specs.declared.item.ItemBody.TheVariants as body
 use Rattle.markdown_lines.specs.declared.line_break.LineBreak.{LineBreak}
 use Rattle.markdown_lines.specs.Lines.{is_space_or_tab, IsRunBefore}

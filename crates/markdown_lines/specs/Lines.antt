@@ -1,6 +1,9 @@
 -- The lines of a text, and the runs of bytes at their ends.
-use Rattle.std.specs.Prelude.{◌≡◌, ℕ, suc, ◌<◌, ◌≤◌, Bool, true, false, ◌==◌, ◌||◌, List, Option, Some, None, length, slice_index}
+use Rattle.std.specs.Prelude.{◌≡◌, ℕ, suc, ◌+◌, ◌<◌, ◌≤◌, Bool, true, false, ◌==◌, ◌||◌, List, Option, Some, None}
+use Rattle.std.specs.Prelude.{length, drop, slice_index}
 use Rattle.std.specs.Str.{IsCharBoundary}
+use Rattle.markdown_scan.specs.LineEnd.{line_ending}
+use Rattle.markdown_lines.specs.declared.line.Line.{Line}
 
 -- a space or a tab
 abbrev pub is_space_or_tab : ℕ → Bool
@@ -37,3 +40,26 @@ pub record IsRunBefore (test : ℕ → Bool) (text : List ℕ) (from stop start 
 abbrev pub IsNextContent : List ℕ → ℕ → Option ℕ → Type 0
 IsNextContent text from None = AllPass is_blank text from (length text)
 IsNextContent text from (Some found) = (found < length text) × IsFirstOther is_blank text from found
+
+-- `found` is the first place from `from` on whose byte begins a line ending, or the end
+pub record IsLineEnd (text : List ℕ) (from found : ℕ) : Type 0 where
+  pub low : from ≤ found
+  pub high : found ≤ length text
+  pub content : (at : ℕ) → from ≤ at → at < found → is_line_ending (slice_index text at) ≡ false
+  pub stops : found < length text → is_line_ending (slice_index text found) ≡ true
+
+-- how many bytes a line ending takes, where one was found
+abbrev pub length_of_ending : Option ℕ → ℕ
+length_of_ending None = 0
+length_of_ending (Some bytes) = bytes
+
+-- how many bytes the line ending takes that some bytes begin with
+abbrev pub ending_length : List ℕ → ℕ
+ending_length bytes = length_of_ending (line_ending bytes)
+
+-- a line that begins at a place: its content goes up to the first line ending, or the end, and the next line begins
+-- behind that line ending
+pub record IsLineFrom (text : List ℕ) (start : ℕ) (line : Line) : Type 0 where
+  pub begins : line.start ≡ start
+  pub content : IsLineEnd text start line.stop
+  pub ends : line.next ≡ line.stop + ending_length (drop line.stop text)

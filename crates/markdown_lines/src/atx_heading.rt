@@ -1,7 +1,10 @@
 //! ATX headings (CommonMark 4.2).
-ghost use Rattle.std.specs.Prelude.{◌≤◌, length};
+ghost use Rattle.std.specs.Prelude.{◌≡◌, ◌≤◌, ◌-◌, length};
+ghost use Rattle.std.specs.List.{suffix_len};
+ghost use Rattle.markdown_lines.specs.AtxHeadings.{is_hash, level_of, heading_content, atx_heading_at};
+ghost use Rattle.markdown_lines.specs.Lines.{is_space_or_tab};
 
-use crate::bytes::{bytes_of, run_length, white_length};
+use crate::bytes::{bytes_of, is_parted, run_length, white_length};
 use crate::line::is_space_or_tab;
 use markdown_base::tag::HeadingLevel;
 
@@ -14,7 +17,9 @@ pub struct AtxHeading {
 }
 
 /// The level of as many `#`.
-fn heading_level(count: usize) -> Option<HeadingLevel> {
+fn heading_level(count: usize) -> Option<HeadingLevel>
+    ensures { result ≡ level_of count }
+{
     match count {
         1 => Some(HeadingLevel::H1),
         2 => Some(HeadingLevel::H2),
@@ -28,35 +33,34 @@ fn heading_level(count: usize) -> Option<HeadingLevel> {
 
 /// How many bytes stand before the white space at the end of some.
 pub fn trimmed_length(content: &[u8]) -> usize
-    ensures { result ≤ length content.now }
+    ensures value { result ≡ length content.now - suffix_len is_space_or_tab content.now }
+    ensures within { result ≤ length content.now }
 {
-    let mut rest = content;
-    'trim: while let Some((last, before)) = rest.split_last() {
-        if !is_space_or_tab(*last) {
-            break;
-        }
-        rest = before;
+    let mut end = content.len();
+    'trim: while end > 0 && is_space_or_tab(content[end - 1]) {
+        end -= 1;
     }
-    rest.len()
+    end
 }
 
 /// How many bytes stand before the run of `#` at the end of some.
 fn unclosed_length(content: &[u8]) -> usize
-    ensures { result ≤ length content.now }
+    ensures value { result ≡ length content.now - suffix_len is_hash content.now }
+    ensures within { result ≤ length content.now }
 {
-    let mut rest = content;
-    'run: while let Some((last, before)) = rest.split_last() {
-        if *last != b'#' {
-            break;
-        }
-        rest = before;
+    let mut end = content.len();
+    'run: while end > 0 && content[end - 1] == b'#' {
+        end -= 1;
     }
-    rest.len()
+    end
 }
 
 /// How many bytes of a heading's content stand before the white space at its end, and before a closing sequence
 /// of `#` behind white space or nothing.
-fn content_length(content: &[u8]) -> usize {
+fn content_length(content: &[u8]) -> usize
+    ensures value { result ≡ length (heading_content content.now) }
+    ensures within { result ≤ length content.now }
+{
     let end = trimmed_length(content);
     let open = unclosed_length(&content[..end]);
     let before = trimmed_length(&content[..open]);
@@ -68,14 +72,14 @@ fn content_length(content: &[u8]) -> usize {
 }
 
 /// The ATX heading whose `#` stands at `at` in a line, of which the content stops before `stop`.
-pub fn atx_heading(text: &str, at: usize, stop: usize) -> Option<AtxHeading> {
+pub fn atx_heading(text: &str, at: usize, stop: usize) -> Option<AtxHeading>
+    ensures { result ≡ atx_heading_at text.now at stop }
+{
     let line = bytes_of(text, at, stop);
     let count = run_length(line, b'#');
     let level = heading_level(count)?;
     let rest = &line[count..];
-    if let Some(next) = rest.first()
-        && !is_space_or_tab(*next)
-    {
+    if !is_parted(rest) {
         return None;
     }
     let white = white_length(rest);

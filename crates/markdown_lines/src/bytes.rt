@@ -1,10 +1,15 @@
 //! The bytes of a text, by place: what stands outside the text is nothing.
-ghost use Rattle.std.specs.Prelude.{◌≤◌, length};
+ghost use Rattle.std.specs.Prelude.{◌≡◌, ◌≤◌, ◌+◌, ◌==◌, length, slice_get, slice_range};
+ghost use Rattle.std.specs.List.{list_all, prefix_len};
+ghost use Rattle.markdown_lines.specs.LineBytes.{IsPartOf, is_parted};
+ghost use Rattle.markdown_lines.specs.Lines.{is_space_or_tab};
 
 use crate::line::is_space_or_tab;
 
 /// The byte at a place, if one stands there.
-pub fn byte_at(text: &str, at: usize) -> Option<u8> {
+pub fn byte_at(text: &str, at: usize) -> Option<u8>
+    ensures { result ≡ slice_get text.now at }
+{
     match text.as_bytes().get(at) {
         Some(byte) => Some(*byte),
         None => None,
@@ -12,7 +17,9 @@ pub fn byte_at(text: &str, at: usize) -> Option<u8> {
 }
 
 /// The bytes from one place up to another.
-pub fn bytes_of(text: &str, from: usize, to: usize) -> &[u8] {
+pub fn bytes_of(text: &str, from: usize, to: usize) -> &[u8]
+    ensures { result.now ≡ slice_range text.now from to }
+{
     let bytes = text.as_bytes();
     let end = to.min(bytes.len());
     let start = from.min(end);
@@ -20,7 +27,9 @@ pub fn bytes_of(text: &str, from: usize, to: usize) -> &[u8] {
 }
 
 /// The text from one place up to another, both between characters.
-pub fn part_of(text: &str, from: usize, to: usize) -> &str {
+pub fn part_of(text: &str, from: usize, to: usize) -> &str
+    ensures { IsPartOf text.now from to result.now }
+{
     if from <= to && text.is_char_boundary(from) && text.is_char_boundary(to) {
         &text[from..to]
     } else {
@@ -30,10 +39,11 @@ pub fn part_of(text: &str, from: usize, to: usize) -> &str {
 
 /// How many bytes are spaces and tabs before the first other one.
 pub fn white_length(bytes: &[u8]) -> usize
-    ensures { result ≤ length bytes.now }
+    ensures value { result ≡ prefix_len is_space_or_tab bytes.now }
+    ensures within { result ≤ length bytes.now }
 {
-    for (at, byte) in bytes.iter().enumerate() {
-        if !is_space_or_tab(*byte) {
+    for at in 0..bytes.len() {
+        if !is_space_or_tab(bytes[at]) {
             return at;
         }
     }
@@ -41,16 +51,34 @@ pub fn white_length(bytes: &[u8]) -> usize
 }
 
 /// Whether bytes are spaces and tabs.
-pub fn is_white(bytes: &[u8]) -> bool {
-    white_length(bytes) == bytes.len()
+pub fn is_white(bytes: &[u8]) -> bool
+    ensures { result ≡ list_all is_space_or_tab bytes.now }
+{
+    for byte in bytes {
+        if !is_space_or_tab(*byte) {
+            return false;
+        }
+    }
+    true
+}
+
+/// Whether nothing comes first, or a space or a tab.
+pub fn is_parted(bytes: &[u8]) -> bool
+    ensures { result ≡ is_parted bytes.now }
+{
+    match bytes.first() {
+        None => true,
+        Some(byte) => is_space_or_tab(*byte),
+    }
 }
 
 /// How many bytes are a given one before the first other one.
 pub fn run_length(bytes: &[u8], byte: u8) -> usize
-    ensures { result ≤ length bytes.now }
+    ensures value { result ≡ prefix_len (λ b. b == byte) bytes.now }
+    ensures within { result ≤ length bytes.now }
 {
-    for (at, here) in bytes.iter().enumerate() {
-        if *here != byte {
+    for at in 0..bytes.len() {
+        if bytes[at] != byte {
             return at;
         }
     }
@@ -58,6 +86,8 @@ pub fn run_length(bytes: &[u8], byte: u8) -> usize
 }
 
 /// The first byte from `from` on, before `to`, that is no space and no tab, or else `to`.
-pub fn content_start(text: &str, from: usize, to: usize) -> usize {
+pub fn content_start(text: &str, from: usize, to: usize) -> usize
+    ensures { result ≡ from + prefix_len is_space_or_tab (slice_range text.now from to) }
+{
     from.saturating_add(white_length(bytes_of(text, from, to)))
 }

@@ -1,5 +1,7 @@
 //! The kinds of HTML blocks, by how they begin and end (CommonMark 4.6).
-ghost use Rattle.std.specs.Prelude.{◌≤◌, length};
+ghost use Rattle.std.specs.Prelude.{◌≡◌, ◌≤◌, length};
+ghost use Rattle.markdown_lines.specs.HtmlKinds.{begins_with, behind_slash, ends_at_blank, ends_in, holds};
+ghost use Rattle.markdown_lines.specs.HtmlKinds.{is_after_name, tag_name};
 
 use crate::bytes::{bytes_of, is_white, part_of};
 use crate::line::is_space_or_tab;
@@ -28,7 +30,9 @@ pub enum HtmlKind {
 
 impl HtmlKind {
     /// Whether a block of this kind ends before a blank line.
-    pub fn ends_at_blank(self) -> bool {
+    pub fn ends_at_blank(self) -> bool
+        ensures { result ≡ ends_at_blank self }
+    {
         match self {
             HtmlKind::BlockTag | HtmlKind::LoneTag => true,
             _ => false,
@@ -36,7 +40,9 @@ impl HtmlKind {
     }
 
     /// Whether a block of this kind ends with a line that holds these bytes.
-    pub fn ends_in(self, line: &[u8]) -> bool {
+    pub fn ends_in(self, line: &[u8]) -> bool
+        ensures { result ≡ ends_in self line.now }
+    {
         match self {
             HtmlKind::Verbatim => {
                 holds(line, b"</pre>")
@@ -54,13 +60,17 @@ impl HtmlKind {
 }
 
 /// Whether bytes begin with others, the case of letters aside.
-fn begins_with(bytes: &[u8], beginning: &[u8]) -> bool {
+fn begins_with(bytes: &[u8], beginning: &[u8]) -> bool
+    ensures { result ≡ begins_with bytes.now beginning.now }
+{
     beginning.len() <= bytes.len() && bytes[..beginning.len()].eq_ignore_ascii_case(beginning)
 }
 
 /// Whether bytes hold others, the case of letters aside.
-fn holds(bytes: &[u8], others: &[u8]) -> bool {
-    for (at, _) in bytes.iter().enumerate() {
+fn holds(bytes: &[u8], others: &[u8]) -> bool
+    ensures { result ≡ holds bytes.now others.now }
+{
+    for at in 0..bytes.len() {
         if begins_with(&bytes[at..], others) {
             return true;
         }
@@ -149,10 +159,11 @@ fn is_one_of(name: &[u8], names: &[&str]) -> bool {
 
 /// The name that bytes begin with: letters and digits.
 fn tag_name(bytes: &[u8]) -> &[u8]
-    ensures { length result.now ≤ length bytes.now }
+    ensures value { result.now ≡ tag_name bytes.now }
+    ensures within { length result.now ≤ length bytes.now }
 {
-    for (at, byte) in bytes.iter().enumerate() {
-        if !byte.is_ascii_alphanumeric() {
+    for at in 0..bytes.len() {
+        if !bytes[at].is_ascii_alphanumeric() {
             return &bytes[..at];
         }
     }
@@ -160,7 +171,9 @@ fn tag_name(bytes: &[u8]) -> &[u8]
 }
 
 /// Whether a space, a tab, a `>` or nothing comes next.
-fn is_after_name(rest: &[u8]) -> bool {
+fn is_after_name(rest: &[u8]) -> bool
+    ensures { result ≡ is_after_name rest.now }
+{
     match rest.first() {
         None => true,
         Some(byte) => is_space_or_tab(*byte) || *byte == b'>',
@@ -204,15 +217,17 @@ fn named_kind(rest: &[u8]) -> Option<HtmlKind> {
 /// the first kind.
 fn is_lone_tag(alloc: Global, text: &str, at: usize, stop: usize) -> Result<bool, AllocError> {
     let line = part_of(text, at, stop);
-    let Some((end, _copy)) = scan_html_tag(alloc, line, 0, &OneLine)? else {
+    let Some(tag) = scan_html_tag(alloc, line, 0, &OneLine)? else {
         return Ok(false);
     };
     let name = tag_name(behind_slash(bytes_of(line, 1, line.len())));
-    Ok(!is_one_of(name, &VERBATIM) && is_white(bytes_of(line, end, line.len())))
+    Ok(!is_one_of(name, &VERBATIM) && is_white(bytes_of(line, tag.end, line.len())))
 }
 
 /// Bytes without the slash that they begin with, if they do.
-fn behind_slash(bytes: &[u8]) -> &[u8] {
+fn behind_slash(bytes: &[u8]) -> &[u8]
+    ensures { result.now ≡ behind_slash bytes.now }
+{
     match bytes.split_first() {
         Some((b'/', rest)) => rest,
         _ => bytes,

@@ -1,7 +1,9 @@
 //! The lines of a text: where they end, and where their content begins and ends (CommonMark 2.1, 2.2).
 ghost use Rattle.std.specs.Prelude.{◌≡◌, ◌<◌, ◌≤◌, ◌==◌, length};
 ghost use Rattle.std.specs.Str.{IsCharBoundary};
-ghost use Rattle.markdown_lines.specs.Lines.{is_space_or_tab, is_blank, IsRunBefore, IsNextContent};
+ghost use Rattle.std.specs.List.{list_any};
+ghost use Rattle.markdown_lines.specs.Lines.{is_space_or_tab, is_line_ending, is_blank, ending_length};
+ghost use Rattle.markdown_lines.specs.Lines.{IsRunBefore, IsNextContent, IsLineEnd, IsLineFrom};
 
 use markdown_scan::line_end::scan_line_ending;
 
@@ -24,39 +26,74 @@ pub fn is_space_or_tab(byte: u8) -> bool
 fn is_blank(byte: u8) -> bool
     ensures { result ≡ is_blank byte }
 {
-    is_space_or_tab(byte) || byte == b'\n' || byte == b'\r'
+    is_space_or_tab(byte) || begins_line_ending(byte)
 }
 
-/// The line that begins at `start`, up to its line ending or the end of the text.
-pub fn line_from(text: &str, start: usize) -> Line
-    ensures { start < length text.now → start < result.next }
+/// How many bytes are looked at together, where none of them ends a line: no branch for each.
+const TOGETHER: usize = 16;
+
+/// Whether a byte begins a line ending.
+#[inline(always)]
+fn begins_line_ending(byte: u8) -> bool
+    ensures { result ≡ is_line_ending byte }
 {
-    let bytes = text.as_bytes();
-    for stop in start..bytes.len() {
-        if bytes[stop] == b'\n' || bytes[stop] == b'\r' {
-            return Line {
-                start,
-                stop,
-                next: stop + ending_length(&bytes[stop..]),
-            };
+    byte == b'\n' || byte == b'\r'
+}
+
+/// Whether one of the bytes begins a line ending.
+#[inline(always)]
+fn holds_line_ending(bytes: &[u8]) -> bool
+    ensures { result ≡ list_any is_line_ending bytes.now }
+{
+    let mut found = false;
+    for byte in bytes {
+        found |= begins_line_ending(*byte);
+    }
+    found
+}
+
+/// The first place from `from` on whose byte begins a line ending, or the end.
+fn first_line_ending(bytes: &[u8], from: usize) -> usize
+    requires { from ≤ length bytes.now }
+    ensures { IsLineEnd bytes.now from result }
+{
+    let mut start = from;
+    'content: while bytes.len() - start >= TOGETHER
+        && !holds_line_ending(&bytes[start..start + TOGETHER])
+    {
+        start += TOGETHER;
+    }
+    for at in start..bytes.len() {
+        if begins_line_ending(bytes[at]) {
+            return at;
         }
     }
-    Line {
-        start,
-        stop: bytes.len(),
-        next: bytes.len(),
+    bytes.len()
+}
+
+/// How many bytes the line ending takes that some bytes begin with: none where they begin with none.
+fn ending_length(bytes: &[u8]) -> usize
+    ensures value { result ≡ ending_length bytes.now }
+    ensures within { result ≤ length bytes.now }
+{
+    match scan_line_ending(bytes) {
+        Some(length) => length,
+        None => 0,
     }
 }
 
-/// How many bytes of those from a line ending on are a part of it.
-fn ending_length(rest: &[u8]) -> usize
-    requires { 0 < length rest.now }
-    ensures some { 0 < result }
-    ensures within { result ≤ length rest.now }
+/// The line that begins at `start`, up to its line ending or the end of the text; behind the text an empty one.
+pub fn line_from(text: &str, start: usize) -> Line
+    ensures value { start ≤ length text.now → IsLineFrom text.now start result }
+    ensures longer { start < length text.now → start < result.next }
 {
-    match scan_line_ending(rest) {
-        Some(length) => length.max(1),
-        None => 1,
+    let bytes = text.as_bytes();
+    let begin = start.min(bytes.len());
+    let stop = first_line_ending(bytes, begin);
+    Line {
+        start: begin,
+        stop,
+        next: stop + ending_length(&bytes[stop..]),
     }
 }
 

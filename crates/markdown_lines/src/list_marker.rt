@@ -1,8 +1,11 @@
 //! List markers (CommonMark 5.2).
-ghost use Rattle.std.specs.Prelude.{◌≤◌, length};
+ghost use Rattle.std.specs.Prelude.{◌≡◌, ◌≤◌, true, length, IfSome};
+ghost use Rattle.std.specs.Char.{is_ascii_digit};
+ghost use Rattle.std.specs.List.{list_all, prefix_len};
+ghost use Rattle.markdown_lines.specs.ListMarkers.{decimal, is_delimiter, list_marker_at, marker_of, may_interrupt};
+ghost use Rattle.markdown_lines.specs.ListMarkers.{ordered_marker};
 
-use crate::bytes::{bytes_of, is_white};
-use crate::line::is_space_or_tab;
+use crate::bytes::{bytes_of, is_parted, is_white};
 
 /// A list marker: its character, a `.` or `)` of an ordered list; its number; its length in bytes.
 #[derive(Clone, Copy, Drop)]
@@ -12,20 +15,33 @@ pub struct ListMarker {
     pub width: usize,
 }
 
+/// Whether a byte ends the marker of an ordered list.
+fn is_delimiter(byte: u8) -> bool
+    ensures { result ≡ is_delimiter byte }
+{
+    byte == b'.' || byte == b')'
+}
+
 impl ListMarker {
     /// Whether it is that of an item in an ordered list.
-    fn is_ordered(self) -> bool {
-        self.character == b'.' || self.character == b')'
+    fn is_ordered(self) -> bool
+        ensures { result ≡ is_delimiter self.character }
+    {
+        is_delimiter(self.character)
     }
 
     /// Whether such an item may interrupt a paragraph: one of an ordered list has to be numbered 1.
-    fn may_interrupt(self) -> bool {
+    fn may_interrupt(self) -> bool
+        ensures { result ≡ may_interrupt self }
+    {
         !self.is_ordered() || self.first == 1
     }
 }
 
 /// The number that a run of at most nine digits is.
-fn number_of(digits: &[u8]) -> u64 {
+fn number_of(digits: &[u8]) -> u64
+    ensures { length digits.now ≤ 9 → list_all is_ascii_digit digits.now ≡ true → result ≡ decimal digits.now }
+{
     let mut number: u64 = 0;
     for digit in digits {
         number = number
@@ -37,10 +53,11 @@ fn number_of(digits: &[u8]) -> u64 {
 
 /// How many digits bytes begin with.
 fn digit_count(bytes: &[u8]) -> usize
-    ensures { result ≤ length bytes.now }
+    ensures value { result ≡ prefix_len is_ascii_digit bytes.now }
+    ensures within { result ≤ length bytes.now }
 {
-    for (at, byte) in bytes.iter().enumerate() {
-        if !byte.is_ascii_digit() {
+    for at in 0..bytes.len() {
+        if !bytes[at].is_ascii_digit() {
             return at;
         }
     }
@@ -48,22 +65,30 @@ fn digit_count(bytes: &[u8]) -> usize
 }
 
 /// The marker of an ordered list that stands here: one to nine digits, and a `.` or `)`.
-fn ordered_marker(bytes: &[u8]) -> Option<ListMarker> {
+fn ordered_marker(bytes: &[u8]) -> Option<ListMarker>
+    ensures value { result ≡ ordered_marker bytes.now }
+    ensures within { IfSome result (λ marker. marker.width ≤ length bytes.now) }
+{
     let count = digit_count(bytes);
     let (digits, rest) = bytes.split_at(count);
-    let character = *rest.first()?;
-    if count == 0 || count > 9 || (character != b'.' && character != b')') {
+    let Some(character) = rest.first() else {
+        return None;
+    };
+    if count == 0 || count > 9 || !is_delimiter(*character) {
         return None;
     }
     Some(ListMarker {
-        character,
+        character: *character,
         first: number_of(digits),
         width: count + 1,
     })
 }
 
 /// The marker that stands here, whatever follows it.
-fn any_marker(bytes: &[u8]) -> Option<ListMarker> {
+fn any_marker(bytes: &[u8]) -> Option<ListMarker>
+    ensures value { result ≡ marker_of bytes.now }
+    ensures within { IfSome result (λ marker. marker.width ≤ length bytes.now) }
+{
     match bytes.first() {
         Some(byte) if *byte == b'-' || *byte == b'+' || *byte == b'*' => Some(ListMarker {
             character: *byte,
@@ -77,16 +102,13 @@ fn any_marker(bytes: &[u8]) -> Option<ListMarker> {
 /// The list marker that stands in a line at `at`, which a space, a tab or the end of the line's content
 /// follows. One that interrupts a paragraph begins an item that is not blank, and not with another number
 /// than 1.
-pub fn list_marker(text: &str, at: usize, stop: usize, interrupts: bool) -> Option<ListMarker> {
+pub fn list_marker(text: &str, at: usize, stop: usize, interrupts: bool) -> Option<ListMarker>
+    ensures { result ≡ list_marker_at text.now at stop interrupts }
+{
     let content = bytes_of(text, at, stop);
     let marker = any_marker(content)?;
-    if content.len() < marker.width {
-        return None;
-    }
     let behind = &content[marker.width..];
-    if let Some(next) = behind.first()
-        && !is_space_or_tab(*next)
-    {
+    if !is_parted(behind) {
         return None;
     }
     if interrupts && (!marker.may_interrupt() || is_white(behind)) {

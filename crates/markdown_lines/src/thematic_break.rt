@@ -1,45 +1,92 @@
 //! Thematic breaks (CommonMark 4.1) and the underlines of setext headings (4.3).
+ghost use Rattle.std.specs.Prelude.{◌≡◌, ◌==◌, ◌≤◌, true, length, MatchResult};
+ghost use Rattle.std.specs.List.{count_by, prefix_len};
+ghost use Rattle.markdown_lines.specs.ThematicBreaks.{is_break_mark, is_of_break, is_thematic_break, IsBrokenOff};
+ghost use Rattle.markdown_lines.specs.ThematicBreaks.{underline_level, setext_level};
 
+use crate::bytes::{is_white, run_length};
 use crate::line::is_space_or_tab;
 use markdown_base::tag::HeadingLevel;
+
+/// Whether a byte is a character of thematic breaks.
+fn is_break_mark(byte: u8) -> bool
+    ensures { result ≡ is_break_mark byte }
+{
+    byte == b'*' || byte == b'-' || byte == b'_'
+}
+
+/// How many bytes from the first on are a mark, a space or a tab.
+fn break_length(content: &[u8], mark: u8) -> usize
+    ensures value { result ≡ prefix_len (is_of_break mark) content.now }
+    ensures within { result ≤ length content.now }
+{
+    for at in 0..content.len() {
+        if content[at] != mark && !is_space_or_tab(content[at]) {
+            return at;
+        }
+    }
+    content.len()
+}
+
+/// How many bytes are a given one.
+fn count_of(bytes: &[u8], byte: u8) -> usize
+    ensures { result ≡ count_by (λ b. b == byte) bytes.now }
+{
+    let mut count: usize = 0;
+    for at in 0..bytes.len() {
+        if bytes[at] == byte {
+            count += 1;
+        }
+    }
+    count
+}
 
 /// Whether a line's content is a thematic break: three or more of one character of `*`, `-` and `_`, with
 /// spaces and tabs between and behind them. Else how many bytes from its beginning on are of that kind: no
 /// thematic break begins at any of them.
-pub fn thematic_break(content: &[u8]) -> Result<(), usize> {
+pub fn thematic_break(content: &[u8]) -> Result<(), usize>
+    ensures { MatchResult result (λ _. is_thematic_break content.now ≡ true) (λ length. IsBrokenOff content.now length) }
+{
     let Some(first) = content.first() else {
         return Err(0);
     };
-    if *first != b'*' && *first != b'-' && *first != b'_' {
+    let mark = *first;
+    if !is_break_mark(mark) {
         return Err(0);
     }
-    let mut count: usize = 0;
-    for (at, byte) in content.iter().enumerate() {
-        if *byte == *first {
-            count = count.saturating_add(1);
-        } else if !is_space_or_tab(*byte) {
-            return Err(at);
-        }
+    let length = break_length(content, mark);
+    if length < content.len() {
+        return Err(length);
     }
-    if count >= 3 { Ok(()) } else { Err(0) }
+    if count_of(content, mark) >= 3 {
+        Ok(())
+    } else {
+        Err(0)
+    }
+}
+
+/// The level of a setext heading, by the character of its underline.
+fn underline_level(byte: u8) -> Option<HeadingLevel>
+    ensures { result ≡ underline_level byte }
+{
+    match byte {
+        b'=' => Some(HeadingLevel::H1),
+        b'-' => Some(HeadingLevel::H2),
+        _ => None,
+    }
 }
 
 /// The level of the setext heading whose underline a line's content is: a run of `=` or of `-`, with spaces
 /// and tabs behind it.
-pub fn setext_underline(content: &[u8]) -> Option<HeadingLevel> {
-    let first = *content.first()?;
-    let level = match first {
-        b'=' => HeadingLevel::H1,
-        b'-' => HeadingLevel::H2,
-        _ => return None,
+pub fn setext_underline(content: &[u8]) -> Option<HeadingLevel>
+    ensures { result ≡ setext_level content.now }
+{
+    let Some(first) = content.first() else {
+        return None;
     };
-    let mut ended = false;
-    for byte in content {
-        if is_space_or_tab(*byte) {
-            ended = true;
-        } else if ended || *byte != first {
-            return None;
-        }
+    let count = run_length(content, *first);
+    if !is_white(&content[count..]) {
+        return None;
     }
-    Some(level)
+    underline_level(*first)
 }

@@ -1,0 +1,18 @@
+-- Where bytes hold others: here, or further on.
+use Rattle.std.proofs.Common.{◌≡◌, ℕ, suc, ◌+◌, ◌<◌, List, ◌∷◌, false, length, drop, drop-cons, get_or, refl, sym, subst, arith}
+use Rattle.markdown_lines.specs.HtmlKinds.{begins_with, holds}
+
+not_first : (byte : ℕ) (bytes others : List ℕ) → begins_with (byte ∷ bytes) others ≡ false
+    → holds (byte ∷ bytes) others ≡ holds bytes others
+not_first byte bytes others h = rw h refl
+
+-- where they do not stand at a place, they stand behind it if at all
+pub not_here : (bytes others : List ℕ) (at : ℕ) → at < length bytes → begins_with (drop at bytes) others ≡ false
+    → holds (drop at bytes) others ≡ holds (drop (at + 1) bytes) others
+not_here bytes others at more none =
+    let cut : drop at bytes ≡ get_or bytes at 0 ∷ drop (suc at) bytes = drop-cons bytes at 0 more in
+    let next : suc at ≡ at + 1 = omega arith in
+    subst (λ k. holds (drop at bytes) others ≡ holds (drop k bytes) others) next
+    (subst (λ xs. holds xs others ≡ holds (drop (suc at) bytes) others) (sym cut)
+    (not_first (get_or bytes at 0) (drop (suc at) bytes) others
+    (subst (λ xs. begins_with xs others ≡ false) cut none)))

@@ -1,0 +1,8 @@
+-- The bytes so far are digits.
+use Rattle.std.proofs.Common.{◌≡◌, ◌+◌, drop}
+use Rattle.std.specs.Char.{is_ascii_digit}
+use Rattle.std.specs.List.{prefix_len}
+use Rattle.markdown_lines.proofs.list_marker.digit_count.Given as goal
+
+abbrev pub invariant-loop-at : goal.invariant-loop-at
+invariant-loop-at l = prefix_len is_ascii_digit l.bytes ≡ l.at + prefix_len is_ascii_digit (drop l.at l.bytes)

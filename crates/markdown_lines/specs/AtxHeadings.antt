@@ -1,0 +1,49 @@
+-- ATX headings (CommonMark 4.2), by the bytes of a line.
+use Rattle.std.specs.Prelude.{ℕ, ◌+◌, Bool, ◌==◌, ◌||◌, nat_lt, List, Option, Some, None, length, drop, slice_range}
+use Rattle.std.specs.Prelude.{if◌then◌else◌}
+use Rattle.std.specs.List.{prefix_len}
+use Rattle.markdown_base.specs.declared.tag.HeadingLevel.{HeadingLevel}
+use Rattle.markdown_base.specs.declared.tag.HeadingLevel.TheVariants as level
+use Rattle.markdown_lines.specs.declared.atx_heading.AtxHeading.{AtxHeading}
+use Rattle.markdown_lines.specs.Lines.{is_space_or_tab}
+use Rattle.markdown_lines.specs.LineBytes.{without_end, is_parted}
+
+-- a `#`
+abbrev pub is_hash : ℕ → Bool
+is_hash byte = byte == 35
+
+-- one to six `#` have a level
+abbrev pub level_of : ℕ → Option HeadingLevel
+level_of count =
+    if count == 1 then Some level.H1
+    else if count == 2 then Some level.H2
+    else if count == 3 then Some level.H3
+    else if count == 4 then Some level.H4
+    else if count == 5 then Some level.H5
+    else if count == 6 then Some level.H6
+    else None
+
+-- What is content of what follows the opening `#` and white space: no white space at the end, and no closing
+-- sequence, which is a run of `#` behind white space or nothing.
+abbrev pub heading_content : List ℕ → List ℕ
+heading_content bytes =
+    let trimmed = without_end is_space_or_tab bytes in
+    let unclosed = without_end is_hash trimmed in
+    let before = without_end is_space_or_tab unclosed in
+    if nat_lt (length before) (length unclosed) || (length unclosed == 0) then before else trimmed
+
+-- the heading of a level, if it is one, whose content begins at a place
+abbrev pub heading_from : Option HeadingLevel → ℕ → List ℕ → Option AtxHeading
+heading_from None from content = None
+heading_from (Some l) from content = Some (record { level = l; from = from; to = from + length content })
+
+-- the heading that begins at `at` in a line, of which the content stops before `stop`: one to six `#`, and white
+-- space or nothing behind them
+abbrev pub atx_heading_at : List ℕ → ℕ → ℕ → Option AtxHeading
+atx_heading_at text at stop =
+    let line = slice_range text at stop in
+    let count = prefix_len is_hash line in
+    let rest = drop count line in
+    let white = prefix_len is_space_or_tab rest in
+    if is_parted rest then heading_from (level_of count) (at + count + white) (heading_content (drop white rest))
+    else None

@@ -1,0 +1,41 @@
+-- Code fences (CommonMark 4.5), by the bytes of a line.
+use Rattle.std.specs.Prelude.{ℕ, ◌+◌, Bool, not, ◌==◌, ◌&&◌, ◌||◌, nat_le, List, Option, Some, None, length, drop}
+use Rattle.std.specs.Prelude.{slice_range, if◌then◌else◌}
+use Rattle.std.specs.List.{list_all, list_any, prefix_len}
+use Rattle.markdown_lines.specs.declared.fence.Fence.{Fence}
+use Rattle.markdown_lines.specs.declared.fence.OpeningFence.{OpeningFence}
+use Rattle.markdown_lines.specs.Lines.{is_space_or_tab}
+use Rattle.markdown_lines.specs.LineBytes.{without_end}
+
+-- how many bytes from the first on are a given one
+abbrev pub run_of : ℕ → List ℕ → ℕ
+run_of byte bytes = prefix_len (λ b. b == byte) bytes
+
+abbrev pub is_backtick : ℕ → Bool
+is_backtick byte = byte == 96
+
+-- so many of a character open a fence before the rest of a line: three or more, and behind backticks no backtick
+abbrev pub opens_fence : ℕ → ℕ → List ℕ → Bool
+opens_fence byte count rest = nat_le 3 count && (not (is_backtick byte) || not (list_any is_backtick rest))
+
+-- the opening fence of a character at `at` in a line, of which the content stops before `stop`, behind so many columns.
+-- What follows, without white space around it, is the info string.
+abbrev pub opening_fence_at : List ℕ → ℕ → ℕ → ℕ → ℕ → Option OpeningFence
+opening_fence_at text at stop byte indent =
+    let line = slice_range text at stop in
+    let count = run_of byte line in
+    let rest = drop count line in
+    let white = prefix_len is_space_or_tab rest in
+    if opens_fence byte count rest then Some (record {
+      fence = record { byte = byte; length = count; indent = indent };
+      from = at + count + white;
+      to = at + count + white + length (without_end is_space_or_tab (drop white rest));
+    }) else None
+
+-- a fence that closes a code block stands at `at` in a line: at least as long as the opening one, and white space
+-- behind it
+abbrev pub closes_fence : List ℕ → ℕ → ℕ → Fence → Bool
+closes_fence text at stop opening =
+    let line = slice_range text at stop in
+    let count = run_of opening.byte line in
+    nat_le opening.length count && list_all is_space_or_tab (drop count line)
