@@ -36,6 +36,25 @@ struct Rest {
     in_paragraph: bool,
 }
 
+/// Whether a line whose first byte this is, but for white space, may begin another block than a paragraph.
+fn may_begin_block(byte: u8) -> bool {
+    match byte {
+        b'>' | b'#' | b'`' | b'~' | b'<' | b'[' => true,
+        b'=' | b'-' | b'_' | b'*' | b'+' | b'0'..=b'9' => true,
+        _ => false,
+    }
+}
+
+/// Whether what the open containers left of a line is no block's beginning, as its first byte tells: most lines.
+fn is_text(text: &str, reached: Reached) -> bool {
+    reached.place.owed == 0
+        && reached.place.at == reached.content
+        && match byte_at(text, reached.content) {
+            Some(byte) => !may_begin_block(byte),
+            None => false,
+        }
+}
+
 impl<'a> Pass<'a> {
     /// Reads a line.
     fn read_line(&mut self, line: Line) -> Result<(), AllocError>
@@ -50,13 +69,17 @@ impl<'a> Pass<'a> {
         if reached.content >= line.stop {
             return self.read_blank(line, reached);
         }
-        self.read_rest(Rest {
-            line,
-            place: reached.place,
-            depth: reached.depth,
-            unbroken: 0,
-            in_paragraph: reached.all && self.has_paragraph(),
-        })?;
+        if is_text(self.placing.text(), reached) {
+            self.add_text(line, reached.content, reached.depth)?;
+        } else {
+            self.read_rest(Rest {
+                line,
+                place: reached.place,
+                depth: reached.depth,
+                unbroken: 0,
+                in_paragraph: reached.all && self.has_paragraph(),
+            })?;
+        }
         self.placed = line.next;
         self.looseness.see_content();
         Ok(())
@@ -162,7 +185,8 @@ impl<'a> Pass<'a> {
         ensures { IfOk result (λ _. self.new.placing.builder.text ≡ self.old.placing.builder.text) }
     {
         if self.has_paragraph() {
-            return self.add_text(rest.line, before.behind.at, rest.depth);
+            let content = content_start(self.placing.text(), before.behind.at, rest.line.stop);
+            return self.add_text(rest.line, content, rest.depth);
         }
         self.make_room(rest.depth)?;
         self.open_indented(rest.line, before.behind)

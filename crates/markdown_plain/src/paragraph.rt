@@ -7,7 +7,7 @@ use markdown_base::item::ItemBody;
 use markdown_base::options::Options;
 use markdown_base::tag::HeadingLevel;
 use markdown_lines::atx_heading::trimmed_length;
-use markdown_lines::bytes::{byte_at, bytes_of, content_start};
+use markdown_lines::bytes::{byte_at, bytes_of};
 use markdown_lines::definition::read_definition;
 use markdown_lines::held_line::HeldLine;
 use markdown_lines::line::Line;
@@ -144,16 +144,16 @@ fn place_paragraph(
 }
 
 impl<'a> Pass<'a> {
-    /// Begins a paragraph with what is left of a line, where the blocks outside it are so many of those that
-    /// are open; or goes on with the one that is open.
-    pub fn add_text(&mut self, line: Line, at: usize, depth: usize) -> Result<(), AllocError>
+    /// Begins a paragraph with what stands in a line from its first content byte at `start` on, where the blocks
+    /// outside it are so many of those that are open; or goes on with the one that is open.
+    pub fn add_text(&mut self, line: Line, start: usize, depth: usize) -> Result<(), AllocError>
         ensures { IfOk result (λ _. self.new.placing.builder.text ≡ self.old.placing.builder.text) }
     {
         if !self.has_paragraph() {
             self.make_room(depth)?;
         }
         let held = HeldLine {
-            start: content_start(self.placing.text(), at, line.stop),
+            start,
             stop: line.stop,
             next: line.next,
             owed: 0,
