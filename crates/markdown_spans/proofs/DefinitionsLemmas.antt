@@ -1,5 +1,6 @@
 -- What the definitions that can be found give: the look-ups of all definitions, and no two for one key.
-use Rattle.std.proofs.Common.{◌≡◌, ℕ, List, [], ◌∷◌, ◌++◌, true, false, cond, Some, get_or, sym, ◌∙◌, ap, arith, is_some, inl, inr, append_assoc}
+use Rattle.std.proofs.Common.{◌≡◌, ℕ, List, [], ◌∷◌, ◌++◌, true, false, cond, Some, get_or, sym, ◌∙◌, ap, arith, is_some, inl, inr}
+use Rattle.std.proofs.Common.{append_assoc}
 use Rattle.std.specs.Option.{option_map}
 use Rattle.std.specs.List.{fold, AllPairs}
 use Rattle.std.proofs.lemmas.Bool.{cases_Bool}
@@ -12,12 +13,16 @@ use Rattle.markdown_spans.specs.Folding.{case_folding}
 use Rattle.markdown_spans.proofs.PlaceLemmas.{find_in_both, none_at}
 
 -- to leave out a definition whose folding stands before it changes no look-up
-first_after : (folded : List ℕ) (d : Labelled) (ds kept : List Labelled) → first_at folded (add_first kept d ++ ds) ≡ first_at folded (kept ++ d ∷ ds)
+first_after : (folded : List ℕ) (d : Labelled) (ds kept : List Labelled) → first_at folded (add_first kept d ++ ds)
+    ≡ first_at folded (kept ++ d ∷ ds)
 first_after folded d ds kept =
-    elim (cases_Bool (is_some (first_at (case_folding (text_of d.0)) kept))) as (λ _. first_at folded (add_first kept d ++ ds) ≡ first_at folded (kept ++ d ∷ ds)) [
+    elim (cases_Bool (is_some (first_at (case_folding (text_of d.0)) kept))) as (λ _. first_at folded (add_first kept d ++ ds)
+    ≡ first_at folded (kept ++ d ∷ ds)) [
       | inl there ↦
           rw (there, find_in_both (has_folding folded) kept ds, find_in_both (has_folding folded) kept (d ∷ ds)) (
-          elim (cases_Bool (has_folding folded d)) as (λ _. cond (is_some (first_at folded kept)) (first_at folded kept) (first_at folded ds) ≡ cond (is_some (first_at folded kept)) (first_at folded kept) (cond (has_folding folded d) (Some d) (first_at folded ds))) [
+          elim (cases_Bool (has_folding folded d)) as (λ _. cond (is_some (first_at folded kept)) (first_at folded kept)
+          (first_at folded ds) ≡ cond (is_some (first_at folded kept)) (first_at folded kept)
+          (cond (has_folding folded d) (Some d) (first_at folded ds))) [
             | inl hit ↦
                 let same : case_folding (text_of d.0) ≡ folded = sym ((bytes_eq-Decides folded (case_folding (text_of d.0))).0 hit) in
                 let found : is_some (first_at folded kept) ≡ true = rw same at there in
@@ -45,7 +50,8 @@ distinct_add kept d h =
     elim (cases_Bool (is_some (first_at (case_folding (text_of d.0)) kept))) as (λ _. AllPairs HasOtherFolding (add_first kept d)) [
       | inl there ↦ rw there h
       | inr absent ↦ rw absent (all_pairs_push HasOtherFolding kept d h (λ k x lt same.
-          let other : has_folding (case_folding (text_of d.0)) (get_or kept k x) ≡ false = none_at (has_folding (case_folding (text_of d.0))) kept absent k x lt in
+          let other : has_folding (case_folding (text_of d.0)) (get_or kept k x)
+          ≡ false = none_at (has_folding (case_folding (text_of d.0))) kept absent k x lt in
           let equal : has_folding (case_folding (text_of d.0)) (get_or kept k x) ≡ true = (bytes_eq-Decides _ _).1 (sym same) in
           let clash : true ≡ false = sym equal ∙ other in cc))
     ]

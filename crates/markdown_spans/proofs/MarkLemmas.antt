@@ -1,5 +1,6 @@
 -- Numbers that are marked as they are met, and what it is that none is met twice.
-use Rattle.std.proofs.Common.{◌≡◌, ℕ, suc, zero, ◌<◌, ◌≤◌, List, [], ◌∷◌, Bool, true, false, length, get_or, set, replicate, refl, sym, ap, ◌∙◌, arith}
+use Rattle.std.proofs.Common.{◌≡◌, ℕ, suc, zero, ◌<◌, ◌≤◌, List, [], ◌∷◌, Bool, true, false, length, get_or, set, replicate, refl, sym, ap}
+use Rattle.std.proofs.Common.{◌∙◌, arith}
 use Rattle.std.specs.Prelude.{nat_eq, ⊤}
 use Rattle.std.specs.List.{AllByRecursion, IsDistinct}
 use Rattle.std.proofs.lemmas.Bool.{eqb-false, ne_eqb}
@@ -73,15 +74,19 @@ unset_before seen x y h =
 Fresh-unset : (seen : List Bool) (xs : List ℕ) → Fresh seen xs
     → AllByRecursion (λ x. get_or seen x true ≡ false) xs
 Fresh-unset seen [] h = tt
-Fresh-unset seen (x ∷ xs) h =
-    (h.0, All-weaker (λ y. get_or (set seen x true) y true ≡ false) (λ y. get_or seen y true ≡ false) (λ y. unset_before seen x y) xs (Fresh-unset (set seen x true) xs h.1))
+Fresh-unset seen (x ∷ xs) h = (
+  h.0,
+  All-weaker (λ y. get_or (set seen x true) y true ≡ false) (λ y. get_or seen y true ≡ false) (λ y. unset_before seen x y) xs
+      (Fresh-unset (set seen x true) xs h.1),
+)
 
 -- and distinct
 Fresh-distinct : (seen : List Bool) (xs : List ℕ) → Fresh seen xs → IsDistinct nat_eq xs
 unfolding IsDistinct
 Fresh-distinct seen [] h = tt
 Fresh-distinct seen (x ∷ xs) h = (
-  All-weaker (λ y. get_or (set seen x true) y true ≡ false) (λ y. nat_eq x y ≡ false) (λ y. unset_other seen x y) xs (Fresh-unset (set seen x true) xs h.1),
+  All-weaker (λ y. get_or (set seen x true) y true ≡ false) (λ y. nat_eq x y ≡ false) (λ y. unset_other seen x y) xs
+      (Fresh-unset (set seen x true) xs h.1),
   Fresh-distinct (set seen x true) xs h.1,
 )
 
@@ -122,4 +127,5 @@ AreNamedOnce-from_Fresh n xs h = record {
 -- and the other way round
 pub Fresh-from_AreNamedOnce : (n : ℕ) (xs : List ℕ) → AreNamedOnce n xs → Fresh (unmarked n) xs
 Fresh-from_AreNamedOnce n xs o =
-    distinct-Fresh (unmarked n) xs (All-weaker (λ x. x < n) (λ x. get_or (unmarked n) x true ≡ false) (λ x. unmarked_below n x) xs o.within) o.once
+    distinct-Fresh (unmarked n) xs (All-weaker (λ x. x < n) (λ x. get_or (unmarked n) x true ≡ false) (λ x. unmarked_below n x) xs o.within)
+    o.once

@@ -84,8 +84,10 @@ tells_more nodes first ix kinds more link w o i t e =
     record {
       leads = rw e opened.after;
       any_open = rw (e, o) (or-or kinds.any_open _ _ ∙ (sym (ap (λ c. kinds.any_open || has_open c) opened.here) ∙ w.any_open));
-      only_inline = rw (e, i) (and-and kinds.only_inline _ _ ∙ (sym (ap (λ c. kinds.only_inline && all_inline c) opened.here) ∙ w.only_inline));
-      any_tight = rw (e, t) (or-or kinds.any_tight _ _ ∙ (sym (ap (λ c. kinds.any_tight || has_tight_paragraph c) opened.here) ∙ w.any_tight));
+      only_inline = rw (e, i) (and-and kinds.only_inline _ _ ∙ (sym (ap (λ c. kinds.only_inline && all_inline c) opened.here)
+          ∙ w.only_inline));
+      any_tight = rw (e, t) (or-or kinds.any_tight _ _ ∙ (sym (ap (λ c. kinds.any_tight || has_tight_paragraph c) opened.here)
+          ∙ w.any_tight));
     }
 
 -- and fewer are left
@@ -132,4 +134,8 @@ tested_none (Some ix) b e h = cc
 -- so what it begins is nothing just where it is tested to be none
 pub nothing_tested : (nodes : List (Node Item)) (link : Option ℕ) (b : Bool) → LeadsOn nodes link
     → is_some link ≡ not b → IsTrue b ↔ (trees_at nodes link ≡ nil)
-nothing_tested nodes link b l e = (λ h. none-trees_at nodes link (none_tested link b e h), λ h. tested_none link b e (trees_at-nil nodes link l h))
+nothing_tested nodes link b l e = (
+  λ h. none-trees_at nodes link (none_tested link b e h),
+  λ h. tested_none link b e
+      (trees_at-nil nodes link l h),
+)

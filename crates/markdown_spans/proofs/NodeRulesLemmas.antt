@@ -47,7 +47,8 @@ all_reachable nodes l (node ix below after) s h = (
 -- so is each node below the root, where the tree is reached once
 pub reachable_below : (nodes : List (Node Item)) (order : List ℕ) → IsReachedOnce nodes
     → order ≡ preorder (numbers_below nodes) → AllByRecursion (IsReachable nodes) order
-reachable_below nodes order w e = rw e (all_reachable nodes (child_of nodes 0) (numbers_below nodes) w.finite (forest_at-height (links_of nodes) (child_of nodes 0)))
+reachable_below nodes order w e = rw e (all_reachable nodes (child_of nodes 0) (numbers_below nodes) w.finite
+    (forest_at-height (links_of nodes) (child_of nodes 0)))
 
 -- and is there
 there : (nodes : List (Node Item)) (order : List ℕ) → AllByRecursion (IsReachable nodes) order

@@ -1,6 +1,7 @@
 -- A search that marks the nodes that it reaches finds the forest below the root, where there is
 -- one and no node is reached twice.
-use Rattle.std.proofs.Common.{◌≡◌, ℕ, suc, ◌+◌, ◌*◌, ◌<◌, ◌≤◌, List, [], ◌∷◌, ◌++◌, Option, Some, None, Bool, true, false, length, get_or, set, replicate, reverse, refl, sym, ap, ◌∙◌, arith, append_assoc, append-nil, length-set}
+use Rattle.std.proofs.Common.{◌≡◌, ℕ, suc, ◌+◌, ◌*◌, ◌<◌, ◌≤◌, List, [], ◌∷◌, ◌++◌, Option, Some, None, Bool, true, false, length, get_or}
+use Rattle.std.proofs.Common.{set, replicate, reverse, refl, sym, ap, ◌∙◌, arith, append_assoc, append-nil, length-set}
 use Rattle.std.specs.Prelude.{⊤, IsTrue, ◌↔◌}
 use Rattle.std.specs.Bool.{OnTrue}
 use Rattle.std.specs.List.{AllByRecursion}
@@ -13,7 +14,8 @@ use Rattle.markdown_base.specs.Forest.{Forest, nil, node, preorder}
 use Rattle.markdown_base.specs.WellFormed.{IsReachedOnce}
 use Rattle.markdown_base.proofs.ArenaForestLemmas.{height, forest_at-fits}
 use Rattle.markdown_base.proofs.ForestLemmas.{All-append}
-use Rattle.markdown_spans.proofs.MarkLemmas.{Fresh, unmarked, unset, unset-set, Fresh-unmarked_length, AreNamedOnce-from_Fresh, Fresh-from_AreNamedOnce}
+use Rattle.markdown_spans.proofs.MarkLemmas.{Fresh, unmarked, unset, unset-set, Fresh-unmarked_length, AreNamedOnce-from_Fresh}
+use Rattle.markdown_spans.proofs.MarkLemmas.{Fresh-from_AreNamedOnce}
 
 -- the links below the root lead through a forest with the numbers xs in preorder, and no number
 -- comes twice, nor the root's
@@ -62,7 +64,8 @@ none-Pending k seen links xs (fs, s, r, e) = (nil ∷ fs, (refl, s), r, e)
 -- a link to a node is opened: the node is not marked, and its own links are pending once it is
 Pending-some : (k : Links) (seen : List Bool) (links : List (Option ℕ)) (i : ℕ) (zs : List ℕ)
     → Pending k seen (Some i ∷ links) zs
-    → (xs : List ℕ) × (zs ≡ i ∷ xs) × (i < k.size) × (get_or seen i true ≡ false) × Pending k (set seen i true) (k.child i ∷ k.next i ∷ links) xs
+    → (xs : List ℕ) × (zs ≡ i ∷ xs) × (i < k.size) × (get_or seen i true ≡ false)
+    × Pending k (set seen i true) (k.child i ∷ k.next i ∷ links) xs
 Pending-some k seen links i zs ([], s, r, e) = absurd s
 Pending-some k seen links i zs (nil ∷ fs, s, r, e) = cc (s.0)
 Pending-some k seen links i zs (node j below after ∷ fs, s, r, e) =
@@ -72,7 +75,13 @@ Pending-some k seen links i zs (node j below after ∷ fs, s, r, e) =
       rw (e, h) (simp append_assoc),
       rw h at s.0.1,
       f.0,
-      (below ∷ after ∷ fs, (rw h at s.0.2, (rw h at s.0.3, s.1)), rw (← append_assoc (preorder below) (preorder after) (preorder_all fs)) f.1, refl),
+      (
+        below ∷ after ∷ fs,
+        (rw h at s.0.2, (rw h at s.0.3, s.1)),
+        rw (← append_assoc (preorder below) (preorder after) (preorder_all fs))
+            f.1,
+        refl,
+      ),
     )
 
 -- and closed again
@@ -133,7 +142,8 @@ found_first : (k : Links) → 0 < k.size
     → IsFound k (set (unmarked k.size) 0 true) (k.child 0 ∷ []) []
 found_first k h = record {
   sizes = simp (length-set, length-replicate) refl;
-  makes = λ xs p. let o = one-Pending k _ _ xs p in record { forest = o.0; spelled = o.1; fresh = (get_or-replicate k.size 0 false true h, p.2); numbers = o.2 };
+  makes = λ xs p. let o = one-Pending k _ _ xs p
+      in record { forest = o.0; spelled = o.1; fresh = (get_or-replicate k.size 0 false true h, p.2); numbers = o.2 };
   breaks = λ zs p. (zs, refl, (p.forest ∷ [], (p.spelled, tt), p.fresh.1, p.numbers ∙ sym (append-nil (preorder p.forest))));
 }
 
@@ -197,8 +207,11 @@ height-preorder (node i below after) = simp length-append (omega (arith, height-
 spelled_within : (k : Links) (l : Option ℕ) (f : Forest ℕ) → Spells k l f
     → AllByRecursion (λ i. i < k.size) (preorder f)
 spelled_within k l nil s = tt
-spelled_within k l (node i below after) s =
-    (s.1, All-append (λ i. i < k.size) (preorder below) (preorder after) (spelled_within k (k.child i) below s.2) (spelled_within k (k.next i) after s.3))
+spelled_within k l (node i below after) s = (
+  s.1,
+  All-append (λ i. i < k.size) (preorder below) (preorder after) (spelled_within k (k.child i) below s.2)
+      (spelled_within k (k.next i) after s.3),
+)
 
 -- a forest that is found is the one below the root
 preorder-forest : (k : Links) (xs : List ℕ) (p : IsPreorder k xs)

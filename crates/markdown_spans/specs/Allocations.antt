@@ -35,9 +35,11 @@ pub record Allocated : Type 0 where
 abbrev pub HasCow : Allocated → CowIndex → Type 0
 HasCow held ix = ix.0 < length held.cows
 
+-- a number that was handed out for a link
 abbrev pub HasLink : Allocated → LinkIndex → Type 0
 HasLink held ix = ix.0 < length held.links
 
+-- a number that was handed out for a table's alignments
 abbrev pub HasAlignment : Allocated → AlignmentIndex → Type 0
 HasAlignment held ix = ix.0 < length held.alignments
 
@@ -49,12 +51,15 @@ HasHeading held ix = (1 ≤ ix.0) × (ix.0 ≤ length held.headings)
 abbrev pub with_cow : Allocated → CowStr → Allocated
 with_cow held cow = record held { cows = held.cows ++ cow ∷ [] }
 
+-- with one more link
 abbrev pub with_link : Allocated → LinkParts → Allocated
 with_link held link = record held { links = held.links ++ link ∷ [] }
 
+-- with the alignments of one more table
 abbrev pub with_alignment : Allocated → Vec Alignment Global → Allocated
 with_alignment held alignment = record held { alignments = held.alignments ++ alignment ∷ [] }
 
+-- with the attributes of one more heading
 abbrev pub with_heading : Allocated → HeadingAttributes → Allocated
 with_heading held heading = record held { headings = held.headings ++ heading ∷ [] }
 
@@ -71,11 +76,13 @@ pub record LeavesEmptyCow (old new : Allocated) (ix : CowIndex) : Type 0 where
   pub empty : text_of left ≡ []
   pub others : new ≡ record old { cows = slice_set old.cows ix.0 left }
 
+-- a link's place is left empty, and all else as it was
 pub record LeavesEmptyLink (old new : Allocated) (ix : LinkIndex) : Type 0 where
   pub left : LinkParts
   pub empty : IsEmptyLink left
   pub others : new ≡ record old { links = slice_set old.links ix.0 left }
 
+-- a table's place is left empty, and all else as it was
 pub record LeavesEmptyAlignment (old new : Allocated) (ix : AlignmentIndex) : Type 0 where
   pub left : Vec Alignment Global
   pub empty : left.items ≡ []

@@ -43,6 +43,7 @@ abbrev pub OnLent : Result (Option (MutBor FootnoteDef)) Fault → Type 0 → Ty
 OnLent (Ok found) P = OnSome found P
 OnLent (Err fault) P = ⊤
 
+-- where none is lent, or memory was refused
 abbrev pub OnNoneLent : Result (Option (MutBor FootnoteDef)) Fault → Type 0 → Type 0
 OnNoneLent (Ok found) P = IfNone found P
 OnNoneLent (Err fault) P = P

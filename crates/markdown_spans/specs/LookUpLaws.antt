@@ -41,10 +41,12 @@ TestsMatching = (a b : List ℕ) → IsTrue (is_match a b) ↔ Matches a b
 abbrev pub IsAmongNames : List CowStr → List ℕ → Type 0
 IsAmongNames names name = Any (λ n. Matches (text_of n) name) names
 
--- at first a name finds a footnote that was never used where one of those handed in matches it, and nothing where none does
+-- at first a name finds a footnote that was never used where one of those handed in matches it, and nothing where none
+-- does
 abbrev pub FindsNamed : Type 0
 FindsNamed = (names : List CowStr) (name : List ℕ)
-    → MatchOption (unused_at names name) (IsAmongNames names name → ⊥) (λ found. (found ≡ unused) × IsAmongNames names name)
+    → MatchOption (unused_at names name) (IsAmongNames names name
+    → ⊥) (λ found. (found ≡ unused) × IsAmongNames names name)
 
 -- names that match find the same footnote
 abbrev pub MatchingNamesAgree : Type 0

@@ -20,6 +20,7 @@ use markdown_base::tree::Tree;
 use reach::reached_once;
 use rules::is_well_formed;
 use std::alloc::Global;
+use std::fmt;
 
 /// A text with its options, its tree of items and the parts that they name: a well-formed block result.
 #[derive(Drop)]
@@ -101,7 +102,23 @@ impl<'a> Blocks<'a> {
     pub fn of_text(alloc: Global, text: &'a str, options: Options) -> Result<Blocks<'a>, Fault>
         ensures { MatchResult result (IsOfText text.now options) (λ fault. fault ≡ Fault.Memory) }
     {
+        // well formed by what the block pass promises, so that nothing is left to check
         let (tree, parts) = markdown_plain::blocks(alloc, text, options)?;
-        Blocks::checked(alloc, text, options, tree, parts)
+        Ok(Blocks {
+            text,
+            options,
+            tree,
+            parts,
+        })
+    }
+}
+
+/// Without the tree and its parts, which may be as long as the text.
+impl<'a> fmt::Debug for Blocks<'a> {
+    fn fmt<W: fmt::Write>(&self, f: &mut fmt::Formatter<W>) -> fmt::Result {
+        f.debug_struct("Blocks")
+            .field("text", &self.text)
+            .field("options", &self.options)
+            .finish_non_exhaustive()
     }
 }

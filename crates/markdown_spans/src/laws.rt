@@ -1,5 +1,6 @@
 //! Laws over the definitions of this crate. No code: each contract is a statement of `specs/`.
-ghost use Rattle.markdown_spans.specs.LookUpLaws.{FindsFirstMatch, FindsNamed, MatchingKeysAgree, MatchingNamesAgree, TestsMatching};
+ghost use Rattle.markdown_spans.specs.LookUpLaws.{FindsFirstMatch, FindsNamed, MatchingKeysAgree, MatchingNamesAgree};
+ghost use Rattle.markdown_spans.specs.LookUpLaws.{TestsMatching};
 
 /// A key finds the first definition whose label matches it by default caseless matching, and nothing
 /// where none does.

@@ -3,6 +3,7 @@ ghost use Rattle.std.specs.Prelude.{◌≡◌, ◌↔◌, ◌<◌, length, IfOk,
 ghost use Rattle.std.specs.List.{AllByRecursion};
 
 use super::marks::mark;
+use markdown_base::index::{AlignmentIndex, CowIndex};
 use markdown_base::item::{Item, ItemBody};
 use markdown_base::tree::Tree;
 use std::alloc::{AllocError, Global};
@@ -18,12 +19,18 @@ impl NamedPart {
     ghost use Rattle.markdown_spans.specs.NodeRules.{part_named, names_of, AreNamedOnce};
 
     /// The number by which a body names a part of this kind.
-    fn number(self, body: ItemBody) -> Option<usize>
+    pub fn number(self, body: ItemBody) -> Option<usize>
         ensures { result ≡ part_named self body }
     {
         match self {
-            NamedPart::Text => body.text_named(),
-            NamedPart::Alignments => body.alignments_named(),
+            NamedPart::Text => {
+                let CowIndex(ix) = body.text_named()?;
+                Some(ix)
+            }
+            NamedPart::Alignments => {
+                let AlignmentIndex(ix) = body.alignments_named()?;
+                Some(ix)
+            }
         }
     }
 

@@ -7,7 +7,9 @@ ghost use Rattle.markdown_base.specs.ArenaRules.{next_at, NodeKeepsRules};
 ghost use Rattle.markdown_base.specs.BlockTree.{numbered, trees_at, tree_of};
 ghost use Rattle.markdown_base.specs.Forest.{nil, preorder};
 ghost use Rattle.markdown_base.specs.Item.{is_childless, attributes_named};
-ghost use Rattle.markdown_base.specs.WellFormed.{IsReachedOnce, RangesLieIn, Precedes, InlineInOrder, ChainsAreKept, NothingResolved, PartsAreNamed, BlocksAreSettled, IsWellFormed, counts_of, has_open};
+ghost use Rattle.markdown_base.specs.WellFormed.{IsReachedOnce, RangesLieIn, Precedes, InlineInOrder, ChainsAreKept};
+ghost use Rattle.markdown_base.specs.WellFormed.{NothingResolved, PartsAreNamed, BlocksAreSettled, IsWellFormed};
+ghost use Rattle.markdown_base.specs.WellFormed.{counts_of, has_open};
 ghost use Rattle.markdown_spans.specs.NodeRules.{IsReachable, Tells};
 
 use super::chain::ChainKinds;
@@ -15,6 +17,7 @@ use super::markup::markup_is_there;
 use super::named::NamedPart;
 use super::runs::runs_are_whole;
 use markdown_base::block_parts::BlockParts;
+use markdown_base::index::HeadingIndex;
 use markdown_base::item::{Item, ItemBody};
 use markdown_base::tree::Tree;
 use std::alloc::{AllocError, Global};
@@ -108,12 +111,12 @@ fn is_of_part(name: Option<usize>, count: usize) -> bool
 }
 
 /// Whether a number, if there is one, is that of one of so many heading attributes, counted from 1.
-fn is_of_attributes(name: Option<usize>, count: usize) -> bool
-    ensures { IsTrue result ↔ IfSome name (λ ix. (1 ≤ ix) × (ix ≤ count)) }
+fn is_of_attributes(name: Option<HeadingIndex>, count: usize) -> bool
+    ensures { IsTrue result ↔ IfSome name (λ ix. (1 ≤ ix.0) × (ix.0 ≤ count)) }
 {
     match name {
         None => true,
-        Some(ix) => 1 <= ix && ix <= count,
+        Some(HeadingIndex(ix)) => 1 <= ix && ix <= count,
     }
 }
 
@@ -121,8 +124,8 @@ fn is_of_attributes(name: Option<usize>, count: usize) -> bool
 fn parts_are_named(body: ItemBody, parts: &BlockParts) -> bool
     ensures { IsTrue result ↔ PartsAreNamed (counts_of parts.now) body }
 {
-    is_of_part(body.text_named(), parts.cows.len())
-        && is_of_part(body.alignments_named(), parts.alignments.len())
+    is_of_part(NamedPart::Text.number(body), parts.cows.len())
+        && is_of_part(NamedPart::Alignments.number(body), parts.alignments.len())
         && is_of_attributes(body.attributes_named(), parts.headings.len())
 }
 

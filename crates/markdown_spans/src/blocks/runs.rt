@@ -2,7 +2,8 @@
 ghost use Rattle.std.specs.Prelude.{◌≡◌, ◌↔◌, ◌<◌, suc, IsTrue, Some, length, slice_index};
 ghost use Rattle.markdown_base.specs.ArenaRules.{next_at};
 ghost use Rattle.markdown_base.specs.BlockTree.{numbered};
-ghost use Rattle.markdown_base.specs.WellFormed.{run_character, is_delimiter, byte_of, GoesOn, EndsRun, RunGoesOn, RunsAreWhole};
+ghost use Rattle.markdown_base.specs.WellFormed.{run_character, is_delimiter, byte_of, GoesOn, EndsRun, RunGoesOn};
+ghost use Rattle.markdown_base.specs.WellFormed.{RunsAreWhole};
 
 use markdown_base::item::{Item, ItemBody};
 use markdown_base::tree::Tree;

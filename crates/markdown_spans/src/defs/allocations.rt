@@ -1,7 +1,9 @@
 //! What the items of a block result name by number, with what resolving a chain adds.
 ghost use Rattle.std.specs.Prelude.{◌≡◌, ◌+◌, ◌-◌, IfErr, IfOk, OnErr, length, slice_index_or};
 ghost use Rattle.markdown_base.specs.declared.fault.Fault.{Fault};
-ghost use Rattle.markdown_spans.specs.Allocations.{HasAlignment, HasCow, HasHeading, HasLink, HoldsParts, LeavesEmptyAlignment, LeavesEmptyCow, LeavesEmptyLink, with_alignment, with_cow, with_heading, with_link};
+ghost use Rattle.markdown_spans.specs.Allocations.{HasAlignment, HasCow, HasHeading, HasLink, HoldsParts};
+ghost use Rattle.markdown_spans.specs.Allocations.{LeavesEmptyAlignment, LeavesEmptyCow, LeavesEmptyLink};
+ghost use Rattle.markdown_spans.specs.Allocations.{with_alignment, with_cow, with_heading, with_link};
 
 use super::definitions::RefDefs;
 use super::footnotes::FootnoteDefs;

@@ -39,6 +39,15 @@ impl<'a> BrokenLink<'a> {
 }
 
 /// Who is asked about a broken link, by the relation of old state, question, answer and new state.
+///
+/// ```
+/// fn page<'a>(link: BrokenLink<'a>) -> Option<(CowStr<'a>, CowStr<'a>)> {
+///     Some((link.reference, CowStr::from("")))
+/// }
+///
+/// let callback = Some(Closure::new(page));
+/// let parser = Parser::new_with_broken_link_callback(alloc, "[a]", Options::empty(), callback)?;
+/// ```
 pub trait BrokenLinkCallback<'input>: Drop {
     /// The states in which it may be asked.
     ghost can_ask: { Self → Type 0 };

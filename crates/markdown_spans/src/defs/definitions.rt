@@ -12,6 +12,7 @@ use markdown_base::cow_str::CowStr;
 use markdown_base::fault::Fault;
 use std::alloc::Global;
 use std::collections::BTreeMap;
+use std::fmt;
 use std::marker::Model;
 use std::slice::Iter;
 
@@ -87,6 +88,13 @@ impl<'a> RefDefs<'a> {
     }
 }
 
+/// The labels as they are written, with what they define.
+impl<'a> fmt::Debug for RefDefs<'a> {
+    fn fmt<W: fmt::Write>(&self, f: &mut fmt::Formatter<W>) -> fmt::Result {
+        fmt::Debug::fmt(&self.definitions, f)
+    }
+}
+
 /// Keeps a definition, unless one of equal folding stands there.
 fn keep_first<'a>(
     kept: &mut Vec<(CowStr<'a>, LinkDef<'a>)>,
@@ -109,7 +117,7 @@ fn keep_first<'a>(
 }
 
 /// The definitions that can be found, each once, in the order of the source.
-#[derive(Drop)]
+#[derive(Debug, Drop)]
 pub struct RefDefsIter<'r, 'a> {
     rest: Iter<'r, (CowStr<'a>, LinkDef<'a>)>,
 }
@@ -123,6 +131,11 @@ impl<'r, 'a> Iterator for RefDefsIter<'r, 'a> {
     ghost next_gives = { YieldsFirstBy values_of definitions_left };
 
     ghost remaining = { item_count definitions_left };
+
+    /// How many are left.
+    fn size_hint(&self) -> (usize, Option<usize>) {
+        self.rest.size_hint()
+    }
 
     /// The next label with its definition. Takes no memory.
     fn next(&mut self) -> Option<(&'r str, &'r LinkDef<'a>)> {

@@ -1,5 +1,6 @@
 //! Footnotes, found by the case folding of their names, with the count of their uses.
-ghost use Rattle.std.specs.Prelude.{◌≡◌, ℕ, List, Some, None, IfErr, IfOk, OnErr, OnOk, encode_utf8_all, if◌then◌else◌, is_some, nat_eq};
+ghost use Rattle.std.specs.Prelude.{◌≡◌, ℕ, List, Some, None, IfErr, IfOk, OnErr, OnOk, encode_utf8_all, if◌then◌else◌};
+ghost use Rattle.std.specs.Prelude.{is_some, nat_eq};
 ghost use Rattle.std.specs.Borrow.{sem};
 ghost use Rattle.std.specs.Cmp.Lexicographic.{pointwise};
 ghost use Rattle.std.specs.BTreeMap.{get_by_text};
@@ -16,6 +17,7 @@ use markdown_base::cow_str::CowStr;
 use markdown_base::fault::Fault;
 use std::alloc::Global;
 use std::collections::BTreeMap;
+use std::fmt;
 
 /// A footnote that is defined.
 #[derive(Clone, Copy, Debug, PartialEq, Eq, Drop)]
@@ -159,4 +161,10 @@ fn add_unused(
     let folded = fold(alloc, name)?;
     by_folding.insert(folded, FootnoteDef { use_count: 0 })?;
     Ok(())
+}
+
+impl fmt::Debug for FootnoteDefs {
+    fn fmt<W: fmt::Write>(&self, f: &mut fmt::Formatter<W>) -> fmt::Result {
+        f.debug_struct("FootnoteDefs").finish_non_exhaustive()
+    }
 }

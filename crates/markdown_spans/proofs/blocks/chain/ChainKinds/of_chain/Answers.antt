@@ -14,13 +14,15 @@ next-link-requires c = (opens_at c.args.tree.now.nodes c.in-Some.ix (rw c.in-Som
 
 pub chain-smaller : goal.chain-smaller
 chain-smaller c =
-    let falls = chain_falls c.args.tree.now.nodes c.in-Some.ix c.next-link.result (rw c.in-Some.is at c.chain.invariant.leads) c.next-link.ensures.value in
+    let falls = chain_falls c.args.tree.now.nodes c.in-Some.ix c.next-link.result (rw c.in-Some.is at c.chain.invariant.leads)
+    c.next-link.ensures.value in
     rw c.in-Some.is falls
 
 pub chain-preserved : goal.chain-preserved
 chain-preserved c =
     let body = ap (λ i. i.body) (c.item.ensures no_item) in
-    tells_more c.args.tree.now.nodes c.args.first c.in-Some.ix c.chain.kinds c.with-kinds.result c.next-link.result (rw c.in-Some.is at c.chain.invariant)
+    tells_more c.args.tree.now.nodes c.args.first c.in-Some.ix c.chain.kinds c.with-kinds.result c.next-link.result
+    (rw c.in-Some.is at c.chain.invariant)
     (c.with-kinds.ensures.any_open ∙ ap (λ b. c.chain.kinds.any_open || is_open b) body)
     (c.with-kinds.ensures.only_inline ∙ ap (λ b. c.chain.kinds.only_inline && is_inline b) body)
     (c.with-kinds.ensures.any_tight ∙ ap (λ b. c.chain.kinds.any_tight || is_tight_paragraph b) body)

@@ -5,4 +5,5 @@ use Rattle.markdown_spans.proofs.NameLemmas.{FreshSoFar}
 use Rattle.markdown_spans.proofs.blocks.named.NamedPart.named_once.Given as goal
 
 abbrev pub invariant-names : goal.invariant-names
-invariant-names l = FreshSoFar l.size (names_of l.self l.tree.nodes l.order) l.seen.items (names_of l.self l.tree.nodes (drop l.ix-index l.order))
+invariant-names l = FreshSoFar l.size (names_of l.self l.tree.nodes l.order) l.seen.items
+    (names_of l.self l.tree.nodes (drop l.ix-index l.order))
