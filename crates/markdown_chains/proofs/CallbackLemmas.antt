@@ -13,7 +13,8 @@ Asks-append step None d e (q ∷ qs) rs (x ∷ xs) b h k = absurd h
 Asks-append step (Some c) d e (q ∷ qs) rs (x ∷ xs) b h k = (h.0, h.1, Asks-append step (Some h.0) d e qs rs xs b h.2 k)
 
 -- they neither make a callback nor take it away
-pub Asks-some : {C : Type 0} (step : C → Question → Option Answer → C → Type 0) (c d : Option C) (qs : List Question) (a : Answers) → Asks step c qs a d → is_some c ≡ is_some d
+pub Asks-some : {C : Type 0} (step : C → Question → Option Answer → C → Type 0) (c d : Option C) (qs : List Question) (a : Answers)
+    → Asks step c qs a d → is_some c ≡ is_some d
 Asks-some step c d [] [] h = ap is_some h
 Asks-some step c d [] (x ∷ xs) h = absurd h
 Asks-some step c d (q ∷ qs) [] h = absurd h

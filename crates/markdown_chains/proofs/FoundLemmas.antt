@@ -1,5 +1,6 @@
 -- A forest that is spelled, and in which no number stands twice, is the one that is found.
-use Rattle.std.proofs.Common.{◌≡◌, ℕ, zero, suc, ◌+◌, ◌<◌, ◌≤◌, Bool, true, false, ◌||◌, eqb, List, [], ◌∷◌, ◌++◌, length, Option, ◌⊎◌, inl, inr, ⊎_elim, refl, sym, ap, subst, arith}
+use Rattle.std.proofs.Common.{◌≡◌, ℕ, zero, suc, ◌+◌, ◌<◌, ◌≤◌, Bool, true, false, ◌||◌, eqb, List, [], ◌∷◌, ◌++◌, length, Option, ◌⊎◌, inl}
+use Rattle.std.proofs.Common.{inr, ⊎_elim, refl, sym, ap, subst, arith}
 use Rattle.std.specs.Prelude.{nat_eq}
 use Rattle.std.specs.List.{AllByRecursion, IsDistinct, list_any}
 use Rattle.std.proofs.lemmas.Bool.{cases_eq, eqb-true, eqb-false, ne_eqb}
@@ -42,14 +43,19 @@ unfolding IsDistinct
 listed_once n [] d = omega arith
 listed_once n (x ∷ xs) d =
     ⊎_elim
-    (λ e. let none = none_listed x xs d.0 in let one = same-refl x in let first : listed (same x) (x ∷ xs) ≤ 1 = omega arith in subst (λ (m : ℕ). listed (same m) (x ∷ xs) ≤ 1) (sym e) first)
+    (λ e. let none = none_listed x xs d.0 in let one = same-refl x in let first : listed (same x) (x ∷ xs) ≤ 1 = omega arith
+    in subst (λ (m : ℕ). listed (same m) (x ∷ xs) ≤ 1) (sym e) first)
     (λ other. omega (arith, same-other n x other, listed_once n xs d.1))
     (cases_eq n x)
 
 -- numbers of which each stands once at most are distinct
 apart : (x : ℕ) (xs : List ℕ) → listed (same x) xs ≡ 0 → AllByRecursion (λ y. nat_eq x y ≡ false) xs
 apart x [] h = tt
-apart x (y ∷ ys) h = (ne_eqb x y (λ e. let one : same x y ≡ 1 = subst (λ (m : ℕ). same x m ≡ 1) e (same-refl x) in absurd (omega (arith, h))), apart x ys (omega (arith, h)))
+apart x (y ∷ ys) h = (
+  ne_eqb x y (λ e. let one : same x y ≡ 1 = subst (λ (m : ℕ). same x m ≡ 1) e (same-refl x)
+      in absurd (omega (arith, h))),
+  apart x ys (omega (arith, h)),
+)
 
 distinct_listed : (xs : List ℕ) → ((n : ℕ) → listed (same n) xs ≤ 1) → IsDistinct nat_eq xs
 unfolding IsDistinct
@@ -73,7 +79,8 @@ spelled_within k l (node ix below after) s q h =
     (λ deeper. ⊎_elim
     (λ first. spelled_within k (k.child ix) below s.2 q first)
     (λ second. spelled_within k (k.next ix) after s.3 q second)
-    (either (list_any (eqb q) (preorder below)) (list_any (eqb q) (preorder after)) (rw (list_any-append (eqb q) (preorder below) (preorder after)) at deeper)))
+    (either (list_any (eqb q) (preorder below)) (list_any (eqb q) (preorder after))
+    (rw (list_any-append (eqb q) (preorder below) (preorder after)) at deeper)))
     (either (eqb q ix) (list_any (eqb q) (preorder below ++ preorder after)) h)
 
 height_small : (f : Forest ℕ) → height f ≤ length (preorder f)

@@ -26,35 +26,56 @@ pub record Stays (tables tables' : Tables) (nodes nodes' : List (Node Item)) (n 
   pub headings : tables'.headings ≡ tables.headings
 
 -- a body reads the same by the same entries
-shape-same : (tables tables' : Tables) (source : List ℕ) (body : ItemBody) → ((m : Named) → 0 < times_named m body → IsSameEntry tables tables' m) → tables'.headings ≡ tables.headings
+shape-same : (tables tables' : Tables) (source : List ℕ) (body : ItemBody)
+    → ((m : Named) → 0 < times_named m body → IsSameEntry tables tables' m) → tables'.headings ≡ tables.headings
     → shape_of tables' source body ≡ shape_of tables source body
 shape-same tables tables' source (body.SynthesizeText ix) h e = rw ((h (some_text ix.0) (omega (arith, same-refl ix.0))).0) refl
 shape-same tables tables' source (body.OwnedInlineHtml ix) h e = rw ((h (some_text ix.0) (omega (arith, same-refl ix.0))).0) refl
-shape-same tables tables' source (body.Code ix) h e = let same = h (some_text ix.0) (omega (arith, same-refl ix.0)) in rw (same.0, same.1) refl
-shape-same tables tables' source (body.Math ix display) h e = let same = h (some_text ix.0) (omega (arith, same-refl ix.0)) in rw (same.0, same.1) refl
+shape-same tables tables' source (body.Code ix) h e = let same = h (some_text ix.0) (omega (arith, same-refl ix.0))
+    in rw (same.0, same.1) refl
+shape-same tables tables' source (body.Math ix display) h e = let same = h (some_text ix.0) (omega (arith, same-refl ix.0))
+    in rw (same.0, same.1) refl
 shape-same tables tables' source (body.FootnoteReference ix) h e = rw ((h (some_text ix.0) (omega (arith, same-refl ix.0))).0) refl
 shape-same tables tables' source (body.FencedCodeBlock ix) h e = rw ((h (some_text ix.0) (omega (arith, same-refl ix.0))).0) refl
 shape-same tables tables' source (body.FootnoteDefinition ix) h e = rw ((h (some_text ix.0) (omega (arith, same-refl ix.0))).0) refl
 shape-same tables tables' source (body.Table ix) h e = rw (h (some_alignments ix.0) (omega (arith, same-refl ix.0))) refl
-shape-same tables tables' source (body.Link ix) h e = rw (h (some_link ix.0) (omega (arith, same-refl ix.0))) refl
-shape-same tables tables' source (body.Image ix) h e = rw (h (some_link ix.0) (omega (arith, same-refl ix.0))) refl
+shape-same tables tables' source (body.Link ix) h e = rw ((h (some_link ix.0) (omega (arith, same-refl ix.0))).0) refl
+shape-same tables tables' source (body.Image ix) h e = rw ((h (some_link ix.0) (omega (arith, same-refl ix.0))).0) refl
 shape-same tables tables' source (body.Heading level named) h e = rw e refl
 shape-same tables tables' source other h e = refl
 
 -- what is a slice of the source stays one
-pub slices-same : (source : List ℕ) (tables tables' : Tables) (b : ItemBody) → ((m : Named) → 0 < times_named m b → IsSameEntry tables tables' m) → HasSlices source tables b → HasSlices source tables' b
-slices-same source tables tables' (body.Code ix) h p = let same = h (some_text ix.0) (omega (arith, same-refl ix.0)) in rw (same.0, same.1) p
-slices-same source tables tables' (body.Math ix display) h p = let same = h (some_text ix.0) (omega (arith, same-refl ix.0)) in rw (same.0, same.1) p
+pub slices-same : (source : List ℕ) (tables tables' : Tables) (b : ItemBody)
+    → ((m : Named) → 0 < times_named m b → IsSameEntry tables tables' m) → HasSlices source tables b → HasSlices source tables' b
+slices-same source tables tables' (body.Code ix) h p = let same = h (some_text ix.0) (omega (arith, same-refl ix.0))
+    in rw (same.0, same.1) p
+slices-same source tables tables' (body.Math ix display) h p = let same = h (some_text ix.0) (omega (arith, same-refl ix.0))
+    in rw (same.0, same.1) p
+slices-same source tables tables' (body.Link ix) h p = let same = h (some_link ix.0) (omega (arith, same-refl ix.0))
+    in rw (same.0, same.1) p
+slices-same source tables tables' (body.Image ix) h p = let same = h (some_link ix.0) (omega (arith, same-refl ix.0))
+    in rw (same.0, same.1) p
 slices-same source tables tables' other h p = tt
 
-pub label-same : (source : List ℕ) (tables tables' : Tables) (nodes nodes' : List (Node Item)) (n : ℕ) → Stays tables tables' nodes nodes' n → label_at source tables' nodes' n ≡ label_at source tables nodes n
+pub label-same : (source : List ℕ) (tables tables' : Tables) (nodes nodes' : List (Node Item)) (n : ℕ) → Stays tables tables' nodes nodes' n
+    → label_at source tables' nodes' n ≡ label_at source tables nodes n
 label-same source tables tables' nodes nodes' n h =
-    rw h.at.item (ap (λ shape. let a : Plain = record { tag = tt; part = record { shape = shape; range = range_of (item_at nodes n); block = block_of (item_at nodes n).body } } in a)
-    (shape-same tables tables' (slice_range source (item_at nodes n).start (item_at nodes n).end) (item_at nodes n).body h.entries h.headings))
+    rw h.at.item (ap (λ shape. let a : Plain = record {
+      tag = tt;
+      part = record {
+        shape = shape;
+        range = range_of (item_at nodes n);
+        block =
+            block_of (item_at nodes n).body;
+      };
+    } in a)
+    (shape-same tables tables' (slice_range source (item_at nodes n).start (item_at nodes n).end) (item_at nodes n).body h.entries
+    h.headings))
 
 -- where all that stand in a forest do
 pub stay_throughout : (tables tables' : Tables) (nodes nodes' : List (Node Item)) (f : Forest ℕ) → tables'.headings ≡ tables.headings
-    → ((n : ℕ) → 0 < total (same n) f → IsSameAt nodes nodes' n) → ((n : Named) → 0 < total (naming nodes n) f → IsSameEntry tables tables' n) → Each (Stays tables tables' nodes nodes') f
+    → ((n : ℕ) → 0 < total (same n) f → IsSameAt nodes nodes' n) → ((n : Named) → 0 < total (naming nodes n) f
+    → IsSameEntry tables tables' n) → Each (Stays tables tables' nodes nodes') f
 stay_throughout tables tables' nodes nodes' nil e h t = tt
 stay_throughout tables tables' nodes nodes' (node ix below after) e h t = (
   record {
@@ -67,7 +88,8 @@ stay_throughout tables tables' nodes nodes' (node ix below after) e h t = (
 )
 
 -- the links lead through it as before
-spells_same : (tables tables' : Tables) (nodes nodes' : List (Node Item)) (l : Option ℕ) (f : Forest ℕ) → length nodes ≤ length nodes' → Spells (links_of nodes) l f
+spells_same : (tables tables' : Tables) (nodes nodes' : List (Node Item)) (l : Option ℕ) (f : Forest ℕ) → length nodes ≤ length nodes'
+    → Spells (links_of nodes) l f
     → Each (Stays tables tables' nodes nodes') f → Spells (links_of nodes') l f
 spells_same tables tables' nodes nodes' l nil z s h = s
 spells_same tables tables' nodes nodes' l (node ix below after) z s h = (
@@ -78,13 +100,15 @@ spells_same tables tables' nodes nodes' l (node ix below after) z s h = (
 )
 
 -- what a link leads to is the same item
-following_same : (tables tables' : Tables) (nodes nodes' : List (Node Item)) (l : Option ℕ) (f : Forest ℕ) → Spells (links_of nodes) l f → Each (Stays tables tables' nodes nodes') f
+following_same : (tables tables' : Tables) (nodes nodes' : List (Node Item)) (l : Option ℕ) (f : Forest ℕ) → Spells (links_of nodes) l f
+    → Each (Stays tables tables' nodes nodes') f
     → option_map (numbered nodes') l ≡ option_map (numbered nodes) l
 following_same tables tables' nodes nodes' l nil s h = rw s refl
 following_same tables tables' nodes nodes' l (node ix below after) s h = rw (s.0, h.0.at.item) refl
 
 -- its items are placed as before
-placed_same : (source : List ℕ) (tables tables' : Tables) (nodes nodes' : List (Node Item)) (l : Option ℕ) (f : Forest ℕ) → Spells (links_of nodes) l f → IsNoShorter tables tables'
+placed_same : (source : List ℕ) (tables tables' : Tables) (nodes nodes' : List (Node Item)) (l : Option ℕ) (f : Forest ℕ)
+    → Spells (links_of nodes) l f → IsNoShorter tables tables'
     → Each (Stays tables tables' nodes nodes') f → Each (IsPlaced source tables nodes) f → Each (IsPlaced source tables' nodes') f
 placed_same source tables tables' nodes nodes' l nil s z h p = tt
 placed_same source tables tables' nodes nodes' l (node ix below after) s z h p = (
@@ -92,24 +116,33 @@ placed_same source tables tables' nodes nodes' l (node ix below after) s z h p =
     lies = rw h.0.at.item p.0.lies;
     named = rw h.0.at.item (entries-longer tables tables' (item_at nodes ix).body z p.0.named);
     slices = rw h.0.at.item (slices-same source tables tables' (item_at nodes ix).body h.0.entries p.0.slices);
-    keeps = rw (h.0.at.next, h.0.at.child, h.0.at.item, following_same tables tables' nodes nodes' (sibling_of nodes ix) after s.3 h.2) p.0.keeps;
+    keeps = rw (h.0.at.next, h.0.at.child, h.0.at.item, following_same tables tables' nodes nodes' (sibling_of nodes ix) after s.3 h.2)
+        p.0.keeps;
   },
   placed_same source tables tables' nodes nodes' (child_of nodes ix) below s.2 z h.1 p.1,
   placed_same source tables tables' nodes nodes' (sibling_of nodes ix) after s.3 z h.2 p.2,
 )
 
-relabelled_same : (source : List ℕ) (tables tables' : Tables) (nodes nodes' : List (Node Item)) (f : Forest ℕ) → Each (Stays tables tables' nodes nodes') f
+relabelled_same : (source : List ℕ) (tables tables' : Tables) (nodes nodes' : List (Node Item)) (f : Forest ℕ)
+    → Each (Stays tables tables' nodes nodes') f
     → relabelled (label_at source tables' nodes') f ≡ relabelled (label_at source tables nodes) f
 relabelled_same source tables tables' nodes nodes' nil h = refl
 relabelled_same source tables tables' nodes nodes' (node ix below after) h =
-    rw (label-same source tables tables' nodes nodes' ix h.0, relabelled_same source tables tables' nodes nodes' below h.1, relabelled_same source tables tables' nodes nodes' after h.2) refl
+    rw (
+      label-same source tables tables' nodes nodes' ix h.0,
+      relabelled_same source tables tables' nodes nodes' below h.1,
+      relabelled_same
+          source tables tables' nodes nodes' after h.2,
+    ) refl
 
-naming_same : (tables tables' : Tables) (nodes nodes' : List (Node Item)) (n : Named) (f : Forest ℕ) → Each (Stays tables tables' nodes nodes') f → total (naming nodes' n) f ≡ total (naming nodes n) f
+naming_same : (tables tables' : Tables) (nodes nodes' : List (Node Item)) (n : Named) (f : Forest ℕ)
+    → Each (Stays tables tables' nodes nodes') f → total (naming nodes' n) f ≡ total (naming nodes n) f
 naming_same tables tables' nodes nodes' n nil h = refl
 naming_same tables tables' nodes nodes' n (node ix below after) h =
     rw (h.0.at.item, naming_same tables tables' nodes nodes' n below h.1, naming_same tables tables' nodes nodes' n after h.2) refl
 
-weight_same : (tables tables' : Tables) (nodes nodes' : List (Node Item)) (f : Forest ℕ) → Each (Stays tables tables' nodes nodes') f → total (weight_at nodes') f ≡ total (weight_at nodes) f
+weight_same : (tables tables' : Tables) (nodes nodes' : List (Node Item)) (f : Forest ℕ) → Each (Stays tables tables' nodes nodes') f
+    → total (weight_at nodes') f ≡ total (weight_at nodes) f
 weight_same tables tables' nodes nodes' nil h = refl
 weight_same tables tables' nodes nodes' (node ix below after) h =
     rw (h.0.at.item, weight_same tables tables' nodes nodes' below h.1, weight_same tables tables' nodes nodes' after h.2) refl
@@ -126,8 +159,10 @@ height_at : (k : Links) (l : Option ℕ) → height (forest_at k l) ≤ k.size
 unfolding forest_at
 height_at k l = height-followed k.size k l
 
-pub framed : (source : List ℕ) (tables tables' : Tables) (nodes nodes' : List (Node Item)) (l : Option ℕ) → length nodes ≤ length nodes' → IsNoShorter tables tables'
-    → Reaches (links_of nodes) (IsPlaced source tables nodes) l → Each (Stays tables tables' nodes nodes') (forest_at (links_of nodes) l) → Framed source tables tables' nodes nodes' l
+pub framed : (source : List ℕ) (tables tables' : Tables) (nodes nodes' : List (Node Item)) (l : Option ℕ) → length nodes ≤ length nodes'
+    → IsNoShorter tables tables'
+    → Reaches (links_of nodes) (IsPlaced source tables nodes) l → Each (Stays tables tables' nodes nodes') (forest_at (links_of nodes) l)
+    → Framed source tables tables' nodes nodes' l
 framed source tables tables' nodes nodes' l z y r h =
     let f = forest_at (links_of nodes) l in
     let s : Spells (links_of nodes') l f = spells_same tables tables' nodes nodes' l f z r.spelled h in

@@ -23,7 +23,8 @@ markup-closed source body.MaybeImage h = absurd (cc h)
 markup-closed source other h = tt
 
 -- so it keeps the rules wherever it stands before what follows it
-pub keeps-closed : (text : List ℕ) (a : Numbered) (child : Option ℕ) (next : Option Numbered) → is_open a.item.body ≡ false → StandsBefore a next → KeepsItemRules text a child next
+pub keeps-closed : (text : List ℕ) (a : Numbered) (child : Option ℕ) (next : Option Numbered) → is_open a.item.body ≡ false
+    → StandsBefore a next → KeepsItemRules text a child next
 keeps-closed text a child next h before = record {
   in_order = before;
   markup_is_there = markup-closed (source_of text a.item) a.item.body h;

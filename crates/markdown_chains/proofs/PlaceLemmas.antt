@@ -11,7 +11,7 @@ use Rattle.markdown_base.specs.declared.node.Node.{Node}
 use Rattle.markdown_chains.specs.Places.{HasSlices, IsPlaced}
 use Rattle.markdown_chains.specs.Document.{unresolved, is_unresolved, shape_of}
 use Rattle.markdown_chains.specs.Totals.{total, same, naming, times_named, weight_if}
-use Rattle.markdown_chains.specs.Tables.{Tables, Named, some_text, number_of, size_for}
+use Rattle.markdown_chains.specs.Tables.{Tables, Named, some_text, some_link, link_named, number_of, size_for}
 use Rattle.markdown_chains.proofs.TablesLemmas.{same-refl, same-apart, named-apart}
 
 -- numbers that no node has stand nowhere
@@ -21,21 +21,33 @@ times-past k l (node ix below after) n s z =
     omega (arith, same-apart n ix (omega (arith, s.1, z)), times-past k (k.child ix) below n s.2 z, times-past k (k.next ix) after n s.3 z)
 
 -- entries that are in no table are named nowhere
-pub named-past : (source : List ℕ) (tables : Tables) (nodes : List (Node Item)) (f : Forest ℕ) (n : Named) → Each (IsPlaced source tables nodes) f → size_for tables n ≤ number_of n
+pub named-past : (source : List ℕ) (tables : Tables) (nodes : List (Node Item)) (f : Forest ℕ) (n : Named)
+    → Each (IsPlaced source tables nodes) f → size_for tables n ≤ number_of n
     → total (naming nodes n) f ≡ 0
 named-past source tables nodes nil n h z = refl
 named-past source tables nodes (node ix below after) n h z =
-    omega (arith, named-apart n tables (item_at nodes ix).body h.0.named z, named-past source tables nodes below n h.1 z, named-past source tables nodes after n h.2 z)
+    omega (
+      arith,
+      named-apart n tables (item_at nodes ix).body h.0.named z,
+      named-past source tables nodes below n h.1 z,
+      named-past source
+          tables nodes after n h.2 z,
+    )
 
--- what names no text has no slice to be
-pub slices-unnamed : (source : List ℕ) (tables : Tables) (b : ItemBody) → text_named b ≡ None → HasSlices source tables b
-slices-unnamed source tables (body.Code ix) h = cc h
-slices-unnamed source tables (body.Math ix display) h = cc h
-slices-unnamed source tables other h = tt
+-- what names no text and no link has no slice to be
+pub slices-unnamed : (source : List ℕ) (tables : Tables) (b : ItemBody) → text_named b ≡ None → link_named b ≡ None
+    → HasSlices source tables b
+slices-unnamed source tables (body.Code ix) h e = cc h
+slices-unnamed source tables (body.Math ix display) h e = cc h
+slices-unnamed source tables (body.Link ix) h e = cc e
+slices-unnamed source tables (body.Image ix) h e = cc e
+slices-unnamed source tables other h e = tt
 
 pub slices-none : (source : List ℕ) (tables : Tables) (b : ItemBody) → ((n : Named) → times_named n b ≡ 0) → HasSlices source tables b
 slices-none source tables (body.Code ix) h = let none = h (some_text ix.0) in absurd (omega (arith, none, same-refl ix.0))
 slices-none source tables (body.Math ix display) h = let none = h (some_text ix.0) in absurd (omega (arith, none, same-refl ix.0))
+slices-none source tables (body.Link ix) h = let none = h (some_link ix.0) in absurd (omega (arith, none, same-refl ix.0))
+slices-none source tables (body.Image ix) h = let none = h (some_link ix.0) in absurd (omega (arith, none, same-refl ix.0))
 slices-none source tables other h = tt
 
 -- an open item is not read before its chain is resolved
@@ -44,7 +56,8 @@ shape-open tables source body.Paragraph h = cc h
 shape-open tables source other h = cc h
 
 -- what is not read before its chain is resolved is open
-pub open-unresolved : (tables : Tables) (source : List ℕ) (b : ItemBody) → is_unresolved (shape_of tables source b) ≡ true → is_open b ≡ true
+pub open-unresolved : (tables : Tables) (source : List ℕ) (b : ItemBody) → is_unresolved (shape_of tables source b) ≡ true
+    → is_open b ≡ true
 open-unresolved tables source body.Paragraph h = cc h
 open-unresolved tables source (body.HardBreak true) h = cc h
 open-unresolved tables source (body.HardBreak false) h = cc h

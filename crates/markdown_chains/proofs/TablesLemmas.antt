@@ -1,5 +1,6 @@
 -- Entries of tables: those that are named are there, and stay where tables grow.
-use Rattle.std.proofs.Common.{◌≡◌, ℕ, zero, suc, ◌<◌, ◌≤◌, List, [], ◌∷◌, ◌++◌, length, Option, Some, None, refl, ◌∙◌, arith, append-nil, append_assoc}
+use Rattle.std.proofs.Common.{◌≡◌, ℕ, zero, suc, ◌<◌, ◌≤◌, List, [], ◌∷◌, ◌++◌, length, Option, Some, None, refl, ◌∙◌, arith, append-nil}
+use Rattle.std.proofs.Common.{append_assoc}
 use Rattle.std.specs.Prelude.{IfSome}
 use Rattle.std.proofs.lemmas.List.{length-append}
 use Rattle.markdown_base.specs.Item.{text_named, alignments_named}
@@ -7,7 +8,8 @@ use Rattle.markdown_base.specs.declared.cow_str.CowStr.{CowStr}
 use Rattle.markdown_base.specs.declared.item.ItemBody.{ItemBody}
 use Rattle.markdown_spans.specs.Allocations.{LinkParts}
 use Rattle.markdown_chains.specs.Origins.{origin_at}
-use Rattle.markdown_chains.specs.Tables.{Tables, Named, some_text, some_link, some_alignments, text_at, link_at, link_named, number_of, size_for, NamesEntries, IsSameEntry, IsNoShorter, HasGrown}
+use Rattle.markdown_chains.specs.Tables.{Tables, Named, some_text, some_link, some_alignments, text_at, link_at, link_origin_at, link_named}
+use Rattle.markdown_chains.specs.Tables.{number_of, size_for, NamesEntries, IsSameEntry, IsNoShorter, HasGrown}
 use Rattle.markdown_chains.specs.Totals.{same, same_as, times_named}
 
 -- a number is itself, and not one that is smaller
@@ -41,7 +43,8 @@ named-once (some_link n) b = as_once n (link_named b)
 named-once (some_alignments n) b = as_once n (alignments_named b)
 
 -- and none that is in no table
-pub named-apart : (n : Named) (tables : Tables) (b : ItemBody) → NamesEntries tables b → size_for tables n ≤ number_of n → times_named n b ≡ 0
+pub named-apart : (n : Named) (tables : Tables) (b : ItemBody) → NamesEntries tables b → size_for tables n ≤ number_of n
+    → times_named n b ≡ 0
 named-apart (some_text n) tables b h z = as_apart n (length tables.cows) (text_named b) h.text z
 named-apart (some_link n) tables b h z = as_apart n (length tables.links) (link_named b) h.link z
 named-apart (some_alignments n) tables b h z = as_apart n (length tables.alignments) (alignments_named b) h.alignments z
@@ -49,12 +52,12 @@ named-apart (some_alignments n) tables b h z = as_apart n (length tables.alignme
 -- an entry is the same as it is, and one that stays, and then stays
 pub same_entry-refl : (a : Tables) (n : Named) → IsSameEntry a a n
 same_entry-refl a (some_text n) = (refl, refl)
-same_entry-refl a (some_link n) = refl
+same_entry-refl a (some_link n) = (refl, refl)
 same_entry-refl a (some_alignments n) = refl
 
 pub same_entry-trans : (a b c : Tables) (n : Named) → IsSameEntry a b n → IsSameEntry b c n → IsSameEntry a c n
 same_entry-trans a b c (some_text n) p q = (q.0 ∙ p.0, q.1 ∙ p.1)
-same_entry-trans a b c (some_link n) p q = q ∙ p
+same_entry-trans a b c (some_link n) p q = (q.0 ∙ p.0, q.1 ∙ p.1)
 same_entry-trans a b c (some_alignments n) p q = q ∙ p
 
 -- a table that grows at its end
@@ -73,10 +76,15 @@ link_at-append [] more n l = absurd (omega (arith, l))
 link_at-append (c ∷ links) more zero l = refl
 link_at-append (c ∷ links) more (suc n) l = link_at-append links more n (omega (arith, l))
 
+link_origin_at-append : (links more : List LinkParts) (n : ℕ) → n < length links → link_origin_at (links ++ more) n ≡ link_origin_at links n
+link_origin_at-append [] more n l = absurd (omega (arith, l))
+link_origin_at-append (c ∷ links) more zero l = refl
+link_origin_at-append (c ∷ links) more (suc n) l = link_origin_at-append links more n (omega (arith, l))
+
 appended_same : (tables : Tables) (cows : List CowStr) (links : List LinkParts) (n : Named) → number_of n < size_for tables n
     → IsSameEntry tables (record tables { cows = tables.cows ++ cows; links = tables.links ++ links }) n
 appended_same tables cows links (some_text n) l = (text_at-append tables.cows cows n l, origin_at-append tables.cows cows n l)
-appended_same tables cows links (some_link n) l = link_at-append tables.links links n l
+appended_same tables cows links (some_link n) l = (link_at-append tables.links links n l, link_origin_at-append tables.links links n l)
 appended_same tables cows links (some_alignments n) l = refl
 
 appended_sizes : (tables : Tables) (cows : List CowStr) (links : List LinkParts) (n : Named)
@@ -86,7 +94,8 @@ appended_sizes tables cows links (some_link n) = omega (arith, length-append tab
 appended_sizes tables cows links (some_alignments n) = omega arith
 
 -- tables that have grown say the same of the entries that were there, and are no shorter
-pub grown-same : (tables tables' : Tables) (n : Named) → HasGrown tables tables' → number_of n < size_for tables n → IsSameEntry tables tables' n
+pub grown-same : (tables tables' : Tables) (n : Named) → HasGrown tables tables' → number_of n < size_for tables n
+    → IsSameEntry tables tables' n
 grown-same tables tables' n g l = rw g.grown (appended_same tables g.more_cows g.more_links n l)
 
 pub grown-longer : (tables tables' : Tables) → HasGrown tables tables' → IsNoShorter tables tables'
@@ -121,6 +130,7 @@ pub entries-longer : (tables tables' : Tables) (b : ItemBody) → IsNoShorter ta
 entries-longer tables tables' b y h = record {
   text = more_entries (text_named b) (length tables.cows) (length tables'.cows) (y.sizes (some_text 0)) h.text;
   link = more_entries (link_named b) (length tables.links) (length tables'.links) (y.sizes (some_link 0)) h.link;
-  alignments = more_entries (alignments_named b) (length tables.alignments) (length tables'.alignments) (y.sizes (some_alignments 0)) h.alignments;
+  alignments = more_entries (alignments_named b) (length tables.alignments) (length tables'.alignments) (y.sizes (some_alignments 0))
+      h.alignments;
   attributes = rw y.headings h.attributes;
 }

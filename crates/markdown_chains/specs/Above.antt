@@ -21,6 +21,7 @@ pub record Above : Type 0 where
 abbrev pub no_blocks : List ℕ → Above
 no_blocks source = record { block_end = length source; in_table = false; bodies = [] }
 
+-- a cell of a table
 abbrev pub is_table_cell : ItemBody → Bool
 is_table_cell body.TableCell = true
 is_table_cell other = false
@@ -34,6 +35,7 @@ inside (Some block) range above = record {
   bodies = above.bodies ++ block ∷ [];
 }
 
+-- the blocks above what is below a tree
 abbrev pub inside_label : {A : Type 0} → Label A → Above → Above
 inside_label a above = inside a.part.block a.part.range above
 
@@ -50,5 +52,6 @@ inside_all nodes (ix ∷ deeper) above = inside_all nodes deeper (inside_item (i
 abbrev pub above_at : List ℕ → List (Node Item) → List ℕ → Above
 above_at source nodes spine = inside_all nodes spine (no_blocks source)
 
+-- the blocks above the cursor of a tree
 abbrev pub above_cursor : List ℕ → Arena Item → Above
 above_cursor source tree = above_at source tree.nodes tree.spine

@@ -13,6 +13,7 @@ use Rattle.markdown_chains.specs.Document.{Origin, sliced, Shape, leaf, unresolv
 abbrev pub start_of : {A : Type 0} → Label A → ℕ
 start_of a = a.part.range.start
 
+-- where a label's range ends
 abbrev pub end_of : {A : Type 0} → Label A → ℕ
 end_of a = a.part.range.end
 
@@ -26,6 +27,7 @@ abbrev pub open_body : Shape → ItemBody
 open_body (unresolved b) = b
 open_body other = body.Text false
 
+-- a label as an item
 abbrev pub as_item : {A : Type 0} → Label A → Item
 as_item a = record { start = start_of a; end = end_of a; body = open_body a.part.shape }
 
@@ -41,10 +43,12 @@ without_first n (html bytes) = html (drop n bytes)
 without_first n (inline_html bytes) = inline_html (drop n bytes)
 without_first n other = other
 
+-- an event whose text stands in the source, without its first bytes
 abbrev pub cut_event : ℕ → EventView → List Origin → EventView
 cut_event n e (sliced ∷ origins) = without_first n e
 cut_event n e other = e
 
+-- a shape without its first bytes
 abbrev pub cut_shape : ℕ → Shape → Shape
 cut_shape n (leaf e origins) = leaf (cut_event n e origins) origins
 cut_shape n other = other

@@ -2,8 +2,8 @@
 use Rattle.std.specs.Prelude.{◌≡◌, ℕ, zero, suc, ◌+◌, ◌-◌, ◌*◌, ◌^◌, ◌≤◌, min}
 use Rattle.markdown_chains.specs.declared.work.Work.{Work}
 
--- the items of a chain from its first open one on, the delimiter characters that are left of it when pairing begins, and
--- the searches for an opener that find one then
+-- the items of a chain from its first open one on, the delimiter characters that are left of it when pairing begins,
+-- and the searches for an opener that find one then
 pub record ChainCounts : Type 0 where
   pub items : ℕ
   pub delimiters : ℕ
@@ -29,7 +29,8 @@ abbrev pub RisesAtLeast : (least old new : ℕ) → Type 0
 RisesAtLeast least old new = min (old + least) (2 ^ 128 - 1) ≤ new
 
 -- the counts after a chain with these was resolved, or none was: at most ten open runs are compared for each delimiter
--- character, and one at least for each search that finds; and searches for the ends of code look at no more items than there are, and so do those for the ends of math
+-- character, and one at least for each search that finds; and searches for the ends of code look at no more items than
+-- there are, and so do those for the ends of math
 pub record WorkRises (n : ChainCounts) (old new : Work) : Type 0 where
   pub items : new.items ≡ risen n.items old.items
   pub delimiters : new.delimiters ≡ risen n.delimiters old.delimiters

@@ -1,9 +1,15 @@
 -- The tree of a document, as its items read. Chains of inline items in it may be open.
 use Rattle.markdown_base.specs.declared.item.ItemBody.TheVariants as body
-use Rattle.std.specs.Prelude.{ℕ, Bool, true, false, ◌||◌, if◌then◌else◌, nat_eq, Option, Some, None, List, [], ◌∷◌, encode_utf8, slice_range}
+use Rattle.std.specs.Prelude.{ℕ, Bool, true, false, ◌||◌, if◌then◌else◌, nat_eq, Option, Some, None, List, [], ◌∷◌}
+use Rattle.std.specs.Prelude.{encode_utf8, slice_range}
 use Rattle.std.specs.declared.ops.Range.{Range}
 use Rattle.markdown_base.specs.BlockTree.{tree_of}
-use Rattle.markdown_base.specs.Event.{TagView, EventView, text, code, inline_math, display_math, html, inline_html, footnote_reference, soft_break, hard_break, rule, task_list_marker, paragraph, heading, block_quote, indented_code, fenced_code, html_block, list, list_item, footnote_definition, definition_list, definition_list_title, definition_list_definition, table, table_head, table_row, table_cell, emphasis, strong, strikethrough, superscript, subscript, link, image, metadata_block}
+use Rattle.markdown_base.specs.Event.{TagView, EventView, text, code, inline_math, display_math, html, inline_html}
+use Rattle.markdown_base.specs.Event.{footnote_reference, soft_break, hard_break, rule, task_list_marker, paragraph}
+use Rattle.markdown_base.specs.Event.{heading, block_quote, indented_code, fenced_code, html_block, list, list_item}
+use Rattle.markdown_base.specs.Event.{footnote_definition, definition_list, definition_list_title}
+use Rattle.markdown_base.specs.Event.{definition_list_definition, table, table_head, table_row, table_cell, emphasis}
+use Rattle.markdown_base.specs.Event.{strong, strikethrough, superscript, subscript, link, image, metadata_block}
 use Rattle.markdown_base.specs.Forest.{Forest, relabelled}
 use Rattle.markdown_base.specs.Item.{is_open, is_block, range_of}
 use Rattle.markdown_base.specs.declared.item.Item.{Item}
@@ -87,7 +93,8 @@ container_of other = None
 
 -- what its Start opens, of a heading, with what stands in braces behind it
 abbrev pub heading_of : Tables → ItemBody → Option TagView
-heading_of tables (body.Heading level named) = Some (heading (heading_with level (attributes_for tables.headings named)))
+heading_of tables (body.Heading level named) =
+    Some (heading (heading_with level (attributes_for tables.headings named)))
 heading_of tables other = None
 
 -- math, in a line or on lines of its own
@@ -111,7 +118,8 @@ other_shape tables source (body.Text escaped) = text_over source
 other_shape tables source (body.SynthesizeText ix) = leaf (text (text_at tables.cows ix.0)) (made ∷ [])
 other_shape tables source (body.SynthesizeChar c) = leaf (text (encode_utf8 c)) (made ∷ [])
 other_shape tables source (body.Code ix) = leaf (code (text_at tables.cows ix.0)) (origin_at tables.cows ix.0 ∷ [])
-other_shape tables source (body.Math ix display) = leaf (math display (text_at tables.cows ix.0)) (origin_at tables.cows ix.0 ∷ [])
+other_shape tables source (body.Math ix display) = leaf (math display (text_at tables.cows ix.0))
+    (origin_at tables.cows ix.0 ∷ [])
 other_shape tables source body.Html = leaf (html source) (sliced ∷ [])
 other_shape tables source body.InlineHtml = leaf (inline_html source) (sliced ∷ [])
 other_shape tables source (body.OwnedInlineHtml ix) = leaf (inline_html (text_at tables.cows ix.0)) (made ∷ [])
@@ -134,12 +142,14 @@ enclosed_or None other = other
 
 -- how a body reads over the bytes that it stands over, by what items name
 abbrev pub shape_of : Tables → List ℕ → ItemBody → Shape
-shape_of tables source b = enclosed_or (container_of b) (enclosed_or (heading_of tables b) (other_shape tables source b))
+shape_of tables source b = enclosed_or (container_of b)
+    (enclosed_or (heading_of tables b) (other_shape tables source b))
 
 -- a body that is a block's
 abbrev pub block_of : ItemBody → Option ItemBody
 block_of b = if is_block b then Some b else None
 
+-- what an item says, by its shape, range and block
 abbrev pub part_of : List ℕ → Tables → Item → Part
 part_of source tables item = record {
   shape = shape_of tables (slice_range source item.start item.end) item.body;
@@ -151,6 +161,7 @@ part_of source tables item = record {
 abbrev pub Plain : Type 0
 Plain = Label (Unit {0})
 
+-- the label of an item, without a tag
 abbrev pub label_of : List ℕ → Tables → Item → Plain
 label_of source tables item = record { tag = tt; part = part_of source tables item }
 
@@ -158,6 +169,7 @@ label_of source tables item = record { tag = tt; part = part_of source tables it
 pub record Tags (A : Type 0) : Type 0 where
   pub fresh : ℕ → A
 
+-- no tags
 abbrev pub plain_tags : Tags (Unit {0})
 plain_tags = record { fresh = λ n. tt }
 

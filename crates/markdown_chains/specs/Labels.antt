@@ -4,7 +4,8 @@ use Rattle.markdown_base.specs.declared.item.ItemBody.TheVariants as body
 use Rattle.std.specs.Prelude.{ℕ, ◌+◌, Bool, true, false, ⊤}
 use Rattle.markdown_base.specs.Forest.{Forest, nil, node, relabelled}
 use Rattle.markdown_base.specs.declared.item.ItemBody.{ItemBody}
-use Rattle.markdown_chains.specs.Document.{Shape, leaf, enclosed, plain, backslash_break, unresolved, Label, is_unresolved}
+use Rattle.markdown_chains.specs.Document.{Shape, leaf, enclosed, plain, backslash_break, unresolved, Label}
+use Rattle.markdown_chains.specs.Document.{is_unresolved}
 use Rattle.markdown_chains.specs.Totals.{weight_if}
 
 -- it gives an event before all else
@@ -35,6 +36,7 @@ abbrev pub counts_delimiter : ItemBody → ℕ
 counts_delimiter (body.MaybeEmphasis count opens closes) = 1
 counts_delimiter other = 0
 
+-- how many open items a shape counts for
 abbrev pub counts_shape : Shape → ℕ
 counts_shape (leaf e origins) = 0
 counts_shape (enclosed tag) = 0
@@ -51,5 +53,6 @@ delimiters_in (node a below after) = counts_shape a.part.shape + delimiters_in a
 abbrev pub retag : {A B : Type 0} → (A → B) → Label A → Label B
 retag f a = record { tag = f a.tag; part = a.part }
 
+-- a forest with other tags
 abbrev pub retagged : {A B : Type 0} → (A → B) → Forest (Label A) → Forest (Label B)
 retagged f trees = relabelled (retag f) trees

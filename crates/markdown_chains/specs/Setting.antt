@@ -31,6 +31,7 @@ pub record Setting : Type 0 where
   pub text : List ℕ
   pub rules : Rules
 
+-- a text, and the rules by which its chains are resolved
 abbrev pub setting_of : List ℕ → Rules → Setting
 setting_of source rules = record { text = source; rules = rules }
 

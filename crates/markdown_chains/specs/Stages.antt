@@ -33,9 +33,11 @@ chain_at source stage l = trees_from source stage.tables stage.nodes l
 abbrev pub times_in : List (Node Item) → Option ℕ → ℕ → ℕ
 times_in nodes l n = total (same n) (forest_at (links_of nodes) l)
 
+-- how often a part is named in a chain and below it
 abbrev pub named_in : List (Node Item) → Option ℕ → Named → ℕ
 named_in nodes l n = total (naming nodes n) (forest_at (links_of nodes) l)
 
+-- how heavy a chain is, with what is below it
 abbrev pub weight_in : List (Node Item) → Option ℕ → ℕ
 weight_in nodes l = total (weight_at nodes) (forest_at (links_of nodes) l)
 

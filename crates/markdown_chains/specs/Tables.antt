@@ -1,6 +1,7 @@
 -- What items name by number: texts, links, the alignments of tables and the attributes of headings.
 use Rattle.markdown_base.specs.declared.item.ItemBody.TheVariants as body
-use Rattle.std.specs.Prelude.{◌≡◌, ℕ, zero, suc, ◌-◌, ◌<◌, ◌≤◌, List, [], ◌∷◌, ◌++◌, map, Option, Some, None, IfSome, length}
+use Rattle.std.specs.Prelude.{◌≡◌, ℕ, zero, suc, ◌-◌, ◌<◌, ◌≤◌, List, [], ◌∷◌, ◌++◌, map, Option, Some, None, IfSome}
+use Rattle.std.specs.Prelude.{length}
 use Rattle.std.specs.Option.{option_map}
 use Rattle.std.specs.declared.alloc.Global.{Global}
 use Rattle.std.specs.declared.vec.Vec.{Vec}
@@ -16,7 +17,7 @@ use Rattle.markdown_base.specs.declared.item.ItemBody.{ItemBody}
 use Rattle.markdown_base.specs.declared.tag.Alignment.{Alignment}
 use Rattle.markdown_base.specs.declared.tag.HeadingLevel.{HeadingLevel}
 use Rattle.markdown_base.specs.declared.tag.LinkType.TheVariants.{ShortcutUnknown}
-use Rattle.markdown_chains.specs.Origins.{origin_at}
+use Rattle.markdown_chains.specs.Origins.{Origin, made, origin_at, origin_of}
 use Rattle.markdown_spans.specs.Allocations.{Allocated, LinkParts}
 
 -- the entries that can be named
@@ -32,7 +33,13 @@ tables_of held = record { cows = held.cows; links = held.links; alignments = hel
 
 -- those of a block result, which has no link
 abbrev pub tables_at_start : BlockParts → Tables
-tables_at_start parts = record { cows = parts.cows.items; links = []; alignments = parts.alignments.items; headings = parts.headings.items }
+tables_at_start parts = record {
+  cows = parts.cows.items;
+  links = [];
+  alignments = parts.alignments.items;
+  headings =
+      parts.headings.items;
+}
 
 -- none at all
 abbrev pub no_tables : Tables
@@ -48,10 +55,17 @@ text_at (c ∷ cows) (suc ix) = text_at cows ix
 abbrev pub link_view : LinkParts → LinkView
 link_view link = record { kind = link.0; destination = text_of link.1; title = text_of link.2; label = text_of link.3 }
 
+-- the link of a number
 abbrev pub link_at : List LinkParts → ℕ → LinkView
 link_at [] ix = record { kind = ShortcutUnknown; destination = []; title = []; label = [] }
 link_at (l ∷ links) zero = link_view l
 link_at (l ∷ links) (suc ix) = link_at links ix
+
+-- where the destination of that link comes from
+abbrev pub link_origin_at : List LinkParts → ℕ → Origin
+link_origin_at [] ix = made
+link_origin_at (l ∷ links) zero = origin_of l.1
+link_origin_at (l ∷ links) (suc ix) = link_origin_at links ix
 
 -- the alignments of a number
 abbrev pub alignments_at : List (Vec Alignment Global) → ℕ → List Alignment
@@ -65,9 +79,16 @@ pub record AttributesView : Type 0 where
   pub classes : List (List ℕ)
   pub attributes : List (List ℕ × Option (List ℕ))
 
+-- the attributes of a heading, by their texts
 abbrev pub attributes_view : HeadingAttributes → AttributesView
-attributes_view a = record { id = option_map text_of a.id; classes = map text_of a.classes.items; attributes = map attribute_view a.attrs.items }
+attributes_view a = record {
+  id = option_map text_of a.id;
+  classes = map text_of a.classes.items;
+  attributes =
+      map attribute_view a.attrs.items;
+}
 
+-- a heading without attributes
 abbrev pub no_attributes : AttributesView
 no_attributes = record { id = None; classes = []; attributes = [] }
 
@@ -105,6 +126,7 @@ number_of (some_text n) = n
 number_of (some_link n) = n
 number_of (some_alignments n) = n
 
+-- how many parts there are of the kind that is named
 abbrev pub size_for : Tables → Named → ℕ
 size_for tables (some_text n) = length tables.cows
 size_for tables (some_link n) = length tables.links
@@ -117,11 +139,13 @@ pub record NamesEntries (tables : Tables) (b : ItemBody) : Type 0 where
   pub alignments : IfSome (alignments_named b) (λ n. n < length tables.alignments)
   pub attributes : IfSome (attributes_named b) (λ n. (1 ≤ n) × (n ≤ length tables.headings))
 
--- an entry says the same in two tables; of a text its origin is the same too
+-- an entry says the same in two tables; of a text, and of a link's destination, the origin is the same too
 abbrev pub IsSameEntry : (tables tables' : Tables) → Named → Type 0
 IsSameEntry tables tables' (some_text n) =
     (text_at tables'.cows n ≡ text_at tables.cows n) × (origin_at tables'.cows n ≡ origin_at tables.cows n)
-IsSameEntry tables tables' (some_link n) = link_at tables'.links n ≡ link_at tables.links n
+IsSameEntry tables tables' (some_link n) =
+    (link_at tables'.links n ≡ link_at tables.links n)
+    × (link_origin_at tables'.links n ≡ link_origin_at tables.links n)
 IsSameEntry tables tables' (some_alignments n) = alignments_at tables'.alignments n ≡ alignments_at tables.alignments n
 
 -- tables are no shorter than others, and the heading attributes, which nothing takes or adds, are the same
@@ -135,5 +159,6 @@ pub record HasGrown (tables tables' : Tables) : Type 0 where
   pub more_links : List LinkParts
   pub grown : tables' ≡ record tables { cows = tables.cows ++ more_cows; links = tables.links ++ more_links }
 
+-- it has one proof at most
 pub NamesEntries-prop : (tables : Tables) (b : ItemBody) → IsProp (NamesEntries tables b)
 NamesEntries-prop tables b = hlevel props

@@ -21,6 +21,7 @@ same zero (suc m) = 0
 same (suc n) zero = 0
 same (suc n) (suc m) = same n m
 
+-- 1 where it is this number
 abbrev pub same_as : ℕ → Option ℕ → ℕ
 same_as n None = 0
 same_as n (Some m) = same n m
@@ -41,5 +42,6 @@ abbrev pub weight_if : (is_open : Bool) → ℕ
 weight_if true = 4
 weight_if false = 2
 
+-- how heavy a node is by itself
 abbrev pub weight_at : List (Node Item) → ℕ → ℕ
 weight_at nodes ix = weight_if (is_open (item_at nodes ix).body)

@@ -2,7 +2,8 @@
 use Rattle.markdown_base.specs.declared.item.ItemBody.TheVariants as body
 use Rattle.std.specs.Prelude.{ℕ, Bool, true, false, List}
 use Rattle.markdown_base.specs.declared.item.ItemBody.{ItemBody}
-use Rattle.markdown_chains.specs.Document.{Shape, leaf, enclosed, plain, backslash_break, unresolved, Label, is_unresolved, as_text}
+use Rattle.markdown_chains.specs.Document.{Shape, leaf, enclosed, plain, backslash_break, unresolved, Label}
+use Rattle.markdown_chains.specs.Document.{is_unresolved, as_text}
 
 -- pairing decides on it: a run's character, or a quote
 abbrev pub waits_for_pairing : ItemBody → Bool
