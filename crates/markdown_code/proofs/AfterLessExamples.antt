@@ -26,7 +26,8 @@ unfolding markup_at quoted all both either nonempty often often_past one optiona
 row_tag = refl
 
 -- the prefix of the second line is removed
-row_tag_over_lines : markup_at quoted (codes "> <foo" ++ 10 ∷ codes "> bar>") 2 3 ≡ Some (html 13 (Some (codes "<foo" ++ 10 ∷ codes "bar>")))
+row_tag_over_lines : markup_at quoted (codes "> <foo" ++ 10 ∷ codes "> bar>") 2 3
+    ≡ Some (html 13 (Some (codes "<foo" ++ 10 ∷ codes "bar>")))
 unfolding markup_at quoted all both either nonempty often often_past one optional
 row_tag_over_lines = refl
 

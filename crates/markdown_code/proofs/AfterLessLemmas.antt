@@ -1,5 +1,6 @@
 -- A text from which prefixes of lines were removed is a text.
-use Rattle.std.proofs.Common.{◌≡◌, ℕ, suc, zero, ◌+◌, ◌-◌, ◌<◌, ◌≤◌, Bool, true, false, ◌&&◌, ◌==◌, List, [], ◌∷◌, ◌++◌, Option, Some, None, length, get_or, take, drop, arith, refl, ap, IsUtf8, IsCharBoundary, encode_utf8, inl, inr, subst}
+use Rattle.std.proofs.Common.{◌≡◌, ℕ, suc, zero, ◌+◌, ◌-◌, ◌<◌, ◌≤◌, Bool, true, false, ◌&&◌, ◌==◌, List, [], ◌∷◌, ◌++◌, Option, Some, None}
+use Rattle.std.proofs.Common.{length, get_or, take, drop, arith, refl, ap, IsUtf8, IsCharBoundary, encode_utf8, inl, inr, subst}
 use Rattle.std.specs.Prelude.{if◌then◌else◌, option_and_then}
 use Rattle.std.specs.Option.{option_map}
 use Rattle.std.specs.List.{list_all}
@@ -7,7 +8,8 @@ use Rattle.std.specs.Char.{is_ascii}
 use Rattle.std.proofs.Math.Utf8.{scalar, scalars, encodes}
 use Rattle.std.proofs.lemmas.Option.{same_Some}
 use Rattle.std.proofs.lemmas.Bool.Decides.{nat_tests, leb_tells}
-use Rattle.std.proofs.lemmas.Str.{encode_ascii, IsUtf8-take, IsUtf8-drop, IsUtf8-nil, IsCharBoundary-after_ascii, char_from_byte, IsCharBoundary-start}
+use Rattle.std.proofs.lemmas.Str.{encode_ascii, IsUtf8-take, IsUtf8-drop, IsUtf8-nil, IsCharBoundary-after_ascii, char_from_byte}
+use Rattle.std.proofs.lemmas.Str.{IsCharBoundary-start}
 use Rattle.markdown_scan.specs.LinePrefix.{ends_line}
 use Rattle.markdown_scan.specs.LineEnd.{line_feed, carriage_return}
 use Rattle.markdown_scan.proofs.LabelCharacterLemmas.{IsHigh, high_encode}
@@ -17,7 +19,7 @@ use Rattle.markdown_raw_html.specs.TagSource.{tag_at, tag_of, tag_lengths}
 use Rattle.markdown_raw_html.proofs.RawHtmlLawsLemmas.{tag_between}
 use Rattle.markdown_raw_html.proofs.HtmlTagLemmas.{IsWithin-html_tag}
 use Rattle.markdown_scan.specs.Beginnings.{StandsBetween}
-use Rattle.markdown_scan.specs.Autolink.{web_autolink}
+use Rattle.markdown_scan.specs.Autolink.{uri_autolink}
 use Rattle.markdown_code.specs.AfterLess.{html, html_at, is_unbroken, markup_at}
 use Rattle.markdown_code.specs.PrefixView.{length_by}
 use Rattle.markdown_code.specs.declared.prefixes.ContainerPrefix.{ContainerPrefix}
@@ -63,7 +65,8 @@ after_low : (length_of : List ℕ → ℕ) (c : ℕ) (rest : List ℕ) → Skips
 after_low length_of c rest skips later s low = cases (ends_line c rest) refl
   where
     cases : (ends : Bool) → ends_line c rest ≡ ends → IsUtf8 (text_past (λ line. Some (length_of line)) 0 (c ∷ rest))
-    cases true e = rw e (rw (encode_ascii c low) at (text_after c (text_past (λ line. Some (length_of line)) (length_of rest) rest) s (later (length_of rest) (skips rest))))
+    cases true e = rw e (rw (encode_ascii c low) at (text_after c (text_past (λ line. Some (length_of line)) (length_of rest) rest) s
+        (later (length_of rest) (skips rest))))
     cases false e =
         let none : IsAsciiPrefix rest 0 = record { within = omega arith; ascii = refl } in
         rw e (rw (encode_ascii c low) at (text_after c (text_past (λ line. Some (length_of line)) 0 rest) s (later 0 none)))
@@ -93,7 +96,8 @@ past_is_text length_of skips (c ∷ cs) s zero prefix = elim (leb_tells 128 c) [
       (past_is_text length_of skips cs (both_of (scalar c) (scalars cs) s).1 0 none))
   | inr low ↦
       rw (encode_ascii c low.1) (after_low length_of c (encodes cs) skips
-      (λ n prefix. past_is_text length_of skips cs (both_of (scalar c) (scalars cs) s).1 n prefix) (both_of (scalar c) (scalars cs) s).0 low.1)
+      (λ n prefix. past_is_text length_of skips cs (both_of (scalar c) (scalars cs) s).1 n prefix) (both_of (scalar c) (scalars cs) s).0
+      low.1)
 ]
 past_is_text length_of skips (c ∷ cs) s (suc n) prefix =
     skipped_character length_of c n (encodes cs)
@@ -126,7 +130,8 @@ pub tag_is_text : (prefix : ContainerPrefix) (text : List ℕ) (start end : ℕ)
 tag_is_text prefix text start end bytes utf8 boundary e =
     cases (html_tag (text_in (λ rest. Some (length_by prefix rest)) (drop start text))) refl e
   where
-    part : (n : ℕ) (same : Bool) → (if same then None else Some (take n (text_in (λ rest. Some (length_by prefix rest)) (drop start text)))) ≡ Some bytes
+    part : (n : ℕ) (same : Bool) → (if same then None else Some (take n (text_in (λ rest. Some (length_by prefix rest)) (drop start text))))
+        ≡ Some bytes
         → take n (text_in (λ rest. Some (length_by prefix rest)) (drop start text)) ≡ bytes
     part n true h = cc
     part n false h = same_Some (take n (text_in (λ rest. Some (length_by prefix rest)) (drop start text))) bytes h
@@ -144,7 +149,7 @@ tag_is_text prefix text start end bytes utf8 boundary e =
         (joined_is_text (length_by prefix) (length_by_is_ascii prefix) (drop start text) (IsUtf8-drop text start utf8 boundary)) f)
 
 -- raw HTML that is found after no autolink, and inside of which no prefix stands
-pub unbroken_html : (skipped : List ℕ → Option ℕ) (text : List ℕ) (start at : ℕ) → web_autolink text at ≡ None
+pub unbroken_html : (skipped : List ℕ → Option ℕ) (text : List ℕ) (start at : ℕ) → uri_autolink text at ≡ None
     → is_unbroken (markup_at skipped text start at) ≡ true → option_and_then (λ tag. tag.1) (html_at skipped text start at) ≡ None
 unfolding markup_at
 unbroken_html skipped text start at none h = cases (html_at skipped text start at) (rw none at h)

@@ -1,10 +1,13 @@
 -- The text of a span, piece by piece.
-use Rattle.std.proofs.Common.{◌≡◌, ℕ, suc, zero, ◌+◌, ◌-◌, ◌<◌, ◌≤◌, Bool, true, false, not, ◌&&◌, ◌||◌, ◌==◌, List, [], ◌∷◌, ◌++◌, Option, Some, None, length, get_or, take, drop, append_assoc, arith, refl, sym, ap, ◌∙◌, IsUtf8, IsCharBoundary, subst, append-nil}
+use Rattle.std.proofs.Common.{◌≡◌, ℕ, suc, zero, ◌+◌, ◌-◌, ◌<◌, ◌≤◌, Bool, true, false, not, ◌&&◌, ◌||◌, ◌==◌, List, [], ◌∷◌, ◌++◌, Option}
+use Rattle.std.proofs.Common.{Some, None, length, get_or, take, drop, append_assoc, arith, refl, sym, ap, ◌∙◌, IsUtf8, IsCharBoundary}
+use Rattle.std.proofs.Common.{subst, append-nil}
 use Rattle.std.specs.Prelude.{is_some}
 use Rattle.std.specs.List.{list_all}
 use Rattle.std.specs.Char.{is_ascii}
 use Rattle.std.proofs.lemmas.Bool.Decides.{nat_tests}
-use Rattle.std.proofs.lemmas.List.{get_or-take, length-drop, length-take-le, drop_more, take_more, drop-drop, take-append-drop, drop_all, take_all}
+use Rattle.std.proofs.lemmas.List.{get_or-take, length-drop, length-take-le, drop_more, take_more, drop-drop, take-append-drop, drop_all}
+use Rattle.std.proofs.lemmas.List.{take_all}
 use Rattle.std.proofs.Math.Seq.{take-append-add}
 use Rattle.std.proofs.lemmas.List.Folds.{list_all-append}
 use Rattle.std.proofs.lemmas.Option.{same_Some}
@@ -15,7 +18,8 @@ use Rattle.markdown_scan.specs.LineEnd.{line_ending, begins_line_feed, line_feed
 use Rattle.markdown_scan.proofs.BoundaryLemmas.{before_ascii_of_rest, after_ascii_of_rest}
 use Rattle.markdown_scan.proofs.BeginsWithLemmas.{begins_with-split}
 use Rattle.markdown_chains.specs.Origins.{StandsIn}
-use Rattle.markdown_code.specs.CodeText.{Piece, piece_at, begins_escaped_pipe, replaced_past, shown_ending, is_sliced, has_outer_spaces, is_space, without_outer_spaces}
+use Rattle.markdown_code.specs.CodeText.{Piece, piece_at, begins_escaped_pipe, replaced_past, shown_ending, is_sliced, has_outer_spaces}
+use Rattle.markdown_code.specs.CodeText.{is_space, without_outer_spaces}
 use Rattle.markdown_code.specs.PrefixView.{length_by}
 use Rattle.markdown_code.specs.declared.span_text.SpanKind.{SpanKind}
 use Rattle.markdown_code.specs.declared.prefixes.ContainerPrefix.{ContainerPrefix}
@@ -29,8 +33,10 @@ prefix_joined bytes n m first second = record {
   ascii =
       let whole : take (n + m) bytes ≡ take n bytes ++ take m (drop n bytes) =
       ap (λ k. take (k + m) bytes) (sym (length-take-le n bytes first.within))
-      ∙ (ap (λ xs. take (length (take n bytes) + m) xs) (sym (take-append-drop n bytes)) ∙ take-append-add (take n bytes) (drop n bytes) m) in
-      ap (list_all is_ascii) whole ∙ (list_all-append is_ascii (take n bytes) (take m (drop n bytes)) ∙ rw (first.ascii, second.ascii) refl);
+      ∙ (ap (λ xs. take (length (take n bytes) + m) xs) (sym (take-append-drop n bytes)) ∙ take-append-add (take n bytes) (drop n bytes) m)
+      in
+      ap (list_all is_ascii) whole ∙ (list_all-append is_ascii (take n bytes) (take m (drop n bytes))
+      ∙ rw (first.ascii, second.ascii) refl);
 }
 
 one_ascii : (b : ℕ) (rest : List ℕ) → is_ascii b ≡ true → IsAsciiPrefix (b ∷ rest) 1
@@ -101,7 +107,11 @@ piece_is kind in_table prefix bytes p e = cases (line_ending bytes) (begins_esca
         let ending = ending_is_ascii bytes n f in
         let is : found ≡ p = same_Some found p (rw f at e) in
         subst (λ (q : Piece). IsChange in_table bytes q) is (record {
-          piece = record { some = omega (arith, ending.some); ascii = prefix_joined bytes n (length_by prefix (drop n bytes)) ending.ascii (length_by_is_ascii prefix (drop n bytes)) };
+          piece = record {
+            some = omega (arith, ending.some);
+            ascii = prefix_joined bytes n (length_by prefix (drop n bytes)) ending.ascii
+                (length_by_is_ascii prefix (drop n bytes));
+          };
           changes = rw f refl;
         })
     cases None true f g e =
@@ -114,7 +124,8 @@ piece_is kind in_table prefix bytes p e = cases (line_ending bytes) (begins_esca
     cases None false f g e = let found = rw (f, g) at e in cc
 
 -- bytes that belong to a piece before them
-pub replaced_skips : (piece : List ℕ → Option Piece) (n : ℕ) (bytes : List ℕ) → replaced_past piece n bytes ≡ replaced_past piece 0 (drop n bytes)
+pub replaced_skips : (piece : List ℕ → Option Piece) (n : ℕ) (bytes : List ℕ)
+    → replaced_past piece n bytes ≡ replaced_past piece 0 (drop n bytes)
 unfolding replaced_past
 replaced_skips piece zero bytes = refl
 replaced_skips piece (suc n) [] = refl
@@ -164,7 +175,8 @@ unfolding is_sliced
 change_at in_table [] at h e = absurd (omega arith)
 change_at in_table (b ∷ text) zero h e = rw e refl
 change_at in_table (b ∷ text) (suc at) h e =
-    rw (change_at in_table text at (omega arith) e) (and_false (not (is_some (line_ending (b ∷ text)) || begins_escaped_pipe in_table (b ∷ text))))
+    rw (change_at in_table text at (omega arith) e)
+    (and_false (not (is_some (line_ending (b ∷ text)) || begins_escaped_pipe in_table (b ∷ text))))
   where
     and_false : (a : Bool) → (a && false) ≡ false
     and_false true = refl
@@ -175,19 +187,22 @@ pub no_change : (kind : SpanKind) (in_table : Bool) (prefix : List ℕ → ℕ) 
     → (is_some (line_ending bytes) || begins_escaped_pipe in_table bytes) ≡ false
 no_change kind in_table prefix bytes none = cases (line_ending bytes) (begins_escaped_pipe in_table bytes) refl refl none
   where
-    cases : (ending : Option ℕ) (pipe : Bool) → line_ending bytes ≡ ending → begins_escaped_pipe in_table bytes ≡ pipe → piece_at kind in_table prefix bytes ≡ None
+    cases : (ending : Option ℕ) (pipe : Bool) → line_ending bytes ≡ ending → begins_escaped_pipe in_table bytes ≡ pipe
+        → piece_at kind in_table prefix bytes ≡ None
         → (is_some (line_ending bytes) || begins_escaped_pipe in_table bytes) ≡ false
     cases (Some n) pipe f g e = let found = rw f at e in cc
     cases None true f g e = let found = rw (f, g) at e in cc
     cases None false f g e = rw (f, g) refl
 
 -- they are a slice where what follows their first byte is
-sliced_past : (in_table : Bool) (b : ℕ) (bytes : List ℕ) → (is_some (line_ending (b ∷ bytes)) || begins_escaped_pipe in_table (b ∷ bytes)) ≡ false
+sliced_past : (in_table : Bool) (b : ℕ) (bytes : List ℕ) → (is_some (line_ending (b ∷ bytes)) || begins_escaped_pipe in_table (b ∷ bytes))
+    ≡ false
     → is_sliced in_table (b ∷ bytes) ≡ is_sliced in_table bytes
 unfolding is_sliced
 sliced_past in_table b bytes e = rw e refl
 
-pub sliced_on : (in_table : Bool) (text : List ℕ) (at : ℕ) → at < length text → (is_some (line_ending (drop at text)) || begins_escaped_pipe in_table (drop at text)) ≡ false
+pub sliced_on : (in_table : Bool) (text : List ℕ) (at : ℕ) → at < length text
+    → (is_some (line_ending (drop at text)) || begins_escaped_pipe in_table (drop at text)) ≡ false
     → is_sliced in_table (drop at text) ≡ is_sliced in_table (drop (at + 1) text)
 sliced_on in_table text at h none =
     let here = drop_more text at 0 h in
@@ -202,7 +217,8 @@ pub stands_inside : (text : List ℕ) → StandsIn text (without_outer_spaces te
 stands_inside text = by (has_outer_spaces text) refl
   where
     by : (b : Bool) → has_outer_spaces text ≡ b → StandsIn text (without_outer_spaces text)
-    by true e = rw e (stands_between text 1 (length text - 1) (take (length text - 2) (drop 1 text)) (ap (λ n. take n (drop 1 text)) (omega arith)))
+    by true e = rw e (stands_between text 1 (length text - 1) (take (length text - 2) (drop 1 text))
+        (ap (λ n. take n (drop 1 text)) (omega arith)))
     by false e = rw e (stands_whole text)
 
 first_is_ascii : (x : ℕ) (rest : Bool) → (is_ascii x && rest) ≡ true → x < 128

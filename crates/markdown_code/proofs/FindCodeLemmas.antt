@@ -1,5 +1,6 @@
 -- What a search for the end of a code span finds, whether it walks or reads what was learned.
-use Rattle.std.proofs.Common.{◌≡◌, ℕ, suc, ◌<◌, ◌-◌, ◌^◌, ◌≤◌, Bool, List, [], ◌∷◌, Option, Some, None, true, false, not, length, refl, arith, subst, sym, ◌∙◌, ap}
+use Rattle.std.proofs.Common.{◌≡◌, ℕ, suc, ◌<◌, ◌-◌, ◌^◌, ◌≤◌, Bool, List, [], ◌∷◌, Option, Some, None, true, false, not, length, refl}
+use Rattle.std.proofs.Common.{arith, subst, sym, ◌∙◌, ap}
 use Rattle.std.specs.Prelude.{if◌then◌else◌, ◌==◌, is_some, IfSome}
 use Rattle.std.specs.Option.{option_map}
 use Rattle.std.proofs.lemmas.Bool.Decides.{nat_tests}
@@ -11,8 +12,10 @@ use Rattle.markdown_base.specs.Arena.{sibling_of}
 use Rattle.markdown_base.specs.BlockTree.{Numbered, item_at, numbered}
 use Rattle.markdown_code.specs.ChainInArena.{LeadsThrough, HasChain}
 use Rattle.markdown_code.specs.ChainSearch.{SearchesCode}
-use Rattle.markdown_code.specs.Closers.{closing_count, code_close, code_closer, is_code_of, looked_for_code, looked_for_code_close, opens_code}
-use Rattle.markdown_code.specs.SpanClosers.{ClosesCode, HoldsFrom, HoldsOf, Learned, LooksForCode, RisesBy, failed_by_now, has_failed, item_in, unless_failed}
+use Rattle.markdown_code.specs.Closers.{closing_count, code_close, code_closer, is_code_of, looked_for_code, looked_for_code_close}
+use Rattle.markdown_code.specs.Closers.{opens_code}
+use Rattle.markdown_code.specs.SpanClosers.{ClosesCode, HoldsFrom, HoldsOf, Learned, LooksForCode, RisesBy, failed_by_now, has_failed}
+use Rattle.markdown_code.specs.SpanClosers.{item_in, unless_failed}
 use Rattle.markdown_code.specs.SpanMarks.{known_after, known_closer, mark_at}
 use Rattle.markdown_code.proofs.ChainWalkLemmas.{rises_by_none}
 use Rattle.markdown_code.proofs.LearnedLemmas.{KnownHere, from_opener, knows_all, known_here}

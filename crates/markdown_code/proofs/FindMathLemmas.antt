@@ -1,5 +1,6 @@
 -- What a search for the end of a math span finds, whether it walks or reads what was learned.
-use Rattle.std.proofs.Common.{◌≡◌, ℕ, suc, ◌+◌, ◌<◌, ◌≤◌, Bool, List, [], ◌∷◌, ◌++◌, Option, Some, None, true, false, not, length, refl, arith, subst, sym, ◌∙◌, ap, append_assoc, append-nil, length-append}
+use Rattle.std.proofs.Common.{◌≡◌, ℕ, suc, ◌+◌, ◌<◌, ◌≤◌, Bool, List, [], ◌∷◌, ◌++◌, Option, Some, None, true, false, not, length, refl}
+use Rattle.std.proofs.Common.{arith, subst, sym, ◌∙◌, ap, append_assoc, append-nil, length-append}
 use Rattle.std.specs.Prelude.{if◌then◌else◌, ◌==◌, is_some, option_to_list, IfSome}
 use Rattle.std.specs.Option.{option_map}
 use Rattle.std.proofs.Common.{eq-eqb}
@@ -11,14 +12,17 @@ use Rattle.markdown_base.specs.BlockTree.{Numbered, item_at}
 use Rattle.markdown_code.specs.ChainInArena.{LeadsThrough, HasChain}
 use Rattle.markdown_code.specs.ChainSearch.{NotesMath, NotesRest, SearchesMath, known_dollar, next_closer, past_second}
 use Rattle.markdown_code.specs.ChainWalk.{LooksAlong, WalksTo, one_of}
-use Rattle.markdown_code.specs.Closers.{can_open, context_of, first_dollar, is_dollar, looked_for_dollar, looked_for_math, math_close, math_close_from}
+use Rattle.markdown_code.specs.Closers.{can_open, context_of, first_dollar, is_dollar, looked_for_dollar, looked_for_math, math_close}
+use Rattle.markdown_code.specs.Closers.{math_close_from}
 use Rattle.markdown_code.specs.MathOpening.{closed_at, closed_by_first, dollar_at, marks_at, opener_at, searched_from}
-use Rattle.markdown_code.specs.SpanClosers.{ClosesMath, HoldsFrom, Learned, RisesBy, StandsIn, failed_by_now, found_math, has_failed, item_in}
+use Rattle.markdown_code.specs.SpanClosers.{ClosesMath, HoldsFrom, Learned, RisesBy, StandsIn, failed_by_now, found_math, has_failed}
+use Rattle.markdown_code.specs.SpanClosers.{item_in}
 use Rattle.markdown_code.specs.SpanMarks.{closers_of, first_with, known_after, known_closer, mark_at, marks_in}
 use Rattle.markdown_code.proofs.ChainWalkLemmas.{begins_at, chain_at, marks_in-append, rises_on}
 use Rattle.markdown_code.proofs.FindCodeLemmas.{here_of, holds_left}
 use Rattle.markdown_code.proofs.LearnedLemmas.{KnownHere, mark_number}
-use Rattle.markdown_code.proofs.MathOpeningLemmas.{OpenerIs, Searched, closes_by, dollar_mark, first_within, found_or_not, looked_within, math_stands, opener_is, opener_mark, opener_number, searched}
+use Rattle.markdown_code.proofs.MathOpeningLemmas.{OpenerIs, Searched, closes_by, dollar_mark, first_within, found_or_not, looked_within}
+use Rattle.markdown_code.proofs.MathOpeningLemmas.{math_stands, opener_is, opener_mark, opener_number, searched}
 use Rattle.markdown_code.proofs.SpanSearchLemmas.{breaks_for_dollar, nothing_left, first_is_dollar, rises_at_most, walk_for_dollar}
 use Rattle.markdown_code.specs.declared.math_opener.MathOpener.{MathOpener}
 use Rattle.markdown_code.specs.declared.span_closers.FoundMath.{FoundMath}

@@ -11,7 +11,8 @@ use Rattle.markdown_chains.specs.Totals.{weight_if}
 use Rattle.markdown_chains.specs.Waiting.{is_quiet}
 use Rattle.markdown_code.specs.AfterLess.{Markup, autolink, html}
 use Rattle.markdown_chains.specs.ChainRest.{begun_at, cut_shape, end_of, open_body, past, past_byte}
-use Rattle.markdown_code.specs.Finds.{Find, SpanText, code_span, code_trees, find, is_escaped, markup, markup_trees, math_span, nothing, read_tree, read_unless, trees_for}
+use Rattle.markdown_code.specs.Finds.{Find, SpanText, code_span, code_trees, find, is_escaped, markup, markup_trees, math_span, nothing}
+use Rattle.markdown_code.specs.Finds.{read_tree, read_unless, trees_for}
 
 -- what is no more open, all through a forest
 abbrev pub AllClosed : {A : Type 0} → Forest (Label A) → Type 0
@@ -77,7 +78,8 @@ module _ {A : Type 0} where
   weight_trees s new a nothing = omega arith
 
   -- what is read of a tree is no heavier than the tree
-  unless_weight : (s : Setting) (tags : Tags A) (above : Above) (n : ℕ) (a : Label A) (below rest : Forest (Label A)) (quiet : Bool) → is_quiet a.part.shape ≡ quiet
+  unless_weight : (s : Setting) (tags : Tags A) (above : Above) (n : ℕ) (a : Label A) (below rest : Forest (Label A)) (quiet : Bool)
+      → is_quiet a.part.shape ≡ quiet
       → weight (read_unless quiet s tags above n a below rest).trees ≤ weight_if (is_unresolved a.part.shape) + weight below
   unless_weight s tags above n a below rest true e = omega arith
   unless_weight s tags above n a below rest false e =
@@ -91,7 +93,8 @@ module _ {A : Type 0} where
   read_weight s tags above n a below rest = unless_weight s tags above n a below rest (is_quiet a.part.shape) refl
 
   -- nor is what is left of a chain
-  cut_weight : (i : ℕ) (a : Label A) (below after : Forest (Label A)) → weight (node (begun_at i a) below after) ≡ weight (node a below after)
+  cut_weight : (i : ℕ) (a : Label A) (below after : Forest (Label A)) → weight (node (begun_at i a) below after)
+      ≡ weight (node a below after)
   cut_weight i a below after = rw (cut_open (i - a.part.range.start) a.part.shape) refl
 
   past_byte_weight : (i : ℕ) (chain : Forest (Label A)) → weight (past_byte i chain) ≤ weight chain
@@ -149,7 +152,8 @@ module _ {A : Type 0} where
   unfolding read_tree
   read_delimiters s tags above n a below rest = unless_delimiters s tags above n a below rest (is_quiet a.part.shape)
 
-  cut_delimiters : (i : ℕ) (a : Label A) (below after : Forest (Label A)) → delimiters_in (node (begun_at i a) below after) ≡ delimiters_in (node a below after)
+  cut_delimiters : (i : ℕ) (a : Label A) (below after : Forest (Label A)) → delimiters_in (node (begun_at i a) below after)
+      ≡ delimiters_in (node a below after)
   cut_delimiters i a below after = rw (cut_counts (i - a.part.range.start) a.part.shape) refl
 
   past_byte_delimiters : (i : ℕ) (chain : Forest (Label A)) → delimiters_in (past_byte i chain) ≤ delimiters_in chain
@@ -175,13 +179,15 @@ module _ {A : Type 0} where
   quiet_markup s new a (html end None) = ((refl, refl), tt, tt)
   quiet_markup s new a (html end (Some bytes)) = ((refl, refl), tt, tt)
 
-  quiet_trees : (s : Setting) (new : A) (a : Label A) (found : Find A) → is_some a.part.block ≡ false → Each IsQuietLabel (trees_for s new a found)
+  quiet_trees : (s : Setting) (new : A) (a : Label A) (found : Find A) → is_some a.part.block ≡ false
+      → Each IsQuietLabel (trees_for s new a found)
   quiet_trees s new a (code_span t closer) h = quiet_code s (is_escaped (open_body a.part.shape)) a t closer
   quiet_trees s new a (math_span display t end) h = ((refl, refl), tt, tt)
   quiet_trees s new a (markup m) h = quiet_markup s new a m
   quiet_trees s new a nothing h = ((refl, h), tt, tt)
 
-  unless_quiet : (s : Setting) (tags : Tags A) (above : Above) (n : ℕ) (a : Label A) (below rest : Forest (Label A)) (quiet : Bool) → is_quiet a.part.shape ≡ quiet
+  unless_quiet : (s : Setting) (tags : Tags A) (above : Above) (n : ℕ) (a : Label A) (below rest : Forest (Label A)) (quiet : Bool)
+      → is_quiet a.part.shape ≡ quiet
       → is_some a.part.block ≡ false → Each IsQuietLabel below → Each IsQuietLabel (read_unless quiet s tags above n a below rest).trees
   unless_quiet s tags above n a below rest true e h inner = ((e, h), inner, tt)
   unless_quiet s tags above n a below rest false e h inner = quiet_trees s (tags.fresh n) a (find s above a rest) h

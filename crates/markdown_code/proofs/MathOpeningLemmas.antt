@@ -1,5 +1,6 @@
 -- An opener of math in an arena, by the list of the items after it.
-use Rattle.std.proofs.Common.{◌≡◌, ℕ, suc, ◌+◌, ◌<◌, ◌≤◌, Bool, List, [], ◌∷◌, ◌++◌, Option, Some, None, true, false, ◌&&◌, not, length, drop, refl, arith, subst, sym, ◌∙◌, ap}
+use Rattle.std.proofs.Common.{◌≡◌, ℕ, suc, ◌+◌, ◌<◌, ◌≤◌, Bool, List, [], ◌∷◌, ◌++◌, Option, Some, None, true, false, ◌&&◌, not, length}
+use Rattle.std.proofs.Common.{drop, refl, arith, subst, sym, ◌∙◌, ap}
 use Rattle.std.specs.Prelude.{if◌then◌else◌, ◌==◌, is_some, option_to_list, IfSome}
 use Rattle.std.specs.Option.{option_map}
 use Rattle.markdown_base.specs.declared.item.Item.{Item}
@@ -9,7 +10,9 @@ use Rattle.markdown_base.specs.declared.node.Node.{Node}
 use Rattle.markdown_base.specs.Arena.{sibling_of}
 use Rattle.markdown_base.specs.BlockTree.{Numbered, item_at}
 use Rattle.markdown_code.specs.ChainInArena.{LeadsThrough, HasChain}
-use Rattle.markdown_code.specs.Closers.{Dollar, MathClose, can_close, can_open, closed_by, context_of, display_close, dollar_next, first_dollar, inline_close, is_dollar, is_dollar_of, looked_for_dollar, math_close, searched_for_math}
+use Rattle.markdown_code.specs.Closers.{Dollar, MathClose, can_close, can_open, closed_by, context_of, display_close, dollar_next}
+use Rattle.markdown_code.specs.Closers.{first_dollar, inline_close, is_dollar, is_dollar_of, looked_for_dollar, math_close}
+use Rattle.markdown_code.specs.Closers.{searched_for_math}
 use Rattle.markdown_code.specs.MathOpening.{closed_by_first, display_closed, dollar_at, inline_closed, marks_at, opener_at, searched_from}
 use Rattle.markdown_code.specs.SpanClosers.{StandsIn, found_math, item_in}
 use Rattle.markdown_code.specs.SpanMarks.{mark_at, marks_in}

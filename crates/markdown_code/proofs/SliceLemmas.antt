@@ -31,7 +31,8 @@ take_of_take : (i m : ℕ) (xs : List ℕ) → take i (take m xs) ≡ take (min 
 take_of_take i m xs =
     ⊎_elim
     (λ (l : i < m). let e : i ≡ min i m = omega (arith, l) in take-take i m xs (omega (arith, l)) ∙ ap (λ n. take n xs) e)
-    (λ (l : m ≤ i). let e : m ≡ min i m = omega (arith, l) in take_all i (take m xs) (omega (arith, l, length-take m xs)) ∙ ap (λ n. take n xs) e)
+    (λ (l : m ≤ i). let e : m ≡ min i m = omega (arith, l) in take_all i (take m xs) (omega (arith, l, length-take m xs))
+    ∙ ap (λ n. take n xs) e)
     (cases_lt i m)
 
 slice_twice : (text : List ℕ) (a b c d : ℕ)
@@ -45,8 +46,12 @@ slice_twice text a b c d =
 -- what stands in a slice of a text stands in the text
 pub stands_within : (text : List ℕ) (a b : ℕ) (bytes : List ℕ) → StandsIn (slice_range text a b) bytes → StandsIn text bytes
 stands_within text a b bytes h =
-    ∥∥₁_map h (λ (p : (range : Range ℕ) × (bytes ≡ slice_range (slice_range text a b) range.start range.end)).
-    (record { start = a + p.0.start; end = a + p.0.start + min (p.0.end - p.0.start) (b - a - p.0.start) }, p.1 ∙ slice_twice text a b p.0.start p.0.end))
+    ∥∥₁_map h (λ (p : (range : Range ℕ) × (bytes ≡ slice_range (slice_range text a b) range.start range.end)). (
+      record { start = a + p.0.start; end = a + p.0.start + min (p.0.end - p.0.start) (b - a - p.0.start) },
+      p.1
+          ∙ slice_twice text a b p.0.start p.0.end,
+    ))
 
-pub sliced_within : (text : List ℕ) (a b : ℕ) (origin : Origin) (bytes : List ℕ) → IsSlicedOf (slice_range text a b) origin bytes → IsSlicedOf text origin bytes
+pub sliced_within : (text : List ℕ) (a b : ℕ) (origin : Origin) (bytes : List ℕ) → IsSlicedOf (slice_range text a b) origin bytes
+    → IsSlicedOf text origin bytes
 sliced_within text a b origin bytes h = λ is. stands_within text a b bytes (h is)

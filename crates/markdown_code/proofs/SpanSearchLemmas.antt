@@ -1,5 +1,6 @@
 -- What a walk to a mark says of the closers of spans, and of the items that are looked at.
-use Rattle.std.proofs.Common.{◌≡◌, ℕ, suc, ◌+◌, ◌-◌, ◌^◌, ◌≤◌, min, Bool, List, [], ◌∷◌, ◌++◌, Option, Some, None, true, false, length, refl, arith, sym, ◌∙◌, ap, append-nil}
+use Rattle.std.proofs.Common.{◌≡◌, ℕ, suc, ◌+◌, ◌-◌, ◌^◌, ◌≤◌, min, Bool, List, [], ◌∷◌, ◌++◌, Option, Some, None, true, false, length}
+use Rattle.std.proofs.Common.{refl, arith, sym, ◌∙◌, ap, append-nil}
 use Rattle.std.specs.Prelude.{option_to_list, if◌then◌else◌, is_some}
 use Rattle.std.specs.Option.{option_map}
 use Rattle.markdown_base.specs.declared.item.Item.{Item}

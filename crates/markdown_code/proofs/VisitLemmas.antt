@@ -1,11 +1,14 @@
 -- How many items a search looks at, by what it finds.
-use Rattle.std.proofs.Common.{◌≡◌, ℕ, suc, ◌+◌, ◌≤◌, Bool, true, false, List, [], ◌∷◌, ◌++◌, Some, None, length, drop, refl, arith, sym, ◌∙◌, ap, length-append}
+use Rattle.std.proofs.Common.{◌≡◌, ℕ, suc, ◌+◌, ◌≤◌, Bool, true, false, List, [], ◌∷◌, ◌++◌, Some, None, length, drop, refl, arith, sym}
+use Rattle.std.proofs.Common.{◌∙◌, ap, length-append}
 use Rattle.std.specs.Prelude.{if◌then◌else◌, ◌==◌, is_some}
 use Rattle.markdown_base.specs.declared.item.Item.{Item}
 use Rattle.markdown_base.specs.declared.item.ItemBody.{ItemBody}
 use Rattle.markdown_base.specs.declared.item.ItemBody.TheVariants as body
 use Rattle.markdown_base.specs.BlockTree.{Numbered}
-use Rattle.markdown_code.specs.Closers.{Dollar, can_open, closing_count, code_close, code_closer, context_of, dollar_next, first_dollar, is_code_of, is_dollar_of, looked_for_code, looked_for_code_close, looked_for_dollar, looked_for_math, looked_for_math_from, math_close, math_close_from, searched_for_math}
+use Rattle.markdown_code.specs.Closers.{Dollar, can_open, closing_count, code_close, code_closer, context_of, dollar_next, first_dollar}
+use Rattle.markdown_code.specs.Closers.{is_code_of, is_dollar_of, looked_for_code, looked_for_code_close, looked_for_dollar}
+use Rattle.markdown_code.specs.Closers.{looked_for_math, looked_for_math_from, math_close, math_close_from, searched_for_math}
 use Rattle.markdown_code.specs.SpanClosers.{item_in}
 use Rattle.markdown_code.specs.VisitLaws.{CodeVisitLaw, MathVisitLaw}
 use Rattle.markdown_code.proofs.MathOpeningLemmas.{looked_within}

@@ -1,7 +1,7 @@
 -- What stands from a `<` on: an absolute-URI autolink (CommonMark 6.5), raw HTML (6.6), or nothing.
 use Rattle.std.specs.Prelude.{ℕ, ◌+◌, ◌==◌, Bool, true, false, List, Option, Some, None, if◌then◌else◌, slice_index}
 use Rattle.std.specs.Option.{option_map, option_or}
-use Rattle.markdown_scan.specs.Autolink.{web_autolink}
+use Rattle.markdown_scan.specs.Autolink.{uri_autolink}
 use Rattle.markdown_raw_html.specs.RawHtml.{cdata_section, comment, declaration, end_from, processing_instruction}
 use Rattle.markdown_raw_html.specs.TagSource.{tag_at}
 
@@ -30,7 +30,7 @@ html_at skipped text start at =
 -- what stands from the `<` at `start` on, of which `at` is the byte after it
 unfoldable pub markup_at : (skipped : List ℕ → Option ℕ) → List ℕ → (start at : ℕ) → Option Markup
 markup_at skipped text start at =
-    option_or (option_map (λ found. autolink found.0 found.1) (web_autolink text at))
+    option_or (option_map (λ found. autolink found.0 found.1) (uri_autolink text at))
     (option_map (λ found. html found.0 found.1) (html_at skipped text start at))
 
 -- no prefix stands inside what is found

@@ -1,5 +1,6 @@
 -- What walks for closers in a chain find, count, note and teach.
-use Rattle.std.specs.Prelude.{◌≡◌, ℕ, ◌==◌, List, [], ◌∷◌, ◌++◌, Option, Some, None, if◌then◌else◌, length, option_to_list}
+use Rattle.std.specs.Prelude.{◌≡◌, ℕ, ◌==◌, List, [], ◌∷◌, ◌++◌, Option, Some, None, if◌then◌else◌, length}
+use Rattle.std.specs.Prelude.{option_to_list}
 use Rattle.std.specs.Option.{option_map}
 use Rattle.markdown_base.specs.declared.item.Item.{Item}
 use Rattle.markdown_base.specs.declared.node.Node.{Node}
@@ -39,6 +40,7 @@ pub record NotesRest (nodes : List (Node Item)) (ix : ℕ) (after : List Numbere
   pub notes : new ≡ old ++ (option_to_list (mark_at Math ix (item_at nodes ix).body) ++ marks_in Math after)
   pub counts : RisesBy (length after) visits visits'
 
+-- a search for the end of a math span: what it finds, what it learns, and how many items it looks at
 pub record SearchesMath (opener : MathOpener) (after : List Numbered) (found : Option FoundMath) (learned : Learned)
     (visits visits' : ℕ) : Type 0 where
   pub finds : option_map found_math (math_close item_in opener.end opener.context after) ≡ found
@@ -56,6 +58,7 @@ past_second None first after_second = first
 past_second (Some second) None after_second = None
 past_second (Some second) (Some first) after_second = if first == second then after_second else Some first
 
+-- the `$` at which math closes, by the closers that are known
 abbrev pub known_dollar : MathOpener → List KnownCloser → Option ℕ
 known_dollar opener known =
     past_second opener.second (known_closer opener.number known) (next_closer (known_after opener.number known))

@@ -18,6 +18,7 @@ abbrev pub NoneSought : SpanKind → Option ℕ → List Numbered → Type 0
 NoneSought kind wanted [] = Unit {0}
 NoneSought kind wanted (a ∷ after) = (is_sought kind wanted a ≡ false) × NoneSought kind wanted after
 
+-- the first of these items is one that is sought
 abbrev pub FirstIsSought : SpanKind → Option ℕ → List Numbered → Type 0
 FirstIsSought kind wanted [] = Unit {0}
 FirstIsSought kind wanted (a ∷ after) = is_sought kind wanted a ≡ true

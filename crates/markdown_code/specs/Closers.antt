@@ -1,6 +1,7 @@
 -- Where a code span (CommonMark 6.1) or a math span closes: searches in the items after its opener, from left to right.
 -- The items may be of any type; `item_of` says what item each is.
-use Rattle.std.specs.Prelude.{ℕ, ◌+◌, ◌-◌, Bool, true, false, not, ◌&&◌, ◌==◌, List, [], ◌∷◌, drop, length, Option, Some, None, is_some, if◌then◌else◌}
+use Rattle.std.specs.Prelude.{ℕ, ◌+◌, ◌-◌, Bool, true, false, not, ◌&&◌, ◌==◌, List, [], ◌∷◌, drop, length, Option}
+use Rattle.std.specs.Prelude.{Some, None, is_some, if◌then◌else◌}
 use Rattle.markdown_base.specs.declared.item.Item.{Item}
 use Rattle.markdown_base.specs.declared.item.ItemBody.{ItemBody}
 use Rattle.markdown_base.specs.declared.item.ItemBody.TheVariants as body
@@ -62,6 +63,7 @@ abbrev pub can_open : ItemBody → Bool
 can_open (body.MaybeMath opens closes context) = opens
 can_open other = false
 
+-- the brace context of a `$`
 abbrev pub context_of : ItemBody → ℕ
 context_of (body.MaybeMath opens closes context) = context
 context_of other = 0
@@ -101,6 +103,7 @@ abbrev pub closed_by : {A : Type 0} → A → Option A → Option (MathClose A)
 closed_by closer None = None
 closed_by closer (Some last) = Some (record { display = true; closer = closer; last = last })
 
+-- where display math closes: at a `$` that another follows
 abbrev pub display_close : {A : Type 0} → (A → Item) → Option (Dollar A) → Option (MathClose A)
 display_close item_of None = None
 display_close item_of (Some d) = closed_by d.dollar (dollar_next item_of d.after)
@@ -135,6 +138,7 @@ looked_for_math item_of opener_end context after =
     then looked_for_dollar item_of context (searched_for_math item_of after)
     else length (searched_for_math item_of after)
 
+-- how many items a search for the end of math looks at
 abbrev pub looked_for_math_from : {A : Type 0} → (A → Item) → Item → List A → ℕ
 looked_for_math_from item_of opener after =
     if can_open opener.body then looked_for_math item_of opener.end (context_of opener.body) after else 0

@@ -34,7 +34,8 @@ past_blocks gfm (block ∷ inner) line =
 
 -- how many of the bytes after a line ending are the prefix of the blocks open above, the outermost first
 abbrev pub prefix_length : Bool → List ItemBody → List ℕ → ℕ
-prefix_length gfm blocks bytes = (past_blocks gfm blocks (record { scanned = 0; owed = 0; column = 0; bytes = bytes })).scanned
+prefix_length gfm blocks bytes = (past_blocks gfm blocks
+    (record { scanned = 0; owed = 0; column = 0; bytes = bytes })).scanned
 
 -- it is a cell of a table
 abbrev pub is_table_cell : ItemBody → Bool

@@ -11,7 +11,8 @@ use Rattle.markdown_base.specs.declared.item.ItemBody.TheVariants as body
 use Rattle.markdown_base.specs.declared.options.Options.{Options}
 use Rattle.markdown_base.specs.declared.tag.LinkType.TheVariants.{Autolink}
 use Rattle.markdown_chains.specs.Above.{Above}
-use Rattle.markdown_chains.specs.Document.{Origin, sliced, made, Shape, leaf, enclosed, Label, Tags, math, text_over, as_text}
+use Rattle.markdown_chains.specs.Document.{Origin, sliced, made, Shape, leaf, enclosed, Label, Tags, math, text_over}
+use Rattle.markdown_chains.specs.Document.{as_text}
 use Rattle.markdown_chains.specs.Setting.{Setting}
 use Rattle.markdown_chains.specs.Waiting.{is_quiet}
 use Rattle.markdown_code.specs.AfterLess.{Markup, autolink, html, markup_at}
@@ -39,10 +40,12 @@ text_between s above kind start end =
 abbrev pub origin_between : Setting → Above → (start end : ℕ) → Origin
 origin_between s above start end = span_origin above.in_table (slice_range s.text start end)
 
+-- the text of a span, and where it comes from
 pub record SpanText : Type 0 where
   pub bytes : List ℕ
   pub origin : Origin
 
+-- the text of a span from a byte to a byte
 abbrev pub span_between : Setting → Above → SpanKind → (start end : ℕ) → SpanText
 span_between s above kind start end =
     record { bytes = text_between s above kind start end; origin = origin_between s above start end }
@@ -65,6 +68,7 @@ code_found s above a (Some closer) = code_span (span_between s above Code (end_o
 abbrev pub math_text_start : {A : Type 0} → Label A → List (Label A) → ℕ
 math_text_start a after = option_map_or end_of (dollar_next as_item after) (end_of a)
 
+-- math, by where it closes
 abbrev pub math_found : {A : Type 0} → Setting → Above → Label A → List (Label A) → Option (MathClose (Label A))
     → Find A
 math_found s above a after None = nothing
@@ -76,6 +80,7 @@ abbrev pub markup_or_nothing : {A : Type 0} → Option Markup → Find A
 markup_or_nothing None = nothing
 markup_or_nothing (Some m) = markup m
 
+-- what stands after a `<`, if the next item follows it directly
 abbrev pub markup_found : {A : Type 0} → Setting → Above → Label A → (is_followed : Bool) → Find A
 markup_found s above a false = nothing
 markup_found s above a true =
@@ -91,6 +96,7 @@ find_by s above (body.MaybeMath opens closes context) a rest =
 find_by s above body.MaybeHtml a rest = markup_found s above a (next_starts_at (end_of a) rest)
 find_by s above other a rest = nothing
 
+-- what is found at an item
 abbrev pub find : {A : Type 0} → Setting → Above → Label A → Forest (Label A) → Find A
 find s above a rest = find_by s above (open_body a.part.shape) a rest
 
@@ -99,6 +105,7 @@ abbrev pub over : {A : Type 0} → A → Shape → (start end : ℕ) → Label A
 over tag shape start end =
     record { tag = tag; part = record { shape = shape; range = record { start = start; end = end }; block = None } }
 
+-- a Text over a range
 abbrev pub text_from : {A : Type 0} → Setting → A → (start end : ℕ) → Label A
 text_from s tag start end = over tag (text_over (slice_range s.text start end)) start end
 
@@ -119,6 +126,7 @@ code_trees s true a t closer =
 abbrev pub address : List ℕ → LinkView
 address uri = record { kind = Autolink; destination = uri; title = []; label = [] }
 
+-- the trees of what stands after a `<`
 abbrev pub markup_trees : {A : Type 0} → Setting → (new : A) → Label A → Markup → Forest (Label A)
 markup_trees s new a (autolink end uri) =
     node (over a.tag (enclosed (link (address uri))) (start_of a) end)
@@ -141,6 +149,7 @@ abbrev pub end_of_markup : Markup → ℕ
 end_of_markup (autolink end uri) = end
 end_of_markup (html end bytes) = end
 
+-- where a find ends
 abbrev pub end_of_find : {A : Type 0} → Find A → Option ℕ
 end_of_find (code_span t closer) = Some (end_of closer)
 end_of_find (math_span display t end) = Some end
@@ -163,6 +172,7 @@ pub record Passed (A : Type 0) : Type 0 where
 abbrev pub Reader : Type 0 → Type 0
 Reader A = Label A → Forest (Label A) → Forest (Label A) → Passed A
 
+-- what is put for an item, where the chain goes on, and how many trees were made
 abbrev pub passed : {A : Type 0} → Setting → Tags A → (made : ℕ) → Label A → Find A → Passed A
 passed s tags n a found = record {
   trees = trees_for s (tags.fresh n) a found;

@@ -4,6 +4,7 @@ use Rattle.markdown_code.specs.AfterLess.{Markup, autolink, html}
 use Rattle.markdown_code.specs.declared.after_less.MarkupFound.{MarkupFound}
 use Rattle.markdown_code.specs.declared.after_less.MarkupFound.TheVariants.{Autolink, Html, OwnedHtml}
 
+-- what was found after a `<`, as the definition names it
 abbrev pub markup_of : MarkupFound → Markup
 markup_of (Autolink end uri) = autolink end uri.now
 markup_of (Html end) = html end None

@@ -1,5 +1,6 @@
 -- An opener of math as it stands in an arena, and what closes math at a `$` there.
-use Rattle.std.specs.Prelude.{ℕ, true, false, not, ◌&&◌, ◌==◌, List, [], Option, Some, None, is_some, if◌then◌else◌, option_to_list}
+use Rattle.std.specs.Prelude.{ℕ, true, false, not, ◌&&◌, ◌==◌, List, [], Option, Some, None, is_some, if◌then◌else◌}
+use Rattle.std.specs.Prelude.{option_to_list}
 use Rattle.std.specs.Option.{option_map}
 use Rattle.markdown_base.specs.declared.item.Item.{Item}
 use Rattle.markdown_base.specs.declared.node.Node.{Node}
@@ -34,6 +35,7 @@ abbrev pub link_after : List (Node Item) → Option ℕ → ℕ → Option ℕ
 link_after nodes None ix = sibling_of nodes ix
 link_after nodes (Some second) ix = sibling_of nodes second
 
+-- the node from which the end of math is sought
 abbrev pub searched_from : List (Node Item) → MathOpener → Option ℕ
 searched_from nodes opener = link_after nodes opener.second opener.number
 
@@ -43,10 +45,12 @@ inline_closed nodes opener_end ix =
     if can_close (item_at nodes ix).body && not (opener_end == (item_at nodes ix).start)
     then Some (record { display = false; closer = ix; last = ix }) else None
 
+-- display math that closes at a node and the one after it
 abbrev pub display_closed : List (Node Item) → ℕ → Option FoundMath
 display_closed nodes ix =
     option_map (λ last. record { display = true; closer = ix; last = last }) (dollar_at nodes (sibling_of nodes ix))
 
+-- math that closes at a node
 abbrev pub closed_at : List (Node Item) → MathOpener → ℕ → Option FoundMath
 closed_at nodes opener ix = if is_some opener.second then display_closed nodes ix else inline_closed nodes opener.end ix
 

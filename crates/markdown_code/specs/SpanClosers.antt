@@ -1,13 +1,15 @@
 -- What searches for closers of spans find in a chain of an arena, what they have learned of it, and how many items they
 -- look at.
-use Rattle.std.specs.Prelude.{◌≡◌, ℕ, ◌+◌, ◌-◌, ◌^◌, ◌<◌, ◌≤◌, min, Bool, not, ◌&&◌, ◌||◌, List, [], ◌∷◌, ◌++◌, Option, Some, None, is_some, length}
+use Rattle.std.specs.Prelude.{◌≡◌, ℕ, ◌+◌, ◌-◌, ◌^◌, ◌<◌, ◌≤◌, min, Bool, not, ◌&&◌, ◌||◌, List, [], ◌∷◌, ◌++◌, Option}
+use Rattle.std.specs.Prelude.{Some, None, is_some, length}
 use Rattle.std.specs.Option.{option_map}
 use Rattle.markdown_base.specs.declared.item.Item.{Item}
 use Rattle.markdown_base.specs.declared.node.Node.{Node}
 use Rattle.markdown_base.specs.Arena.{sibling_of}
 use Rattle.markdown_base.specs.BlockTree.{Numbered, item_at}
 use Rattle.markdown_code.specs.ChainInArena.{LeadsThrough}
-use Rattle.markdown_code.specs.Closers.{MathClose, code_close, looked_for_code_close, looked_for_math_from, math_close_from}
+use Rattle.markdown_code.specs.Closers.{MathClose, code_close, looked_for_code_close, looked_for_math_from}
+use Rattle.markdown_code.specs.Closers.{math_close_from}
 use Rattle.markdown_code.specs.SpanMarks.{closers_of, marks_in}
 use Rattle.markdown_code.specs.declared.span_closers.FoundMath.{FoundMath}
 use Rattle.markdown_code.specs.declared.span_marks.KnownCloser.{KnownCloser}
@@ -65,6 +67,7 @@ LooksForCode learned nodes opener visits visits' =
     (low : ℕ) (after : List Numbered) → LeadsThrough nodes low (sibling_of nodes opener) after
     → RisesBy (unless_failed learned (looked_for_code_close item_in (item_at nodes opener).body after)) visits visits'
 
+-- a search for the end of math looks at exactly the items that the definition counts
 abbrev pub LooksForMath : Learned → List (Node Item) → (opener : ℕ) → ℕ → ℕ → Type 0
 LooksForMath learned nodes opener visits visits' =
     (low : ℕ) (after : List Numbered) → LeadsThrough nodes low (sibling_of nodes opener) after
@@ -76,6 +79,7 @@ LooksForCodeAtMost learned nodes opener visits visits' =
     (low : ℕ) (after : List Numbered) → LeadsThrough nodes low (sibling_of nodes opener) after
     → visits' ≤ visits + unless_failed learned (looked_for_code_close item_in (item_at nodes opener).body after)
 
+-- or at no more than these
 abbrev pub LooksForMathAtMost : Learned → List (Node Item) → (opener : ℕ) → ℕ → ℕ → Type 0
 LooksForMathAtMost learned nodes opener visits visits' =
     (low : ℕ) (after : List Numbered) → LeadsThrough nodes low (sibling_of nodes opener) after
@@ -86,6 +90,7 @@ abbrev pub IsBefore : List Numbered → ℕ → Type 0
 IsBefore [] number = Unit {0}
 IsBefore (a ∷ after) number = number < a.number
 
+-- all known closers stand in this chain
 abbrev pub AllBefore : List Numbered → List KnownCloser → Type 0
 AllBefore chain [] = Unit {0}
 AllBefore chain (k ∷ known) = IsBefore chain k.number × AllBefore chain known

@@ -1,6 +1,7 @@
--- Marks of spans as a search sees them: backticks, which open and close code, and `$`, which open and close math. A mark
--- has a key, which is how many backticks it is or its brace context, and wants a key of what closes it.
-use Rattle.std.specs.Prelude.{ℕ, ◌==◌, Bool, false, List, [], ◌∷◌, ◌++◌, Option, Some, None, if◌then◌else◌, option_to_list}
+-- Marks of spans as a search sees them: backticks, which open and close code, and `$`, which open and close math. A
+-- mark has a key, which is how many backticks it is or its brace context, and wants a key of what closes it.
+use Rattle.std.specs.Prelude.{ℕ, ◌==◌, Bool, false, List, [], ◌∷◌, ◌++◌, Option, Some, None, if◌then◌else◌}
+use Rattle.std.specs.Prelude.{option_to_list}
 use Rattle.markdown_base.specs.declared.item.ItemBody.{ItemBody}
 use Rattle.markdown_base.specs.declared.item.ItemBody.TheVariants as body
 use Rattle.markdown_base.specs.BlockTree.{Numbered}
@@ -16,11 +17,13 @@ code_mark number (body.MaybeCode count escaped) =
     Some (record { number = number; key = count; wanted = closing_count count escaped })
 code_mark number other = None
 
+-- the mark of a `$`, by its brace context
 abbrev pub math_mark : (number : ℕ) → ItemBody → Option SpanMark
 math_mark number (body.MaybeMath opens closes context) =
     Some (record { number = number; key = context; wanted = context })
 math_mark number other = None
 
+-- the mark of an item, of this kind of span
 abbrev pub mark_at : SpanKind → (number : ℕ) → ItemBody → Option SpanMark
 mark_at Code number b = code_mark number b
 mark_at Math number b = math_mark number b
@@ -51,6 +54,7 @@ abbrev pub known_closer : (number : ℕ) → List KnownCloser → Option ℕ
 known_closer number [] = None
 known_closer number (k ∷ later) = if k.number == number then k.closer else known_closer number later
 
+-- the closers that are known behind a node
 abbrev pub known_after : (number : ℕ) → List KnownCloser → List KnownCloser
 known_after number [] = []
 known_after number (k ∷ later) = if k.number == number then later else known_after number later

@@ -1,5 +1,6 @@
 //! What stands after a `<`: an autolink, raw HTML, or nothing.
-ghost use Rattle.std.specs.Prelude.{◌≡◌, ◌≤◌, ◌+◌, ◌-◌, ℕ, List, slice_index, None, Some, length, IfOk, IfSome, IsOk, true, string_bytes, option_and_then};
+ghost use Rattle.std.specs.Prelude.{◌≡◌, ◌≤◌, ◌+◌, ◌-◌, ℕ, List, slice_index, None, Some, length, IfOk, IfSome, IsOk};
+ghost use Rattle.std.specs.Prelude.{true, string_bytes, option_and_then};
 ghost use Rattle.std.specs.Option.{option_map};
 ghost use Rattle.std.specs.Str.{IsCharBoundary, IsUtf8};
 ghost use Rattle.markdown_code.specs.AfterLess.{declared_end, html_at, is_unbroken, markup_at, unbroken};
@@ -8,9 +9,9 @@ ghost use Rattle.markdown_code.specs.PrefixView.{length_by};
 ghost use Rattle.markdown_raw_html.specs.TagSource.{tag_at};
 
 use crate::prefixes::ContainerPrefix;
-use markdown_raw_html::html_tag::scan_html_tag;
+use markdown_raw_html::html_tag::{ScannedTag, scan_html_tag};
 use markdown_raw_html::raw_html::RawHtmlScanner;
-use markdown_scan::autolink::scan_web_autolink;
+use markdown_scan::autolink::scan_uri_autolink;
 use std::alloc::{AllocError, Global};
 
 /// What was found.
@@ -60,13 +61,24 @@ fn scan_tag(
     requires { IsCharBoundary text.now start }
     ensures value { IfOk result (λ found. option_map (λ tag. (tag.0, option_map string_bytes tag.1)) found
         ≡ tag_at (λ rest. Some (length_by prefix.now rest)) text.now start) }
-    ensures plain { option_and_then (λ tag. tag.1) (tag_at (λ rest. Some (length_by prefix.now rest)) text.now start) ≡ None → IsOk result }
+    ensures plain { option_and_then (λ tag. tag.1) (tag_at (λ rest. Some (length_by prefix.now rest)) text.now start)
+        ≡ None → IsOk result }
     ensures boundary { IfOk result (λ found. IfSome found (λ tag. IsCharBoundary text.now tag.0)) }
 {
     match scan_html_tag(alloc, text, start, prefix)? {
         None => Ok(None),
-        Some((end, None)) => Ok(Some((end, None))),
-        Some((end, Some(bytes))) => Ok(Some((end, Some(into_text(bytes))))),
+        Some(
+            ScannedTag {
+                end,
+                without_prefixes: None,
+            },
+        ) => Ok(Some((end, None))),
+        Some(
+            ScannedTag {
+                end,
+                without_prefixes: Some(bytes),
+            },
+        ) => Ok(Some((end, Some(into_text(bytes))))),
     }
 }
 
@@ -96,7 +108,8 @@ fn scan_html(
     requires boundary { IsCharBoundary text.now start }
     ensures value { IfOk result (λ found. option_map (λ tag. (tag.0, option_map string_bytes tag.1)) found
         ≡ html_at (λ rest. Some (length_by prefix.now rest)) text.now start at) }
-    ensures plain { option_and_then (λ tag. tag.1) (html_at (λ rest. Some (length_by prefix.now rest)) text.now start at) ≡ None → IsOk result }
+    ensures plain { option_and_then (λ tag. tag.1) (html_at (λ rest. Some (length_by prefix.now rest)) text.now start
+        at) ≡ None → IsOk result }
     ensures boundary { IfOk result (λ found. IfSome found (λ tag. IsCharBoundary text.now tag.0)) }
     ensures same { scanner.new.text ≡ scanner.old.text }
 {
@@ -107,9 +120,9 @@ fn scan_html(
     }
 }
 
-/// What stands from the `<` at `start` on, in the text up to its block's end; `at` is the byte after it, and the scanner
-/// one of that text. An autolink is tried first, then raw HTML. Memory is taken, and can run out, only for a tag inside of
-/// which prefixes of lines stand.
+/// What stands from the `<` at `start` on, in the text up to its block's end; `at` is the byte after it, and the
+/// scanner one of that text. An autolink is tried first, then raw HTML. Memory is taken, and can run out, only for a
+/// tag inside of which prefixes of lines stand.
 #[tactic(auto, unfolding(crate::specs::AfterLess::markup_at))]
 pub fn scan_after_less<'t>(
     alloc: Global,
@@ -124,11 +137,12 @@ pub fn scan_after_less<'t>(
     requires after { IsCharBoundary text.now at }
     ensures value { IfOk result (λ found. option_map markup_of found
         ≡ markup_at (λ rest. Some (length_by prefix.now rest)) text.entry.now start at) }
-    ensures plain { is_unbroken (markup_at (λ rest. Some (length_by prefix.now rest)) text.entry.now start at) ≡ true → IsOk result }
+    ensures plain { is_unbroken (markup_at (λ rest. Some (length_by prefix.now rest)) text.entry.now start at) ≡ true
+        → IsOk result }
     ensures boundary { IfOk result (λ found. IfSome found (λ markup. IsCharBoundary text.entry.now (end_of markup))) }
     ensures same { scanner.new.text ≡ scanner.old.text }
 {
-    if let Some((end, uri)) = scan_web_autolink(text, at) {
+    if let Some((end, uri)) = scan_uri_autolink(text, at) {
         return Ok(Some(MarkupFound::Autolink(end, uri)));
     }
     match scan_html(alloc, text, start, at, scanner, prefix)? {

@@ -23,7 +23,8 @@ pub struct ContainerPrefix<'t> {
 
 /// Takes at most 3 columns of space and a block quote marker: whether the marker comes.
 fn take_quote(line: &mut LineStart<'_>) -> bool
-    ensures { (if result then Some (line_left line.new) else None) ≡ past_marker_next (space 3 (line_left line.old)).after }
+    ensures { (if result then Some (line_left line.new) else None)
+        ≡ past_marker_next (space 3 (line_left line.old)).after }
 {
     line.scan_space_upto(3);
     line.scan_blockquote_marker()

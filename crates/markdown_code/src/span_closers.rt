@@ -1,9 +1,11 @@
 //! Where spans close: searches along a chain for what closes code and math.
-ghost use Rattle.std.specs.Prelude.{◌≡◌, ◌++◌, ◌+◌, ◌<◌, ◌≤◌, ℕ, List, None, Some, length, reverse, IfErr, IfOk, IfSome, OnErr, OnOk, is_some};
+ghost use Rattle.std.specs.Prelude.{◌≡◌, ◌++◌, ◌+◌, ◌<◌, ◌≤◌, ℕ, List, None, Some, length, reverse, IfErr, IfOk};
+ghost use Rattle.std.specs.Prelude.{IfSome, OnErr, OnOk, is_some};
 ghost use Rattle.markdown_base.specs.Arena.{sibling_of};
 ghost use Rattle.markdown_base.specs.BlockTree.{Numbered, item_at};
 ghost use Rattle.markdown_code.specs.ChainInArena.{HasChain, LeadsThrough};
-ghost use Rattle.markdown_code.specs.ChainSearch.{NotesMath, NotesRest, SearchesCode, SearchesMath, known_dollar, next_closer};
+ghost use Rattle.markdown_code.specs.ChainSearch.{NotesMath, NotesRest, SearchesCode, SearchesMath, known_dollar};
+ghost use Rattle.markdown_code.specs.ChainSearch.{next_closer};
 ghost use Rattle.markdown_code.specs.Closers.{looked_for_code, looked_for_math};
 ghost use Rattle.markdown_code.specs.MathOpening.{marks_at, opener_at};
 ghost use Rattle.markdown_code.specs.SpanClosers.{item_in};
@@ -182,7 +184,9 @@ fn walk_for_math(
 impl SpanClosers {
     ghost use Rattle.std.specs.Prelude.{Bool, ◌||◌, ◌&&◌, not};
     ghost use Rattle.markdown_code.specs.Closers.{can_open, opens_code};
-    ghost use Rattle.markdown_code.specs.SpanClosers.{ClosesCode, ClosesMath, HoldsFrom, LooksForCode, LooksForCodeAtMost, LooksForMath, LooksForMathAtMost, StandsIn, failed_by_now, has_failed};
+    ghost use Rattle.markdown_code.specs.SpanClosers.{ClosesCode, ClosesMath, HoldsFrom, LooksForCode};
+    ghost use Rattle.markdown_code.specs.SpanClosers.{LooksForCodeAtMost, LooksForMath, LooksForMathAtMost, StandsIn};
+    ghost use Rattle.markdown_code.specs.SpanClosers.{failed_by_now, has_failed};
 
     /// Nothing is known of any chain.
     pub fn new(alloc: Global) -> SpanClosers
@@ -281,11 +285,13 @@ impl SpanClosers {
         ensures counted { IfOk result (λ _. LooksForCode self.old tree.now.nodes opener visits.old visits.new) }
         ensures failed { IfOk result (λ found. has_failed self.new
             ≡ failed_by_now self.old (opens_code (item_at tree.now.nodes opener).body) (is_some found)) }
-        ensures learned { IfOk result (λ _. HoldsFrom SpanKind.Code self.new tree.now.nodes (sibling_of tree.now.nodes opener)) }
+        ensures learned { IfOk result (λ _. HoldsFrom SpanKind.Code self.new tree.now.nodes
+            (sibling_of tree.now.nodes opener)) }
 
         // after a refusal
         ensures unchanged { OnErr result (self.new ≡ self.old) }
-        ensures counted_at_most { IfErr result (λ _. LooksForCodeAtMost self.old tree.now.nodes opener visits.old visits.new) }
+        ensures counted_at_most { IfErr result (λ _. LooksForCodeAtMost self.old tree.now.nodes opener visits.old
+            visits.new) }
     {
         let _from = *visits;
         let Some(mark) = mark_of(SpanKind::Code, opener, tree.item(opener).body) else {
@@ -315,11 +321,13 @@ impl SpanClosers {
         ensures counted { IfOk result (λ _. LooksForMath self.old tree.now.nodes opener visits.old visits.new) }
         ensures failed { IfOk result (λ found. has_failed self.new
             ≡ failed_by_now self.old (can_open (item_at tree.now.nodes opener).body) (is_some found)) }
-        ensures learned { IfOk result (λ _. HoldsFrom SpanKind.Math self.new tree.now.nodes (sibling_of tree.now.nodes opener)) }
+        ensures learned { IfOk result (λ _. HoldsFrom SpanKind.Math self.new tree.now.nodes
+            (sibling_of tree.now.nodes opener)) }
 
         // after a refusal
         ensures unchanged { OnErr result (self.new ≡ self.old) }
-        ensures counted_at_most { IfErr result (λ _. LooksForMathAtMost self.old tree.now.nodes opener visits.old visits.new) }
+        ensures counted_at_most { IfErr result (λ _. LooksForMathAtMost self.old tree.now.nodes opener visits.old
+            visits.new) }
     {
         let _from = *visits;
         let Some(opening) = MathOpener::of_node(tree, opener) else {

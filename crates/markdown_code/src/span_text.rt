@@ -1,5 +1,6 @@
 //! The text of code spans and of math spans.
-ghost use Rattle.std.specs.Prelude.{◌≡◌, ◌≤◌, ◌<◌, ◌-◌, ◌++◌, None, Some, drop, length, take, true, false, IfNone, IfOk, IfSome, IsOk, IsTrue, IsOkAnd, string_bytes};
+ghost use Rattle.std.specs.Prelude.{◌≡◌, ◌≤◌, ◌<◌, ◌-◌, ◌++◌, None, Some, drop, length, take, true, false, IfNone};
+ghost use Rattle.std.specs.Prelude.{IfOk, IfSome, IsOk, IsTrue, IsOkAnd, string_bytes};
 ghost use Rattle.std.specs.Option.{option_map};
 ghost use Rattle.std.specs.List.{list_all};
 ghost use Rattle.std.specs.Char.{is_ascii};
@@ -93,7 +94,8 @@ impl SpanKind {
         in_table: bool,
         prefix: &ContainerPrefix<'_>,
     ) -> Result<String, AllocError>
-        ensures { IfOk result (λ made. string_bytes made ≡ code.lines_joined self in_table (length_by prefix.now) text.now) }
+        ensures { IfOk result (λ made. string_bytes made ≡ code.lines_joined self in_table (length_by prefix.now)
+            text.now) }
     {
         let mut made = String::new(alloc);
         let mut rest = text;
@@ -151,8 +153,8 @@ fn drop_outer_spaces(text: String) -> String
 }
 
 /// The text of a code span (CommonMark 6.1) or of a math span over the bytes between its delimiters. Where no line
-/// ending stands in them and, in a table, no `\|`, it is a slice of the source, and no memory is taken; else it is owned,
-/// and memory can run out.
+/// ending stands in them and, in a table, no `\|`, it is a slice of the source, and no memory is taken; else it is
+/// owned, and memory can run out.
 pub fn span_text<'t>(
     alloc: Global,
     text: &'t str,
@@ -160,7 +162,8 @@ pub fn span_text<'t>(
     in_table: bool,
     prefix: &ContainerPrefix<'_>,
 ) -> Result<CowStr<'t>, AllocError>
-    ensures value { IfOk result (λ made. text_of made ≡ code.span_text kind in_table (length_by prefix.now) text.entry.now) }
+    ensures value { IfOk result (λ made. text_of made ≡ code.span_text kind in_table (length_by prefix.now)
+        text.entry.now) }
     ensures borrowed { is_sliced in_table text.entry.now ≡ true → IsOkAnd result IsBorrowed }
     ensures origin { IfOk result (λ span. origin_of span ≡ span_origin in_table text.entry.now) }
     ensures slice { IfOk result (λ span. IsSlicedOf text.entry.now (origin_of span) (text_of span)) }

@@ -3,7 +3,8 @@ use Rattle.std.proofs.Math.Nat.{sub-zero}
 use Rattle.std.proofs.lemmas.List.{take_rest, length-drop}
 use Rattle.markdown_code.specs.CodeText.{Piece, piece_at}
 use Rattle.markdown_code.specs.PrefixView.{length_by}
-use Rattle.markdown_code.proofs.CodeTextLemmas.{change_at, cut_around, no_change, sliced_end, sliced_on, piece_is, replaced_at_byte, replaced_at_piece, replaced_ends}
+use Rattle.markdown_code.proofs.CodeTextLemmas.{change_at, cut_around, no_change, sliced_end, sliced_on, piece_is, replaced_at_byte}
+use Rattle.markdown_code.proofs.CodeTextLemmas.{replaced_at_piece, replaced_ends}
 use Rattle.markdown_code.proofs.span_text.SpanKind.split_at_piece.Goals as goal
 
 pub range_from-requires : goal.range_from-requires
@@ -49,7 +50,8 @@ loop-at-preserved c =
     let here : c.loop-at.at < length c.args.text.now = rw a at c.loop-at-test.true in
     let none = rw (a, take_rest) at (sym c.in_default.ensures.value) in
     let same = no_change c.args.self c.args.in_table (length_by c.args.prefix.now) (drop c.loop-at.at c.args.text.now) none in (
-      replaced_at_byte (piece_at c.args.self c.args.in_table (length_by c.args.prefix.now)) c.args.text.now c.loop-at.at here none c.loop-at.invariant.0,
+      replaced_at_byte (piece_at c.args.self c.args.in_table (length_by c.args.prefix.now)) c.args.text.now c.loop-at.at here none
+          c.loop-at.invariant.0,
       c.loop-at.invariant.1 ∙ sliced_on c.args.in_table c.args.text.now c.loop-at.at here same,
     )
 
