@@ -1,5 +1,6 @@
 -- What the bounds say of a stack, as it changes.
-use Rattle.std.proofs.Common.{◌≡◌, ℕ, ◌%◌, ◌<◌, ◌≤◌, min, false, List, [], ◌∷◌, ◌++◌, length, take, get_or, inl, inr, refl, ap, sym, ◌∙◌, subst, arith}
+use Rattle.std.proofs.Common.{◌≡◌, ℕ, ◌%◌, ◌<◌, ◌≤◌, min, false, List, [], ◌∷◌, ◌++◌, length, take, get_or, inl, inr, refl, ap, sym, ◌∙◌}
+use Rattle.std.proofs.Common.{subst, arith}
 use Rattle.std.specs.Prelude.{All, if◌then◌else◌, ◌==◌}
 use Rattle.std.proofs.lemmas.List.{take-append-le, take_all, take-take, length-take-le, length_push, length-take, get_or-take}
 use Rattle.std.proofs.lemmas.List.Elements.{All-take}
@@ -11,24 +12,29 @@ use Rattle.markdown_delims.specs.declared.run.Characters.{Characters}
 use Rattle.markdown_delims.specs.declared.bounds.CharacterBounds.{CharacterBounds}
 use Rattle.markdown_delims.specs.declared.bounds.LowerBounds.{LowerBounds}
 use Rattle.markdown_delims.specs.MayPair.{both, may_pair, needs_equal_length, is_tilde_or_caret}
-use Rattle.markdown_delims.specs.Bounds.{IsOutOfStep, IsOfBoth, BoundCharacter, BoundStack, remainder_bound, character_bound_for, bound_at, bound_for, character_raised_for, raised_at, raised_for, character_lowered, lowered, no_bounds, zero_bounds, drop_bound}
+use Rattle.markdown_delims.specs.Bounds.{IsOutOfStep, IsOfBoth, BoundCharacter, BoundStack, remainder_bound, character_bound_for, bound_at}
+use Rattle.markdown_delims.specs.Bounds.{bound_for, character_raised_for, raised_at, raised_for, character_lowered, lowered, no_bounds}
+use Rattle.markdown_delims.specs.Bounds.{zero_bounds, drop_bound}
 use Rattle.markdown_delims.proofs.PairTests.{IsOutOfStep-failed, IsOfBoth-failed, may_pair-fails}
 
 -- what holds below a bound still holds below it after a push
-All-pushed : (P : Characters → Type 0) (stack : List Characters) (c : Characters) (n : ℕ) → n ≤ length stack → All P (take n stack) → All P (take n (stack ++ c ∷ []))
+All-pushed : (P : Characters → Type 0) (stack : List Characters) (c : Characters) (n : ℕ) → n ≤ length stack → All P (take n stack)
+    → All P (take n (stack ++ c ∷ []))
 All-pushed P stack c n h a = rw take-append-le a
 
 -- and below the lesser bound after a cut
 All-cut : (P : Characters → Type 0) (stack : List Characters) (n m : ℕ) → All P (take n stack) → All P (take (min n m) (take m stack))
 All-cut P stack n m a =
-    let e : take (min n m) (take m stack) ≡ take (min n m) (take n stack) = take-take (min n m) m stack (omega arith) ∙ sym (take-take (min n m) n stack (omega arith)) in
+    let e : take (min n m) (take m stack) ≡ take (min n m) (take n stack) = take-take (min n m) m stack (omega arith)
+    ∙ sym (take-take (min n m) n stack (omega arith)) in
     subst (All P) (sym e) (All-take P (min n m) (take n stack) a)
 
 -- of what holds of a whole stack
 All-whole : (P : Characters → Type 0) (stack : List Characters) → All P stack → All P (take (length stack) stack)
 All-whole P stack a = let h : length stack ≤ length stack = omega arith in rw take_all a
 
-pub BoundCharacter-push : (d : Delimiter) (stack : List Characters) (b : CharacterBounds) (c : Characters) → BoundCharacter d stack b → BoundCharacter d (stack ++ c ∷ []) b
+pub BoundCharacter-push : (d : Delimiter) (stack : List Characters) (b : CharacterBounds) (c : Characters) → BoundCharacter d stack b
+    → BoundCharacter d (stack ++ c ∷ []) b
 BoundCharacter-push d stack b c h =
     record {
       cannot_open_within = simp length_push (omega (arith, h.cannot_open_within));
@@ -41,7 +47,8 @@ BoundCharacter-push d stack b c h =
       remainder_two = All-pushed (IsOutOfStep d 2) stack c _ h.two_within h.remainder_two;
     }
 
-pub BoundCharacter-cut : (d : Delimiter) (stack : List Characters) (b : CharacterBounds) (n : ℕ) → n ≤ length stack → BoundCharacter d stack b → BoundCharacter d (take n stack) (character_lowered n b)
+pub BoundCharacter-cut : (d : Delimiter) (stack : List Characters) (b : CharacterBounds) (n : ℕ) → n ≤ length stack
+    → BoundCharacter d stack b → BoundCharacter d (take n stack) (character_lowered n b)
 BoundCharacter-cut d stack b n w h =
     let e : length (take n stack) ≡ n = length-take-le n stack w in
     record {
@@ -56,19 +63,25 @@ BoundCharacter-cut d stack b n w h =
     }
 
 module _ (closer : Run) (stack : List Characters) (b : CharacterBounds) where
-  out_of_step : needs_equal_length closer.delimiter ≡ false → All (λ c. may_pair c.run closer ≡ false) stack → (r : ℕ) → closer.length % 3 ≡ r → All (IsOutOfStep closer.delimiter r) (take (length stack) stack)
+  out_of_step : needs_equal_length closer.delimiter ≡ false → All (λ c. may_pair c.run closer ≡ false) stack → (r : ℕ)
+      → closer.length % 3 ≡ r → All (IsOutOfStep closer.delimiter r) (take (length stack) stack)
   out_of_step n h r e =
       All-whole (IsOutOfStep closer.delimiter r) stack
       (λ k x l. subst (λ q. IsOutOfStep closer.delimiter q (get_or stack k x)) e (IsOutOfStep-failed (get_or stack k x) closer n (h k x l)))
 
   -- the bounds that a failed search read may be raised to the top
-  pub BoundCharacter-raised : needs_equal_length closer.delimiter ≡ false → All (λ c. may_pair c.run closer ≡ false) stack → BoundCharacter closer.delimiter stack b → BoundCharacter closer.delimiter stack (character_raised_for closer (length stack) b)
+  pub BoundCharacter-raised : needs_equal_length closer.delimiter ≡ false → All (λ c. may_pair c.run closer ≡ false) stack
+      → BoundCharacter closer.delimiter stack b → BoundCharacter closer.delimiter stack (character_raised_for closer (length stack) b)
   BoundCharacter-raised n h i =
       record {
-        cannot_open_within = cond_both (both closer) b.cannot_open (length stack) (λ m. m ≤ length stack) (λ _. i.cannot_open_within) (λ _. omega arith);
-        zero_within = cond_both (closer.length % 3 == 0) (length stack) b.remainder_zero (λ m. m ≤ length stack) (λ _. omega arith) (λ _. i.zero_within);
-        one_within = cond_both (closer.length % 3 == 1) (length stack) b.remainder_one (λ m. m ≤ length stack) (λ _. omega arith) (λ _. i.one_within);
-        two_within = cond_both (closer.length % 3 == 2) (length stack) b.remainder_two (λ m. m ≤ length stack) (λ _. omega arith) (λ _. i.two_within);
+        cannot_open_within = cond_both (both closer) b.cannot_open (length stack) (λ m. m ≤ length stack) (λ _. i.cannot_open_within)
+            (λ _. omega arith);
+        zero_within = cond_both (closer.length % 3 == 0) (length stack) b.remainder_zero (λ m. m ≤ length stack) (λ _. omega arith)
+            (λ _. i.zero_within);
+        one_within = cond_both (closer.length % 3 == 1) (length stack) b.remainder_one (λ m. m ≤ length stack) (λ _. omega arith)
+            (λ _. i.one_within);
+        two_within = cond_both (closer.length % 3 == 2) (length stack) b.remainder_two (λ m. m ≤ length stack) (λ _. omega arith)
+            (λ _. i.two_within);
         cannot_open =
             cond_both (both closer) b.cannot_open (length stack) (λ m. All (IsOfBoth closer.delimiter) (take m stack)) (λ _. i.cannot_open)
             (λ e. All-whole (IsOfBoth closer.delimiter) stack (λ k x l. IsOfBoth-failed (get_or stack k x) closer n e (h k x l)));
@@ -84,14 +97,17 @@ module _ (closer : Run) (stack : List Characters) (b : CharacterBounds) where
       }
 
   -- what the bound of the closer's remainder says
-  below_remainder : BoundCharacter closer.delimiter stack b → All (IsOutOfStep closer.delimiter (closer.length % 3)) (take (remainder_bound (closer.length % 3) b) stack)
+  below_remainder : BoundCharacter closer.delimiter stack b
+      → All (IsOutOfStep closer.delimiter (closer.length % 3)) (take (remainder_bound (closer.length % 3) b) stack)
   below_remainder i =
       cond_both (closer.length % 3 == 0) b.remainder_zero (if closer.length % 3 == 1 then b.remainder_one else b.remainder_two)
       (λ m. All (IsOutOfStep closer.delimiter (closer.length % 3)) (take m stack))
-      (λ e. subst (λ r. All (IsOutOfStep closer.delimiter r) (take b.remainder_zero stack)) (sym (eqb-true (closer.length % 3) 0 e)) i.remainder_zero)
+      (λ e. subst (λ r. All (IsOutOfStep closer.delimiter r) (take b.remainder_zero stack)) (sym (eqb-true (closer.length % 3) 0 e))
+      i.remainder_zero)
       (λ f. cond_both (closer.length % 3 == 1) b.remainder_one b.remainder_two
       (λ m. All (IsOutOfStep closer.delimiter (closer.length % 3)) (take m stack))
-      (λ e. subst (λ r. All (IsOutOfStep closer.delimiter r) (take b.remainder_one stack)) (sym (eqb-true (closer.length % 3) 1 e)) i.remainder_one)
+      (λ e. subst (λ r. All (IsOutOfStep closer.delimiter r) (take b.remainder_one stack)) (sym (eqb-true (closer.length % 3) 1 e))
+      i.remainder_one)
       (λ e.
       let ne0 : closer.length % 3 ≡ 0 → ⊥ = eqb-false (closer.length % 3) 0 f in
       let ne1 : closer.length % 3 ≡ 1 → ⊥ = eqb-false (closer.length % 3) 1 e in
@@ -99,18 +115,23 @@ module _ (closer : Run) (stack : List Characters) (b : CharacterBounds) where
       subst (λ r. All (IsOutOfStep closer.delimiter r) (take b.remainder_two stack)) two i.remainder_two))
 
   -- no run below the closer's bound pairs with it
-  pub NonePairs-below : BoundCharacter closer.delimiter stack b → All (λ c. may_pair c.run closer ≡ false) (take (character_bound_for closer b) stack)
+  pub NonePairs-below : BoundCharacter closer.delimiter stack b
+      → All (λ c. may_pair c.run closer ≡ false) (take (character_bound_for closer b) stack)
   NonePairs-below i =
       cond_both (both closer) (remainder_bound (closer.length % 3) b) (min (remainder_bound (closer.length % 3) b) b.cannot_open)
       (λ m. All (λ c. may_pair c.run closer ≡ false) (take m stack))
-      (λ e k x l. may_pair-fails (get_or (take (remainder_bound (closer.length % 3) b) stack) k x) closer (below_remainder i k x l) (λ f. cc))
+      (λ e k x l. may_pair-fails (get_or (take (remainder_bound (closer.length % 3) b) stack) k x) closer (below_remainder i k x l)
+      (λ f. cc))
       (λ e.
       let m : ℕ = remainder_bound (closer.length % 3) b in
       let n : ℕ = b.cannot_open in
       let s1 : take (min m n) (take m stack) ≡ take (min m n) stack = take-take (min m n) m stack (omega arith) in
       let s2 : take (min m n) (take n stack) ≡ take (min m n) stack = take-take (min m n) n stack (omega arith) in
-      let a1 : All (IsOutOfStep closer.delimiter (closer.length % 3)) (take (min m n) stack) = subst (All (IsOutOfStep closer.delimiter (closer.length % 3))) s1 (All-take (IsOutOfStep closer.delimiter (closer.length % 3)) (min m n) (take m stack) (below_remainder i)) in
-      let a2 : All (IsOfBoth closer.delimiter) (take (min m n) stack) = subst (All (IsOfBoth closer.delimiter)) s2 (All-take (IsOfBoth closer.delimiter) (min m n) (take n stack) i.cannot_open) in
+      let a1 : All (IsOutOfStep closer.delimiter (closer.length % 3)) (take (min m n) stack) =
+      subst (All (IsOutOfStep closer.delimiter (closer.length % 3))) s1 (All-take (IsOutOfStep closer.delimiter (closer.length % 3))
+      (min m n) (take m stack) (below_remainder i)) in
+      let a2 : All (IsOfBoth closer.delimiter) (take (min m n) stack) = subst (All (IsOfBoth closer.delimiter)) s2
+      (All-take (IsOfBoth closer.delimiter) (min m n) (take n stack) i.cannot_open) in
       (λ k x l. may_pair-fails (get_or (take (min m n) stack) k x) closer (a1 k x l) (λ _. a2 k x l)))
 
 pub BoundStack-push : (stack : List Characters) (b : LowerBounds) (c : Characters) → BoundStack stack b → BoundStack (stack ++ c ∷ []) b
@@ -123,7 +144,8 @@ BoundStack-push stack b c h =
       together = h.together;
     }
 
-pub BoundStack-cut : (stack : List Characters) (b : LowerBounds) (n : ℕ) → n ≤ length stack → BoundStack stack b → BoundStack (take n stack) (lowered n b)
+pub BoundStack-cut : (stack : List Characters) (b : LowerBounds) (n : ℕ) → n ≤ length stack → BoundStack stack b
+    → BoundStack (take n stack) (lowered n b)
 BoundStack-cut stack b n w h =
     let e : length (take n stack) ≡ n = length-take-le n stack w in
     record {
@@ -135,19 +157,26 @@ BoundStack-cut stack b n w h =
     }
 
 -- with what the bound says, no run of the stack pairs
-joined_failures : (closer : Run) (stack : List Characters) (n : ℕ) → All (λ c. may_pair c.run closer ≡ false) (take n stack) → ((k : ℕ) (x : Characters) → n ≤ k → k < length stack → may_pair (get_or stack k x).run closer ≡ false) → All (λ c. may_pair c.run closer ≡ false) stack
+joined_failures : (closer : Run) (stack : List Characters) (n : ℕ) → All (λ c. may_pair c.run closer ≡ false) (take n stack)
+    → ((k : ℕ) (x : Characters) → n ≤ k → k < length stack → may_pair (get_or stack k x).run closer ≡ false)
+    → All (λ c. may_pair c.run closer ≡ false) stack
 joined_failures closer stack n a f k x l =
     elim (cases_lt k n) [
-      | inl below ↦ let e : length (take n stack) ≡ min n (length stack) = length-take n stack in let g : get_or (take n stack) k x ≡ get_or stack k x = get_or-take n stack k x below in subst (λ c. may_pair c.run closer ≡ false) g (a k x (omega arith))
+      | inl below ↦ let e : length (take n stack) ≡ min n (length stack) = length-take n stack in let g : get_or (take n stack) k x
+          ≡ get_or stack k x = get_or-take n stack k x below in subst (λ c. may_pair c.run closer ≡ false) g (a k x (omega arith))
       | inr above ↦ f k x above l
     ]
 
-raised_at_each : (d : Delimiter) (closer : Run) (stack : List Characters) (b : LowerBounds) → d ≡ closer.delimiter → BoundStack stack b → ((k : ℕ) (x : Characters) → bound_at d closer b ≤ k → k < length stack → may_pair (get_or stack k x).run closer ≡ false) → BoundStack stack (raised_at d closer (length stack) b)
+raised_at_each : (d : Delimiter) (closer : Run) (stack : List Characters) (b : LowerBounds) → d ≡ closer.delimiter → BoundStack stack b
+    → ((k : ℕ) (x : Characters) → bound_at d closer b ≤ k → k < length stack → may_pair (get_or stack k x).run closer ≡ false)
+    → BoundStack stack (raised_at d closer (length stack) b)
 raised_at_each Star closer stack b e h f =
     let i : BoundCharacter closer.delimiter stack b.star = subst (λ d. BoundCharacter d stack b.star) e h.star in
     let n : needs_equal_length closer.delimiter ≡ false = sym (ap needs_equal_length e) in
     record {
-      star = subst (λ d. BoundCharacter d stack (character_raised_for closer (length stack) b.star)) (sym e) (BoundCharacter-raised closer stack b.star n (joined_failures closer stack (character_bound_for closer b.star) (NonePairs-below closer stack b.star i) f) i);
+      star = subst (λ d. BoundCharacter d stack (character_raised_for closer (length stack) b.star)) (sym e)
+          (BoundCharacter-raised closer stack b.star n (joined_failures closer stack (character_bound_for closer b.star)
+          (NonePairs-below closer stack b.star i) f) i);
       underscore = h.underscore;
       tilde_within = h.tilde_within;
       caret_within = h.caret_within;
@@ -158,16 +187,34 @@ raised_at_each Underscore closer stack b e h f =
     let n : needs_equal_length closer.delimiter ≡ false = sym (ap needs_equal_length e) in
     record {
       star = h.star;
-      underscore = subst (λ d. BoundCharacter d stack (character_raised_for closer (length stack) b.underscore)) (sym e) (BoundCharacter-raised closer stack b.underscore n (joined_failures closer stack (character_bound_for closer b.underscore) (NonePairs-below closer stack b.underscore i) f) i);
+      underscore = subst (λ d. BoundCharacter d stack (character_raised_for closer (length stack) b.underscore)) (sym e)
+          (BoundCharacter-raised closer stack b.underscore n (joined_failures closer stack (character_bound_for closer b.underscore)
+          (NonePairs-below closer stack b.underscore i) f) i);
       tilde_within = h.tilde_within;
       caret_within = h.caret_within;
       together = h.together;
     }
-raised_at_each Tilde closer stack b e h f = record { star = h.star; underscore = h.underscore; tilde_within = omega arith; caret_within = omega arith; together = refl }
-raised_at_each Caret closer stack b e h f = record { star = h.star; underscore = h.underscore; tilde_within = omega arith; caret_within = omega arith; together = refl }
+raised_at_each Tilde closer stack b e h f = record {
+  star = h.star;
+  underscore = h.underscore;
+  tilde_within = omega arith;
+  caret_within =
+      omega arith;
+  together = refl;
+}
+raised_at_each Caret closer stack b e h f = record {
+  star = h.star;
+  underscore = h.underscore;
+  tilde_within = omega arith;
+  caret_within =
+      omega arith;
+  together = refl;
+}
 
 -- a search that failed may raise the bounds that it read
-pub BoundStack-raised : (closer : Run) (stack : List Characters) (b : LowerBounds) → BoundStack stack b → ((k : ℕ) (x : Characters) → bound_for closer b ≤ k → k < length stack → may_pair (get_or stack k x).run closer ≡ false) → BoundStack stack (raised_for closer (length stack) b)
+pub BoundStack-raised : (closer : Run) (stack : List Characters) (b : LowerBounds) → BoundStack stack b
+    → ((k : ℕ) (x : Characters) → bound_for closer b ≤ k → k < length stack → may_pair (get_or stack k x).run closer ≡ false)
+    → BoundStack stack (raised_for closer (length stack) b)
 BoundStack-raised closer stack b h f = raised_at_each closer.delimiter closer stack b refl h f
 
 pub BoundStack-none : BoundStack [] zero_bounds
@@ -193,27 +240,33 @@ BoundStack-none =
           remainder_two = λ k x l. absurd (omega arith);
         }
 
-within_remainder : (r : ℕ) (d : Delimiter) (stack : List Characters) (b : CharacterBounds) → BoundCharacter d stack b → remainder_bound r b ≤ length stack
+within_remainder : (r : ℕ) (d : Delimiter) (stack : List Characters) (b : CharacterBounds) → BoundCharacter d stack b
+    → remainder_bound r b ≤ length stack
 within_remainder r d stack b h =
     cond_both (r == 0) b.remainder_zero (if r == 1 then b.remainder_one else b.remainder_two) (λ m. m ≤ length stack) (λ _. h.zero_within)
     (λ _. cond_both (r == 1) b.remainder_one b.remainder_two (λ m. m ≤ length stack) (λ _. h.one_within) (λ _. h.two_within))
 
-within_character : (closer : Run) (d : Delimiter) (stack : List Characters) (b : CharacterBounds) → BoundCharacter d stack b → character_bound_for closer b ≤ length stack
+within_character : (closer : Run) (d : Delimiter) (stack : List Characters) (b : CharacterBounds) → BoundCharacter d stack b
+    → character_bound_for closer b ≤ length stack
 within_character closer d stack b h =
     let w : remainder_bound (closer.length % 3) b ≤ length stack = within_remainder (closer.length % 3) d stack b h in
-    cond_both (both closer) (remainder_bound (closer.length % 3) b) (min (remainder_bound (closer.length % 3) b) b.cannot_open) (λ m. m ≤ length stack) (λ _. w) (λ _. omega arith)
+    cond_both (both closer) (remainder_bound (closer.length % 3) b) (min (remainder_bound (closer.length % 3) b) b.cannot_open)
+    (λ m. m ≤ length stack) (λ _. w) (λ _. omega arith)
 
 -- the bound of a closer stands within the stack
-pub bound_at-within : (d : Delimiter) (closer : Run) (stack : List Characters) (b : LowerBounds) → BoundStack stack b → bound_at d closer b ≤ length stack
+pub bound_at-within : (d : Delimiter) (closer : Run) (stack : List Characters) (b : LowerBounds) → BoundStack stack b
+    → bound_at d closer b ≤ length stack
 bound_at-within Star closer stack b h = within_character closer Star stack b.star h.star
 bound_at-within Underscore closer stack b h = within_character closer Underscore stack b.underscore h.underscore
 bound_at-within Tilde closer stack b h = h.tilde_within
 bound_at-within Caret closer stack b h = h.caret_within
 
 -- below the bound of a closer of `*` or `_` no run pairs with it
-pub below_bound_fails : (d : Delimiter) (closer : Run) (stack : List Characters) (b : LowerBounds) → d ≡ closer.delimiter → is_tilde_or_caret d ≡ false → BoundStack stack b → All (λ c. may_pair c.run closer ≡ false) (take (bound_at d closer b) stack)
+pub below_bound_fails : (d : Delimiter) (closer : Run) (stack : List Characters) (b : LowerBounds) → d ≡ closer.delimiter
+    → is_tilde_or_caret d ≡ false → BoundStack stack b → All (λ c. may_pair c.run closer ≡ false) (take (bound_at d closer b) stack)
 below_bound_fails Star closer stack b e q h = NonePairs-below closer stack b.star (subst (λ d. BoundCharacter d stack b.star) e h.star)
-below_bound_fails Underscore closer stack b e q h = NonePairs-below closer stack b.underscore (subst (λ d. BoundCharacter d stack b.underscore) e h.underscore)
+below_bound_fails Underscore closer stack b e q h = NonePairs-below closer stack b.underscore
+    (subst (λ d. BoundCharacter d stack b.underscore) e h.underscore)
 below_bound_fails Tilde closer stack b e q h = cc
 below_bound_fails Caret closer stack b e q h = cc
 

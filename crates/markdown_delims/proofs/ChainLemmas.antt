@@ -1,5 +1,6 @@
 -- The whole chain: from its links to its labels, and back.
-use Rattle.std.proofs.Common.{◌≡◌, ℕ, suc, ◌+◌, ◌*◌, ◌-◌, ◌<◌, ◌≤◌, ◌^◌, Bool, true, false, List, [], ◌∷◌, Option, Some, None, length, refl, ap, sym, ◌∙◌, subst, arith}
+use Rattle.std.proofs.Common.{◌≡◌, ℕ, suc, ◌+◌, ◌*◌, ◌-◌, ◌<◌, ◌≤◌, ◌^◌, Bool, true, false, List, [], ◌∷◌, Option, Some, None, length, refl}
+use Rattle.std.proofs.Common.{ap, sym, ◌∙◌, subst, arith}
 use Rattle.std.specs.Prelude.{◌||◌, ◌==◌}
 use Rattle.std.specs.List.{AllByRecursion}
 use Rattle.std.proofs.lemmas.Bool.{eq-eqb}
@@ -27,29 +28,48 @@ abbrev pub numbers_of : Forest Numbered → Forest ℕ
 numbers_of f = relabelled (λ a. a.number) f
 
 -- what is spelled stands with its items, and the other way round
-pub holds_spelled : (nodes : List (Node Item)) (l : Option ℕ) (f : Forest ℕ) → Spells (links_of nodes) l f → Holds (view_of nodes) l (chain_of nodes f)
+pub holds_spelled : (nodes : List (Node Item)) (l : Option ℕ) (f : Forest ℕ) → Spells (links_of nodes) l f
+    → Holds (view_of nodes) l (chain_of nodes f)
 holds_spelled nodes l nil s = s
-holds_spelled nodes l (node ix below after) s = (s.0, s.1, refl, holds_spelled nodes (child_of nodes ix) below s.2, holds_spelled nodes (sibling_of nodes ix) after s.3)
+holds_spelled nodes l (node ix below after) s = (
+  s.0,
+  s.1,
+  refl,
+  holds_spelled nodes (child_of nodes ix) below s.2,
+  holds_spelled nodes
+      (sibling_of nodes ix) after s.3,
+)
 
-pub spelled_holds : (nodes : List (Node Item)) (l : Option ℕ) (f : Forest Numbered) → Holds (view_of nodes) l f → Spells (links_of nodes) l (numbers_of f)
+pub spelled_holds : (nodes : List (Node Item)) (l : Option ℕ) (f : Forest Numbered) → Holds (view_of nodes) l f
+    → Spells (links_of nodes) l (numbers_of f)
 spelled_holds nodes l nil h = h
-spelled_holds nodes l (node a below after) h = (h.0, h.1, spelled_holds nodes (child_of nodes a.number) below h.3, spelled_holds nodes (sibling_of nodes a.number) after h.4)
+spelled_holds nodes l (node a below after) h = (
+  h.0,
+  h.1,
+  spelled_holds nodes (child_of nodes a.number) below h.3,
+  spelled_holds nodes
+      (sibling_of nodes a.number) after h.4,
+)
 
-pub labels_hold : (nodes : List (Node Item)) (l : Option ℕ) (f : Forest Numbered) → Holds (view_of nodes) l f → chain_of nodes (numbers_of f) ≡ f
+pub labels_hold : (nodes : List (Node Item)) (l : Option ℕ) (f : Forest Numbered) → Holds (view_of nodes) l f
+    → chain_of nodes (numbers_of f) ≡ f
 labels_hold nodes l nil h = refl
 labels_hold nodes l (node a below after) h =
-    ap (λ (i : Item). node (record { number = a.number; item = i }) (chain_of nodes (numbers_of below)) (chain_of nodes (numbers_of after))) h.2
+    ap (λ (i : Item). node (record { number = a.number; item = i }) (chain_of nodes (numbers_of below)) (chain_of nodes (numbers_of after)))
+    h.2
     ∙ ap (λ f. node a f (chain_of nodes (numbers_of after))) (labels_hold nodes (child_of nodes a.number) below h.3)
     ∙ ap (λ f. node a below f) (labels_hold nodes (sibling_of nodes a.number) after h.4)
 
 -- what has no number of the chain may stand anywhere below
-Between-none : (own : ℕ → Bool) (nodes : List (Node Item)) (lo : ℕ) (f : Forest ℕ) (hi : ℕ) → Each (λ n. own n ≡ false) f → Between own lo (chain_of nodes f) hi
+Between-none : (own : ℕ → Bool) (nodes : List (Node Item)) (lo : ℕ) (f : Forest ℕ) (hi : ℕ) → Each (λ n. own n ≡ false) f
+    → Between own lo (chain_of nodes f) hi
 Between-none own nodes lo nil hi h = tt
 Between-none own nodes lo (node ix below after) hi h =
     (λ o. let no : false ≡ true = sym h.0 ∙ o in cc, Between-none own nodes lo below hi h.1, Between-none own nodes lo after hi h.2)
 
 -- a chain whose numbers rise
-pub rises_chain : (own : ℕ → Bool) (nodes : List (Node Item)) (l : Option ℕ) (f : Forest ℕ) (lo : ℕ) → lo ≤ length nodes → Spells (links_of nodes) l f → RisesFrom lo (roots f) → NoneBelow own f
+pub rises_chain : (own : ℕ → Bool) (nodes : List (Node Item)) (l : Option ℕ) (f : Forest ℕ) (lo : ℕ) → lo ≤ length nodes
+    → Spells (links_of nodes) l f → RisesFrom lo (roots f) → NoneBelow own f
     → Rises own lo (chain_of nodes f) (length nodes)
 rises_chain own nodes l nil lo h s r n = h
 rises_chain own nodes l (node ix below after) lo h s r n =
@@ -74,14 +94,17 @@ pub among_all : (xs : List ℕ) → AllByRecursion (λ ix. among xs ix ≡ true)
 among_all [] = tt
 among_all (x ∷ xs) = (ap (λ b. b || among xs x) (eq-eqb x x refl), among_more x xs xs (among_all xs))
 
-pub touched_from_list : (touched : ℕ → Bool) (nodes : List (Node Item)) (f : Forest ℕ) → AllByRecursion (λ ix. touched ix ≡ true) (roots f) → AllTouched touched (chain_of nodes f)
+pub touched_from_list : (touched : ℕ → Bool) (nodes : List (Node Item)) (f : Forest ℕ) → AllByRecursion (λ ix. touched ix ≡ true) (roots f)
+    → AllTouched touched (chain_of nodes f)
 touched_from_list touched nodes nil h = tt
 touched_from_list touched nodes (node ix below after) h = (h.0, touched_from_list touched nodes after h.1)
 
 -- the cut goes back to the beginning
-pub over_all : (own : ℕ → Bool) (k : View) (first : Option ℕ) (left : Forest Numbered) (l : Option ℕ) (right : Forest Numbered) (hi : ℕ) → Cut own k first left l right hi → CutSomewhere own k first nil (read_back left right) hi
+pub over_all : (own : ℕ → Bool) (k : View) (first : Option ℕ) (left : Forest Numbered) (l : Option ℕ) (right : Forest Numbered) (hi : ℕ)
+    → Cut own k first left l right hi → CutSomewhere own k first nil (read_back left right) hi
 over_all own k first nil l right hi c = record { link = l; cut = c }
-over_all own k first (node a below before) l right hi c = over_all own k first before (Some a.number) (node a below right) hi (step_left own k first a below before l right hi c)
+over_all own k first (node a below before) l right hi c = over_all own k first before (Some a.number) (node a below right) hi
+    (step_left own k first a below before l right hi c)
 
 -- no link leads to nothing
 nothing_left : (t : Arena Item) (g : Forest Numbered) → Holds (view_of t.nodes) None g → g ≡ nil
@@ -97,7 +120,13 @@ module _ (m : Marks) (text : List ℕ) (s : Arena Item) (first : ℕ) (f : Fores
   unfolding whole_chain
   starts_chain =
       record {
-        cut = record { left = refl; right = holds_spelled s.nodes (Some first) f c.spelled; rises_left = tt; rises_right = rises_chain (among (roots f)) s.nodes (Some first) f 0 (omega arith) c.spelled c.rising c.apart };
+        cut = record {
+          left = refl;
+          right = holds_spelled s.nodes (Some first) f c.spelled;
+          rises_left = tt;
+          rises_right = rises_chain
+              (among (roots f)) s.nodes (Some first) f 0 (omega arith) c.spelled c.rising c.apart;
+        };
         last_is = refl;
         left_touched = tt;
         rest_touched = touched_from_list (among (roots f)) s.nodes f (among_all (roots f));
@@ -127,7 +156,14 @@ module _ (m : Marks) (text : List ℕ) (s : Arena Item) (first : ℕ) (f : Fores
       record {
         es = b.es;
         rest = b.rest;
-        is_read = record { reads = record { stands = b.is_read.reads.stands; kept = kept_both whole_chain.touched s t u a.is_read.reads.kept b.is_read.reads.kept }; runs_are = b.is_read.runs_are };
+        is_read = record {
+          reads = record {
+            stands = b.is_read.reads.stands;
+            kept = kept_both whole_chain.touched s t u a.is_read.reads.kept
+                b.is_read.reads.kept;
+          };
+          runs_are = b.is_read.runs_are;
+        };
         whole = b.whole;
         same = b.same ∙ a.same;
         paid = omega (arith, a.paid, b.paid);
@@ -135,17 +171,30 @@ module _ (m : Marks) (text : List ℕ) (s : Arena Item) (first : ℕ) (f : Fores
         further = Rises-lower whole_chain.touched (suc ix) 0 b.rest whole_chain.bound (omega arith) b.further;
       }
 
-  pub can_go_on : (t : Arena Item) (old now : Openers) (last : Option ℕ) (ix : ℕ) → old.potential + 10 * delimiters_of (chain_of s.nodes f) < 2 ^ 128
-      → ReadFurther m text whole_chain s t [] (chain_of s.nodes f) old now last (Some ix) 0 → CanReadTree text ix last t now.runs now.potential
+  pub can_go_on : (t : Arena Item) (old now : Openers) (last : Option ℕ) (ix : ℕ)
+      → old.potential + 10 * delimiters_of (chain_of s.nodes f) < 2 ^ 128
+      → ReadFurther m text whole_chain s t [] (chain_of s.nodes f) old now last (Some ix) 0
+      → CanReadTree text ix last t now.runs now.potential
   can_go_on t old now last ix room a =
-      record { chain = whole_chain; es = a.es; rest = a.rest; stands = a.is_read.reads.stands; whole = a.whole; runs_are = a.is_read.runs_are; room = omega (arith, a.paid) }
+      record {
+        chain = whole_chain;
+        es = a.es;
+        rest = a.rest;
+        stands = a.is_read.reads.stands;
+        whole = a.whole;
+        runs_are =
+            a.is_read.runs_are;
+        room = omega (arith, a.paid);
+      }
 
   -- all is read
-  pub all_read : (t : Arena Item) (old new : Openers) (last : Option ℕ) → ReadFurther m text whole_chain s t [] (chain_of s.nodes f) old new last None 0 → IsPaired m text s t first f
+  pub all_read : (t : Arena Item) (old new : Openers) (last : Option ℕ)
+      → ReadFurther m text whole_chain s t [] (chain_of s.nodes f) old new last None 0 → IsPaired m text s t first f
   unfolding whole_chain paired_from
   all_read t old new last a =
       let none = nothing_left t a.rest a.is_read.reads.stands.cut.right in
-      let cut = subst (λ r. Cut (among (roots f)) (view_of t.nodes) (Some first) (flat a.es) None r (length s.nodes)) none a.is_read.reads.stands.cut in
+      let cut = subst (λ r. Cut (among (roots f)) (view_of t.nodes) (Some first) (flat a.es) None r (length s.nodes)) none
+      a.is_read.reads.stands.cut in
       let r = over_all (among (roots f)) (view_of t.nodes) (Some first) (flat a.es) None nil (length s.nodes) cut in
       let holds = subst (λ l. Holds (view_of t.nodes) l (read_back (flat a.es) nil)) r.cut.left r.cut.right in
       let es : a.es ≡ paired_from m text 0 (chain_of s.nodes f) [] = ap (λ g. paired_from m text 0 g a.es) (sym none) ∙ a.same in
@@ -158,11 +207,13 @@ module _ (m : Marks) (text : List ℕ) (s : Arena Item) (first : ℕ) (f : Fores
       }
 
   -- and all that found was counted
-  pub all_found : (t : Arena Item) (old new : Openers) (last : Option ℕ) → ReadFurther m text whole_chain s t [] (chain_of s.nodes f) old new last None 0
+  pub all_found : (t : Arena Item) (old new : Openers) (last : Option ℕ)
+      → ReadFurther m text whole_chain s t [] (chain_of s.nodes f) old new last None 0
       → old.examined + finds_from m text 0 (chain_of s.nodes f) [] ≤ new.examined
   unfolding finds_from
   all_found t old new last a =
-      let none : finds_from m text 0 a.rest a.es ≡ 0 = ap (λ g. finds_from m text 0 g a.es) (nothing_left t a.rest a.is_read.reads.stands.cut.right) in
+      let none : finds_from m text 0 a.rest a.es ≡ 0 = ap (λ g. finds_from m text 0 g a.es)
+      (nothing_left t a.rest a.is_read.reads.stands.cut.right) in
       omega (arith, a.found, none)
 
 -- how many numbers are not below a link
@@ -171,12 +222,16 @@ numbers_left size None = 0
 numbers_left size (Some ix) = size - ix
 
 -- a link to a chain whose numbers are above one
-pub fewer_left : (own : ℕ → Bool) (k : View) (l : Option ℕ) (f : Forest Numbered) (ix hi : ℕ) → ix < k.size → Holds k l f → Rises own (suc ix) f hi → numbers_left k.size l < k.size - ix
+pub fewer_left : (own : ℕ → Bool) (k : View) (l : Option ℕ) (f : Forest Numbered) (ix hi : ℕ) → ix < k.size → Holds k l f
+    → Rises own (suc ix) f hi → numbers_left k.size l < k.size - ix
 fewer_left own k None f ix hi w h r = omega arith
 fewer_left own k (Some j) nil ix hi w h r = cc
 fewer_left own k (Some j) (node a below after) ix hi w h r = let e : j ≡ a.number = cc in omega (arith, e, r.0)
 
-pub goes_down : (m : Marks) (text : List ℕ) (h : Chain) (s t u : Arena Item) (begun : List Entry) (chain : Forest Numbered) (old new : Openers) (last l : Option ℕ) (ix : ℕ)
-    → ix < length t.nodes → length u.nodes ≡ length t.nodes → ReadFurther m text h t u begun chain old new last l (suc ix) → numbers_left (length u.nodes) l < length t.nodes - ix
+pub goes_down : (m : Marks) (text : List ℕ) (h : Chain) (s t u : Arena Item) (begun : List Entry) (chain : Forest Numbered)
+    (old new : Openers) (last l : Option ℕ) (ix : ℕ)
+    → ix < length t.nodes → length u.nodes ≡ length t.nodes → ReadFurther m text h t u begun chain old new last l (suc ix)
+    → numbers_left (length u.nodes) l < length t.nodes - ix
 goes_down m text h s t u begun chain old new last l ix w e a =
-    subst (λ n. numbers_left (length u.nodes) l < n - ix) e (fewer_left h.touched (view_of u.nodes) l a.rest ix h.bound (rw e w) a.is_read.reads.stands.cut.right a.further)
+    subst (λ n. numbers_left (length u.nodes) l < n - ix) e (fewer_left h.touched (view_of u.nodes) l a.rest ix h.bound (rw e w)
+    a.is_read.reads.stands.cut.right a.further)

@@ -36,23 +36,28 @@ module _ (nodes : List (Node Item)) (f : Forest ℕ) (count ix : ℕ) where
   pub count_within : Counting nodes f count (Some ix) → ix < length nodes
   count_within a = within_if a.rest a.spelled
 
-  more_if : (n low : ℕ) (rest : Forest ℕ) → Spells (links_of nodes) (Some ix) rest → RisesFrom low (roots rest) → count + delimiters_of (chain_of nodes rest) ≡ delimiters_of (chain_of nodes f)
+  more_if : (n low : ℕ) (rest : Forest ℕ) → Spells (links_of nodes) (Some ix) rest → RisesFrom low (roots rest)
+      → count + delimiters_of (chain_of nodes rest) ≡ delimiters_of (chain_of nodes f)
       → n ≡ counts_one (run_character (item_at nodes ix).body) → Counting nodes f (count + n) (sibling_of nodes ix)
   more_if n low nil s r e q = cc
   more_if n low (node j below after) s r e q =
       let is : ix ≡ j = (let here : Some ix ≡ Some j = s.0 in cc) in
-      let same : n ≡ counts_one (run_character (item_at nodes j).body) = q ∙ ap (λ i. counts_one (run_character (item_at nodes i).body)) is in
+      let same : n ≡ counts_one (run_character (item_at nodes j).body) = q ∙ ap (λ i. counts_one (run_character (item_at nodes i).body)) is
+      in
       record { rest = after; low = suc j; spelled = rw is s.3; rising = r.1; counted = omega (arith, e, same) }
 
-  pub count_more : (n : ℕ) → Counting nodes f count (Some ix) → n ≡ counts_one (run_character (item_at nodes ix).body) → Counting nodes f (count + n) (sibling_of nodes ix)
+  pub count_more : (n : ℕ) → Counting nodes f count (Some ix) → n ≡ counts_one (run_character (item_at nodes ix).body)
+      → Counting nodes f (count + n) (sibling_of nodes ix)
   count_more n a q = more_if n a.low a.rest a.spelled a.rising a.counted q
 
-  next_left : (l : Option ℕ) (low : ℕ) (rest : Forest ℕ) → ix < length nodes → ix < low → Spells (links_of nodes) l rest → RisesFrom low (roots rest) → numbers_left (length nodes) l < length nodes - ix
+  next_left : (l : Option ℕ) (low : ℕ) (rest : Forest ℕ) → ix < length nodes → ix < low → Spells (links_of nodes) l rest
+      → RisesFrom low (roots rest) → numbers_left (length nodes) l < length nodes - ix
   next_left None low rest w h s r = omega arith
   next_left (Some k) low nil w h s r = cc
   next_left (Some k) low (node j below after) w h s r = let e : k ≡ j = (let here : Some k ≡ Some j = s.0 in cc) in omega (arith, e, r.0)
 
-  down_if : (low : ℕ) (rest : Forest ℕ) → Spells (links_of nodes) (Some ix) rest → RisesFrom low (roots rest) → numbers_left (length nodes) (sibling_of nodes ix) < length nodes - ix
+  down_if : (low : ℕ) (rest : Forest ℕ) → Spells (links_of nodes) (Some ix) rest → RisesFrom low (roots rest)
+      → numbers_left (length nodes) (sibling_of nodes ix) < length nodes - ix
   down_if low nil s r = cc
   down_if low (node j below after) s r =
       let is : ix ≡ j = (let here : Some ix ≡ Some j = s.0 in cc) in
@@ -61,9 +66,11 @@ module _ (nodes : List (Node Item)) (f : Forest ℕ) (count ix : ℕ) where
   pub count_down : Counting nodes f count (Some ix) → numbers_left (length nodes) (sibling_of nodes ix) < length nodes - ix
   count_down a = down_if a.low a.rest a.spelled a.rising
 
-done_if : (nodes : List (Node Item)) (f rest : Forest ℕ) (count : ℕ) → Spells (links_of nodes) None rest → count + delimiters_of (chain_of nodes rest) ≡ delimiters_of (chain_of nodes f) → count ≡ delimiters_of (chain_of nodes f)
+done_if : (nodes : List (Node Item)) (f rest : Forest ℕ) (count : ℕ) → Spells (links_of nodes) None rest
+    → count + delimiters_of (chain_of nodes rest) ≡ delimiters_of (chain_of nodes f) → count ≡ delimiters_of (chain_of nodes f)
 done_if nodes f nil count s e = omega (arith, e)
 done_if nodes f (node j below after) count s e = let no : None ≡ Some j = s.0 in cc
 
-pub count_done : (nodes : List (Node Item)) (f : Forest ℕ) (count : ℕ) → Counting nodes f count None → count ≡ delimiters_of (chain_of nodes f)
+pub count_done : (nodes : List (Node Item)) (f : Forest ℕ) (count : ℕ) → Counting nodes f count None
+    → count ≡ delimiters_of (chain_of nodes f)
 count_done nodes f count a = done_if nodes f a.rest count a.spelled a.counted

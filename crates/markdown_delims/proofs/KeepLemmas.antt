@@ -12,7 +12,9 @@ use Rattle.markdown_delims.specs.declared.run.Delimiter.{Delimiter}
 use Rattle.markdown_delims.specs.declared.run.Run.{Run}
 use Rattle.markdown_delims.specs.Layers.{marks_of, layer_of_one, layer_of_two, spanned}
 use Rattle.markdown_delims.specs.MayPair.{may_pair}
-use Rattle.markdown_delims.specs.Pairing.{Read, done, waiting, texts_before, all_done, read_trees, FoundOpener, nearest_opener, drop_read, dropped_if, Layers, layers, trees_done, still_waiting, last_first, opened_if, after_layers, first_texts, reads_from, runs_paired, paired}
+use Rattle.markdown_delims.specs.Pairing.{Read, done, waiting, texts_before, all_done, read_trees, FoundOpener, nearest_opener, drop_read}
+use Rattle.markdown_delims.specs.Pairing.{dropped_if, Layers, layers, trees_done, still_waiting, last_first, opened_if, after_layers}
+use Rattle.markdown_delims.specs.Pairing.{first_texts, reads_from, runs_paired, paired}
 use Rattle.markdown_delims.specs.Quotes.{with_quotes}
 use Rattle.markdown_delims.proofs.LayerLawLemmas.{one-closed, two-closed}
 use Rattle.markdown_delims.proofs.StepLawLemmas.{later, StaysTrue, found-if, reads-stay}
@@ -25,8 +27,10 @@ EachTree t (node a below after) = t a below × EachTree t after
 -- t holds of each tree that is made where c holds of the characters and t of the trees
 pub record MakesTrees {A : Type 0} (s : Setting) (c : Label A → Type 0) (t : Label A → Forest (Label A) → Type 0) : Type 0 where
   pub text : (x : Label A) → c x → t x nil
-  pub one : (d : Delimiter) (x v : Label A) (inside : Forest (Label A)) → c x → EachTree t inside → t (spanned s.text (layer_of_one (marks_of s.rules.options) d) x v) inside
-  pub two : (d : Delimiter) (x v : Label A) (inside : Forest (Label A)) → c x → EachTree t inside → t (spanned s.text (layer_of_two (marks_of s.rules.options) d) x v) inside
+  pub one : (d : Delimiter) (x v : Label A) (inside : Forest (Label A)) → c x → EachTree t inside
+      → t (spanned s.text (layer_of_one (marks_of s.rules.options) d) x v) inside
+  pub two : (d : Delimiter) (x v : Label A) (inside : Forest (Label A)) → c x → EachTree t inside
+      → t (spanned s.text (layer_of_two (marks_of s.rules.options) d) x v) inside
 
 module _ {A : Type 0} (c : Label A → Type 0) (t : Label A → Forest (Label A) → Type 0) where
   -- a tree that is still to be read
@@ -46,7 +50,8 @@ module _ {A : Type 0} (c : Label A → Type 0) (t : Label A → Forest (Label A)
   EachLayer l = EachTree t l.whole × AllByRecursion c l.opening × AllByRecursion c l.closing
 
   module _ (s : Setting) (makes : MakesTrees s c t) where
-    texts_keep : (xs : List (Label A)) (chain : Forest (Label A)) → AllByRecursion c xs → EachTree t chain → EachTree t (texts_before xs chain)
+    texts_keep : (xs : List (Label A)) (chain : Forest (Label A)) → AllByRecursion c xs → EachTree t chain
+        → EachTree t (texts_before xs chain)
     texts_keep [] chain h k = k
     texts_keep (x ∷ xs) chain h k = texts_keep xs (node x nil chain) h.1 (makes.text x h.0, k)
 
@@ -59,11 +64,13 @@ module _ {A : Type 0} (c : Label A → Type 0) (t : Label A → Forest (Label A)
     done_keeps [] rs h k = k
     done_keeps (x ∷ xs) rs h k = (makes.text x h.0, done_keeps xs rs h.1 k)
 
-    pub nearest-keeps : (closer : Run) (rs : List (Read A)) (inside : Forest (Label A)) → EachRead rs → EachTree t inside → IfSome (nearest_opener closer rs inside) EachFound
+    pub nearest-keeps : (closer : Run) (rs : List (Read A)) (inside : Forest (Label A)) → EachRead rs → EachTree t inside
+        → IfSome (nearest_opener closer rs inside) EachFound
     nearest-keeps closer [] inside h k = tt
     nearest-keeps closer (done a below ∷ rs) inside h k = nearest-keeps closer rs (node a below inside) h.1 (h.0, k)
     nearest-keeps closer (waiting dropped run xs ∷ rs) inside h k =
-        found-if EachFound (not dropped && may_pair run closer) (record { inside = inside; run = run; characters = xs; before = rs }) (nearest_opener closer rs (texts_before xs inside)) (k, h.0, h.1)
+        found-if EachFound (not dropped && may_pair run closer) (record { inside = inside; run = run; characters = xs; before = rs })
+        (nearest_opener closer rs (texts_before xs inside)) (k, h.0, h.1)
         (nearest-keeps closer rs (texts_before xs inside) h.1 (texts_keep xs inside h.0 k))
 
     dropped_keep : (rs : List (Read A)) → EachRead rs → EachRead (map drop_read rs)
@@ -75,19 +82,22 @@ module _ {A : Type 0} (c : Label A → Type 0) (t : Label A → Forest (Label A)
     drop_if_keeps true rs h = dropped_keep rs h
     drop_if_keeps false rs h = h
 
-    layers_keep : (d : Delimiter) (xs vs : List (Label A)) (inside : Forest (Label A)) → AllByRecursion c xs → AllByRecursion c vs → EachTree t inside → EachLayer (layers s d xs vs inside)
+    layers_keep : (d : Delimiter) (xs vs : List (Label A)) (inside : Forest (Label A)) → AllByRecursion c xs → AllByRecursion c vs
+        → EachTree t inside → EachLayer (layers s d xs vs inside)
     layers_keep d [] vs inside h k i = (i, tt, k)
     layers_keep d (x ∷ xs) [] inside h k i = (i, h, tt)
     layers_keep d (x ∷ []) (v ∷ vs) inside h k i = ((makes.one d x v inside h.0 i, tt), tt, k.1)
     layers_keep d (x ∷ y ∷ xs) (v ∷ []) inside h k i = ((makes.one d x v inside h.0 i, tt), h.1, tt)
     layers_keep d (x ∷ y ∷ xs) (v ∷ w ∷ vs) inside h k i =
-        layers_keep d xs vs (node (spanned s.text (layer_of_two (marks_of s.rules.options) d) y w) inside nil) h.1.1 k.1.1 (makes.two d y w inside h.1.0 i, tt)
+        layers_keep d xs vs (node (spanned s.text (layer_of_two (marks_of s.rules.options) d) y w) inside nil) h.1.1 k.1.1
+        (makes.two d y w inside h.1.0 i, tt)
 
     done_trees_keep : (f : Forest (Label A)) (rs : List (Read A)) → EachTree t f → EachRead rs → EachRead (trees_done f rs)
     done_trees_keep nil rs h k = k
     done_trees_keep (node a below after) rs h k = done_trees_keep after (done a below ∷ rs) h.1 (h.0, k)
 
-    still_keeps : (run : Run) (xs : List (Label A)) (rs : List (Read A)) → AllByRecursion c xs → EachRead rs → EachRead (still_waiting run xs rs)
+    still_keeps : (run : Run) (xs : List (Label A)) (rs : List (Read A)) → AllByRecursion c xs → EachRead rs
+        → EachRead (still_waiting run xs rs)
     still_keeps run [] rs h k = k
     still_keeps run (x ∷ xs) rs h k = (h, k)
 
@@ -95,11 +105,13 @@ module _ {A : Type 0} (c : Label A → Type 0) (t : Label A → Forest (Label A)
     turned_keep [] ys h k = k
     turned_keep (x ∷ xs) ys h k = turned_keep xs (x ∷ ys) h.1 (h.0, k)
 
-    opened_keeps : (b : Bool) (run : Run) (xs : List (Label A)) (rs : List (Read A)) → AllByRecursion c xs → EachRead rs → EachRead (opened_if b run xs rs)
+    opened_keeps : (b : Bool) (run : Run) (xs : List (Label A)) (rs : List (Read A)) → AllByRecursion c xs → EachRead rs
+        → EachRead (opened_if b run xs rs)
     opened_keeps true run xs rs h k = (h, k)
     opened_keeps false run xs rs h k = done_keeps xs rs h k
 
-    pub firsts-keep : (n : ℕ) (chain : Forest (Label A)) → EachTree (IsReadable s) chain → AllByRecursion c (first_texts s.text n chain) × EachTree (IsReadable s) (later n chain)
+    pub firsts-keep : (n : ℕ) (chain : Forest (Label A)) → EachTree (IsReadable s) chain → AllByRecursion c (first_texts s.text n chain)
+        × EachTree (IsReadable s) (later n chain)
     firsts-keep zero chain h = (tt, h)
     firsts-keep (suc n) nil h = (tt, tt)
     firsts-keep (suc n) (node a below after) h = ((h.0.0, (firsts-keep n after h.1).0), (firsts-keep n after h.1).1)
@@ -108,21 +120,32 @@ module _ {A : Type 0} (c : Label A → Type 0) (t : Label A → Forest (Label A)
     abbrev pub Holds : List (Label A) → List (Read A) → Forest (Label A) → Type 0
     Holds vs rs rest = AllByRecursion c vs × EachRead rs × EachTree (IsReadable s) rest
 
-    pub found-keeps : (vs : List (Label A)) (rest : Forest (Label A)) (f : FoundOpener A) → AllByRecursion c vs → EachTree (IsReadable s) rest → EachFound f
-        → Holds (layers s f.run.delimiter f.characters vs f.inside).closing (after_layers f (layers s f.run.delimiter f.characters vs f.inside)) rest
+    pub found-keeps : (vs : List (Label A)) (rest : Forest (Label A)) (f : FoundOpener A) → AllByRecursion c vs
+        → EachTree (IsReadable s) rest → EachFound f
+        → Holds (layers s f.run.delimiter f.characters vs f.inside).closing
+        (after_layers f (layers s f.run.delimiter f.characters vs f.inside)) rest
     found-keeps vs rest f h k g =
         let made : Layers A = layers s f.run.delimiter f.characters vs f.inside in
-        let l = layers_keep f.run.delimiter f.characters vs f.inside g.1 h g.0 in
-        (l.2, done_trees_keep made.whole (still_waiting f.run made.opening f.before) l.0 (still_keeps f.run made.opening f.before l.1 g.2), k)
+        let l = layers_keep f.run.delimiter f.characters vs f.inside g.1 h g.0 in (
+          l.2,
+          done_trees_keep made.whole (still_waiting f.run made.opening f.before) l.0 (still_keeps f.run made.opening f.before l.1 g.2),
+          k,
+        )
 
     pub holds-on : StaysTrue s Holds
     holds-on = record {
       tree = λ a below after rs h. (tt, (h.2.0.1, h.1), h.2.1);
       skip = λ a below after rs h. (tt, h.1, h.2.1);
       texts = λ n chain rs h. ((firsts-keep n chain h.2).0, h.1, (firsts-keep n chain h.2).1);
-      left = λ drops closer vs rs rest h. (tt, opened_keeps closer.can_open closer (last_first vs []) (dropped_if drops rs) (turned_keep vs [] h.0 tt) (drop_if_keeps drops rs h.1), h.2);
+      left = λ drops closer vs rs rest h. (
+        tt,
+        opened_keeps closer.can_open closer (last_first vs []) (dropped_if drops rs)
+            (turned_keep vs [] h.0 tt) (drop_if_keeps drops rs h.1),
+        h.2,
+      );
       gone = λ vs rs rest h. (tt, h.1, h.2);
-      found = λ closer vs rs rest h. IfSome_then (nearest_opener closer rs nil) (nearest-keeps closer rs nil h.1 tt) (λ f g. found-keeps vs rest f h.0 h.2 g);
+      found = λ closer vs rs rest h. IfSome_then (nearest_opener closer rs nil) (nearest-keeps closer rs nil h.1 tt)
+          (λ f g. found-keeps vs rest f h.0 h.2 g);
     }
 
     pub runs-keep : (chain : Forest (Label A)) → EachTree (IsReadable s) chain → EachTree t (runs_paired s chain)

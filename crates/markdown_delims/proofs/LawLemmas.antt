@@ -10,7 +10,8 @@ use Rattle.markdown_delims.specs.declared.run.Run.{Run}
 use Rattle.markdown_delims.specs.MayPair.{may_pair}
 use Rattle.markdown_delims.specs.Pairing.{Read, done, waiting, texts_before, FoundOpener, found_if, nearest_opener, paired}
 use Rattle.markdown_delims.specs.Layers.{marks_of}
-use Rattle.markdown_delims.specs.PairingLaws.{NothingOpen, below_trees, NonePairs, ClosedLaw, OrderLaw, JoinsLaw, MissesNoneLaw, KeepsLaw, TagLaw}
+use Rattle.markdown_delims.specs.PairingLaws.{NothingOpen, below_trees, NonePairs, ClosedLaw, OrderLaw, JoinsLaw, MissesNoneLaw, KeepsLaw}
+use Rattle.markdown_delims.specs.PairingLaws.{TagLaw}
 use Rattle.markdown_delims.specs.Quotes.{first_turn, quotes_after, with_quotes}
 use Rattle.markdown_delims.proofs.KeepLemmas.{EachTree, MakesTrees, IsReadable, runs-keep, IsClosedTree, as_closed-closed, paired-closed}
 use Rattle.markdown_delims.proofs.LayerLawLemmas.{one-closed, two-closed}
@@ -24,13 +25,15 @@ pub closed-law : {A : Type 0} → ClosedLaw A
 closed-law s chain = closed_nothing (paired s chain) (paired-closed s chain)
 
 -- a change below each tree, and no other
-below_same : {A : Type 0} (change : Forest (Label A) → Forest (Label A)) (f : Forest (Label A)) → deep (λ x. x) change f ≡ below_trees change f
+below_same : {A : Type 0} (change : Forest (Label A) → Forest (Label A)) (f : Forest (Label A))
+    → deep (λ x. x) change f ≡ below_trees change f
 below_same change nil = refl
 below_same change (node a below after) = ap (node a (change below)) (below_same change after)
 
 pub order-law : {A : Type 0} → OrderLaw A
 order-law s change none stays chain =
-    ap (paired s) (sym (below_same change chain)) ∙ paired-deep (λ x. x) change s none (λ f h. stays f (closed_nothing f h) ∙ sym (below_same change f)) chain ∙ below_same change (paired s chain)
+    ap (paired s) (sym (below_same change chain)) ∙ paired-deep (λ x. x) change s none (λ f h. stays f (closed_nothing f h)
+    ∙ sym (below_same change f)) chain ∙ below_same change (paired s chain)
 
 -- other tags, and no other change
 tags_same : {A B : Type 0} (f : A → B) (g : Forest (Label A)) → deep f (retagged f) g ≡ retagged f g
@@ -38,10 +41,12 @@ tags_same f nil = refl
 tags_same f (node a below after) = ap (node (retag f a) (retagged f below)) (tags_same f after)
 
 pub tag-law : {A B : Type 0} → TagLaw A B
-tag-law f s chain = ap (paired s) (sym (tags_same f chain)) ∙ paired-deep f (retagged f) s refl (λ g h. sym (tags_same f g)) chain ∙ tags_same f (paired s chain)
+tag-law f s chain = ap (paired s) (sym (tags_same f chain)) ∙ paired-deep f (retagged f) s refl (λ g h. sym (tags_same f g)) chain
+    ∙ tags_same f (paired s chain)
 
 -- what holds of each label at every depth, and of a label that is not open where it held of one with the same block
-module _ {A : Type 0} (p : Label A → Type 0) (stays : (a b : Label A) → p a → b.part.block ≡ a.part.block → is_unresolved b.part.shape ≡ false → p b) (s : Setting) where
+module _ {A : Type 0} (p : Label A → Type 0) (stays : (a b : Label A) → p a → b.part.block ≡ a.part.block
+    → is_unresolved b.part.shape ≡ false → p b) (s : Setting) where
   abbrev HoldsBelow : Label A → Forest (Label A) → Type 0
   HoldsBelow a below = p a × Each p below
 
@@ -52,31 +57,49 @@ module _ {A : Type 0} (p : Label A → Type 0) (stays : (a b : Label A) → p a 
   makes_such : MakesTrees s p HoldsBelow
   makes_such = record {
     text = λ x h. (h, tt);
-    one = λ d x v inside h i. (stays x _ h refl (one-closed (marks_of s.rules.options) d (slice_range s.text x.part.range.start v.part.range.end)), each_holds inside i);
-    two = λ d x v inside h i. (stays x _ h refl (two-closed (marks_of s.rules.options) d (slice_range s.text x.part.range.start v.part.range.end)), each_holds inside i);
+    one = λ d x v inside h i. (
+      stays x _ h refl (one-closed (marks_of s.rules.options) d
+          (slice_range s.text x.part.range.start v.part.range.end)),
+      each_holds inside i,
+    );
+    two = λ d x v inside h i. (
+      stays x _ h refl (two-closed (marks_of s.rules.options) d
+          (slice_range s.text x.part.range.start v.part.range.end)),
+      each_holds inside i,
+    );
   }
 
   same_block : (b : Bool) (a : Label A) → (text_if b s.text a).part.block ≡ a.part.block
   same_block true a = refl
   same_block false a = refl
 
-  quotes_readable : (single double : Bool) (chain : Forest (Label A)) → Each p chain → EachTree (IsReadable p HoldsBelow s) (quotes_after single double chain)
+  quotes_readable : (single double : Bool) (chain : Forest (Label A)) → Each p chain
+      → EachTree (IsReadable p HoldsBelow s) (quotes_after single double chain)
   quotes_readable single double nil h = tt
   quotes_readable single double (node a below after) h =
       let quoted : Label A = shaped (first_turn a after single double).made a in (
-        (stays a (as_text s.text quoted) h.0 refl refl, (stays a (as_closed s.text quoted) h.0 (same_block (is_unresolved quoted.part.shape) quoted) (as_closed-closed s.text quoted), h.1)),
+        (
+          stays a (as_text s.text quoted) h.0 refl refl,
+          (
+            stays a (as_closed s.text quoted) h.0 (same_block (is_unresolved quoted.part.shape)
+                quoted) (as_closed-closed s.text quoted),
+            h.1,
+          ),
+        ),
         quotes_readable (first_turn a after single double).single (first_turn a after single double).double after h.2,
       )
 
   pub paired-keeps : (chain : Forest (Label A)) → Each p chain → Each p (paired s chain)
   unfolding paired with_quotes
-  paired-keeps chain h = each_holds (paired s chain) (runs-keep p HoldsBelow s makes_such (with_quotes chain) (quotes_readable false false chain h))
+  paired-keeps chain h = each_holds (paired s chain) (runs-keep p HoldsBelow s makes_such (with_quotes chain)
+      (quotes_readable false false chain h))
 
 pub keeps-law : {A : Type 0} → KeepsLaw A
 keeps-law passes stays s chain h = paired-keeps (λ a. passes a ≡ true) stays s chain h
 
 -- a search
-joins_if : {A : Type 0} (closer : Run) (dropped : Bool) (f : FoundOpener A) (o : Option (FoundOpener A)) (b : Bool) → may_pair f.run closer ≡ b → IfSome o (λ g. may_pair g.run closer ≡ true)
+joins_if : {A : Type 0} (closer : Run) (dropped : Bool) (f : FoundOpener A) (o : Option (FoundOpener A)) (b : Bool)
+    → may_pair f.run closer ≡ b → IfSome o (λ g. may_pair g.run closer ≡ true)
     → IfSome (found_if (not dropped && b) f o) (λ g. may_pair g.run closer ≡ true)
 joins_if closer true f o b e h = h
 joins_if closer false f o true e h = e
@@ -86,10 +109,12 @@ pub joins-law : {A : Type 0} → JoinsLaw A
 joins-law closer [] inside = tt
 joins-law closer (done a below ∷ rs) inside = joins-law closer rs (node a below inside)
 joins-law closer (waiting dropped run xs ∷ rs) inside =
-    joins_if closer dropped (record { inside = inside; run = run; characters = xs; before = rs }) (nearest_opener closer rs (texts_before xs inside)) (may_pair run closer) refl
+    joins_if closer dropped (record { inside = inside; run = run; characters = xs; before = rs })
+    (nearest_opener closer rs (texts_before xs inside)) (may_pair run closer) refl
     (joins-law closer rs (texts_before xs inside))
 
-misses_if : {A : Type 0} (closer run : Run) (dropped : Bool) (rs : List (Read A)) (f : FoundOpener A) (o : Option (FoundOpener A)) (b : Bool) → may_pair run closer ≡ b → IfNone o (NonePairs closer rs)
+misses_if : {A : Type 0} (closer run : Run) (dropped : Bool) (rs : List (Read A)) (f : FoundOpener A) (o : Option (FoundOpener A))
+    (b : Bool) → may_pair run closer ≡ b → IfNone o (NonePairs closer rs)
     → IfNone (found_if (not dropped && b) f o) ((dropped ≡ false → may_pair run closer ≡ false) × NonePairs closer rs)
 misses_if closer run true rs f None b e h = (λ d. absurd (no_drop d), h)
   where
@@ -104,5 +129,6 @@ pub misses-law : {A : Type 0} → MissesNoneLaw A
 misses-law closer [] inside = tt
 misses-law closer (done a below ∷ rs) inside = misses-law closer rs (node a below inside)
 misses-law closer (waiting dropped run xs ∷ rs) inside =
-    misses_if closer run dropped rs (record { inside = inside; run = run; characters = xs; before = rs }) (nearest_opener closer rs (texts_before xs inside)) (may_pair run closer) refl
+    misses_if closer run dropped rs (record { inside = inside; run = run; characters = xs; before = rs })
+    (nearest_opener closer rs (texts_before xs inside)) (may_pair run closer) refl
     (misses-law closer rs (texts_before xs inside))

@@ -1,6 +1,7 @@
 -- Of two runs of `*` or `_` that may pair, some pair encloses what is left of one alone: no two such runs have
 -- characters left side by side in what was read of a chain, nor at any depth below.
-use Rattle.std.proofs.Common.{◌≡◌, ℕ, zero, suc, ◌-◌, ◌<◌, Bool, true, false, List, [], ◌∷◌, length, Option, Some, None, refl, ap, sym, ◌∙◌, subst, arith, map}
+use Rattle.std.proofs.Common.{◌≡◌, ℕ, zero, suc, ◌-◌, ◌<◌, Bool, true, false, List, [], ◌∷◌, length, Option, Some, None, refl, ap, sym, ◌∙◌}
+use Rattle.std.proofs.Common.{subst, arith, map}
 use Rattle.std.specs.Prelude.{⊤, IfSome, IfNone, not, ◌&&◌, ◌||◌, slice_range, slice_index}
 use Rattle.std.specs.List.{AllByRecursion}
 use Rattle.markdown_base.specs.Forest.{Forest, nil, node}
@@ -15,11 +16,16 @@ use Rattle.markdown_delims.specs.declared.run.Delimiter.TheVariants.{Star, Under
 use Rattle.markdown_delims.specs.declared.run.Run.{Run}
 use Rattle.markdown_delims.specs.Layers.{marks_of, layer_of_one, layer_of_two, run_of_shape, run_of}
 use Rattle.markdown_delims.specs.MayPair.{delimiter_of, is_tilde_or_caret, may_pair}
-use Rattle.markdown_delims.specs.Pairing.{paired, Read, done, waiting, texts_before, all_done, read_trees, FoundOpener, nearest_opener, drop_read, dropped_if, Layers, layers, trees_done, still_waiting, last_first, opened_if, left_over, after_layers, after_search, closed_by, run_read, first_texts, after_tree, reads_from, runs_paired}
-use Rattle.markdown_delims.specs.Quotes.{kind_of_shape, closes_later, is_closed_later, is_end, QuoteTurn, turn_by, first_turn, quotes_after, with_quotes}
+use Rattle.markdown_delims.specs.Pairing.{paired, Read, done, waiting, texts_before, all_done, read_trees, FoundOpener, nearest_opener}
+use Rattle.markdown_delims.specs.Pairing.{drop_read, dropped_if, Layers, layers, trees_done, still_waiting, last_first, opened_if}
+use Rattle.markdown_delims.specs.Pairing.{left_over, after_layers, after_search, closed_by, run_read, first_texts, after_tree, reads_from}
+use Rattle.markdown_delims.specs.Pairing.{runs_paired}
+use Rattle.markdown_delims.specs.Quotes.{kind_of_shape, closes_later, is_closed_later, is_end, QuoteTurn, turn_by, first_turn, quotes_after}
+use Rattle.markdown_delims.specs.Quotes.{with_quotes}
 use Rattle.markdown_delims.specs.declared.quotes.Kind.TheVariants as kind
 use Rattle.markdown_base.specs.declared.item.ItemBody.TheVariants as body
-use Rattle.markdown_delims.specs.PairingLaws.{NonePairs, RunAt, run_at, further, no_run, with_runs, run_if_text, kept_run, DoNotPair, NonePairsLater, NoneMissed, untagged, NoneMissedLaw}
+use Rattle.markdown_delims.specs.PairingLaws.{NonePairs, RunAt, run_at, further, no_run, with_runs, run_if_text, kept_run, DoNotPair}
+use Rattle.markdown_delims.specs.PairingLaws.{NonePairsLater, NoneMissed, untagged, NoneMissedLaw}
 use Rattle.markdown_delims.proofs.BeginLawLemmas.{some-long}
 use Rattle.markdown_delims.proofs.LawLemmas.{misses-law, tag-law}
 use Rattle.markdown_delims.proofs.LayerLawLemmas.{turn-made}
@@ -103,7 +109,8 @@ Fine [] = ⊤
 Fine (done a below ∷ rs) = Shut (kept_run a) × NoneEarlier (kept_run a) rs × NoneMissed below × Fine rs
 Fine (waiting dropped run xs ∷ rs) = (dropped ≡ true → is_tilde_or_caret run.delimiter ≡ true) × IsLeft run xs rs × Fine rs
 
-each_apart : (k : MaybeRun) → ((r : MaybeRun) → DoNotPair r k) → (xs : List Character) → AllByRecursion (λ (x : Character). DoNotPair x.tag k) xs
+each_apart : (k : MaybeRun) → ((r : MaybeRun) → DoNotPair r k) → (xs : List Character)
+    → AllByRecursion (λ (x : Character). DoNotPair x.tag k) xs
 each_apart k h [] = tt
 each_apart k h (x ∷ xs) = (h x.tag, each_apart k h xs)
 
@@ -141,11 +148,13 @@ module _ (p : RunAt) (x : Character) (e : x.tag ≡ Some p) where
   pairs_later : (f : Forest Character) → NonePairsLater (Some p) f → NonePairsLater (kept_run x) f
   pairs_later f h = text_pairs_later x.part.shape x.tag f (subst (λ r. NonePairsLater r f) (sym e) h)
 
-all_first : (p : RunAt) (k : MaybeRun) (xs : List Character) → AreOf p xs → DoNotPair (Some p) k → AllByRecursion (λ (x : Character). DoNotPair x.tag k) xs
+all_first : (p : RunAt) (k : MaybeRun) (xs : List Character) → AreOf p xs → DoNotPair (Some p) k
+    → AllByRecursion (λ (x : Character). DoNotPair x.tag k) xs
 all_first p k [] a h = tt
 all_first p k (x ∷ xs) a h = (subst (λ r. DoNotPair r k) (sym a.0) h, all_first p k xs a.1 h)
 
-first_of_all : (p : RunAt) (k : MaybeRun) (xs : List Character) → HasSome xs → AreOf p xs → AllByRecursion (λ (x : Character). DoNotPair x.tag k) xs → DoNotPair (Some p) k
+first_of_all : (p : RunAt) (k : MaybeRun) (xs : List Character) → HasSome xs → AreOf p xs
+    → AllByRecursion (λ (x : Character). DoNotPair x.tag k) xs → DoNotPair (Some p) k
 first_of_all p k [] s a h = absurd s
 first_of_all p k (x ∷ xs) s a h = subst (λ r. DoNotPair r k) a.0 h.0
 
@@ -154,23 +163,27 @@ abbrev AllLater : List (Read MaybeRun) → Forest Character → Type 0
 AllLater rs nil = ⊤
 AllLater rs (node a below after) = NoneEarlier (kept_run a) rs × AllLater rs after
 
-after_done : (a : Character) (below : Forest Character) (rs : List (Read MaybeRun)) (f : Forest Character) → AllLater (done a below ∷ rs) f → NonePairsLater (kept_run a) f × AllLater rs f
+after_done : (a : Character) (below : Forest Character) (rs : List (Read MaybeRun)) (f : Forest Character) → AllLater (done a below ∷ rs) f
+    → NonePairsLater (kept_run a) f × AllLater rs f
 after_done a below rs nil h = (tt, tt)
 after_done a below rs (node b under after) h =
     let k = after_done a below rs after h.1 in ((h.0.0, k.0), (h.0.1, k.1))
 
-after_waiting : (dropped : Bool) (run : Run) (xs : List Character) (rs : List (Read MaybeRun)) (l : IsLeft run xs rs) (f : Forest Character) → AllLater (waiting dropped run xs ∷ rs) f
+after_waiting : (dropped : Bool) (run : Run) (xs : List Character) (rs : List (Read MaybeRun)) (l : IsLeft run xs rs) (f : Forest Character)
+    → AllLater (waiting dropped run xs ∷ rs) f
     → NonePairsLater (Some l.at) f × AllLater rs f
 after_waiting dropped run xs rs l nil h = (tt, tt)
 after_waiting dropped run xs rs l (node b under after) h =
     let k = after_waiting dropped run xs rs l after h.1 in
     ((first_of_all l.at (kept_run b) xs l.some l.all h.0.0, k.0), (h.0.1, k.1))
 
-texts_fine : (p : RunAt) (rs : List (Read MaybeRun)) (xs : List Character) (f : Forest Character) → AreOf p xs → NoneEarlier (Some p) rs → NoneMissed f → NonePairsLater (Some p) f → AllLater rs f
+texts_fine : (p : RunAt) (rs : List (Read MaybeRun)) (xs : List Character) (f : Forest Character) → AreOf p xs → NoneEarlier (Some p) rs
+    → NoneMissed f → NonePairsLater (Some p) f → AllLater rs f
     → NoneMissed (texts_before xs f) × AllLater rs (texts_before xs f)
 texts_fine p rs [] f a e m n l = (m, l)
 texts_fine p rs (x ∷ xs) f a e m n l =
-    texts_fine p rs xs (node x nil f) a.1 e (pairs_later p x a.0 f n, tt, m) (is_later p x a.0 (Some p) (same_run p), n) (is_earlier p x a.0 rs e, l)
+    texts_fine p rs xs (node x nil f) a.1 e (pairs_later p x a.0 f n, tt, m) (is_later p x a.0 (Some p) (same_run p), n)
+    (is_earlier p x a.0 rs e, l)
 
 trees_fine : (rs : List (Read MaybeRun)) (f : Forest Character) → Fine rs → NoneMissed f → AllLater rs f → NoneMissed (read_trees rs f)
 trees_fine [] f h m l = m
@@ -184,23 +197,28 @@ trees_fine (waiting dropped run xs ∷ rs) f h m l =
 abbrev FoundFine : FoundOpener MaybeRun → Type 0
 FoundFine f = IsLeft f.run f.characters f.before × Fine f.before × NoneMissed f.inside
 
-nearest_fine : (closer : Run) (rs : List (Read MaybeRun)) (inside : Forest Character) → Fine rs → NoneMissed inside → AllLater rs inside → IfSome (nearest_opener closer rs inside) FoundFine
+nearest_fine : (closer : Run) (rs : List (Read MaybeRun)) (inside : Forest Character) → Fine rs → NoneMissed inside → AllLater rs inside
+    → IfSome (nearest_opener closer rs inside) FoundFine
 nearest_fine closer [] inside h m l = tt
 nearest_fine closer (done a below ∷ rs) inside h m l =
     let k = after_done a below rs inside l in nearest_fine closer rs (node a below inside) h.3 (k.0, h.2, m) (h.1, k.1)
 nearest_fine closer (waiting dropped run xs ∷ rs) inside h m l =
     let k = after_waiting dropped run xs rs h.1 inside l in
     let t = texts_fine h.1.at rs xs inside h.1.all h.1.earlier m k.0 k.1 in
-    found-if FoundFine (not dropped && may_pair run closer) (record { inside = inside; run = run; characters = xs; before = rs }) (nearest_opener closer rs (texts_before xs inside)) (h.1, h.2, m)
+    found-if FoundFine (not dropped && may_pair run closer) (record { inside = inside; run = run; characters = xs; before = rs })
+    (nearest_opener closer rs (texts_before xs inside)) (h.1, h.2, m)
     (nearest_fine closer rs (texts_before xs inside) h.2 t.0 t.1)
 
 -- none was found
-open_apart : (dropped : Bool) (run closer : Run) (q p : RunAt) → q.run ≡ run → p.run ≡ closer → (dropped ≡ true → is_tilde_or_caret run.delimiter ≡ true)
+open_apart : (dropped : Bool) (run closer : Run) (q p : RunAt) → q.run ≡ run → p.run ≡ closer
+    → (dropped ≡ true → is_tilde_or_caret run.delimiter ≡ true)
     → (dropped ≡ false → may_pair run closer ≡ false) → DoNotPair (Some q) (Some p)
-open_apart true run closer q p e g d m n star opens closes = absurd (differ (sym (d refl) ∙ ap (λ (r : Run). is_tilde_or_caret r.delimiter) (sym e) ∙ star))
+open_apart true run closer q p e g d m n star opens closes =
+    absurd (differ (sym (d refl) ∙ ap (λ (r : Run). is_tilde_or_caret r.delimiter) (sym e) ∙ star))
 open_apart false run closer q p e g d m n star opens closes = ap (λ r. may_pair r p.run) e ∙ ap (may_pair run) g ∙ m refl
 
-none_found : (closer : Run) (p : RunAt) → p.run ≡ closer → (rs : List (Read MaybeRun)) → Fine rs → NonePairs closer rs → NoneEarlier (Some p) rs
+none_found : (closer : Run) (p : RunAt) → p.run ≡ closer → (rs : List (Read MaybeRun)) → Fine rs → NonePairs closer rs
+    → NoneEarlier (Some p) rs
 none_found closer p e [] h m = tt
 none_found closer p e (done a below ∷ rs) h m = (shut_apart (kept_run a) (Some p) h.0, none_found closer p e rs h.3 m)
 none_found closer p e (waiting dropped run xs ∷ rs) h m =
@@ -225,13 +243,15 @@ drop_fine (waiting dropped run xs ∷ rs) h = (
   drop_fine rs h.2,
 )
 
-drop_if_fine : (b : Bool) (k : MaybeRun) (rs : List (Read MaybeRun)) → Fine rs → NoneEarlier k rs → Fine (dropped_if b rs) × NoneEarlier k (dropped_if b rs)
+drop_if_fine : (b : Bool) (k : MaybeRun) (rs : List (Read MaybeRun)) → Fine rs → NoneEarlier k rs
+    → Fine (dropped_if b rs) × NoneEarlier k (dropped_if b rs)
 drop_if_fine true k rs h e = (drop_fine rs h, drop_earlier k rs e)
 drop_if_fine false k rs h e = (h, e)
 
 -- characters that do not pair, of a run p
 module _ (p : RunAt) where
-  done_fine : (xs : List Character) (rs : List (Read MaybeRun)) → AreOf p xs → Shut (Some p) → Fine rs → NoneEarlier (Some p) rs → Fine (all_done xs rs) × NoneEarlier (Some p) (all_done xs rs)
+  done_fine : (xs : List Character) (rs : List (Read MaybeRun)) → AreOf p xs → Shut (Some p) → Fine rs → NoneEarlier (Some p) rs
+      → Fine (all_done xs rs) × NoneEarlier (Some p) (all_done xs rs)
   done_fine [] rs a s h e = (h, e)
   done_fine (x ∷ xs) rs a s h e =
       let k = done_fine xs rs a.1 s h e in
@@ -245,19 +265,25 @@ module _ (p : RunAt) where
   some_turned [] ys h = h
   some_turned (x ∷ xs) ys h = some_turned xs (x ∷ ys) tt
 
-  still_open : (run : Run) (xs : List Character) (rs : List (Read MaybeRun)) → p.run ≡ run → AreOf p xs → HasSome xs → Fine rs → NoneEarlier (Some p) rs → Fine (waiting false run xs ∷ rs)
+  still_open : (run : Run) (xs : List Character) (rs : List (Read MaybeRun)) → p.run ≡ run → AreOf p xs → HasSome xs → Fine rs
+      → NoneEarlier (Some p) rs → Fine (waiting false run xs ∷ rs)
   still_open run xs rs g a s h e = (λ d. absurd (differ (sym d)), record { at = p; same = g; all = a; some = s; earlier = e }, h)
 
-  opened_fine : (b : Bool) (run : Run) (xs : List Character) (rs : List (Read MaybeRun)) → run.can_open ≡ b → p.run ≡ run → AreOf p xs → HasSome xs → Fine rs → NoneEarlier (Some p) rs
+  opened_fine : (b : Bool) (run : Run) (xs : List Character) (rs : List (Read MaybeRun)) → run.can_open ≡ b → p.run ≡ run → AreOf p xs
+      → HasSome xs → Fine rs → NoneEarlier (Some p) rs
       → Fine (opened_if b run xs rs)
   opened_fine true run xs rs c g a s h e = still_open run xs rs g a s h e
-  opened_fine false run xs rs c g a s h e = (done_fine xs rs a (λ star opens. differ (sym opens ∙ ap (λ (r : Run). r.can_open) g ∙ c)) h e).0
+  opened_fine false run xs rs c g a s h e = (done_fine xs rs a (λ star opens. differ (sym opens ∙ ap (λ (r : Run). r.can_open) g ∙ c)) h
+      e).0
 
-  left_fine : (run : Run) (vs : List Character) (rs : List (Read MaybeRun)) → p.run ≡ run → AreOf p vs → HasSome vs → Fine rs → NoneEarlier (Some p) rs → Fine (left_over run vs rs)
+  left_fine : (run : Run) (vs : List Character) (rs : List (Read MaybeRun)) → p.run ≡ run → AreOf p vs → HasSome vs → Fine rs
+      → NoneEarlier (Some p) rs → Fine (left_over run vs rs)
   left_fine run [] rs g a s h e = absurd s
-  left_fine run (v ∷ vs) rs g a s h e = opened_fine run.can_open run (last_first (v ∷ vs) []) rs refl g (turned_of (v ∷ vs) [] a tt) (some_turned vs (v ∷ []) tt) h e
+  left_fine run (v ∷ vs) rs g a s h e = opened_fine run.can_open run (last_first (v ∷ vs) []) rs refl g (turned_of (v ∷ vs) [] a tt)
+      (some_turned vs (v ∷ []) tt) h e
 
-  still_fine : (run : Run) (xs : List Character) (rs : List (Read MaybeRun)) → p.run ≡ run → AreOf p xs → Fine rs → NoneEarlier (Some p) rs → Fine (still_waiting run xs rs) × NoneEarlier (Some p) (still_waiting run xs rs)
+  still_fine : (run : Run) (xs : List Character) (rs : List (Read MaybeRun)) → p.run ≡ run → AreOf p xs → Fine rs → NoneEarlier (Some p) rs
+      → Fine (still_waiting run xs rs) × NoneEarlier (Some p) (still_waiting run xs rs)
   still_fine run [] rs g a h e = (h, e)
   still_fine run (x ∷ xs) rs g a h e = (still_open run (x ∷ xs) rs g a tt h e, (all_first p (Some p) (x ∷ xs) a (same_run p), e))
 
@@ -293,27 +319,38 @@ module _ (p : RunAt) where
     one_layer : (d : Delimiter) (x v : Character) (inside : Forest Character) → p.run.delimiter ≡ d → x.tag ≡ Some p → NoneMissed inside
         → IsLayer (layers s d (x ∷ []) (v ∷ []) inside).whole
     one_layer d x v inside e t m =
-        let source : List ℕ = slice_range s.text x.part.range.start v.part.range.end in
-        (t, subst (λ r. Shut (run_if_text (layer_of_one (marks_of s.rules.options) d source) r)) (sym t) (one_shut (marks_of s.rules.options) d source e), m)
+        let source : List ℕ = slice_range s.text x.part.range.start v.part.range.end in (
+          t,
+          subst (λ r. Shut (run_if_text (layer_of_one (marks_of s.rules.options) d source) r)) (sym t)
+              (one_shut (marks_of s.rules.options) d source e),
+          m,
+        )
 
     two_layer : (d : Delimiter) (x y v w : Character) (inside : Forest Character) → p.run.delimiter ≡ d → y.tag ≡ Some p → NoneMissed inside
         → IsLayer (layers s d (x ∷ y ∷ []) (v ∷ w ∷ []) inside).whole
     two_layer d x y v w inside e t m =
-        let source : List ℕ = slice_range s.text y.part.range.start w.part.range.end in
-        (t, subst (λ r. Shut (run_if_text (layer_of_two (marks_of s.rules.options) d source) r)) (sym t) (two_shut (marks_of s.rules.options) d source e), m)
+        let source : List ℕ = slice_range s.text y.part.range.start w.part.range.end in (
+          t,
+          subst (λ r. Shut (run_if_text (layer_of_two (marks_of s.rules.options) d source) r)) (sym t)
+              (two_shut (marks_of s.rules.options) d source e),
+          m,
+        )
 
     abbrev AreMade : RunAt → Layers MaybeRun → Type 0
     AreMade q l = IsLayer l.whole × AreOf p l.opening × AreOf q l.closing
 
-    more_layers : (q : RunAt) (d : Delimiter) (xs vs : List Character) (inside : Forest Character) → p.run.delimiter ≡ d → AreOf p xs → AreOf q vs → IsLayer inside → AreMade q (layers s d xs vs inside)
+    more_layers : (q : RunAt) (d : Delimiter) (xs vs : List Character) (inside : Forest Character) → p.run.delimiter ≡ d → AreOf p xs
+        → AreOf q vs → IsLayer inside → AreMade q (layers s d xs vs inside)
     more_layers q d [] vs inside e a b l = (l, tt, b)
     more_layers q d (x ∷ xs) [] inside e a b l = (l, a, tt)
     more_layers q d (x ∷ []) (v ∷ vs) inside e a b l = (one_layer d x v inside e a.0 (layer_missed inside l), tt, b.1)
     more_layers q d (x ∷ y ∷ xs) (v ∷ []) inside e a b l = (one_layer d x v inside e a.0 (layer_missed inside l), a.1, tt)
     more_layers q d (x ∷ y ∷ xs) (v ∷ w ∷ vs) inside e a b l =
-        more_layers q d xs vs (layers s d (x ∷ y ∷ []) (v ∷ w ∷ []) inside).whole e a.1.1 b.1.1 (two_layer d x y v w inside e a.1.0 (layer_missed inside l))
+        more_layers q d xs vs (layers s d (x ∷ y ∷ []) (v ∷ w ∷ []) inside).whole e a.1.1 b.1.1
+        (two_layer d x y v w inside e a.1.0 (layer_missed inside l))
 
-    first_layers : (q : RunAt) (d : Delimiter) (xs vs : List Character) (inside : Forest Character) → p.run.delimiter ≡ d → HasSome xs → HasSome vs → AreOf p xs → AreOf q vs → NoneMissed inside
+    first_layers : (q : RunAt) (d : Delimiter) (xs vs : List Character) (inside : Forest Character) → p.run.delimiter ≡ d → HasSome xs
+        → HasSome vs → AreOf p xs → AreOf q vs → NoneMissed inside
         → AreMade q (layers s d xs vs inside)
     first_layers q d [] vs inside e i j a b m = absurd i
     first_layers q d (x ∷ xs) [] inside e i j a b m = absurd j
@@ -325,35 +362,43 @@ module _ (p : RunAt) where
 -- a closer pairs
 module _ (s : Setting) where
   pair_fine : (q : RunAt) (vs : List Character) (f : FoundOpener MaybeRun) → HasSome vs → AreOf q vs → FoundFine f
-      → AreOf q (layers s f.run.delimiter f.characters vs f.inside).closing × Fine (after_layers f (layers s f.run.delimiter f.characters vs f.inside))
+      → AreOf q (layers s f.run.delimiter f.characters vs f.inside).closing
+      × Fine (after_layers f (layers s f.run.delimiter f.characters vs f.inside))
   pair_fine q vs f i a g =
       let p : RunAt = g.0.at in
       let made : Layers MaybeRun = layers s f.run.delimiter f.characters vs f.inside in
-      let l = first_layers p s q f.run.delimiter f.characters vs f.inside (ap (λ (r : Run). r.delimiter) g.0.same) g.0.some i g.0.all a g.2 in
+      let l = first_layers p s q f.run.delimiter f.characters vs f.inside (ap (λ (r : Run). r.delimiter) g.0.same) g.0.some i g.0.all a g.2
+      in
       let k = still_fine p f.run made.opening f.before g.0.same l.1 g.1 g.0.earlier in
       (l.2, layer_fine p made.whole (still_waiting f.run made.opening f.before) l.0 k.0 k.1)
 
-  searched_fine : (again : List Character → List (Read MaybeRun) → List (Read MaybeRun)) (closer : Run) (p : RunAt) (vs : List Character) (rs : List (Read MaybeRun)) (o : Option (FoundOpener MaybeRun))
-      → ((left : List Character) (others : List (Read MaybeRun)) → AreOf p left → Fine others → Fine (again left others)) → p.run ≡ closer → AreOf p vs → HasSome vs → Fine rs
+  searched_fine : (again : List Character → List (Read MaybeRun) → List (Read MaybeRun)) (closer : Run) (p : RunAt) (vs : List Character)
+      (rs : List (Read MaybeRun)) (o : Option (FoundOpener MaybeRun))
+      → ((left : List Character) (others : List (Read MaybeRun)) → AreOf p left → Fine others → Fine (again left others)) → p.run ≡ closer
+      → AreOf p vs → HasSome vs → Fine rs
       → IfSome o FoundFine → IfNone o (NonePairs closer rs) → Fine (after_search s again closer vs rs o)
   searched_fine again closer p vs rs None go e a i h f m =
       let k = drop_if_fine (is_tilde_or_caret closer.delimiter) (Some p) rs h (none_found closer p e rs h m) in
       left_fine p closer vs (dropped_if (is_tilde_or_caret closer.delimiter) rs) e a i k.0 k.1
   searched_fine again closer p vs rs (Some f) go e a i h g m =
       let k = pair_fine p vs f i a g in
-      go (layers s f.run.delimiter f.characters vs f.inside).closing (after_layers f (layers s f.run.delimiter f.characters vs f.inside)) k.0 k.1
+      go (layers s f.run.delimiter f.characters vs f.inside).closing (after_layers f (layers s f.run.delimiter f.characters vs f.inside))
+      k.0 k.1
 
-  closed_fine : (turns : ℕ) (closer : Run) (p : RunAt) (vs : List Character) (rs : List (Read MaybeRun)) → p.run ≡ closer → AreOf p vs → Fine rs → Fine (closed_by s turns closer vs rs)
+  closed_fine : (turns : ℕ) (closer : Run) (p : RunAt) (vs : List Character) (rs : List (Read MaybeRun)) → p.run ≡ closer → AreOf p vs
+      → Fine rs → Fine (closed_by s turns closer vs rs)
   unfolding closed_by
   closed_fine zero closer p [] rs e a h = h
   closed_fine (suc turns) closer p [] rs e a h = h
   closed_fine zero closer p (v ∷ vs) rs e a h = h
   closed_fine (suc turns) closer p (v ∷ vs) rs e a h =
-      searched_fine (λ left others. closed_by s turns closer left others) closer p (v ∷ vs) rs (nearest_opener closer rs nil) (λ left others b k. closed_fine turns closer p left others e b k) e a tt h
+      searched_fine (λ left others. closed_by s turns closer left others) closer p (v ∷ vs) rs (nearest_opener closer rs nil)
+      (λ left others b k. closed_fine turns closer p left others e b k) e a tt h
       (nearest_fine closer rs nil h tt tt)
       (misses-law closer rs nil)
 
-  run_fine : (closes : Bool) (p : RunAt) (vs : List Character) (rs : List (Read MaybeRun)) → p.run.can_close ≡ closes → AreOf p vs → HasSome vs → Fine rs → Fine (run_read s closes p.run vs rs)
+  run_fine : (closes : Bool) (p : RunAt) (vs : List Character) (rs : List (Read MaybeRun)) → p.run.can_close ≡ closes → AreOf p vs
+      → HasSome vs → Fine rs → Fine (run_read s closes p.run vs rs)
   run_fine true p vs rs c a i h = closed_fine (length vs) p.run p vs rs refl a h
   run_fine false p vs rs c a i h = left_fine p p.run vs rs refl a i h (all_earlier (Some p) (cannot_close p c) rs)
 
@@ -375,10 +420,17 @@ module _ (s : Setting) where
     firsts_of p (suc n) (node a below after) = (refl, firsts_of p n after)
 
     run_of_length : (p : RunAt) (n : ℕ) (a : Label A) (below after : Forest (Label A)) → 0 < n
-        → AreOf p (first_texts s.text n (with_run s (Some p) (n - 1) a below after)) × HasSome (first_texts s.text n (with_run s (Some p) (n - 1) a below after))
+        → AreOf p (first_texts s.text n (with_run s (Some p) (n - 1) a below after))
+        × HasSome (first_texts s.text n (with_run s (Some p) (n - 1) a below after))
     run_of_length p zero a below after h = absurd (omega arith)
-    run_of_length p (suc n) a below after h =
-        ((refl, subst (λ k. AreOf p (first_texts s.text n (with_runs s k (Some p) after))) (let e : n ≡ suc n - 1 = omega arith in e) (firsts_of p n after)), tt)
+    run_of_length p (suc n) a below after h = (
+      (
+        refl,
+        subst (λ k. AreOf p (first_texts s.text n (with_runs s k (Some p) after))) (let e : n ≡ suc n - 1 = omega arith in e)
+            (firsts_of p n after),
+      ),
+      tt,
+    )
 
     below_fine : (f : Forest (Label A)) → NoneMissed (retagged no_run f)
     below_fine nil = tt
@@ -387,9 +439,12 @@ module _ (s : Setting) where
         pairs_none : (shape : Shape) (f : Forest Character) → NonePairsLater (run_if_text shape None) f
         pairs_none shape f = text_pairs_later shape None f (no_later f)
 
-    tree_fine : (go_on : MaybeRun → ℕ → List (Read MaybeRun) → List (Read MaybeRun)) (start : ℕ) (a : Label A) (below after : Forest (Label A)) (rs : List (Read MaybeRun)) (o : Option Run)
-        → IfSome o (λ run. 0 < run.length) → ((r : MaybeRun) (others : List (Read MaybeRun)) → Fine others → Fine (go_on r (further r) others)) → Fine rs
-        → Fine (after_tree s (go_on (run_at start o)) (retag (λ _. run_at start o) a) (retagged no_run below) (with_runs s (further (run_at start o)) (run_at start o) after) rs o)
+    tree_fine : (go_on : MaybeRun → ℕ → List (Read MaybeRun) → List (Read MaybeRun)) (start : ℕ) (a : Label A)
+        (below after : Forest (Label A)) (rs : List (Read MaybeRun)) (o : Option Run)
+        → IfSome o (λ run. 0 < run.length) → ((r : MaybeRun) (others : List (Read MaybeRun)) → Fine others
+        → Fine (go_on r (further r) others)) → Fine rs
+        → Fine (after_tree s (go_on (run_at start o)) (retag (λ _. run_at start o) a) (retagged no_run below)
+        (with_runs s (further (run_at start o)) (run_at start o) after) rs o)
     tree_fine go_on start a below after rs None n h k =
         let label : Character = as_closed s.text (retag (λ _. None) a) in
         let none = of_none label rs (closed_tag (is_unresolved a.part.shape) (retag (λ _. None) a)) in
@@ -400,21 +455,26 @@ module _ (s : Setting) where
         let of = run_of_length p run.length a below after n in
         h (Some p) (run_read s run.can_close run vs rs) (run_fine run.can_close p vs rs refl of.0 of.1 k)
 
-    reads_fine : (more : ℕ) (before : MaybeRun) (chain : Forest (Label A)) (rs : List (Read MaybeRun)) → Fine rs → Fine (reads_from s more (with_runs s more before chain) rs)
+    reads_fine : (more : ℕ) (before : MaybeRun) (chain : Forest (Label A)) (rs : List (Read MaybeRun)) → Fine rs
+        → Fine (reads_from s more (with_runs s more before chain) rs)
     unfolding reads_from
     reads_fine more before nil rs h = h
     reads_fine (suc more) before (node a below after) rs h = reads_fine more before after rs h
     reads_fine zero before (node a below after) rs h =
-        tree_fine (λ r skip others. reads_from s skip (with_runs s (further r) r after) others) a.part.range.start a below after rs (run_of s.text a.part)
-        (some-long a.part.shape (delimiter_of (slice_index s.text a.part.range.start))) (λ r others k. reads_fine (further r) r after others k) h
+        tree_fine (λ r skip others. reads_from s skip (with_runs s (further r) r after) others) a.part.range.start a below after rs
+        (run_of s.text a.part)
+        (some-long a.part.shape (delimiter_of (slice_index s.text a.part.range.start))) (λ r others k. reads_fine (further r) r after others
+        k) h
 
     pub runs-missed : (chain : Forest (Label A)) → NoneMissed (runs_paired s (with_runs s 0 None chain))
     unfolding runs_paired
     runs-missed chain = trees_fine (reads_from s 0 (with_runs s 0 None chain) []) nil (reads_fine 0 None chain [] tt) tt tt
 
 -- quotes leave runs as they are
-turned_run : (shape : Shape) (d : Option Delimiter) (single double later last : Bool) → run_of_shape (turn_by (kind_of_shape shape) shape single double later last).made d ≡ run_of_shape shape d
-turned_run backslash_break d single double later last = turn-made (λ shape. run_of_shape shape d ≡ None) (λ c. refl) kind.Break backslash_break single double later last refl
+turned_run : (shape : Shape) (d : Option Delimiter) (single double later last : Bool)
+    → run_of_shape (turn_by (kind_of_shape shape) shape single double later last).made d ≡ run_of_shape shape d
+turned_run backslash_break d single double later last = turn-made (λ shape. run_of_shape shape d ≡ None) (λ c. refl) kind.Break
+    backslash_break single double later last refl
 turned_run (unresolved (body.MaybeSmartQuote quote opens closes)) d single double later last =
     let shape : Shape = unresolved (body.MaybeSmartQuote quote opens closes) in
     turn-made (λ shape. run_of_shape shape d ≡ None) (λ c. refl) (kind_of_shape shape) shape single double later last refl
@@ -426,50 +486,64 @@ module _ {A : Type 0} (s : Setting) where
   told_end zero before (node a below after) = refl
   told_end (suc more) before (node a below after) = refl
 
-  told_later : (more : ℕ) (before : MaybeRun) (chain : Forest (Label A)) → is_closed_later (with_runs s more before chain) ≡ is_closed_later chain
+  told_later : (more : ℕ) (before : MaybeRun) (chain : Forest (Label A)) → is_closed_later (with_runs s more before chain)
+      ≡ is_closed_later chain
   told_later more before nil = refl
   told_later zero before (node a below after) =
-      let here : MaybeRun = run_at a.part.range.start (run_of s.text a.part) in ap (closes_later (kind_of_shape a.part.shape)) (told_later (further here) here after)
+      let here : MaybeRun = run_at a.part.range.start (run_of s.text a.part) in ap (closes_later (kind_of_shape a.part.shape))
+      (told_later (further here) here after)
   told_later (suc more) before (node a below after) = ap (closes_later (kind_of_shape a.part.shape)) (told_later more before after)
 
   quotes_node : (single double : Bool) (r : MaybeRun) (more : ℕ) (a : Label A) (below after : Forest (Label A))
       → ((i j : Bool) → quotes_after i j (with_runs s more r after) ≡ with_runs s more r (quotes_after i j after))
       → quotes_after single double (with_run s r more a below after)
-      ≡ with_run s r more (shaped (first_turn a after single double).made a) below (quotes_after (first_turn a after single double).single (first_turn a after single double).double after)
+      ≡ with_run s r more (shaped (first_turn a after single double).made a) below (quotes_after (first_turn a after single double).single
+      (first_turn a after single double).double after)
   quotes_node single double r more a below after h =
-      ap (λ (t : QuoteTurn). node (shaped t.made (retag (λ _. r) a)) (retagged no_run below) (quotes_after t.single t.double (with_runs s more r after)))
-      (ap (λ l. turn_by (kind_of_shape a.part.shape) a.part.shape single double l (is_end (with_runs s more r after))) (told_later more r after)
+      ap (λ (t : QuoteTurn). node (shaped t.made (retag (λ _. r) a)) (retagged no_run below)
+      (quotes_after t.single t.double (with_runs s more r after)))
+      (ap (λ l. turn_by (kind_of_shape a.part.shape) a.part.shape single double l (is_end (with_runs s more r after)))
+      (told_later more r after)
       ∙ ap (λ e. turn_by (kind_of_shape a.part.shape) a.part.shape single double (is_closed_later after) e) (told_end more r after))
       ∙ ap (λ (f : Forest Character). node (retag (λ _. r) (shaped (first_turn a after single double).made a)) (retagged no_run below) f)
       (h (first_turn a after single double).single (first_turn a after single double).double)
 
-  untagged_node : (r : MaybeRun) (more : ℕ) (a : Label A) (below after : Forest (Label A)) → untagged (with_runs s more r after) ≡ untagged after
+  untagged_node : (r : MaybeRun) (more : ℕ) (a : Label A) (below after : Forest (Label A)) → untagged (with_runs s more r after)
+      ≡ untagged after
       → untagged (with_run s r more a below after) ≡ untagged (node a below after)
   untagged_node r more a below after h =
       let here : Plain = retag (λ _. tt) a in
-      ap (λ (f : Forest Plain). node here f (untagged (with_runs s more r after))) (relabelled-relabelled (retag no_run) (retag (λ _. tt)) below) ∙ ap (λ (f : Forest Plain). node here (untagged below) f) h
+      ap (λ (f : Forest Plain). node here f (untagged (with_runs s more r after))) (relabelled-relabelled (retag no_run) (retag (λ _. tt))
+      below) ∙ ap (λ (f : Forest Plain). node here (untagged below) f) h
 
-  quotes_told : (more : ℕ) (before : MaybeRun) (chain : Forest (Label A)) (single double : Bool) → quotes_after single double (with_runs s more before chain) ≡ with_runs s more before (quotes_after single double chain)
+  quotes_told : (more : ℕ) (before : MaybeRun) (chain : Forest (Label A)) (single double : Bool)
+      → quotes_after single double (with_runs s more before chain) ≡ with_runs s more before (quotes_after single double chain)
   quotes_told more before nil single double = refl
-  quotes_told (suc more) before (node a below after) single double = quotes_node single double before more a below after (λ i j. quotes_told more before after i j)
+  quotes_told (suc more) before (node a below after) single double = quotes_node single double before more a below after
+      (λ i j. quotes_told more before after i j)
   quotes_told zero before (node a below after) single double =
       let here : MaybeRun = run_at a.part.range.start (run_of s.text a.part) in
       let t : QuoteTurn = first_turn a after single double in
       quotes_node single double here (further here) a below after (λ i j. quotes_told (further here) here after i j)
-      ∙ ap (λ (o : Option Run). with_run s (run_at a.part.range.start o) (further (run_at a.part.range.start o)) (shaped t.made a) below (quotes_after t.single t.double after))
-      (sym (turned_run a.part.shape (delimiter_of (slice_index s.text a.part.range.start)) single double (is_closed_later after) (is_end after)))
+      ∙ ap (λ (o : Option Run). with_run s (run_at a.part.range.start o) (further (run_at a.part.range.start o)) (shaped t.made a) below
+      (quotes_after t.single t.double after))
+      (sym (turned_run a.part.shape (delimiter_of (slice_index s.text a.part.range.start)) single double (is_closed_later after)
+      (is_end after)))
 
 -- runs in the tags change nothing else
-told_untagged : {A : Type 0} (s : Setting) (more : ℕ) (before : MaybeRun) (chain : Forest (Label A)) → untagged (with_runs s more before chain) ≡ untagged chain
+told_untagged : {A : Type 0} (s : Setting) (more : ℕ) (before : MaybeRun) (chain : Forest (Label A))
+    → untagged (with_runs s more before chain) ≡ untagged chain
 told_untagged s more before nil = refl
 told_untagged {A} s (suc more) before (node a below after) = untagged_node s before more a below after (told_untagged s more before after)
 told_untagged {A} s zero before (node a below after) =
-    let here : MaybeRun = run_at a.part.range.start (run_of s.text a.part) in untagged_node s here (further here) a below after (told_untagged s (further here) here after)
+    let here : MaybeRun = run_at a.part.range.start (run_of s.text a.part) in untagged_node s here (further here) a below after
+    (told_untagged s (further here) here after)
 
 pub missed-law : {A : Type 0} → NoneMissedLaw A
 unfolding paired with_quotes
 missed-law {A} s chain =
     let told : Forest Character = with_runs s 0 None chain in (
-      subst (λ f. NoneMissed (runs_paired s f)) (sym (quotes_told s 0 None chain false false)) (runs-missed s (quotes_after false false chain)),
+      subst (λ f. NoneMissed (runs_paired s f)) (sym (quotes_told s 0 None chain false false))
+          (runs-missed s (quotes_after false false chain)),
       sym (tag-law (λ (r : MaybeRun). tt) s told) ∙ ap (paired s) (told_untagged s 0 None chain) ∙ tag-law (λ (a : A). tt) s chain,
     )

@@ -13,9 +13,14 @@ use Rattle.markdown_delims.specs.declared.run.Delimiter.{Delimiter}
 use Rattle.markdown_delims.specs.declared.run.Run.{Run}
 use Rattle.markdown_delims.specs.Layers.{marks_of, layer_of_one, layer_of_two, spanned, run_of}
 use Rattle.markdown_delims.specs.MayPair.{is_tilde_or_caret, may_pair}
-use Rattle.markdown_delims.specs.Pairing.{Read, done, waiting, texts_before, all_done, read_trees, FoundOpener, found_if, nearest_opener, drop_read, dropped_if, Layers, layers, trees_done, still_waiting, last_first, opened_if, left_over, after_layers, after_search, closed_by, run_read, first_texts, after_tree, reads_from, runs_paired, paired}
-use Rattle.markdown_delims.specs.Quotes.{kind_of_shape, closes_later, is_closed_later, is_end, QuoteTurn, turn_by, first_turn, quotes_after, with_quotes}
-use Rattle.markdown_delims.proofs.KeepLemmas.{EachTree, EachRead, EachFound, Holds, nearest-keeps, found-keeps, firsts-keep, holds-on, IsClosed, IsClosedTree, as_closed-closed, readable, makes-closed}
+use Rattle.markdown_delims.specs.Pairing.{Read, done, waiting, texts_before, all_done, read_trees, FoundOpener, found_if, nearest_opener}
+use Rattle.markdown_delims.specs.Pairing.{drop_read, dropped_if, Layers, layers, trees_done, still_waiting, last_first, opened_if}
+use Rattle.markdown_delims.specs.Pairing.{left_over, after_layers, after_search, closed_by, run_read, first_texts, after_tree, reads_from}
+use Rattle.markdown_delims.specs.Pairing.{runs_paired, paired}
+use Rattle.markdown_delims.specs.Quotes.{kind_of_shape, closes_later, is_closed_later, is_end, QuoteTurn, turn_by, first_turn, quotes_after}
+use Rattle.markdown_delims.specs.Quotes.{with_quotes}
+use Rattle.markdown_delims.proofs.KeepLemmas.{EachTree, EachRead, EachFound, Holds, nearest-keeps, found-keeps, firsts-keep, holds-on}
+use Rattle.markdown_delims.proofs.KeepLemmas.{IsClosed, IsClosedTree, as_closed-closed, readable, makes-closed}
 use Rattle.markdown_delims.proofs.LayerLawLemmas.{two-closed}
 use Rattle.markdown_delims.proofs.StepLawLemmas.{run-stays}
 
@@ -56,12 +61,14 @@ module _ {A B : Type 0} (to : A → B) (within : Forest (Label A) → Forest (La
   module _ (s : Setting) (within_nil : within nil ≡ nil) (stays : (f : Forest (Label A)) → IsClosedChain f → within f ≡ deep f) where
     texts_deep : (xs : List (Label A)) (chain : Forest (Label A)) → texts_before (moved xs) (deep chain) ≡ deep (texts_before xs chain)
     texts_deep [] chain = refl
-    texts_deep (x ∷ xs) chain = ap (λ (f : Forest (Label B)). texts_before (moved xs) (node (retag to x) f (deep chain))) (sym within_nil) ∙ texts_deep xs (node x nil chain)
+    texts_deep (x ∷ xs) chain = ap (λ (f : Forest (Label B)). texts_before (moved xs) (node (retag to x) f (deep chain))) (sym within_nil)
+        ∙ texts_deep xs (node x nil chain)
 
     trees_deep : (rs : List (Read A)) (after : Forest (Label A)) → read_trees (deep_reads rs) (deep after) ≡ deep (read_trees rs after)
     trees_deep [] after = refl
     trees_deep (done a below ∷ rs) after = trees_deep rs (node a below after)
-    trees_deep (waiting dropped run xs ∷ rs) after = ap (read_trees (deep_reads rs)) (texts_deep xs after) ∙ trees_deep rs (texts_before xs after)
+    trees_deep (waiting dropped run xs ∷ rs) after = ap (read_trees (deep_reads rs)) (texts_deep xs after)
+        ∙ trees_deep rs (texts_before xs after)
 
     done_deep : (xs : List (Label A)) (rs : List (Read A)) → all_done (moved xs) (deep_reads rs) ≡ deep_reads (all_done xs rs)
     done_deep [] rs = refl
@@ -69,43 +76,63 @@ module _ {A B : Type 0} (to : A → B) (within : Forest (Label A) → Forest (La
         ap (λ (f : Forest (Label B)). done (retag to x) f ∷ all_done (moved xs) (deep_reads rs)) (sym within_nil)
         ∙ ap (λ (os : List (Read B)). done (retag to x) (within nil) ∷ os) (done_deep xs rs)
 
-    found_deep : (b : Bool) (f : FoundOpener A) (o : Option (FoundOpener A)) → found_if b (deep_opener f) (deep_found o) ≡ deep_found (found_if b f o)
+    found_deep : (b : Bool) (f : FoundOpener A) (o : Option (FoundOpener A)) → found_if b (deep_opener f) (deep_found o)
+        ≡ deep_found (found_if b f o)
     found_deep true f o = refl
     found_deep false f o = refl
 
-    nearest_deep : (closer : Run) (rs : List (Read A)) (inside : Forest (Label A)) → nearest_opener closer (deep_reads rs) (deep inside) ≡ deep_found (nearest_opener closer rs inside)
+    nearest_deep : (closer : Run) (rs : List (Read A)) (inside : Forest (Label A)) → nearest_opener closer (deep_reads rs) (deep inside)
+        ≡ deep_found (nearest_opener closer rs inside)
     nearest_deep closer [] inside = refl
     nearest_deep closer (done a below ∷ rs) inside = nearest_deep closer rs (node a below inside)
     nearest_deep closer (waiting dropped run xs ∷ rs) inside =
         let f : FoundOpener A = record { inside = inside; run = run; characters = xs; before = rs } in
-        ap (found_if (not dropped && may_pair run closer) (deep_opener f)) (ap (nearest_opener closer (deep_reads rs)) (texts_deep xs inside) ∙ nearest_deep closer rs (texts_before xs inside))
+        ap (found_if (not dropped && may_pair run closer) (deep_opener f)) (ap (nearest_opener closer (deep_reads rs))
+        (texts_deep xs inside) ∙ nearest_deep closer rs (texts_before xs inside))
         ∙ found_deep (not dropped && may_pair run closer) f (nearest_opener closer rs (texts_before xs inside))
 
     dropped_deep : (rs : List (Read A)) → map drop_read (deep_reads rs) ≡ deep_reads (map drop_read rs)
     dropped_deep [] = refl
     dropped_deep (done a below ∷ rs) = ap (λ (os : List (Read B)). done (retag to a) (within below) ∷ os) (dropped_deep rs)
-    dropped_deep (waiting dropped run xs ∷ rs) = ap (λ (os : List (Read B)). waiting (dropped || is_tilde_or_caret run.delimiter) run (moved xs) ∷ os) (dropped_deep rs)
+    dropped_deep (waiting dropped run xs ∷ rs) = ap (λ (os : List (Read B)). waiting (dropped || is_tilde_or_caret run.delimiter) run
+        (moved xs) ∷ os) (dropped_deep rs)
 
     drop_if_deep : (b : Bool) (rs : List (Read A)) → dropped_if b (deep_reads rs) ≡ deep_reads (dropped_if b rs)
     drop_if_deep true rs = dropped_deep rs
     drop_if_deep false rs = refl
 
-    layers_deep : (d : Delimiter) (xs vs : List (Label A)) (inside : Forest (Label A)) → IsClosedChain inside → layers s d (moved xs) (moved vs) (deep inside) ≡ deep_layers (layers s d xs vs inside)
+    layers_deep : (d : Delimiter) (xs vs : List (Label A)) (inside : Forest (Label A)) → IsClosedChain inside
+        → layers s d (moved xs) (moved vs) (deep inside) ≡ deep_layers (layers s d xs vs inside)
     layers_deep d [] vs inside h = refl
     layers_deep d (x ∷ xs) [] inside h = refl
     layers_deep d (x ∷ []) (v ∷ vs) inside h =
-        ap (λ (f : Forest (Label B)). let l : Layers B = record { whole = node (retag to (spanned s.text (layer_of_one (marks_of s.rules.options) d) x v)) f nil; opening = []; closing = moved vs } in l) (sym (stays inside h))
+        ap (λ (f : Forest (Label B)). let l : Layers B =
+        record {
+          whole = node (retag to (spanned s.text (layer_of_one (marks_of s.rules.options) d) x v)) f nil;
+          opening = [];
+          closing =
+              moved vs;
+        } in l) (sym (stays inside h))
     layers_deep d (x ∷ y ∷ xs) (v ∷ []) inside h =
-        ap (λ (f : Forest (Label B)). let l : Layers B = record { whole = node (retag to (spanned s.text (layer_of_one (marks_of s.rules.options) d) x v)) f nil; opening = moved (y ∷ xs); closing = [] } in l) (sym (stays inside h))
+        ap (λ (f : Forest (Label B)). let l : Layers B =
+        record {
+          whole = node (retag to (spanned s.text (layer_of_one (marks_of s.rules.options) d) x v)) f nil;
+          opening =
+              moved (y ∷ xs);
+          closing = [];
+        } in l) (sym (stays inside h))
     layers_deep d (x ∷ y ∷ xs) (v ∷ w ∷ vs) inside h =
-        ap (λ (f : Forest (Label B)). layers s d (moved xs) (moved vs) (node (retag to (spanned s.text (layer_of_two (marks_of s.rules.options) d) y w)) f nil)) (sym (stays inside h))
-        ∙ layers_deep d xs vs (node (spanned s.text (layer_of_two (marks_of s.rules.options) d) y w) inside nil) (two-closed (marks_of s.rules.options) d (slice_range s.text y.part.range.start w.part.range.end), tt)
+        ap (λ (f : Forest (Label B)). layers s d (moved xs) (moved vs)
+        (node (retag to (spanned s.text (layer_of_two (marks_of s.rules.options) d) y w)) f nil)) (sym (stays inside h))
+        ∙ layers_deep d xs vs (node (spanned s.text (layer_of_two (marks_of s.rules.options) d) y w) inside nil)
+        (two-closed (marks_of s.rules.options) d (slice_range s.text y.part.range.start w.part.range.end), tt)
 
     done_trees_deep : (f : Forest (Label A)) (rs : List (Read A)) → trees_done (deep f) (deep_reads rs) ≡ deep_reads (trees_done f rs)
     done_trees_deep nil rs = refl
     done_trees_deep (node a below after) rs = done_trees_deep after (done a below ∷ rs)
 
-    still_deep : (run : Run) (xs : List (Label A)) (rs : List (Read A)) → still_waiting run (moved xs) (deep_reads rs) ≡ deep_reads (still_waiting run xs rs)
+    still_deep : (run : Run) (xs : List (Label A)) (rs : List (Read A)) → still_waiting run (moved xs) (deep_reads rs)
+        ≡ deep_reads (still_waiting run xs rs)
     still_deep run [] rs = refl
     still_deep run (x ∷ xs) rs = refl
 
@@ -113,42 +140,55 @@ module _ {A B : Type 0} (to : A → B) (within : Forest (Label A) → Forest (La
     turned_deep [] ys = refl
     turned_deep (x ∷ xs) ys = turned_deep xs (x ∷ ys)
 
-    opened_deep : (b : Bool) (run : Run) (xs : List (Label A)) (rs : List (Read A)) → opened_if b run (moved xs) (deep_reads rs) ≡ deep_reads (opened_if b run xs rs)
+    opened_deep : (b : Bool) (run : Run) (xs : List (Label A)) (rs : List (Read A)) → opened_if b run (moved xs) (deep_reads rs)
+        ≡ deep_reads (opened_if b run xs rs)
     opened_deep true run xs rs = refl
     opened_deep false run xs rs = done_deep xs rs
 
-    left_deep : (run : Run) (vs : List (Label A)) (rs : List (Read A)) → left_over run (moved vs) (deep_reads rs) ≡ deep_reads (left_over run vs rs)
-    left_deep run vs rs = ap (λ (xs : List (Label B)). opened_if run.can_open run xs (deep_reads rs)) (turned_deep vs []) ∙ opened_deep run.can_open run (last_first vs []) rs
+    left_deep : (run : Run) (vs : List (Label A)) (rs : List (Read A)) → left_over run (moved vs) (deep_reads rs)
+        ≡ deep_reads (left_over run vs rs)
+    left_deep run vs rs = ap (λ (xs : List (Label B)). opened_if run.can_open run xs (deep_reads rs)) (turned_deep vs [])
+        ∙ opened_deep run.can_open run (last_first vs []) rs
 
     abbrev IsDeep : (List (Label B) → List (Read B) → List (Read B)) → (List (Label A) → List (Read A) → List (Read A)) → Type 0
-    IsDeep again' again = (vs : List (Label A)) (rs : List (Read A)) → AreClosed vs → Good rs → again' (moved vs) (deep_reads rs) ≡ deep_reads (again vs rs)
+    IsDeep again' again = (vs : List (Label A)) (rs : List (Read A)) → AreClosed vs → Good rs → again' (moved vs) (deep_reads rs)
+        ≡ deep_reads (again vs rs)
 
-    searched_deep : (again' : List (Label B) → List (Read B) → List (Read B)) (again : List (Label A) → List (Read A) → List (Read A)) (closer : Run) (vs : List (Label A)) (rs : List (Read A))
+    searched_deep : (again' : List (Label B) → List (Read B) → List (Read B)) (again : List (Label A) → List (Read A)
+        → List (Read A)) (closer : Run) (vs : List (Label A)) (rs : List (Read A))
         (o : Option (FoundOpener A)) → IsDeep again' again → AreClosed vs → IfSome o (EachFound IsClosed IsClosedTree)
         → after_search s again' closer (moved vs) (deep_reads rs) (deep_found o) ≡ deep_reads (after_search s again closer vs rs o)
     searched_deep again' again closer vs rs None h k g =
-        ap (left_over closer (moved vs)) (drop_if_deep (is_tilde_or_caret closer.delimiter) rs) ∙ left_deep closer vs (dropped_if (is_tilde_or_caret closer.delimiter) rs)
+        ap (left_over closer (moved vs)) (drop_if_deep (is_tilde_or_caret closer.delimiter) rs)
+        ∙ left_deep closer vs (dropped_if (is_tilde_or_caret closer.delimiter) rs)
     searched_deep again' again closer vs rs (Some f) h k g =
         let made : Layers A = layers s f.run.delimiter f.characters vs f.inside in
         let holds = found-keeps IsClosed IsClosedTree s (makes-closed s) vs nil f k tt g in
-        ap (λ (l : Layers B). again' l.closing (trees_done l.whole (still_waiting f.run l.opening (deep_reads f.before)))) (layers_deep f.run.delimiter f.characters vs f.inside g.0)
-        ∙ ap (λ (rs : List (Read B)). again' (moved made.closing) (trees_done (deep made.whole) rs)) (still_deep f.run made.opening f.before)
+        ap (λ (l : Layers B). again' l.closing (trees_done l.whole (still_waiting f.run l.opening (deep_reads f.before))))
+        (layers_deep f.run.delimiter f.characters vs f.inside g.0)
+        ∙ ap (λ (rs : List (Read B)). again' (moved made.closing) (trees_done (deep made.whole) rs))
+        (still_deep f.run made.opening f.before)
         ∙ ap (again' (moved made.closing)) (done_trees_deep made.whole (still_waiting f.run made.opening f.before))
         ∙ h made.closing (after_layers f made) holds.0 holds.1
 
-    closed_deep : (turns : ℕ) (closer : Run) (vs : List (Label A)) (rs : List (Read A)) → AreClosed vs → Good rs → closed_by s turns closer (moved vs) (deep_reads rs) ≡ deep_reads (closed_by s turns closer vs rs)
+    closed_deep : (turns : ℕ) (closer : Run) (vs : List (Label A)) (rs : List (Read A)) → AreClosed vs → Good rs
+        → closed_by s turns closer (moved vs) (deep_reads rs) ≡ deep_reads (closed_by s turns closer vs rs)
     unfolding closed_by
     closed_deep zero closer [] rs h k = refl
     closed_deep (suc turns) closer [] rs h k = refl
     closed_deep zero closer (v ∷ vs) rs h k = refl
     closed_deep (suc turns) closer (v ∷ vs) rs h k =
-        ap (after_search s (λ left others. closed_by s turns closer left others) closer (moved (v ∷ vs)) (deep_reads rs)) (nearest_deep closer rs nil)
-        ∙ searched_deep (λ left others. closed_by s turns closer left others) (λ left others. closed_by s turns closer left others) closer (v ∷ vs) rs (nearest_opener closer rs nil)
+        ap (after_search s (λ left others. closed_by s turns closer left others) closer (moved (v ∷ vs)) (deep_reads rs))
+        (nearest_deep closer rs nil)
+        ∙ searched_deep (λ left others. closed_by s turns closer left others) (λ left others. closed_by s turns closer left others) closer
+        (v ∷ vs) rs (nearest_opener closer rs nil)
         (λ left others a b. closed_deep turns closer left others a b) h
         (nearest-keeps IsClosed IsClosedTree s (makes-closed s) closer rs nil k tt)
 
-    run_deep : (b : Bool) (run : Run) (vs : List (Label A)) (rs : List (Read A)) → AreClosed vs → Good rs → run_read s b run (moved vs) (deep_reads rs) ≡ deep_reads (run_read s b run vs rs)
-    run_deep true run vs rs h k = ap (λ n. closed_by s n run (moved vs) (deep_reads rs)) (length-map vs (retag to)) ∙ closed_deep (length vs) run vs rs h k
+    run_deep : (b : Bool) (run : Run) (vs : List (Label A)) (rs : List (Read A)) → AreClosed vs → Good rs
+        → run_read s b run (moved vs) (deep_reads rs) ≡ deep_reads (run_read s b run vs rs)
+    run_deep true run vs rs h k = ap (λ n. closed_by s n run (moved vs) (deep_reads rs)) (length-map vs (retag to))
+        ∙ closed_deep (length vs) run vs rs h k
     run_deep false run vs rs h k = left_deep run vs rs
 
     firsts_deep : (n : ℕ) (chain : Forest (Label A)) → first_texts s.text n (deep chain) ≡ moved (first_texts s.text n chain)
@@ -163,24 +203,32 @@ module _ {A B : Type 0} (to : A → B) (within : Forest (Label A) → Forest (La
     abbrev NextDeep : (ℕ → List (Read B) → List (Read B)) → (ℕ → List (Read A) → List (Read A)) → Type 0
     NextDeep go_on' go_on = (skip : ℕ) (fs : List (Read A)) → Good fs → go_on' skip (deep_reads fs) ≡ deep_reads (go_on skip fs)
 
-    tree_deep : (go_on' : ℕ → List (Read B) → List (Read B)) (go_on : ℕ → List (Read A) → List (Read A)) (a : Label A) (below after : Forest (Label A)) (rs : List (Read A)) (o : Option Run) → NextDeep go_on' go_on
-        → Good rs → after_tree s go_on' (retag to a) (within below) (deep after) (deep_reads rs) o ≡ deep_reads (after_tree s go_on a below after rs o)
+    tree_deep : (go_on' : ℕ → List (Read B) → List (Read B)) (go_on : ℕ → List (Read A)
+        → List (Read A)) (a : Label A) (below after : Forest (Label A)) (rs : List (Read A)) (o : Option Run) → NextDeep go_on' go_on
+        → Good rs → after_tree s go_on' (retag to a) (within below) (deep after) (deep_reads rs) o
+        ≡ deep_reads (after_tree s go_on a below after rs o)
     tree_deep go_on' go_on a below after rs None h k =
-        ap (λ (l : Label B). go_on' 0 (done l (within below) ∷ deep_reads rs)) (text_deep (is_unresolved a.part.shape) a) ∙ h 0 (done (as_closed s.text a) below ∷ rs) (as_closed-closed s.text a, k)
+        ap (λ (l : Label B). go_on' 0 (done l (within below) ∷ deep_reads rs)) (text_deep (is_unresolved a.part.shape) a)
+        ∙ h 0 (done (as_closed s.text a) below ∷ rs) (as_closed-closed s.text a, k)
     tree_deep go_on' go_on a below after rs (Some run) h k =
         let vs : List (Label A) = first_texts s.text run.length (node a below after) in
-        let closed : AreClosed vs = (firsts-keep IsClosed IsClosedTree s (makes-closed s) run.length (node a below after) (readable s (node a below after))).0 in
-        ap (λ (xs : List (Label B)). go_on' (run.length - 1) (run_read s run.can_close run xs (deep_reads rs))) (firsts_deep run.length (node a below after))
+        let closed : AreClosed vs = (firsts-keep IsClosed IsClosedTree s (makes-closed s) run.length (node a below after)
+        (readable s (node a below after))).0 in
+        ap (λ (xs : List (Label B)). go_on' (run.length - 1) (run_read s run.can_close run xs (deep_reads rs)))
+        (firsts_deep run.length (node a below after))
         ∙ ap (go_on' (run.length - 1)) (run_deep run.can_close run vs rs closed k)
         ∙ h (run.length - 1) (run_read s run.can_close run vs rs)
-        (run-stays s (Holds IsClosed IsClosedTree s (makes-closed s)) (holds-on IsClosed IsClosedTree s (makes-closed s)) run.can_close run vs rs nil (closed, k, tt)).1
+        (run-stays s (Holds IsClosed IsClosedTree s (makes-closed s)) (holds-on IsClosed IsClosedTree s (makes-closed s)) run.can_close run
+        vs rs nil (closed, k, tt)).1
 
-    reads_deep : (skip : ℕ) (chain : Forest (Label A)) (rs : List (Read A)) → Good rs → reads_from s skip (deep chain) (deep_reads rs) ≡ deep_reads (reads_from s skip chain rs)
+    reads_deep : (skip : ℕ) (chain : Forest (Label A)) (rs : List (Read A)) → Good rs → reads_from s skip (deep chain) (deep_reads rs)
+        ≡ deep_reads (reads_from s skip chain rs)
     unfolding reads_from
     reads_deep skip nil rs k = refl
     reads_deep (suc skip) (node a below after) rs k = reads_deep skip after rs k
     reads_deep zero (node a below after) rs k =
-        tree_deep (λ skip others. reads_from s skip (deep after) others) (λ skip others. reads_from s skip after others) a below after rs (run_of s.text a.part) (λ skip fs g. reads_deep skip after fs g) k
+        tree_deep (λ skip others. reads_from s skip (deep after) others) (λ skip others. reads_from s skip after others) a below after rs
+        (run_of s.text a.part) (λ skip fs g. reads_deep skip after fs g) k
 
     later_deep : (chain : Forest (Label A)) → is_closed_later (deep chain) ≡ is_closed_later chain
     later_deep nil = refl
@@ -190,7 +238,8 @@ module _ {A B : Type 0} (to : A → B) (within : Forest (Label A) → Forest (La
     end_deep nil = refl
     end_deep (node a below after) = refl
 
-    quotes_deep : (single double : Bool) (chain : Forest (Label A)) → quotes_after single double (deep chain) ≡ deep (quotes_after single double chain)
+    quotes_deep : (single double : Bool) (chain : Forest (Label A)) → quotes_after single double (deep chain)
+        ≡ deep (quotes_after single double chain)
     quotes_deep single double nil = refl
     quotes_deep single double (node a below after) =
         ap (λ (t : QuoteTurn). node (shaped t.made (retag to a)) (within below) (quotes_after t.single t.double (deep after)))

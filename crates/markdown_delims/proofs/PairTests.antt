@@ -36,17 +36,21 @@ fails true false false l n h k = let e : false ≡ true = k refl refl in cc
 
 module _ (opener : Characters) (closer : Run) where
   -- a run that failed against a closer fails by its length against each closer of that remainder
-  pub IsOutOfStep-failed : needs_equal_length closer.delimiter ≡ false → may_pair opener.run closer ≡ false → IsOutOfStep closer.delimiter (closer.length % 3) opener
+  pub IsOutOfStep-failed : needs_equal_length closer.delimiter ≡ false → may_pair opener.run closer ≡ false
+      → IsOutOfStep closer.delimiter (closer.length % 3) opener
   IsOutOfStep-failed n h s =
       lengths_agree-mod opener.run.length closer.length
       ∙ failed_by_length _ (both opener.run) (both closer) _ (opener.run.length == closer.length) (rw n at h) s
 
   -- one that failed against a closer that cannot open can do both
-  pub IsOfBoth-failed : needs_equal_length closer.delimiter ≡ false → both closer ≡ false → may_pair opener.run closer ≡ false → IsOfBoth closer.delimiter opener
+  pub IsOfBoth-failed : needs_equal_length closer.delimiter ≡ false → both closer ≡ false → may_pair opener.run closer ≡ false
+      → IsOfBoth closer.delimiter opener
   IsOfBoth-failed n b h s =
-      failed_by_flags _ (both opener.run) (both closer) (lengths_agree opener.run.length closer.length) (opener.run.length == closer.length) b (rw n at h) s
+      failed_by_flags _ (both opener.run) (both closer) (lengths_agree opener.run.length closer.length) (opener.run.length == closer.length)
+      b (rw n at h) s
 
   -- and the other way round
-  pub may_pair-fails : IsOutOfStep closer.delimiter (closer.length % 3) opener → (both closer ≡ false → IsOfBoth closer.delimiter opener) → may_pair opener.run closer ≡ false
+  pub may_pair-fails : IsOutOfStep closer.delimiter (closer.length % 3) opener → (both closer ≡ false → IsOfBoth closer.delimiter opener)
+      → may_pair opener.run closer ≡ false
   may_pair-fails l b =
       fails _ (both opener.run) (both closer) _ _ (λ s. sym (lengths_agree-mod opener.run.length closer.length) ∙ l s) b

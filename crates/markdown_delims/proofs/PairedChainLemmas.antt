@@ -59,8 +59,10 @@ root_some : (n : ℕ) (f : Forest ℕ) → among (roots f) n ≡ true → 1 ≤ 
 root_some n nil h = cc
 root_some n (node ix below after) h = here (λ k. root_some n after k) (ix == n) refl h
   where
-    here : (among (roots after) n ≡ true → 1 ≤ root_times n after) → (b : Bool) → (ix == n) ≡ b → (b || among (roots after) n) ≡ true → 1 ≤ root_times n (node ix below after)
-    here rest true e h = let is : n ≡ ix = sym (eqb-true ix n e) in let one : same n ix ≡ 1 = ap (same n) (sym is) ∙ same-refl n in omega (arith, one)
+    here : (among (roots after) n ≡ true → 1 ≤ root_times n after) → (b : Bool) → (ix == n) ≡ b → (b || among (roots after) n) ≡ true
+        → 1 ≤ root_times n (node ix below after)
+    here rest true e h = let is : n ≡ ix = sym (eqb-true ix n e) in let one : same n ix ≡ 1 = ap (same n) (sym is) ∙ same-refl n
+        in omega (arith, one)
     here rest false e h = omega (arith, rest h)
 
 -- where no number stands twice, none of the chain's own stands below
@@ -85,8 +87,15 @@ module _ (f : Forest ℕ) (once : (n : ℕ) → total (same n) f ≤ 1) where
   apart = none_below f (λ n. omega arith)
 
 -- a chain as its lemmas know it
-pub chain_is : (text : List ℕ) (nodes : List (Node Item)) (first : ℕ) → CanPair text nodes first → IsChain text nodes first (forest_at (links_of nodes) (Some first))
-chain_is text nodes first c = record { spelled = c.spelled; rising = c.rising; apart = apart (forest_at (links_of nodes) (Some first)) c.once; whole = c.whole }
+pub chain_is : (text : List ℕ) (nodes : List (Node Item)) (first : ℕ) → CanPair text nodes first
+    → IsChain text nodes first (forest_at (links_of nodes) (Some first))
+chain_is text nodes first c = record {
+  spelled = c.spelled;
+  rising = c.rising;
+  apart = apart (forest_at (links_of nodes) (Some first))
+      c.once;
+  whole = c.whole;
+}
 
 -- there are no more characters than nodes
 one_each : (o : Option RunCharacter) → counts_one o ≤ 1
@@ -95,18 +104,30 @@ one_each (Some c) = omega arith
 
 count_bound : (own : ℕ → Bool) (lo : ℕ) (f : Forest Numbered) (hi : ℕ) → Rises own lo f hi → delimiters_of f + lo ≤ hi
 count_bound own lo nil hi r = omega (arith, r)
-count_bound own lo (node a below after) hi r = omega (arith, r.0, one_each (run_character a.item.body), count_bound own (suc a.number) after hi r.2)
+count_bound own lo (node a below after) hi r = omega (
+  arith,
+  r.0,
+  one_each (run_character a.item.body),
+  count_bound own (suc a.number) after
+      hi r.2,
+)
 
-pub few_delimiters : (nodes : List (Node Item)) (first : ℕ) (f : Forest ℕ) → IsSpelled nodes first f → delimiters_of (chain_of nodes f) ≤ length nodes
+pub few_delimiters : (nodes : List (Node Item)) (first : ℕ) (f : Forest ℕ) → IsSpelled nodes first f
+    → delimiters_of (chain_of nodes f) ≤ length nodes
 few_delimiters nodes first f c =
-    omega (arith, count_bound (among (roots f)) 0 (chain_of nodes f) (length nodes) (rises_chain (among (roots f)) nodes (Some first) f 0 (omega arith) c.spelled c.rising c.apart))
+    omega (
+      arith,
+      count_bound (among (roots f)) 0 (chain_of nodes f) (length nodes) (rises_chain (among (roots f)) nodes (Some first) f 0
+          (omega arith) c.spelled c.rising c.apart),
+    )
 
 -- quotes leave nothing open
 left_if : (x : Bool) → is_open (if x then body.SynthesizeChar 8216 else body.SynthesizeChar 8217) ≡ false
 left_if true = refl
 left_if false = refl
 
-made_closed : (k : Kind) (b : ItemBody) (single double later last : Bool) → (k ≡ kind.Other → is_open b ≡ false) → (k ≡ kind.Break → is_open b ≡ false) → is_open (turn_of k b single double later last).made ≡ false
+made_closed : (k : Kind) (b : ItemBody) (single double later last : Bool) → (k ≡ kind.Other → is_open b ≡ false)
+    → (k ≡ kind.Break → is_open b ≡ false) → is_open (turn_of k b single double later last).made ≡ false
 made_closed (kind.Single opens true) b true double later last h g = refl
 made_closed (kind.Single opens false) b true double later last h g = left_if (opens && later)
 made_closed (kind.Single opens closes) b false double later last h g = left_if (opens && later)
@@ -128,7 +149,8 @@ quote_kind_break false o c e = cc
 not_false : false ≡ true → ⊥
 not_false e = cc
 
-other_closed : (b : ItemBody) → (is_open b ≡ true → waits_for_pairing b ≡ true) → run_character b ≡ None → kind_of b ≡ kind.Other → is_open b ≡ false
+other_closed : (b : ItemBody) → (is_open b ≡ true → waits_for_pairing b ≡ true) → run_character b ≡ None → kind_of b ≡ kind.Other
+    → is_open b ≡ false
 other_closed (body.MaybeEmphasis n o c) w r e = cc
 other_closed (body.MaybeSmartQuote quote o c) w r e = absurd (quote_kind (quote == 39) o c e)
 other_closed (body.MaybeMath o c context) w r e = absurd (not_false (w refl))
@@ -149,7 +171,8 @@ runs_only nil single double w = tt
 runs_only (node a below after) single double w = (
   λ none.
       let r : run_character a.item.body ≡ None = sym (run_made a.item.body single double (later_of after) (is_nil after)) ∙ none in
-      made_closed (kind_of a.item.body) a.item.body single double (later_of after) (is_nil after) (other_closed a.item.body w.0 r) (break_closed a.item.body),
+      made_closed (kind_of a.item.body) a.item.body single double (later_of after) (is_nil after) (other_closed a.item.body w.0 r)
+      (break_closed a.item.body),
   runs_only after (turn_at a after single double).single (turn_at a after single double).double w.1,
 )
 
@@ -159,24 +182,34 @@ pub labels_of : {A : Type 0} (tag : ℕ → A) (tables : Tables) (s : Setting) (
 labels_of tag tables s nodes f = relabelled-relabelled (numbered nodes) (look tag tables s) f
 
 -- a chain paired in place, with any tags
-pub paired_labels : {A : Type 0} (tag : ℕ → A) (tables : Tables) (s : Setting) (old new : Arena Item) (first : ℕ) (f : Forest ℕ) → IsWhole s.text (chain_of old.nodes f) → WaitsForPairing (chain_of old.nodes f)
-    → (p : IsResolved (marks_of s.rules.options) s.text old new first f) → trees tag tables s (chain_of new.nodes p.forest) ≡ paired s (trees tag tables s (chain_of old.nodes f))
+pub paired_labels : {A : Type 0} (tag : ℕ → A) (tables : Tables) (s : Setting) (old new : Arena Item) (first : ℕ) (f : Forest ℕ)
+    → IsWhole s.text (chain_of old.nodes f) → WaitsForPairing (chain_of old.nodes f)
+    → (p : IsResolved (marks_of s.rules.options) s.text old new first f) → trees tag tables s (chain_of new.nodes p.forest)
+    ≡ paired s (trees tag tables s (chain_of old.nodes f))
 unfolding paired
 paired_labels tag tables s old new first f whole waits p =
     ap (trees tag tables s) p.resolves
-    ∙ sym (runs_seen tag tables s (quoted (chain_of old.nodes f)) (whole_quoted s.text (chain_of old.nodes f) false false whole) (runs_only (chain_of old.nodes f) false false waits))
+    ∙ sym (runs_seen tag tables s (quoted (chain_of old.nodes f)) (whole_quoted s.text (chain_of old.nodes f) false false whole)
+    (runs_only (chain_of old.nodes f) false false waits))
     ∙ ap (runs_paired s) (sym (with_quotes_seen tag tables s (chain_of old.nodes f)))
 
 -- sums over numbers are sums over tags
 abbrev numbers : Setting → List (Node Item) → Forest ℕ → Forest (Label ℕ)
 numbers s nodes f = trees (λ n. n) no_tables s (chain_of nodes f)
 
-tag_sum : (count : ℕ → ℕ) (s : Setting) (nodes : List (Node Item)) (f : Forest ℕ) → sum_of (λ a. count a.tag) (numbers s nodes f) ≡ total count f
+tag_sum : (count : ℕ → ℕ) (s : Setting) (nodes : List (Node Item)) (f : Forest ℕ) → sum_of (λ a. count a.tag) (numbers s nodes f)
+    ≡ total count f
 tag_sum count s nodes nil = refl
 tag_sum count s nodes (node ix below after) = omega (arith, tag_sum count s nodes below, tag_sum count s nodes after)
 
 tags_count : (count : ℕ → ℕ) (s : Setting) → CountsNoMore s (λ (a : Label ℕ). count a.tag)
-tags_count count s = record { text = λ a. omega arith; one = λ d x v. omega arith; two = λ d x v. omega arith; quote = λ a after x y. omega arith }
+tags_count count s = record {
+  text = λ a. omega arith;
+  one = λ d x v. omega arith;
+  two = λ d x v. omega arith;
+  quote = λ a after x y. omega
+      arith;
+}
 
 -- weights
 open_agrees : (tables : Tables) (source : List ℕ) (b : ItemBody) → is_unresolved (shape_of tables source b) ≡ is_open b
@@ -189,7 +222,8 @@ open_agrees tables source b = by_open (is_open b) refl
 weight_sum : (s : Setting) (nodes : List (Node Item)) (f : Forest ℕ) → sum_of weighs (numbers s nodes f) ≡ total (weight_at nodes) f
 weight_sum s nodes nil = refl
 weight_sum s nodes (node ix below after) =
-    let here : weight_if (is_unresolved (shape_of no_tables (slice_range s.text (item_at nodes ix).start (item_at nodes ix).end) (item_at nodes ix).body)) ≡ weight_at nodes ix =
+    let here : weight_if (is_unresolved (shape_of no_tables (slice_range s.text (item_at nodes ix).start (item_at nodes ix).end)
+    (item_at nodes ix).body)) ≡ weight_at nodes ix =
     ap weight_if (open_agrees no_tables (slice_range s.text (item_at nodes ix).start (item_at nodes ix).end) (item_at nodes ix).body) in
     omega (arith, here, weight_sum s nodes below, weight_sum s nodes after)
 
@@ -199,11 +233,13 @@ outside_if n f false e none = e
 outside_if n f true e none = absurd (omega (arith, root_some n f e, times_parted n f, none))
 
 -- what a node names stood at its number before
-each_self : (nodes : List (Node Item)) (n : Named) (f : Forest ℕ) → Each (λ a. times_named n a.item.body ≤ naming nodes n a.number) (chain_of nodes f)
+each_self : (nodes : List (Node Item)) (n : Named) (f : Forest ℕ)
+    → Each (λ a. times_named n a.item.body ≤ naming nodes n a.number) (chain_of nodes f)
 each_self nodes n nil = tt
 each_self nodes n (node ix below after) = (omega arith, each_self nodes n below, each_self nodes n after)
 
-names_less : (old new : List (Node Item)) (n : Named) (f : Forest ℕ) → Each (λ a. times_named n a.item.body ≤ naming old n a.number) (chain_of new f) → total (naming new n) f ≤ total (naming old n) f
+names_less : (old new : List (Node Item)) (n : Named) (f : Forest ℕ)
+    → Each (λ a. times_named n a.item.body ≤ naming old n a.number) (chain_of new f) → total (naming new n) f ≤ total (naming old n) f
 names_less old new n nil h = omega arith
 names_less old new n (node ix below after) h = omega (arith, h.0, names_less old new n below h.1, names_less old new n after h.2)
 
@@ -212,18 +248,22 @@ none_named (some_text n) i b e = subst (λ x. same_as n x ≤ i) (sym e.0) (omeg
 none_named (some_link n) i b e = subst (λ x. same_as n x ≤ i) (sym e.1) (omega arith)
 none_named (some_alignments n) i b e = subst (λ x. same_as n x ≤ i) (sym e.2) (omega arith)
 
-names_no_more : (m : Marks) (text : List ℕ) (old new : Arena Item) (first : ℕ) (f : Forest ℕ) (p : IsResolved m text old new first f) (n : Named) → total (naming new.nodes n) p.forest ≤ total (naming old.nodes n) p.forest
+names_no_more : (m : Marks) (text : List ℕ) (old new : Arena Item) (first : ℕ) (f : Forest ℕ) (p : IsResolved m text old new first f)
+    (n : Named) → total (naming new.nodes n) p.forest ≤ total (naming old.nodes n) p.forest
 names_no_more m text old new first f p n =
     names_less old.nodes new.nodes n p.forest
     (subst (λ g. Each (λ a. times_named n a.item.body ≤ naming old.nodes n a.number) g) (sym p.resolves)
-    (each-paired (λ a. times_named n a.item.body ≤ naming old.nodes n a.number) (λ number start end b e. none_named n (naming old.nodes n number) b e) m text (chain_of old.nodes f) (each_self old.nodes n f)))
+    (each-paired (λ a. times_named n a.item.body ≤ naming old.nodes n a.number)
+    (λ number start end b e. none_named n (naming old.nodes n number) b e) m text (chain_of old.nodes f) (each_self old.nodes n f)))
 
 -- all that is said of the chain
-pub pairs_chain : (s : Setting) (old new : Arena Item) (first : ℕ) → CanPair s.text old.nodes first → IsResolved (marks_of s.rules.options) s.text old new first (forest_at (links_of old.nodes) (Some first))
+pub pairs_chain : (s : Setting) (old new : Arena Item) (first : ℕ) → CanPair s.text old.nodes first
+    → IsResolved (marks_of s.rules.options) s.text old new first (forest_at (links_of old.nodes) (Some first))
     → PairsChain s first old.nodes new.nodes
 pairs_chain s old new first c p =
     let f : Forest ℕ = forest_at (links_of old.nodes) (Some first) in
-    let made : numbers s new.nodes p.forest ≡ paired s (numbers s old.nodes f) = paired_labels (λ x. x) no_tables s old new first f c.whole c.waits p in
+    let made : numbers s new.nodes p.forest ≡ paired s (numbers s old.nodes f) = paired_labels (λ x. x) no_tables s old new first f c.whole
+    c.waits p in
     let fewer : (n : ℕ) → total (same n) p.forest ≤ total (same n) f =
     λ n. omega (
       arith,
@@ -232,10 +272,12 @@ pairs_chain s old new first c p =
       ap (sum_of (λ (a : Label ℕ). same n a.tag)) made,
       sum-paired s (λ (a : Label ℕ). same n a.tag) (tags_count (same n) s) (numbers s old.nodes f),
     ) in
-    let is : forest_at (links_of new.nodes) (Some first) ≡ p.forest = found (links_of new.nodes) (Some first) p.forest p.spelled (λ n. omega (arith, fewer n, c.once n)) in
+    let is : forest_at (links_of new.nodes) (Some first) ≡ p.forest = found (links_of new.nodes) (Some first) p.forest p.spelled
+    (λ n. omega (arith, fewer n, c.once n)) in
     record {
       pairs = λ tables.
-          ap (λ g. relabelled (λ n. look (λ x. tt) tables s (numbered new.nodes n)) g) is ∙ sym (labels_of (λ x. tt) tables s new.nodes p.forest)
+          ap (λ g. relabelled (λ n. look (λ x. tt) tables s (numbered new.nodes n)) g) is
+          ∙ sym (labels_of (λ x. tt) tables s new.nodes p.forest)
           ∙ paired_labels (λ x. tt) tables s old new first f c.whole c.waits p ∙ ap (paired s) (labels_of (λ x. tt) tables s old.nodes f);
       spelled = rw is p.spelled;
       times = λ n. rw is (fewer n);
@@ -247,7 +289,8 @@ pairs_chain s old new first c p =
       placed = λ tables blocks reaches. record {
         spelled = rw is p.spelled;
         each = rw is
-            (items_placed (marks_of s.rules.options) s.text tables old.nodes new.nodes (Some first) (Some first) f p.forest c.whole (runs_only (chain_of old.nodes f) false false c.waits) blocks reaches.spelled reaches.each
+            (items_placed (marks_of s.rules.options) s.text tables old.nodes new.nodes (Some first) (Some first) f p.forest c.whole
+            (runs_only (chain_of old.nodes f) false false c.waits) blocks reaches.spelled reaches.each
             p.spelled p.resolves);
       };
       before = still_before s old.nodes new.nodes first p.forest p.spelled
@@ -267,5 +310,12 @@ pairs_chain s old new first c p =
             sum-paired s (λ (a : Label ℕ). naming old.nodes n a.tag) (tags_count (naming old.nodes n) s) (numbers s old.nodes f),
           ));
       no_heavier = rw is
-          (omega (arith, weight_sum s new.nodes p.forest, weight_sum s old.nodes f, ap (sum_of weighs) made, sum-paired s weighs (weights-count s) (numbers s old.nodes f)));
+          (omega (
+            arith,
+            weight_sum s new.nodes p.forest,
+            weight_sum s old.nodes f,
+            ap (sum_of weighs) made,
+            sum-paired s weighs
+                (weights-count s) (numbers s old.nodes f),
+          ));
     }

@@ -10,10 +10,12 @@ use Rattle.markdown_delims.specs.declared.run.Characters.{Characters}
 use Rattle.markdown_delims.specs.declared.bounds.CharacterBounds.{CharacterBounds}
 use Rattle.markdown_delims.specs.declared.bounds.LowerBounds.{LowerBounds}
 use Rattle.markdown_delims.specs.MayPair.{both}
-use Rattle.markdown_delims.specs.Bounds.{BoundCharacter, BoundStack, character_bound_for, bound_at, bound_for, character_raised_for, raised_at, raised_for, character_lowered, lowered, character_above, above_bounds}
+use Rattle.markdown_delims.specs.Bounds.{BoundCharacter, BoundStack, character_bound_for, bound_at, bound_for, character_raised_for}
+use Rattle.markdown_delims.specs.Bounds.{raised_at, raised_for, character_lowered, lowered, character_above, above_bounds}
 
 -- a push stands above each bound of a character
-character_above-push : (d : Delimiter) (stack : List Characters) (b : CharacterBounds) → BoundCharacter d stack b → character_above (length stack + 1) b ≡ character_above (length stack) b + 4
+character_above-push : (d : Delimiter) (stack : List Characters) (b : CharacterBounds) → BoundCharacter d stack b
+    → character_above (length stack + 1) b ≡ character_above (length stack) b + 4
 character_above-push d stack b h =
     let c : b.cannot_open ≤ length stack = h.cannot_open_within in
     let z : b.remainder_zero ≤ length stack = h.zero_within in
@@ -24,14 +26,18 @@ character_above-push d stack b h =
     one_more : (n a : ℕ) → a ≤ n → (n + 1) - a ≡ (n - a) + 1
     one_more n a h = omega arith
 
-    four : (n c z o w : ℕ) → c ≤ n → z ≤ n → o ≤ n → w ≤ n → ((n + 1) - c) + ((n + 1) - z) + ((n + 1) - o) + ((n + 1) - w) ≡ ((n - c) + (n - z) + (n - o) + (n - w)) + 4
+    four : (n c z o w : ℕ) → c ≤ n → z ≤ n → o ≤ n → w ≤ n → ((n + 1) - c) + ((n + 1) - z) + ((n + 1) - o) + ((n + 1) - w)
+        ≡ ((n - c) + (n - z) + (n - o) + (n - w)) + 4
     four n c z o w h1 h2 h3 h4 = omega (arith, one_more n c h1, one_more n z h2, one_more n o h3, one_more n w h4)
 
 -- a push adds nine
-pub above_bounds-push : (stack : List Characters) (b : LowerBounds) → BoundStack stack b → above_bounds (length stack + 1) b ≡ above_bounds (length stack) b + 9
+pub above_bounds-push : (stack : List Characters) (b : LowerBounds) → BoundStack stack b → above_bounds (length stack + 1) b
+    ≡ above_bounds (length stack) b + 9
 above_bounds-push stack b h =
-    let s : character_above (length stack + 1) b.star ≡ character_above (length stack) b.star + 4 = character_above-push Star stack b.star h.star in
-    let u : character_above (length stack + 1) b.underscore ≡ character_above (length stack) b.underscore + 4 = character_above-push Underscore stack b.underscore h.underscore in
+    let s : character_above (length stack + 1) b.star ≡ character_above (length stack) b.star + 4 = character_above-push Star stack b.star
+    h.star in
+    let u : character_above (length stack + 1) b.underscore ≡ character_above (length stack) b.underscore
+    + 4 = character_above-push Underscore stack b.underscore h.underscore in
     let t : b.tilde ≤ length stack = h.tilde_within in
     nine _ _ _ _ (length stack) b.tilde s u t
   where
@@ -44,10 +50,12 @@ cut_above n m a h = omega arith
 
 character_above-cut : (n m : ℕ) (b : CharacterBounds) → n ≤ m → character_above n (character_lowered n b) ≤ character_above m b
 character_above-cut n m b h =
-    add-le-add (add-le-add (add-le-add (cut_above n m b.cannot_open h) (cut_above n m b.remainder_zero h)) (cut_above n m b.remainder_one h)) (cut_above n m b.remainder_two h)
+    add-le-add (add-le-add (add-le-add (cut_above n m b.cannot_open h) (cut_above n m b.remainder_zero h))
+    (cut_above n m b.remainder_one h)) (cut_above n m b.remainder_two h)
 
 pub above_bounds-cut : (n m : ℕ) (b : LowerBounds) → n ≤ m → above_bounds n (lowered n b) ≤ above_bounds m b
-above_bounds-cut n m b h = add-le-add (add-le-add (character_above-cut n m b.star h) (character_above-cut n m b.underscore h)) (cut_above n m b.tilde h)
+above_bounds-cut n m b h = add-le-add (add-le-add (character_above-cut n m b.star h) (character_above-cut n m b.underscore h))
+    (cut_above n m b.tilde h)
 
 -- raising the bounds that were read pays for all that was examined
 raised_above : (bo t0 t1 t2 : Bool) (n c z o w : ℕ) → (t0 ≡ false → t1 ≡ false → t2 ≡ true) →
@@ -71,9 +79,11 @@ raised_above false false true false n c z o w h = omega arith
 raised_above false false false true n c z o w h = omega arith
 raised_above false false false false n c z o w h = let e : false ≡ true = h refl refl in cc
 
-character_above-raised : (closer : Run) (n : ℕ) (b : CharacterBounds) → character_above n (character_raised_for closer n b) + (n - character_bound_for closer b) ≤ character_above n b
+character_above-raised : (closer : Run) (n : ℕ) (b : CharacterBounds) → character_above n (character_raised_for closer n b)
+    + (n - character_bound_for closer b) ≤ character_above n b
 character_above-raised closer n b =
-    raised_above (both closer) (closer.length % 3 == 0) (closer.length % 3 == 1) (closer.length % 3 == 2) n b.cannot_open b.remainder_zero b.remainder_one b.remainder_two
+    raised_above (both closer) (closer.length % 3 == 0) (closer.length % 3 == 1) (closer.length % 3 == 2) n b.cannot_open b.remainder_zero
+    b.remainder_one b.remainder_two
     (λ f g.
     let ne0 : closer.length % 3 ≡ 0 → ⊥ = eqb-false (closer.length % 3) 0 f in
     let ne1 : closer.length % 3 ≡ 1 → ⊥ = eqb-false (closer.length % 3) 1 g in
@@ -88,11 +98,13 @@ plus_right a b c x y h = omega arith
 plus_both : (a b c x y : ℕ) → a + c ≤ b → x + a + y + c ≤ x + b + y
 plus_both a b c x y h = omega arith
 
-above_at_each : (d : Delimiter) (closer : Run) (n : ℕ) (b : LowerBounds) → b.tilde ≡ b.caret → above_bounds n (raised_at d closer n b) + (n - bound_at d closer b) ≤ above_bounds n b
+above_at_each : (d : Delimiter) (closer : Run) (n : ℕ) (b : LowerBounds) → b.tilde ≡ b.caret → above_bounds n (raised_at d closer n b)
+    + (n - bound_at d closer b) ≤ above_bounds n b
 above_at_each Star closer n b e = plus_right _ _ _ _ _ (character_above-raised closer n b.star)
 above_at_each Underscore closer n b e = plus_both _ _ _ _ _ (character_above-raised closer n b.underscore)
 above_at_each Tilde closer n b e = last_raised (character_above n b.star + character_above n b.underscore) n b.tilde b.tilde refl
 above_at_each Caret closer n b e = last_raised (character_above n b.star + character_above n b.underscore) n b.tilde b.caret e
 
-pub above_bounds-raised : (closer : Run) (n : ℕ) (b : LowerBounds) → b.tilde ≡ b.caret → above_bounds n (raised_for closer n b) + (n - bound_for closer b) ≤ above_bounds n b
+pub above_bounds-raised : (closer : Run) (n : ℕ) (b : LowerBounds) → b.tilde ≡ b.caret → above_bounds n (raised_for closer n b)
+    + (n - bound_for closer b) ≤ above_bounds n b
 above_bounds-raised closer n b e = above_at_each closer.delimiter closer n b e

@@ -1,5 +1,6 @@
 -- A whole run is read at its first character, and another tree by itself.
-use Rattle.std.proofs.Common.{◌≡◌, ℕ, zero, suc, ◌+◌, ◌-◌, ◌<◌, ◌≤◌, Bool, true, false, List, ◌∷◌, Option, Some, None, length, refl, ap, sym, ◌∙◌, subst, arith, inl, inr}
+use Rattle.std.proofs.Common.{◌≡◌, ℕ, zero, suc, ◌+◌, ◌-◌, ◌<◌, ◌≤◌, Bool, true, false, List, ◌∷◌, Option, Some, None, length, refl, ap}
+use Rattle.std.proofs.Common.{sym, ◌∙◌, subst, arith, inl, inr}
 use Rattle.std.specs.Prelude.{IsTrue, slice_index, IfSome}
 use Rattle.std.proofs.lemmas.List.{get_or_past}
 use Rattle.std.proofs.lemmas.Bool.{cases_lt}
@@ -18,12 +19,14 @@ use Rattle.markdown_delims.specs.MarkBodies.{run_if, run_of}
 use Rattle.markdown_delims.specs.Entries.{Entry, settled, flat, open_of, with_run, all_of_run, after_tree, paired_from}
 use Rattle.markdown_delims.specs.Views.{view_of, Rises}
 use Rattle.markdown_delims.specs.ChainStanding.{Chain, Stands, ReadsOn, CanRead}
-use Rattle.markdown_delims.specs.RunReading.{StandsWhole, IsWhole, BeginsRun, counts_one, delimiters_of, Settles, CanSettle, ReadFurther, CanReadTree}
+use Rattle.markdown_delims.specs.RunReading.{StandsWhole, IsWhole, BeginsRun, counts_one, delimiters_of, Settles, CanSettle, ReadFurther}
+use Rattle.markdown_delims.specs.RunReading.{CanReadTree}
 use Rattle.markdown_delims.proofs.CutLemmas.{Rises-lower, step_right}
 use Rattle.markdown_delims.proofs.EncloseLemmas.{kept_none, kept_both}
 
 -- what a run says of its character
-pub run_parts : (o : Option RunCharacter) (d : Option Delimiter) (run : Run) → run_if o d ≡ Some run → o ≡ Some (record { count = run.length; can_open = run.can_open; can_close = run.can_close })
+pub run_parts : (o : Option RunCharacter) (d : Option Delimiter) (run : Run) → run_if o d ≡ Some run
+    → o ≡ Some (record { count = run.length; can_open = run.can_open; can_close = run.can_close })
 run_parts None d run e = cc
 run_parts (Some c) None run e = cc
 run_parts (Some c) (Some d) run e =
@@ -49,14 +52,17 @@ pub record RunBegins (text : List ℕ) (number start n : ℕ) (chain : Forest Nu
   pub whole : IsWhole text rest
   pub fewer : suc (delimiters_of rest) ≤ delimiters_of chain
 
-pub run_begins : (text : List ℕ) (n : ℕ) (opens closes : Bool) (a : Numbered) (below after : Forest Numbered) → run_character a.item.body ≡ Some (record { count = n; can_open = opens; can_close = closes })
+pub run_begins : (text : List ℕ) (n : ℕ) (opens closes : Bool) (a : Numbered) (below after : Forest Numbered)
+    → run_character a.item.body ≡ Some (record { count = n; can_open = opens; can_close = closes })
     → IsWhole text (node a below after) → RunBegins text a.number a.item.start n (node a below after)
 run_begins text zero opens closes a below after e w =
-    let x : StandsWhole text a below after (record { count = zero; can_open = opens; can_close = closes }) = subst (λ o. IfSome o (StandsWhole text a below after)) e w.0 in
+    let x : StandsWhole text a below after (record { count = zero; can_open = opens; can_close = closes }) =
+    subst (λ o. IfSome o (StandsWhole text a below after)) e w.0 in
     let s = x.stands in
     absurd s.goes_on
 run_begins text (suc zero) opens closes a below after e w =
-    let x : StandsWhole text a below after (record { count = suc zero; can_open = opens; can_close = closes }) = subst (λ o. IfSome o (StandsWhole text a below after)) e w.0 in
+    let x : StandsWhole text a below after (record { count = suc zero; can_open = opens; can_close = closes }) =
+    subst (λ o. IfSome o (StandsWhole text a below after)) e w.0 in
     let s = x.stands in
     let within : a.item.start < length text = delimiter_within text a.item.start s.delimiter in
     record {
@@ -68,11 +74,13 @@ run_begins text (suc zero) opens closes a below after e w =
       fewer = subst (λ o. suc (delimiters_of after) ≤ counts_one o + delimiters_of after) (sym e) (omega arith);
     }
 run_begins text (suc (suc n)) opens closes a below nil e w =
-    let x : StandsWhole text a below nil (record { count = suc (suc n); can_open = opens; can_close = closes }) = subst (λ o. IfSome o (StandsWhole text a below nil)) e w.0 in
+    let x : StandsWhole text a below nil (record { count = suc (suc n); can_open = opens; can_close = closes }) =
+    subst (λ o. IfSome o (StandsWhole text a below nil)) e w.0 in
     let s = x.stands in
     absurd s.goes_on
 run_begins text (suc (suc n)) opens closes a below (node b inside after) e w =
-    let x : StandsWhole text a below (node b inside after) (record { count = suc (suc n); can_open = opens; can_close = closes }) = subst (λ o. IfSome o (StandsWhole text a below (node b inside after))) e w.0 in
+    let x : StandsWhole text a below (node b inside after) (record { count = suc (suc n); can_open = opens; can_close = closes }) =
+    subst (λ o. IfSome o (StandsWhole text a below (node b inside after))) e w.0 in
     let s = x.stands in
     let r = run_begins text (suc n) opens closes b inside after s.goes_on.body (w.1) in
     let byte : b.item.start ≡ suc a.item.start = s.goes_on.touches ∙ s.one_byte in
@@ -86,57 +94,72 @@ run_begins text (suc (suc n)) opens closes a below (node b inside after) e w =
     }
 
 -- the nodes of a run that was read are passed over
-skip_run : (m : Marks) (text : List ℕ) (number n : ℕ) (chain rest : Forest Numbered) (es : List Entry) → BeginsRun number n chain rest → paired_from m text n chain es ≡ paired_from m text 0 rest es
+skip_run : (m : Marks) (text : List ℕ) (number n : ℕ) (chain rest : Forest Numbered) (es : List Entry) → BeginsRun number n chain rest
+    → paired_from m text n chain es ≡ paired_from m text 0 rest es
 unfolding paired_from
 skip_run m text number zero chain rest es b = ap (λ f. paired_from m text 0 f es) b
 skip_run m text number (suc n) nil rest es b = absurd b
 skip_run m text number (suc n) (node a below after) rest es b = skip_run m text (suc number) n after rest es b.2
 
-paired_none : (m : Marks) (text : List ℕ) (a : Numbered) (below after : Forest Numbered) (es : List Entry) → run_of text a.item ≡ None → paired_from m text 0 (node a below after) es ≡ paired_from m text 0 after (settled a below ∷ es)
+paired_none : (m : Marks) (text : List ℕ) (a : Numbered) (below after : Forest Numbered) (es : List Entry) → run_of text a.item ≡ None
+    → paired_from m text 0 (node a below after) es ≡ paired_from m text 0 after (settled a below ∷ es)
 unfolding paired_from
 paired_none m text a below after es e = ap (λ o. after_tree m (λ skip fs. paired_from m text skip after fs) o a below es) e
 
-paired_some : (m : Marks) (text : List ℕ) (a : Numbered) (below after : Forest Numbered) (es : List Entry) (run : Run) → run_of text a.item ≡ Some run
-    → paired_from m text 0 (node a below after) es ≡ paired_from m text (run.length - 1) after (with_run m a.item.start (all_of_run run a.number) es)
+paired_some : (m : Marks) (text : List ℕ) (a : Numbered) (below after : Forest Numbered) (es : List Entry) (run : Run)
+    → run_of text a.item ≡ Some run
+    → paired_from m text 0 (node a below after) es ≡ paired_from m text (run.length - 1) after
+    (with_run m a.item.start (all_of_run run a.number) es)
 unfolding paired_from
 paired_some m text a below after es run e = ap (λ o. after_tree m (λ skip fs. paired_from m text skip after fs) o a below es) e
 
 -- and so it is with the searches that find
-skip_finds : (m : Marks) (text : List ℕ) (number n : ℕ) (chain rest : Forest Numbered) (es : List Entry) → BeginsRun number n chain rest → finds_from m text n chain es ≡ finds_from m text 0 rest es
+skip_finds : (m : Marks) (text : List ℕ) (number n : ℕ) (chain rest : Forest Numbered) (es : List Entry) → BeginsRun number n chain rest
+    → finds_from m text n chain es ≡ finds_from m text 0 rest es
 unfolding finds_from
 skip_finds m text number zero chain rest es b = ap (λ f. finds_from m text 0 f es) b
 skip_finds m text number (suc n) nil rest es b = absurd b
 skip_finds m text number (suc n) (node a below after) rest es b = skip_finds m text (suc number) n after rest es b.2
 
-finds_at_none : (m : Marks) (text : List ℕ) (a : Numbered) (below after : Forest Numbered) (es : List Entry) → run_of text a.item ≡ None → finds_from m text 0 (node a below after) es ≡ finds_from m text 0 after (settled a below ∷ es)
+finds_at_none : (m : Marks) (text : List ℕ) (a : Numbered) (below after : Forest Numbered) (es : List Entry) → run_of text a.item ≡ None
+    → finds_from m text 0 (node a below after) es ≡ finds_from m text 0 after (settled a below ∷ es)
 unfolding finds_from
 finds_at_none m text a below after es e = ap (λ o. tree_finds m (λ skip fs. finds_from m text skip after fs) o a below es) e
 
-finds_at_some : (m : Marks) (text : List ℕ) (a : Numbered) (below after : Forest Numbered) (es : List Entry) (run : Run) → run_of text a.item ≡ Some run
-    → finds_from m text 0 (node a below after) es ≡ run_finds run run.length (open_of es) + finds_from m text (run.length - 1) after (with_run m a.item.start (all_of_run run a.number) es)
+finds_at_some : (m : Marks) (text : List ℕ) (a : Numbered) (below after : Forest Numbered) (es : List Entry) (run : Run)
+    → run_of text a.item ≡ Some run
+    → finds_from m text 0 (node a below after) es ≡ run_finds run run.length (open_of es) + finds_from m text (run.length - 1) after
+    (with_run m a.item.start (all_of_run run a.number) es)
 unfolding finds_from
 finds_at_some m text a below after es run e = ap (λ o. tree_finds m (λ skip fs. finds_from m text skip after fs) o a below es) e
 
 -- the rest of a run's first node
-begins_after : (number n : ℕ) (a : Numbered) (below after rest : Forest Numbered) → 0 < n → BeginsRun number n (node a below after) rest → BeginsRun (suc number) (n - 1) after rest
+begins_after : (number n : ℕ) (a : Numbered) (below after rest : Forest Numbered) → 0 < n → BeginsRun number n (node a below after) rest
+    → BeginsRun (suc number) (n - 1) after rest
 begins_after number zero a below after rest some b = absurd (omega arith)
-begins_after number (suc n) a below after rest some b = subst (λ i. BeginsRun (suc number) i after rest) (let e : n ≡ suc n - 1 = omega arith in e) b.2
+begins_after number (suc n) a below after rest some b = subst (λ i. BeginsRun (suc number) i after rest) (let e : n
+    ≡ suc n - 1 = omega arith in e) b.2
 
 -- numbers rise behind a run
-rises_behind : (own : ℕ → Bool) (number n lo : ℕ) (chain rest : Forest Numbered) (hi : ℕ) → 0 < n → BeginsRun number n chain rest → Rises own lo chain hi → Rises own (suc number) rest hi
+rises_behind : (own : ℕ → Bool) (number n lo : ℕ) (chain rest : Forest Numbered) (hi : ℕ) → 0 < n → BeginsRun number n chain rest
+    → Rises own lo chain hi → Rises own (suc number) rest hi
 rises_behind own number zero lo chain rest hi some b r = absurd (omega arith)
 rises_behind own number (suc n) lo nil rest hi some b r = absurd b
-rises_behind own number (suc zero) lo (node a below after) rest hi some b r = subst (λ f. Rises own (suc number) f hi) b.2 (subst (λ i. Rises own (suc i) after hi) b.0 r.2)
+rises_behind own number (suc zero) lo (node a below after) rest hi some b r = subst (λ f. Rises own (suc number) f hi) b.2
+    (subst (λ i. Rises own (suc i) after hi) b.0 r.2)
 rises_behind own number (suc (suc n)) lo (node a below after) rest hi some b r =
-    Rises-lower own (suc (suc number)) (suc number) rest hi (omega arith) (rises_behind own (suc number) (suc n) (suc a.number) after rest hi (omega arith) b.2 r.2)
+    Rises-lower own (suc (suc number)) (suc number) rest hi (omega arith) (rises_behind own (suc number) (suc n) (suc a.number) after rest
+    hi (omega arith) b.2 r.2)
 
 -- the first tree of the rest, at the link to it
 module _ (m : Marks) (text : List ℕ) (h : Chain) (s : Arena Item) (es : List Entry) (last : Option ℕ) (ix : ℕ) where
   pub head_within : (chain : Forest Numbered) → Stands h s es last (Some ix) chain → ix < length s.nodes
   head_within nil st = let no : Some ix ≡ None = st.cut.right in cc
-  head_within (node a below after) st = let here : Some ix ≡ Some a.number = st.cut.right.0 in let e : ix ≡ a.number = cc in omega (arith, st.cut.right.1, e)
+  head_within (node a below after) st = let here : Some ix ≡ Some a.number = st.cut.right.0 in let e : ix ≡ a.number = cc
+      in omega (arith, st.cut.right.1, e)
 
-  pub read_none : (chain : Forest Numbered) (o : Openers) → Stands h s es last (Some ix) chain → IsWhole text chain → o.runs ≡ open_of es → run_of text (item_at s.nodes ix) ≡ None
+  pub read_none : (chain : Forest Numbered) (o : Openers) → Stands h s es last (Some ix) chain → IsWhole text chain → o.runs ≡ open_of es
+      → run_of text (item_at s.nodes ix) ≡ None
       → ReadFurther m text h s s es chain o o (Some ix) (sibling_of s.nodes ix) (suc ix)
   read_none nil o st w r e = let no : Some ix ≡ None = st.cut.right in cc
   read_none (node a below after) o st w r e =
@@ -169,12 +192,14 @@ module _ (m : Marks) (text : List ℕ) (h : Chain) (s : Arena Item) (es : List E
   -- a run that begins here
   pub record RunHere (run : Run) (chain : Forest Numbered) : Type 0 where
     pub begins : RunBegins text ix (item_at s.nodes ix).start run.length chain
-    pub same : (fs : List Entry) (goes_on : List Entry) → with_run m (item_at s.nodes ix).start (all_of_run run ix) fs ≡ goes_on → paired_from m text 0 begins.rest goes_on ≡ paired_from m text 0 chain fs
+    pub same : (fs : List Entry) (goes_on : List Entry) → with_run m (item_at s.nodes ix).start (all_of_run run ix) fs ≡ goes_on
+        → paired_from m text 0 begins.rest goes_on ≡ paired_from m text 0 chain fs
     pub finds : (fs : List Entry) (goes_on : List Entry) → with_run m (item_at s.nodes ix).start (all_of_run run ix) fs ≡ goes_on
         → finds_from m text 0 chain fs ≡ run_finds run run.length (open_of fs) + finds_from m text 0 begins.rest goes_on
     pub rises : Rises h.touched (suc ix) begins.rest h.bound
 
-  pub run_here : (run : Run) (chain : Forest Numbered) → Stands h s es last (Some ix) chain → IsWhole text chain → run_of text (item_at s.nodes ix) ≡ Some run → RunHere run chain
+  pub run_here : (run : Run) (chain : Forest Numbered) → Stands h s es last (Some ix) chain → IsWhole text chain
+      → run_of text (item_at s.nodes ix) ≡ Some run → RunHere run chain
   run_here run nil st w e = let no : Some ix ≡ None = st.cut.right in cc
   run_here run (node a below after) st w e =
       let here : Some ix ≡ Some a.number = st.cut.right.0 in
@@ -188,32 +213,55 @@ module _ (m : Marks) (text : List ℕ) (h : Chain) (s : Arena Item) (es : List E
         begins = b;
         same = λ fs goes_on g.
             ap (λ x. paired_from m text 0 b.rest x) (sym g)
-            ∙ sym (skip_run m text (suc ix) (run.length - 1) after b.rest (with_run m (item_at s.nodes ix).start (all_of_run run ix) fs) (begins_after ix run.length a below after b.rest b.some b.begins))
+            ∙ sym (skip_run m text (suc ix) (run.length - 1) after b.rest (with_run m (item_at s.nodes ix).start (all_of_run run ix) fs)
+            (begins_after ix run.length a below after b.rest b.some b.begins))
             ∙ ap (λ i. paired_from m text (run.length - 1) after (with_run m (item_at s.nodes ix).start (all_of_run run i) fs)) (sym same)
             ∙ ap (λ (i : Item). paired_from m text (run.length - 1) after (with_run m i.start (all_of_run run a.number) fs)) (sym item)
             ∙ sym (paired_some m text a below after fs run is);
         finds = λ fs goes_on g.
             finds_at_some m text a below after fs run is
-            ∙ ap (λ (i : Item). run_finds run run.length (open_of fs) + finds_from m text (run.length - 1) after (with_run m i.start (all_of_run run a.number) fs)) item
-            ∙ ap (λ i. run_finds run run.length (open_of fs) + finds_from m text (run.length - 1) after (with_run m (item_at s.nodes ix).start (all_of_run run i) fs)) same
+            ∙ ap (λ (i : Item). run_finds run run.length (open_of fs) + finds_from m text (run.length - 1) after
+            (with_run m i.start (all_of_run run a.number) fs)) item
+            ∙ ap (λ i. run_finds run run.length (open_of fs) + finds_from m text (run.length - 1) after
+            (with_run m (item_at s.nodes ix).start (all_of_run run i) fs)) same
             ∙ ap (λ x. run_finds run run.length (open_of fs) + x)
-            (skip_finds m text (suc ix) (run.length - 1) after b.rest (with_run m (item_at s.nodes ix).start (all_of_run run ix) fs) (begins_after ix run.length a below after b.rest b.some b.begins)
+            (skip_finds m text (suc ix) (run.length - 1) after b.rest (with_run m (item_at s.nodes ix).start (all_of_run run ix) fs)
+            (begins_after ix run.length a below after b.rest b.some b.begins)
             ∙ ap (λ x. finds_from m text 0 b.rest x) g);
         rises = rises_behind h.touched ix run.length 0 (node a below after) b.rest h.bound b.some b.begins st.cut.rises_right;
       }
 
-  pub can_settle : (run : Run) (chain : Forest Numbered) → Stands h s es last (Some ix) chain → RunHere run chain → CanSettle ix run.length s
-  can_settle run chain st r = record { chain = h; es = es; last = last; whole = chain; rest = r.begins.rest; stands = st; begins = r.begins.begins }
+  pub can_settle : (run : Run) (chain : Forest Numbered) → Stands h s es last (Some ix) chain → RunHere run chain
+      → CanSettle ix run.length s
+  can_settle run chain st r = record {
+    chain = h;
+    es = es;
+    last = last;
+    whole = chain;
+    rest = r.begins.rest;
+    stands = st;
+    begins =
+        r.begins.begins;
+  }
 
-  pub can_read : (run : Run) (chain : Forest Numbered) (runs : List OpenRun) (t : Arena Item) → Stands h s es last (Some ix) chain → runs ≡ open_of es → RunHere run chain → Settles ix (item_at s.nodes ix).start run.length s t
+  pub can_read : (run : Run) (chain : Forest Numbered) (runs : List OpenRun) (t : Arena Item) → Stands h s es last (Some ix) chain
+      → runs ≡ open_of es → RunHere run chain → Settles ix (item_at s.nodes ix).start run.length s t
       → CanRead (item_at s.nodes ix).start (all_of_run run ix) last t runs
   can_read run chain runs t st e r settles =
-      record { chain = h; es = es; after = r.begins.rest; stands = (settles h es last chain r.begins.rest st r.begins.begins).stands; runs_are = e }
+      record {
+        chain = h;
+        es = es;
+        after = r.begins.rest;
+        stands = (settles h es last chain r.begins.rest st r.begins.begins).stands;
+        runs_are = e;
+      }
 
   pub read_some : (run : Run) (chain : Forest Numbered) (old new : Openers) (last' l : Option ℕ) (t u : Arena Item)
-      → Stands h s es last (Some ix) chain → old.runs ≡ open_of es → RunHere run chain → Settles ix (item_at s.nodes ix).start run.length s t
+      → Stands h s es last (Some ix) chain → old.runs ≡ open_of es → RunHere run chain
+      → Settles ix (item_at s.nodes ix).start run.length s t
       → new.potential ≤ old.potential + 10 → old.examined + run_finds run run.length old.runs ≤ new.examined
-      → ReadsOn (λ fs. with_run m (item_at s.nodes ix).start (all_of_run run ix) fs) (item_at s.nodes ix).start (all_of_run run ix) last t u old.runs new.runs last' l
+      → ReadsOn (λ fs. with_run m (item_at s.nodes ix).start (all_of_run run ix) fs) (item_at s.nodes ix).start (all_of_run run ix) last t u
+      old.runs new.runs last' l
       → ReadFurther m text h s u es chain old new last' l (suc ix)
   read_some run chain old new last' l t u st e r settles paid found on =
       let x = settles h es last chain r.begins.rest st r.begins.begins in
@@ -221,7 +269,11 @@ module _ (m : Marks) (text : List ℕ) (h : Chain) (s : Arena Item) (es : List E
       record {
         es = with_run m (item_at s.nodes ix).start (all_of_run run ix) es;
         rest = r.begins.rest;
-        is_read = record { reads = record { stands = y.reads.stands; kept = kept_both h.touched s t u x.kept y.reads.kept }; runs_are = y.runs_are };
+        is_read = record {
+          reads = record { stands = y.reads.stands; kept = kept_both h.touched s t u x.kept y.reads.kept };
+          runs_are =
+              y.runs_are;
+        };
         whole = r.begins.whole;
         same = r.same es _ refl;
         paid = omega (arith, r.begins.fewer);
@@ -230,11 +282,15 @@ module _ (m : Marks) (text : List ℕ) (h : Chain) (s : Arena Item) (es : List E
       }
 
 -- the same of a chain that can be read, at the item that stands there
-pub met_here : (m : Marks) (text : List ℕ) (s : Arena Item) (ix : ℕ) (last : Option ℕ) (runs : List OpenRun) (cost : ℕ) (p : CanReadTree text ix last s runs cost) (item : Item) (run : Run) → item ≡ item_at s.nodes ix → Some run ≡ run_of text item
+pub met_here : (m : Marks) (text : List ℕ) (s : Arena Item) (ix : ℕ) (last : Option ℕ) (runs : List OpenRun) (cost : ℕ)
+    (p : CanReadTree text ix last s runs cost) (item : Item) (run : Run) → item ≡ item_at s.nodes ix → Some run ≡ run_of text item
     → RunHere m text p.chain s p.es last ix run p.rest
-met_here m text s ix last runs cost p item run i e = run_here m text p.chain s p.es last ix run p.rest p.stands p.whole (ap (run_of text) (sym i) ∙ sym e)
+met_here m text s ix last runs cost p item run i e = run_here m text p.chain s p.es last ix run p.rest p.stands p.whole
+    (ap (run_of text) (sym i) ∙ sym e)
 
 -- its characters lie in the text
-pub run_bytes : (m : Marks) (text : List ℕ) (s : Arena Item) (ix : ℕ) (last : Option ℕ) (runs : List OpenRun) (cost : ℕ) (p : CanReadTree text ix last s runs cost) (item : Item) (run : Run) → item ≡ item_at s.nodes ix → Some run ≡ run_of text item
+pub run_bytes : (m : Marks) (text : List ℕ) (s : Arena Item) (ix : ℕ) (last : Option ℕ) (runs : List OpenRun) (cost : ℕ)
+    (p : CanReadTree text ix last s runs cost) (item : Item) (run : Run) → item ≡ item_at s.nodes ix → Some run ≡ run_of text item
     → item.start + run.length ≤ length text
-run_bytes m text s ix last runs cost p item run i e = subst (λ (x : Item). x.start + run.length ≤ length text) (sym i) (met_here m text s ix last runs cost p item run i e).begins.bytes
+run_bytes m text s ix last runs cost p item run i e = subst (λ (x : Item). x.start + run.length ≤ length text) (sym i)
+    (met_here m text s ix last runs cost p item run i e).begins.bytes

@@ -1,5 +1,6 @@
 -- What a search down a stack answers, step by step.
-use Rattle.std.proofs.Common.{◌≡◌, ℕ, zero, suc, ◌+◌, ◌<◌, ◌≤◌, min, Bool, true, false, List, [], ◌∷◌, ◌++◌, length, take, get_or, Some, None, inl, inr, refl, ap, sym, ◌∙◌, subst, arith, ltb, map, add-one}
+use Rattle.std.proofs.Common.{◌≡◌, ℕ, zero, suc, ◌+◌, ◌<◌, ◌≤◌, min, Bool, true, false, List, [], ◌∷◌, ◌++◌, length, take, get_or, Some}
+use Rattle.std.proofs.Common.{None, inl, inr, refl, ap, sym, ◌∙◌, subst, arith, ltb, map, add-one}
 use Rattle.std.specs.Prelude.{not, ◌&&◌, ◌||◌}
 use Rattle.std.proofs.lemmas.List.{take_more, length-take-le, get_or-take}
 use Rattle.std.proofs.lemmas.Bool.{cases_Bool, lt-ltb, le-ltb, cases_lt, and_parts}
@@ -14,24 +15,29 @@ use Rattle.markdown_delims.specs.OpenRuns.{open_run, open_runs_from, open_runs}
 use Rattle.markdown_delims.proofs.BoundLaws.{below_bound_fails, bound_at-within}
 
 -- the newest run comes first
-open_runs_from-push : (t : LowerBounds) (i : ℕ) (cs : List Characters) (c : Characters) (rs : List OpenRun) → open_runs_from t i (cs ++ c ∷ []) rs ≡ open_run t (i + length cs) c ∷ open_runs_from t i cs rs
+open_runs_from-push : (t : LowerBounds) (i : ℕ) (cs : List Characters) (c : Characters) (rs : List OpenRun)
+    → open_runs_from t i (cs ++ c ∷ []) rs ≡ open_run t (i + length cs) c ∷ open_runs_from t i cs rs
 open_runs_from-push t i [] c rs = ap (λ j. open_run t j c ∷ rs) (omega arith)
 open_runs_from-push t i (x ∷ cs) c rs =
     open_runs_from-push t (suc i) cs c (open_run t i x ∷ rs)
     ∙ ap (λ j. open_run t j c ∷ open_runs_from t (suc i) cs (open_run t i x ∷ rs)) (omega arith)
 
-pub open_runs-push : (t : LowerBounds) (cs : List Characters) (c : Characters) → open_runs t (cs ++ c ∷ []) ≡ open_run t (length cs) c ∷ open_runs t cs
+pub open_runs-push : (t : LowerBounds) (cs : List Characters) (c : Characters)
+    → open_runs t (cs ++ c ∷ []) ≡ open_run t (length cs) c ∷ open_runs t cs
 unfolding open_runs
 open_runs-push t cs c = open_runs_from-push t 0 cs c [] ∙ ap (λ j. open_run t j c ∷ open_runs_from t 0 cs []) (omega arith)
 
 -- a run that is pushed is not dropped
-pub open_runs-pushed : (t : LowerBounds) (cs : List Characters) (c : Characters) → drop_bound c.run.delimiter t ≤ length cs → open_runs t (cs ++ c ∷ []) ≡ record { dropped = false; opener = c } ∷ open_runs t cs
+pub open_runs-pushed : (t : LowerBounds) (cs : List Characters) (c : Characters) → drop_bound c.run.delimiter t ≤ length cs
+    → open_runs t (cs ++ c ∷ []) ≡ record { dropped = false; opener = c } ∷ open_runs t cs
 open_runs-pushed t cs c h =
     open_runs-push t cs c
     ∙ ap (λ b. record { dropped = b; opener = c } ∷ open_runs t cs) (le-ltb (length cs) (drop_bound c.run.delimiter t) h)
 
 -- bounds that drop alike below the stack's top give the same runs
-open_runs_from-same : (t u : LowerBounds) (n i : ℕ) (cs : List Characters) (rs : List OpenRun) → ((d : Delimiter) (j : ℕ) → j < n → ltb j (drop_bound d u) ≡ ltb j (drop_bound d t)) → i + length cs ≤ n → open_runs_from u i cs rs ≡ open_runs_from t i cs rs
+open_runs_from-same : (t u : LowerBounds) (n i : ℕ) (cs : List Characters) (rs : List OpenRun)
+    → ((d : Delimiter) (j : ℕ) → j < n → ltb j (drop_bound d u) ≡ ltb j (drop_bound d t)) → i + length cs ≤ n
+    → open_runs_from u i cs rs ≡ open_runs_from t i cs rs
 open_runs_from-same t u n i [] rs f h = refl
 open_runs_from-same t u n i (c ∷ cs) rs f h =
     open_runs_from-same t u n (suc i) cs (open_run u i c ∷ rs) f (omega arith)
@@ -53,10 +59,13 @@ min_test t n i h =
 pub open_runs-lowered : (t : LowerBounds) (n : ℕ) (cs : List Characters) → length cs ≤ n → open_runs (lowered n t) cs ≡ open_runs t cs
 unfolding open_runs
 open_runs-lowered t n cs h =
-    open_runs_from-same t (lowered n t) n 0 cs [] (λ d j l. ap (ltb j) (lowered_drops t n d) ∙ min_test (drop_bound d t) n j l) (omega arith)
+    open_runs_from-same t (lowered n t) n 0 cs [] (λ d j l. ap (ltb j) (lowered_drops t n d) ∙ min_test (drop_bound d t) n j l)
+    (omega arith)
 
 -- bounds at the top drop each run of `~` and `^`
-open_runs_from-top : (t u : LowerBounds) (n i : ℕ) (cs : List Characters) (rs : List OpenRun) → ((d : Delimiter) (j : ℕ) → j < n → ltb j (drop_bound d u) ≡ (ltb j (drop_bound d t) || is_tilde_or_caret d)) → i + length cs ≤ n → open_runs_from u i cs (map drop_run rs) ≡ map drop_run (open_runs_from t i cs rs)
+open_runs_from-top : (t u : LowerBounds) (n i : ℕ) (cs : List Characters) (rs : List OpenRun)
+    → ((d : Delimiter) (j : ℕ) → j < n → ltb j (drop_bound d u) ≡ (ltb j (drop_bound d t) || is_tilde_or_caret d)) → i + length cs ≤ n
+    → open_runs_from u i cs (map drop_run rs) ≡ map drop_run (open_runs_from t i cs rs)
 open_runs_from-top t u n i [] rs f h = refl
 open_runs_from-top t u n i (c ∷ cs) rs f h =
     ap (λ b. open_runs_from u (suc i) cs (record { dropped = b; opener = c } ∷ map drop_run rs)) (f c.run.delimiter i (omega arith))
@@ -70,11 +79,13 @@ or_true : (b : Bool) → (b || true) ≡ true
 or_true true = refl
 or_true false = refl
 
-pub open_runs-dropped : (t : LowerBounds) (cs : List Characters) → open_runs (record t { tilde = length cs; caret = length cs }) cs ≡ map drop_run (open_runs t cs)
+pub open_runs-dropped : (t : LowerBounds) (cs : List Characters) → open_runs (record t { tilde = length cs; caret = length cs }) cs
+    ≡ map drop_run (open_runs t cs)
 unfolding open_runs
 open_runs-dropped t cs = open_runs_from-top t (record t { tilde = length cs; caret = length cs }) (length cs) 0 cs [] flags (omega arith)
   where
-    flags : (d : Delimiter) (j : ℕ) → j < length cs → ltb j (drop_bound d (record t { tilde = length cs; caret = length cs })) ≡ (ltb j (drop_bound d t) || is_tilde_or_caret d)
+    flags : (d : Delimiter) (j : ℕ) → j < length cs → ltb j (drop_bound d (record t { tilde = length cs; caret = length cs }))
+        ≡ (ltb j (drop_bound d t) || is_tilde_or_caret d)
     flags Star j l = or_false (ltb j 0)
     flags Underscore j l = or_false (ltb j 0)
     flags Tilde j l = lt-ltb j (length cs) l ∙ sym (or_true (ltb j t.tilde))
@@ -100,7 +111,8 @@ one_delimiter Caret Underscore h = cc
 one_delimiter Caret Tilde h = cc
 
 -- a run that may not pair is not taken
-pub may_take-fails : (closer : Run) (t : LowerBounds) (i : ℕ) (c : Characters) → may_pair c.run closer ≡ false → may_take closer (open_run t i c) ≡ false
+pub may_take-fails : (closer : Run) (t : LowerBounds) (i : ℕ) (c : Characters) → may_pair c.run closer ≡ false
+    → may_take closer (open_run t i c) ≡ false
 may_take-fails closer t i c h =
     ap (λ b. not (ltb i (drop_bound c.run.delimiter t)) && b) h ∙ and_false (not (ltb i (drop_bound c.run.delimiter t)))
   where
@@ -121,42 +133,54 @@ drop_bound_le Tilde closer b = omega arith
 drop_bound_le Caret closer b = omega arith
 
 -- at or above the closer's bound a run that may pair is taken
-pub may_take-holds : (closer : Run) (b : LowerBounds) (i : ℕ) (c : Characters) → bound_for closer b ≤ i → may_pair c.run closer ≡ true → may_take closer (open_run b i c) ≡ true
+pub may_take-holds : (closer : Run) (b : LowerBounds) (i : ℕ) (c : Characters) → bound_for closer b ≤ i → may_pair c.run closer ≡ true
+    → may_take closer (open_run b i c) ≡ true
 may_take-holds closer b i c l h =
     let w : drop_bound closer.delimiter b ≤ bound_for closer b = drop_bound_le closer.delimiter closer b in
-    let q : ltb i (drop_bound c.run.delimiter b) ≡ false = ap (λ d. ltb i (drop_bound d b)) (same_from_pair closer c h) ∙ le-ltb i (drop_bound closer.delimiter b) (omega arith) in
+    let q : ltb i (drop_bound c.run.delimiter b) ≡ false = ap (λ d. ltb i (drop_bound d b)) (same_from_pair closer c h)
+    ∙ le-ltb i (drop_bound closer.delimiter b) (omega arith) in
     ap (λ q. not q && may_pair c.run closer) q ∙ h
 
 -- below the bound of its character no run is taken by `~` or `^`
-drops_at : (closer : Run) (t : LowerBounds) (i : ℕ) (c : Characters) → i < drop_bound closer.delimiter t → may_take closer (open_run t i c) ≡ false
+drops_at : (closer : Run) (t : LowerBounds) (i : ℕ) (c : Characters) → i < drop_bound closer.delimiter t
+    → may_take closer (open_run t i c) ≡ false
 drops_at closer t i c l =
     elim (cases_Bool (may_pair c.run closer)) [
-      | inl pairs ↦ ap (λ q. not q && may_pair c.run closer) (ap (λ d. ltb i (drop_bound d t)) (same_from_pair closer c pairs) ∙ lt-ltb i (drop_bound closer.delimiter t) l)
+      | inl pairs ↦ ap (λ q. not q && may_pair c.run closer) (ap (λ d. ltb i (drop_bound d t)) (same_from_pair closer c pairs)
+          ∙ lt-ltb i (drop_bound closer.delimiter t) l)
       | inr fails ↦ may_take-fails closer t i c fails
     ]
 
 -- one step down the stack, past a run that is not taken
-pub nearest-passed : (closer : Run) (t : LowerBounds) (stack : List Characters) (i : ℕ) (x : Characters) → i < length stack → may_take closer (open_run t i (get_or stack i x)) ≡ false → nearest closer (open_runs t (take (i + 1) stack)) ≡ nearest closer (open_runs t (take i stack))
+pub nearest-passed : (closer : Run) (t : LowerBounds) (stack : List Characters) (i : ℕ) (x : Characters) → i < length stack
+    → may_take closer (open_run t i (get_or stack i x)) ≡ false → nearest closer (open_runs t (take (i + 1) stack))
+    ≡ nearest closer (open_runs t (take i stack))
 nearest-passed closer t stack i x l h =
     let e : length (take i stack) ≡ i = length-take-le i stack (omega arith) in
     rw (take_more stack i x l, open_runs-push t (take i stack) (get_or stack i x), e, h) refl
 
 -- and at one that is taken
-pub nearest-taken : (closer : Run) (t : LowerBounds) (stack : List Characters) (i : ℕ) (x : Characters) → i < length stack → may_take closer (open_run t i (get_or stack i x)) ≡ true → nearest closer (open_runs t (take (i + 1) stack)) ≡ Some (record { opener = get_or stack i x; before = open_runs t (take i stack) })
+pub nearest-taken : (closer : Run) (t : LowerBounds) (stack : List Characters) (i : ℕ) (x : Characters) → i < length stack
+    → may_take closer (open_run t i (get_or stack i x)) ≡ true → nearest closer (open_runs t (take (i + 1) stack))
+    ≡ Some (record { opener = get_or stack i x; before = open_runs t (take i stack) })
 nearest-taken closer t stack i x l h =
     let e : length (take i stack) ≡ i = length-take-le i stack (omega arith) in
     rw (take_more stack i x l, open_runs-push t (take i stack) (get_or stack i x), e, h) refl
 
-none_upto : (closer : Run) (t : LowerBounds) (stack : List Characters) (n : ℕ) → n ≤ length stack → ((i : ℕ) (x : Characters) → i < n → may_take closer (open_run t i (get_or stack i x)) ≡ false) → nearest closer (open_runs t (take n stack)) ≡ None
+none_upto : (closer : Run) (t : LowerBounds) (stack : List Characters) (n : ℕ) → n ≤ length stack
+    → ((i : ℕ) (x : Characters) → i < n → may_take closer (open_run t i (get_or stack i x)) ≡ false)
+    → nearest closer (open_runs t (take n stack)) ≡ None
 unfolding open_runs
 none_upto closer t stack zero h f = refl
 none_upto closer t [] (suc n) h f = refl
 none_upto closer t (c ∷ cs) (suc n) h f =
     subst (λ m. nearest closer (open_runs t (take m (c ∷ cs))) ≡ None) (add-one n)
-    (nearest-passed closer t (c ∷ cs) n c (omega arith) (f n c (omega arith)) ∙ none_upto closer t (c ∷ cs) n (omega arith) (λ i x l. f i x (omega arith)))
+    (nearest-passed closer t (c ∷ cs) n c (omega arith) (f n c (omega arith)) ∙ none_upto closer t (c ∷ cs) n (omega arith)
+    (λ i x l. f i x (omega arith)))
 
 -- below its bound a closer finds none
-pub nearest-below : (closer : Run) (stack : List Characters) (b : LowerBounds) → BoundStack stack b → nearest closer (open_runs b (take (bound_for closer b) stack)) ≡ None
+pub nearest-below : (closer : Run) (stack : List Characters) (b : LowerBounds) → BoundStack stack b
+    → nearest closer (open_runs b (take (bound_for closer b) stack)) ≡ None
 nearest-below closer stack b h =
     none_upto closer b stack (bound_for closer b) (bound_at-within closer.delimiter closer stack b h)
     (λ i x l.
@@ -177,18 +201,23 @@ nearest-below closer stack b h =
     last_two Caret q l = l
 
 -- a failed search changes the runs as the dropping says
-raised_drops : (d : Delimiter) (closer : Run) (stack : List Characters) (b : LowerBounds) → d ≡ closer.delimiter → open_runs (raised_at d closer (length stack) b) stack ≡ dropped_by closer (open_runs b stack)
+raised_drops : (d : Delimiter) (closer : Run) (stack : List Characters) (b : LowerBounds) → d ≡ closer.delimiter
+    → open_runs (raised_at d closer (length stack) b) stack ≡ dropped_by closer (open_runs b stack)
 unfolding open_runs
-raised_drops Star closer stack b e = rw (← e) (open_runs_from-same b (raised_at Star closer (length stack) b) (length stack) 0 stack [] flags (omega arith))
+raised_drops Star closer stack b e = rw (← e) (open_runs_from-same b (raised_at Star closer (length stack) b) (length stack) 0 stack []
+    flags (omega arith))
   where
-    flags : (d : Delimiter) (j : ℕ) → j < length stack → ltb j (drop_bound d (raised_at Star closer (length stack) b)) ≡ ltb j (drop_bound d b)
+    flags : (d : Delimiter) (j : ℕ) → j < length stack → ltb j (drop_bound d (raised_at Star closer (length stack) b))
+        ≡ ltb j (drop_bound d b)
     flags Star j l = refl
     flags Underscore j l = refl
     flags Tilde j l = refl
     flags Caret j l = refl
-raised_drops Underscore closer stack b e = rw (← e) (open_runs_from-same b (raised_at Underscore closer (length stack) b) (length stack) 0 stack [] flags (omega arith))
+raised_drops Underscore closer stack b e = rw (← e) (open_runs_from-same b (raised_at Underscore closer (length stack) b) (length stack) 0
+    stack [] flags (omega arith))
   where
-    flags : (d : Delimiter) (j : ℕ) → j < length stack → ltb j (drop_bound d (raised_at Underscore closer (length stack) b)) ≡ ltb j (drop_bound d b)
+    flags : (d : Delimiter) (j : ℕ) → j < length stack → ltb j (drop_bound d (raised_at Underscore closer (length stack) b))
+        ≡ ltb j (drop_bound d b)
     flags Star j l = refl
     flags Underscore j l = refl
     flags Tilde j l = refl
@@ -196,5 +225,6 @@ raised_drops Underscore closer stack b e = rw (← e) (open_runs_from-same b (ra
 raised_drops Tilde closer stack b e = rw (← e) (open_runs-dropped b stack)
 raised_drops Caret closer stack b e = rw (← e) (open_runs-dropped b stack)
 
-pub open_runs-raised : (closer : Run) (stack : List Characters) (b : LowerBounds) → open_runs (raised_for closer (length stack) b) stack ≡ dropped_by closer (open_runs b stack)
+pub open_runs-raised : (closer : Run) (stack : List Characters) (b : LowerBounds) → open_runs (raised_for closer (length stack) b) stack
+    ≡ dropped_by closer (open_runs b stack)
 open_runs-raised closer stack b = raised_drops closer.delimiter closer stack b refl

@@ -1,5 +1,6 @@
 -- A push, a search that finds and one that does not, of the stack and its bounds.
-use Rattle.std.proofs.Common.{◌≡◌, ℕ, ◌+◌, ◌-◌, ◌<◌, ◌≤◌, ◌^◌, true, false, List, [], ◌∷◌, ◌++◌, length, take, get_or, Some, None, refl, ap, sym, ◌∙◌, subst, arith}
+use Rattle.std.proofs.Common.{◌≡◌, ℕ, ◌+◌, ◌-◌, ◌<◌, ◌≤◌, ◌^◌, true, false, List, [], ◌∷◌, ◌++◌, length, take, get_or, Some, None, refl, ap}
+use Rattle.std.proofs.Common.{sym, ◌∙◌, subst, arith}
 use Rattle.std.proofs.lemmas.List.{length-take-le, length_push}
 use Rattle.std.proofs.lemmas.List.Elements.{All-take, All-push}
 use Rattle.markdown_delims.specs.declared.run.Run.{Run}
@@ -10,17 +11,25 @@ use Rattle.markdown_delims.specs.Bounds.{bound_for, raised_for, lowered, above_b
 use Rattle.markdown_delims.specs.OpenRuns.{open_runs, openers_of, potential_of, IsSound}
 use Rattle.markdown_delims.proofs.BoundLaws.{BoundStack-push, BoundStack-cut, BoundStack-raised, bound_at-within, drop_bound-within}
 use Rattle.markdown_delims.proofs.Potential.{above_bounds-push, above_bounds-cut, above_bounds-raised}
-use Rattle.markdown_delims.proofs.Searches.{open_runs-pushed, open_runs-lowered, nearest-passed, nearest-taken, nearest-below, may_take-fails, may_take-holds}
+use Rattle.markdown_delims.proofs.Searches.{open_runs-pushed, open_runs-lowered, nearest-passed, nearest-taken, nearest-below}
+use Rattle.markdown_delims.proofs.Searches.{may_take-fails, may_take-holds}
 
 module _ (stack : List Characters) (examined : ℕ) (b : LowerBounds) (sound : IsSound stack examined b) where
   potential-push : (c : Characters) → potential_of (stack ++ c ∷ []) examined b ≡ potential_of stack examined b + 10
   potential-push c =
-      rw length_push (let e : above_bounds (length stack + 1) b ≡ above_bounds (length stack) b + 9 = above_bounds-push stack b sound.bound in nine _ _ _ _ e)
+      rw length_push (let e : above_bounds (length stack + 1) b ≡ above_bounds (length stack) b + 9 = above_bounds-push stack b sound.bound
+      in nine _ _ _ _ e)
     where
       nine : (x n a c : ℕ) → a ≡ c + 9 → x + (n + 1) + a ≡ (x + n + c) + 10
       nine x n a c e = omega arith
 
-  pub openers_of-push : (c : Characters) → openers_of (stack ++ c ∷ []) examined b ≡ record { runs = record { dropped = false; opener = c } ∷ open_runs b stack; examined = examined; potential = potential_of stack examined b + 10 }
+  pub openers_of-push : (c : Characters) → openers_of (stack ++ c ∷ []) examined b
+      ≡ record {
+        runs = record { dropped = false; opener = c } ∷ open_runs b stack;
+        examined = examined;
+        potential = potential_of stack
+            examined b + 10;
+      }
   openers_of-push c =
       rw (open_runs-pushed b stack c (drop_bound-within c.run.delimiter stack b sound.bound), potential-push c) refl
 
@@ -33,7 +42,8 @@ module _ (stack : List Characters) (examined : ℕ) (b : LowerBounds) (sound : I
       }
 
   -- a search that found at a place has paid for what it looked at by the runs that go
-  pub potential-cut : (i after : ℕ) → i ≤ length stack → after + i ≡ examined + length stack → potential_of (take i stack) after (lowered i b) ≤ potential_of stack examined b
+  pub potential-cut : (i after : ℕ) → i ≤ length stack → after + i ≡ examined + length stack
+      → potential_of (take i stack) after (lowered i b) ≤ potential_of stack examined b
   potential-cut i after h e =
       rw length-take-le (paid _ _ _ _ _ _ (above_bounds-cut i (length stack) b h) e)
     where
@@ -52,14 +62,18 @@ module _ (stack : List Characters) (examined : ℕ) (b : LowerBounds) (sound : I
       below x y z p q = omega arith
 
   -- one that failed has paid by the bounds that it raises
-  pub potential-raised : (closer : Run) (after : ℕ) → after + bound_for closer b ≡ examined + length stack → potential_of stack after (raised_for closer (length stack) b) ≤ potential_of stack examined b
+  pub potential-raised : (closer : Run) (after : ℕ) → after + bound_for closer b ≡ examined + length stack
+      → potential_of stack after (raised_for closer (length stack) b) ≤ potential_of stack examined b
   potential-raised closer after e =
-      paid _ _ _ _ _ _ (above_bounds-raised closer (length stack) b sound.bound.together) (bound_at-within closer.delimiter closer stack b sound.bound) e
+      paid _ _ _ _ _ _ (above_bounds-raised closer (length stack) b sound.bound.together) (bound_at-within closer.delimiter closer stack b
+      sound.bound) e
     where
       paid : (a c l n x y : ℕ) → a + (n - l) ≤ c → l ≤ n → y + l ≡ x + n → y + n + a ≤ x + n + c
       paid a c l n x y h w e = omega arith
 
-  pub IsSound-raised : (closer : Run) (after : ℕ) → after + bound_for closer b ≡ examined + length stack → ((k : ℕ) (x : Characters) → bound_for closer b ≤ k → k < length stack → may_pair (get_or stack k x).run closer ≡ false) → IsSound stack after (raised_for closer (length stack) b)
+  pub IsSound-raised : (closer : Run) (after : ℕ) → after + bound_for closer b ≡ examined + length stack
+      → ((k : ℕ) (x : Characters) → bound_for closer b ≤ k → k < length stack → may_pair (get_or stack k x).run closer ≡ false)
+      → IsSound stack after (raised_for closer (length stack) b)
   IsSound-raised closer after e f =
       record {
         bound = BoundStack-raised closer stack b sound.bound f;
@@ -71,7 +85,8 @@ module _ (stack : List Characters) (examined : ℕ) (b : LowerBounds) (sound : I
       below x y z p q = omega arith
 
   -- the search from here on is the whole search
-  pub found_at : (closer : Run) (i : ℕ) (opener : Characters) → bound_for closer b ≤ i → i < length stack → opener ≡ get_or stack i opener → may_pair opener.run closer ≡ true
+  pub found_at : (closer : Run) (i : ℕ) (opener : Characters) → bound_for closer b ≤ i → i < length stack → opener ≡ get_or stack i opener
+      → may_pair opener.run closer ≡ true
       → nearest closer (open_runs b (take (i + 1) stack)) ≡ nearest closer (open_runs b stack)
       → nearest closer (open_runs b stack) ≡ Some (record { opener = opener; before = open_runs (lowered i b) (take i stack) })
   found_at closer i opener l h read pairs same =

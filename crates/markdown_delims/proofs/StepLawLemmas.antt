@@ -8,7 +8,8 @@ use Rattle.markdown_chains.specs.Waiting.{as_closed}
 use Rattle.markdown_delims.specs.declared.run.Run.{Run}
 use Rattle.markdown_delims.specs.Layers.{run_of}
 use Rattle.markdown_delims.specs.MayPair.{is_tilde_or_caret}
-use Rattle.markdown_delims.specs.Pairing.{Read, done, FoundOpener, found_if, nearest_opener, dropped_if, layers, left_over, after_layers, after_search, closed_by, run_read, first_texts, after_tree, reads_from}
+use Rattle.markdown_delims.specs.Pairing.{Read, done, FoundOpener, found_if, nearest_opener, dropped_if, layers, left_over, after_layers}
+use Rattle.markdown_delims.specs.Pairing.{after_search, closed_by, run_read, first_texts, after_tree, reads_from}
 
 -- a chain without its first trees
 abbrev pub later : {A : Type 0} → ℕ → Forest (Label A) → Forest (Label A)
@@ -20,58 +21,74 @@ later (suc n) (node a below after) = later n after
 -- stays so when a tree is read or passed over, when the characters of a run are, when characters are left open or as
 -- text or go nowhere, and when they pair with a run that was found
 pub record StaysTrue {A : Type 0} (s : Setting) (i : List (Label A) → List (Read A) → Forest (Label A) → Type 0) : Type 0 where
-  pub tree : (a : Label A) (below after : Forest (Label A)) (rs : List (Read A)) → i [] rs (node a below after) → i [] (done (as_closed s.text a) below ∷ rs) after
+  pub tree : (a : Label A) (below after : Forest (Label A)) (rs : List (Read A)) → i [] rs (node a below after)
+      → i [] (done (as_closed s.text a) below ∷ rs) after
   pub skip : (a : Label A) (below after : Forest (Label A)) (rs : List (Read A)) → i [] rs (node a below after) → i [] rs after
   pub texts : (n : ℕ) (chain : Forest (Label A)) (rs : List (Read A)) → i [] rs chain → i (first_texts s.text n chain) rs (later n chain)
-  pub left : (drops : Bool) (closer : Run) (vs : List (Label A)) (rs : List (Read A)) (rest : Forest (Label A)) → i vs rs rest → i [] (left_over closer vs (dropped_if drops rs)) rest
+  pub left : (drops : Bool) (closer : Run) (vs : List (Label A)) (rs : List (Read A)) (rest : Forest (Label A)) → i vs rs rest
+      → i [] (left_over closer vs (dropped_if drops rs)) rest
   pub gone : (vs : List (Label A)) (rs : List (Read A)) (rest : Forest (Label A)) → i vs rs rest → i [] rs rest
   pub found : (closer : Run) (vs : List (Label A)) (rs : List (Read A)) (rest : Forest (Label A)) → i vs rs rest
-      → IfSome (nearest_opener closer rs nil) (λ f. i (layers s f.run.delimiter f.characters vs f.inside).closing (after_layers f (layers s f.run.delimiter f.characters vs f.inside)) rest)
+      → IfSome (nearest_opener closer rs nil) (λ f. i (layers s f.run.delimiter f.characters vs f.inside).closing
+      (after_layers f (layers s f.run.delimiter f.characters vs f.inside)) rest)
 
 -- of a run that may be found
-pub found-if : {A : Type 0} (p : FoundOpener A → Type 0) (b : Bool) (f : FoundOpener A) (o : Option (FoundOpener A)) → p f → IfSome o p → IfSome (found_if b f o) p
+pub found-if : {A : Type 0} (p : FoundOpener A → Type 0) (b : Bool) (f : FoundOpener A) (o : Option (FoundOpener A)) → p f → IfSome o p
+    → IfSome (found_if b f o) p
 found-if p true f o h k = h
 found-if p false f o h k = k
 
 module _ {A : Type 0} (s : Setting) (i : List (Label A) → List (Read A) → Forest (Label A) → Type 0) (stays : StaysTrue s i) where
-  searched_stays : (again : List (Label A) → List (Read A) → List (Read A)) (closer : Run) (vs : List (Label A)) (rs : List (Read A)) (rest : Forest (Label A)) (o : Option (FoundOpener A))
+  searched_stays : (again : List (Label A) → List (Read A) → List (Read A)) (closer : Run) (vs : List (Label A)) (rs : List (Read A))
+      (rest : Forest (Label A)) (o : Option (FoundOpener A))
       → ((left : List (Label A)) (others : List (Read A)) → i left others rest → i [] (again left others) rest) → i vs rs rest
-      → IfSome o (λ f. i (layers s f.run.delimiter f.characters vs f.inside).closing (after_layers f (layers s f.run.delimiter f.characters vs f.inside)) rest)
+      → IfSome o (λ f. i (layers s f.run.delimiter f.characters vs f.inside).closing
+      (after_layers f (layers s f.run.delimiter f.characters vs f.inside)) rest)
       → i [] (after_search s again closer vs rs o) rest
   searched_stays again closer vs rs rest None h k g = stays.left (is_tilde_or_caret closer.delimiter) closer vs rs rest k
   searched_stays again closer vs rs rest (Some f) h k g =
       h (layers s f.run.delimiter f.characters vs f.inside).closing (after_layers f (layers s f.run.delimiter f.characters vs f.inside)) g
 
-  closed_stays : (turns : ℕ) (closer : Run) (vs : List (Label A)) (rs : List (Read A)) (rest : Forest (Label A)) → i vs rs rest → i [] (closed_by s turns closer vs rs) rest
+  closed_stays : (turns : ℕ) (closer : Run) (vs : List (Label A)) (rs : List (Read A)) (rest : Forest (Label A)) → i vs rs rest
+      → i [] (closed_by s turns closer vs rs) rest
   unfolding closed_by
   closed_stays zero closer [] rs rest h = h
   closed_stays (suc turns) closer [] rs rest h = h
   closed_stays zero closer (v ∷ vs) rs rest h = stays.gone (v ∷ vs) rs rest h
   closed_stays (suc turns) closer (v ∷ vs) rs rest h =
-      searched_stays (λ left others. closed_by s turns closer left others) closer (v ∷ vs) rs rest (nearest_opener closer rs nil) (λ left others k. closed_stays turns closer left others rest k) h
+      searched_stays (λ left others. closed_by s turns closer left others) closer (v ∷ vs) rs rest (nearest_opener closer rs nil)
+      (λ left others k. closed_stays turns closer left others rest k) h
       (stays.found closer (v ∷ vs) rs rest h)
 
-  pub run-stays : (closes : Bool) (run : Run) (vs : List (Label A)) (rs : List (Read A)) (rest : Forest (Label A)) → i vs rs rest → i [] (run_read s closes run vs rs) rest
+  pub run-stays : (closes : Bool) (run : Run) (vs : List (Label A)) (rs : List (Read A)) (rest : Forest (Label A)) → i vs rs rest
+      → i [] (run_read s closes run vs rs) rest
   run-stays true run vs rs rest h = closed_stays (length vs) run vs rs rest h
   run-stays false run vs rs rest h = stays.left false run vs rs rest h
 
   -- of a run of n the first character is read here
-  texts_stay : (n : ℕ) (a : Label A) (below after : Forest (Label A)) (rs : List (Read A)) → i [] rs (node a below after) → i (first_texts s.text n (node a below after)) rs (later (n - 1) after)
+  texts_stay : (n : ℕ) (a : Label A) (below after : Forest (Label A)) (rs : List (Read A)) → i [] rs (node a below after)
+      → i (first_texts s.text n (node a below after)) rs (later (n - 1) after)
   texts_stay zero a below after rs h = stays.skip a below after rs h
   texts_stay (suc n) a below after rs h =
-      subst (λ k. i (first_texts s.text (suc n) (node a below after)) rs (later k after)) (let e : n ≡ suc n - 1 = omega arith in e) (stays.texts (suc n) (node a below after) rs h)
+      subst (λ k. i (first_texts s.text (suc n) (node a below after)) rs (later k after)) (let e : n ≡ suc n - 1 = omega arith in e)
+      (stays.texts (suc n) (node a below after) rs h)
 
-  tree_stays : (go_on : ℕ → List (Read A) → List (Read A)) (a : Label A) (below after : Forest (Label A)) (rs : List (Read A)) (o : Option Run)
-      → ((skip : ℕ) (others : List (Read A)) → i [] others (later skip after) → i [] (go_on skip others) nil) → i [] rs (node a below after) → i [] (after_tree s go_on a below after rs o) nil
+  tree_stays : (go_on : ℕ → List (Read A) → List (Read A)) (a : Label A) (below after : Forest (Label A)) (rs : List (Read A))
+      (o : Option Run)
+      → ((skip : ℕ) (others : List (Read A)) → i [] others (later skip after) → i [] (go_on skip others) nil) → i [] rs (node a below after)
+      → i [] (after_tree s go_on a below after rs o) nil
   tree_stays go_on a below after rs None h k = h 0 (done (as_closed s.text a) below ∷ rs) (stays.tree a below after rs k)
   tree_stays go_on a below after rs (Some run) h k =
       h (run.length - 1) (run_read s run.can_close run (first_texts s.text run.length (node a below after)) rs)
-      (run-stays run.can_close run (first_texts s.text run.length (node a below after)) rs (later (run.length - 1) after) (texts_stay run.length a below after rs k))
+      (run-stays run.can_close run (first_texts s.text run.length (node a below after)) rs (later (run.length - 1) after)
+      (texts_stay run.length a below after rs k))
 
-  pub reads-stay : (skip : ℕ) (chain : Forest (Label A)) (rs : List (Read A)) → i [] rs (later skip chain) → i [] (reads_from s skip chain rs) nil
+  pub reads-stay : (skip : ℕ) (chain : Forest (Label A)) (rs : List (Read A)) → i [] rs (later skip chain)
+      → i [] (reads_from s skip chain rs) nil
   unfolding reads_from
   reads-stay zero nil rs h = h
   reads-stay (suc skip) nil rs h = h
   reads-stay (suc skip) (node a below after) rs h = reads-stay skip after rs h
   reads-stay zero (node a below after) rs h =
-      tree_stays (λ skip others. reads_from s skip after others) a below after rs (run_of s.text a.part) (λ skip others k. reads-stay skip after others k) h
+      tree_stays (λ skip others. reads_from s skip after others) a below after rs (run_of s.text a.part)
+      (λ skip others k. reads-stay skip after others k) h

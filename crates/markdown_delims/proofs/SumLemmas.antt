@@ -11,7 +11,9 @@ use Rattle.markdown_delims.specs.declared.run.Run.{Run}
 use Rattle.markdown_delims.specs.Layers.{marks_of, layer_of_one, layer_of_two, spanned}
 use Rattle.markdown_delims.specs.MayPair.{may_pair}
 use Rattle.markdown_chains.specs.Waiting.{text_if}
-use Rattle.markdown_delims.specs.Pairing.{Read, done, waiting, texts_before, all_done, read_trees, FoundOpener, nearest_opener, drop_read, dropped_if, Layers, layers, trees_done, still_waiting, last_first, opened_if, left_over, after_layers, first_texts, reads_from, runs_paired, paired}
+use Rattle.markdown_delims.specs.Pairing.{Read, done, waiting, texts_before, all_done, read_trees, FoundOpener, nearest_opener, drop_read}
+use Rattle.markdown_delims.specs.Pairing.{dropped_if, Layers, layers, trees_done, still_waiting, last_first, opened_if, left_over}
+use Rattle.markdown_delims.specs.Pairing.{after_layers, first_texts, reads_from, runs_paired, paired}
 use Rattle.markdown_delims.specs.Quotes.{first_turn, quotes_after, with_quotes}
 use Rattle.markdown_delims.proofs.StepLawLemmas.{later, StaysTrue, found-if, reads-stay}
 
@@ -54,11 +56,13 @@ module _ {A : Type 0} (s : Setting) (g : Label A → ℕ) (no_more : CountsNoMor
   abbrev Splits : ℕ → FoundOpener A → Type 0
   Splits n f = sum_of g f.inside + (sum_all g f.characters + sum_read f.before) ≡ n
 
-  sum_nearest : (closer : Run) (rs : List (Read A)) (inside : Forest (Label A)) (n : ℕ) → sum_read rs + sum_of g inside ≡ n → IfSome (nearest_opener closer rs inside) (Splits n)
+  sum_nearest : (closer : Run) (rs : List (Read A)) (inside : Forest (Label A)) (n : ℕ) → sum_read rs + sum_of g inside ≡ n
+      → IfSome (nearest_opener closer rs inside) (Splits n)
   sum_nearest closer [] inside n e = tt
   sum_nearest closer (done a below ∷ rs) inside n e = sum_nearest closer rs (node a below inside) n (omega (arith, e))
   sum_nearest closer (waiting dropped run xs ∷ rs) inside n e =
-      found-if (Splits n) (not dropped && may_pair run closer) (record { inside = inside; run = run; characters = xs; before = rs }) (nearest_opener closer rs (texts_before xs inside)) (omega (arith, e))
+      found-if (Splits n) (not dropped && may_pair run closer) (record { inside = inside; run = run; characters = xs; before = rs })
+      (nearest_opener closer rs (texts_before xs inside)) (omega (arith, e))
       (sum_nearest closer rs (texts_before xs inside) n (omega (arith, e, sum_texts xs inside)))
 
   sum_dropped : (rs : List (Read A)) → sum_read (map drop_read rs) ≡ sum_read rs
@@ -73,13 +77,15 @@ module _ {A : Type 0} (s : Setting) (g : Label A → ℕ) (no_more : CountsNoMor
   abbrev LayersSum : ℕ → Layers A → Type 0
   LayersSum n l = sum_of g l.whole + (sum_all g l.opening + sum_all g l.closing) ≤ n
 
-  sum_layers : (d : Delimiter) (xs vs : List (Label A)) (inside : Forest (Label A)) (n : ℕ) → sum_of g inside + (sum_all g xs + sum_all g vs) ≤ n → LayersSum n (layers s d xs vs inside)
+  sum_layers : (d : Delimiter) (xs vs : List (Label A)) (inside : Forest (Label A)) (n : ℕ)
+      → sum_of g inside + (sum_all g xs + sum_all g vs) ≤ n → LayersSum n (layers s d xs vs inside)
   sum_layers d [] vs inside n h = h
   sum_layers d (x ∷ xs) [] inside n h = h
   sum_layers d (x ∷ []) (v ∷ vs) inside n h = omega (arith, h, no_more.one d x v)
   sum_layers d (x ∷ y ∷ xs) (v ∷ []) inside n h = omega (arith, h, no_more.one d x v)
   sum_layers d (x ∷ y ∷ xs) (v ∷ w ∷ vs) inside n h =
-      sum_layers d xs vs (node (spanned s.text (layer_of_two (marks_of s.rules.options) d) y w) inside nil) n (omega (arith, h, no_more.two d y w))
+      sum_layers d xs vs (node (spanned s.text (layer_of_two (marks_of s.rules.options) d) y w) inside nil) n
+      (omega (arith, h, no_more.two d y w))
 
   sum_trees_done : (f : Forest (Label A)) (rs : List (Read A)) → sum_read (trees_done f rs) ≡ sum_of g f + sum_read rs
   sum_trees_done nil rs = omega arith
@@ -93,7 +99,8 @@ module _ {A : Type 0} (s : Setting) (g : Label A → ℕ) (no_more : CountsNoMor
   sum_turned [] ys = omega arith
   sum_turned (x ∷ xs) ys = omega (arith, sum_turned xs (x ∷ ys))
 
-  sum_opened : (b : Bool) (run : Run) (xs : List (Label A)) (rs : List (Read A)) → sum_read (opened_if b run xs rs) ≡ sum_all g xs + sum_read rs
+  sum_opened : (b : Bool) (run : Run) (xs : List (Label A)) (rs : List (Read A)) → sum_read (opened_if b run xs rs) ≡ sum_all g xs
+      + sum_read rs
   sum_opened true run xs rs = refl
   sum_opened false run xs rs = sum_done xs rs
 
@@ -110,7 +117,8 @@ module _ {A : Type 0} (s : Setting) (g : Label A → ℕ) (no_more : CountsNoMor
   sum_text_if false a = omega arith
 
   sum_pair : (vs : List (Label A)) (f : FoundOpener A) (n : ℕ) → Splits n f
-      → sum_all g (layers s f.run.delimiter f.characters vs f.inside).closing + sum_read (after_layers f (layers s f.run.delimiter f.characters vs f.inside)) ≤ sum_all g vs + n
+      → sum_all g (layers s f.run.delimiter f.characters vs f.inside).closing
+      + sum_read (after_layers f (layers s f.run.delimiter f.characters vs f.inside)) ≤ sum_all g vs + n
   sum_pair vs f n h =
       let l : Layers A = layers s f.run.delimiter f.characters vs f.inside in
       omega (
@@ -133,17 +141,29 @@ module _ {A : Type 0} (s : Setting) (g : Label A → ℕ) (no_more : CountsNoMor
     left = λ drops closer vs rs rest h. omega (arith, h, sum_left closer vs (dropped_if drops rs), sum_drop_if drops rs);
     gone = λ vs rs rest h. omega (arith, h);
     found = λ closer vs rs rest h.
-        IfSome_then (nearest_opener closer rs nil) (sum_nearest closer rs nil (sum_read rs) (omega arith)) (λ f k. omega (arith, h, sum_pair vs f (sum_read rs) k));
+        IfSome_then (nearest_opener closer rs nil) (sum_nearest closer rs nil (sum_read rs) (omega arith))
+        (λ f k. omega (arith, h, sum_pair vs f (sum_read rs) k));
   }
 
   sum_quotes : (single double : Bool) (chain : Forest (Label A)) → sum_of g (quotes_after single double chain) ≤ sum_of g chain
   sum_quotes single double nil = omega arith
   sum_quotes single double (node a below after) =
-      omega (arith, no_more.quote a after single double, sum_quotes (first_turn a after single double).single (first_turn a after single double).double after)
+      omega (
+        arith,
+        no_more.quote a after single double,
+        sum_quotes (first_turn a after single double).single
+            (first_turn a after single double).double after,
+      )
 
   -- pairing raises no such sum
   pub sum-paired : (chain : Forest (Label A)) → sum_of g (paired s chain) ≤ sum_of g chain
   unfolding paired runs_paired with_quotes
   sum-paired chain =
       let quoted : Forest (Label A) = quotes_after false false chain in
-      omega (arith, sum_trees (reads_from s 0 quoted []) nil, reads-stay s (AtMost (sum_of g quoted)) (at_most_on (sum_of g quoted)) 0 quoted [] (omega arith), sum_quotes false false chain)
+      omega (
+        arith,
+        sum_trees (reads_from s 0 quoted []) nil,
+        reads-stay s (AtMost (sum_of g quoted)) (at_most_on (sum_of g quoted)) 0
+            quoted [] (omega arith),
+        sum_quotes false false chain,
+      )

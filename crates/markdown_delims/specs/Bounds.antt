@@ -1,6 +1,7 @@
 -- The lower bounds of a stack of open runs, and what they say of it. Those of `~` and `^` are raised together, and
 -- so are counted once.
-use Rattle.std.specs.Prelude.{◌≡◌, ℕ, ◌+◌, ◌-◌, ◌%◌, ◌≤◌, min, List, length, take, true, false, ◌==◌, if◌then◌else◌, All}
+use Rattle.std.specs.Prelude.{◌≡◌, ℕ, ◌+◌, ◌-◌, ◌%◌, ◌≤◌, min, List, length, take, true, false, ◌==◌, if◌then◌else◌}
+use Rattle.std.specs.Prelude.{All}
 use Rattle.markdown_delims.specs.declared.run.Delimiter.{Delimiter}
 use Rattle.markdown_delims.specs.declared.run.Delimiter.TheVariants.{Star, Underscore, Tilde, Caret}
 use Rattle.markdown_delims.specs.declared.run.Run.{Run}
@@ -9,26 +10,32 @@ use Rattle.markdown_delims.specs.declared.bounds.CharacterBounds.{CharacterBound
 use Rattle.markdown_delims.specs.declared.bounds.LowerBounds.{LowerBounds}
 use Rattle.markdown_delims.specs.MayPair.{same_delimiter, both, lengths_agree}
 
+-- nothing was looked for yet
 abbrev pub no_bounds : CharacterBounds
 no_bounds = record { cannot_open = 0; remainder_zero = 0; remainder_one = 0; remainder_two = 0 }
 
+-- nothing was looked for yet, whatever the character
 abbrev pub zero_bounds : LowerBounds
 zero_bounds = record { star = no_bounds; underscore = no_bounds; tilde = 0; caret = 0 }
 
+-- the bound of closers whose length leaves this remainder by 3
 abbrev pub remainder_bound : ℕ → CharacterBounds → ℕ
 remainder_bound r b = if r == 0 then b.remainder_zero else if r == 1 then b.remainder_one else b.remainder_two
 
+-- the bound of a closer, among those of its character
 abbrev pub character_bound_for : Run → CharacterBounds → ℕ
 character_bound_for closer b =
     if both closer then remainder_bound (closer.length % 3) b
     else min (remainder_bound (closer.length % 3) b) b.cannot_open
 
+-- the bound of a closer of this character
 abbrev pub bound_at : Delimiter → Run → LowerBounds → ℕ
 bound_at Star closer b = character_bound_for closer b.star
 bound_at Underscore closer b = character_bound_for closer b.underscore
 bound_at Tilde closer b = b.tilde
 bound_at Caret closer b = b.caret
 
+-- up to where no opener pairs with this closer
 abbrev pub bound_for : Run → LowerBounds → ℕ
 bound_for closer b = bound_at closer.delimiter closer b
 
@@ -42,15 +49,18 @@ character_raised_for closer len b =
       remainder_two = if closer.length % 3 == 2 then len else b.remainder_two;
     }
 
+-- the bounds after a search that found nothing, by the closer's character
 abbrev pub raised_at : Delimiter → Run → ℕ → LowerBounds → LowerBounds
 raised_at Star closer len b = record b { star = character_raised_for closer len b.star }
 raised_at Underscore closer len b = record b { underscore = character_raised_for closer len b.underscore }
 raised_at Tilde closer len b = record b { tilde = len; caret = len }
 raised_at Caret closer len b = record b { tilde = len; caret = len }
 
+-- the bounds after a closer's search that found nothing, over a stack of this length
 abbrev pub raised_for : Run → ℕ → LowerBounds → LowerBounds
 raised_for closer len b = raised_at closer.delimiter closer len b
 
+-- the bounds of a character, none above this length
 abbrev pub character_lowered : ℕ → CharacterBounds → CharacterBounds
 character_lowered len b =
     record {
@@ -60,6 +70,7 @@ character_lowered len b =
       remainder_two = min b.remainder_two len;
     }
 
+-- bounds over a stack of this length
 abbrev pub lowered : ℕ → LowerBounds → LowerBounds
 lowered len b =
     record {
@@ -81,6 +92,7 @@ abbrev pub character_above : ℕ → CharacterBounds → ℕ
 character_above len b =
     (len - b.cannot_open) + (len - b.remainder_zero) + (len - b.remainder_one) + (len - b.remainder_two)
 
+-- how many there are for all characters
 abbrev pub above_bounds : ℕ → LowerBounds → ℕ
 above_bounds len b =
     character_above len b.star + character_above len b.underscore + (len - b.tilde)

@@ -18,20 +18,23 @@ pub record Chain : Type 0 where
   pub bound : ℕ
 
 -- the chain so far is these entries, and `last` is its last node; from the link l on stands the rest
-pub record Stands (h : Chain) (s : Arena Item) (es : List Entry) (last l : Option ℕ) (rest : Forest Numbered) : Type 0 where
-  pub cut : Cut h.touched (view_of s.nodes) h.first (flat es) l rest h.bound
-  pub last_is : last ≡ top (flat es)
-  pub left_touched : AllTouched h.touched (flat es)
-  pub rest_touched : AllTouched h.touched rest
+pub record Stands (h : Chain) (s : Arena Item) (es : List Entry) (last l : Option ℕ) (rest : Forest Numbered) : Type 0
+  where
+    pub cut : Cut h.touched (view_of s.nodes) h.first (flat es) l rest h.bound
+    pub last_is : last ≡ top (flat es)
+    pub left_touched : AllTouched h.touched (flat es)
+    pub rest_touched : AllTouched h.touched rest
 
 -- t is s with the chain read further, and nothing else changed
-pub record Reads (h : Chain) (s t : Arena Item) (es : List Entry) (last l : Option ℕ) (rest : Forest Numbered) : Type 0 where
-  pub stands : Stands h t es last l rest
-  pub kept : Kept h.touched s t
+pub record Reads (h : Chain) (s t : Arena Item) (es : List Entry) (last l : Option ℕ) (rest : Forest Numbered) : Type 0
+  where
+    pub stands : Stands h t es last l rest
+    pub kept : Kept h.touched s t
 
 -- the rest begins with the characters of a closer
 abbrev pub StandsAt : Chain → Arena Item → List Entry → Option ℕ → ℕ → Characters → Forest Numbered → Type 0
-StandsAt h s es last start closer after = Stands h s es last (Some closer.number) (characters closer.number start closer.count after)
+StandsAt h s es last start closer after = Stands h s es last (Some closer.number)
+    (characters closer.number start closer.count after)
 
 -- the characters that pair
 abbrev pub count_of : Characters → Characters → ℕ
@@ -40,10 +43,12 @@ count_of opener closer = min opener.count closer.count
 -- a closer pairs with the opener that its search finds
 abbrev pub Pairs : Marks → ℕ → Characters → Characters → ℕ → Arena Item → Arena Item → ℕ → Option ℕ → Type 0
 Pairs m start opener closer last s t root rest =
-    (h : Chain) (es : List Entry) (after : Forest Numbered) (taken : Taken) → StandsAt h s es (Some last) start closer after
+    (h : Chain) (es : List Entry) (after : Forest Numbered) (taken : Taken)
+    → StandsAt h s es (Some last) start closer after
     → search closer.run es nil ≡ Some taken → taken.opener ≡ opener
     → Reads h s t (with_pair m start closer taken) (Some root) rest
-    (characters (closer.number + count_of opener closer) (start + count_of opener closer) (closer.count - count_of opener closer) after)
+    (characters (closer.number + count_of opener closer) (start + count_of opener closer)
+    (closer.count - count_of opener closer) after)
 
 -- that it finds one there
 pub record CanPair (start : ℕ) (opener closer : Characters) (last : ℕ) (s : Arena Item) : Type 0 where
@@ -56,20 +61,24 @@ pub record CanPair (start : ℕ) (opener closer : Characters) (last : ℕ) (s : 
   pub opener_is : taken.opener ≡ opener
 
 -- the chain is read so far as these entries, and the open runs are those among them
-pub record IsRead (h : Chain) (s t : Arena Item) (es : List Entry) (runs : List OpenRun) (last l : Option ℕ) (rest : Forest Numbered) : Type 0 where
+pub record IsRead (h : Chain) (s t : Arena Item) (es : List Entry) (runs : List OpenRun) (last l : Option ℕ)
+    (rest : Forest Numbered) : Type 0 where
   pub reads : Reads h s t es last l rest
   pub runs_are : runs ≡ open_of es
 
 -- from a chain whose rest begins with the characters of a closer it is read on past them, and the entries are
 -- what `next` makes of those before
-abbrev pub ReadsOn : (List Entry → List Entry) → ℕ → Characters → Option ℕ → Arena Item → Arena Item → List OpenRun → List OpenRun → Option ℕ → Option ℕ → Type 0
+abbrev pub ReadsOn : (List Entry → List Entry) → ℕ → Characters → Option ℕ → Arena Item → Arena Item → List OpenRun
+    → List OpenRun → Option ℕ → Option ℕ → Type 0
 ReadsOn next start closer last s t runs runs' last' l =
-    (h : Chain) (es : List Entry) (after : Forest Numbered) → StandsAt h s es last start closer after → runs ≡ open_of es → IsRead h s t (next es) runs' last' l after
+    (h : Chain) (es : List Entry) (after : Forest Numbered) → StandsAt h s es last start closer after
+    → runs ≡ open_of es → IsRead h s t (next es) runs' last' l after
 
 -- that there is such a chain
-pub record CanRead (start : ℕ) (closer : Characters) (last : Option ℕ) (s : Arena Item) (runs : List OpenRun) : Type 0 where
-  pub chain : Chain
-  pub es : List Entry
-  pub after : Forest Numbered
-  pub stands : StandsAt chain s es last start closer after
-  pub runs_are : runs ≡ open_of es
+pub record CanRead (start : ℕ) (closer : Characters) (last : Option ℕ) (s : Arena Item) (runs : List OpenRun) : Type 0
+  where
+    pub chain : Chain
+    pub es : List Entry
+    pub after : Forest Numbered
+    pub stands : StandsAt chain s es last start closer after
+    pub runs_are : runs ≡ open_of es

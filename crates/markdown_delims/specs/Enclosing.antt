@@ -36,7 +36,8 @@ pub record Encloses (g : Around) (s : Arena Item) (number n : ℕ) (inner outer 
   pub inside_touched : AllTouched g.touched g.inside
 
 -- the chain, cut after the nodes that the characters became
-pub record IsEnclosed (g : Around) (s t : Arena Item) (entry : Entry) (es : List Entry) (root : ℕ) (outer : Option ℕ) : Type 0 where
+pub record IsEnclosed (g : Around) (s t : Arena Item) (entry : Entry) (es : List Entry) (root : ℕ) (outer : Option ℕ)
+    : Type 0 where
   pub cut : Cut g.touched (view_of t.nodes) g.first (flat (entry ∷ es)) outer g.after g.bound
   pub last : Some root ≡ top (flat (entry ∷ es))
   pub left_touched : AllTouched g.touched (flat (entry ∷ es))
@@ -50,4 +51,5 @@ LeavesOpen g opener count es = flat es ≡ characters_after opener.number g.star
 abbrev pub EnclosesAll : Marks → Characters → ℕ → ℕ → Option ℕ → Option ℕ → Arena Item → Arena Item → ℕ → Type 0
 EnclosesAll m opener count end inner outer s t root =
     (g : Around) (es : List Entry) → Encloses g s opener.number opener.count inner outer → LeavesOpen g opener count es
-    → IsEnclosed g s t (enclosed m opener.run.delimiter opener.number g.start opener.count end count g.inside) es root outer
+    → IsEnclosed g s t (enclosed m opener.run.delimiter opener.number g.start opener.count end count g.inside) es root
+    outer

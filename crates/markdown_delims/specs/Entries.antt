@@ -1,6 +1,7 @@
 -- Pairing as a forest: a chain is read from left to right, and a closer encloses what stands between it
 -- and its opener.
-use Rattle.std.specs.Prelude.{ℕ, zero, suc, ◌+◌, ◌-◌, min, List, [], ◌∷◌, map, false, nat_lt, if◌then◌else◌, Option, Some, None}
+use Rattle.std.specs.Prelude.{ℕ, zero, suc, ◌+◌, ◌-◌, min, List, [], ◌∷◌, map, false, nat_lt, if◌then◌else◌, Option}
+use Rattle.std.specs.Prelude.{Some, None}
 use Rattle.markdown_base.specs.declared.item.ItemBody.{ItemBody}
 use Rattle.markdown_base.specs.BlockTree.{Numbered}
 use Rattle.markdown_base.specs.Forest.{Forest, nil, node}
@@ -34,7 +35,8 @@ characters number start (suc n) after = node (character number start) nil (chara
 -- the same behind a left list, whose nearest tree comes first
 abbrev pub characters_after : ℕ → ℕ → ℕ → Forest Numbered → Forest Numbered
 characters_after number start zero before = before
-characters_after number start (suc n) before = node (character (number + n) (start + n)) nil (characters_after number start n before)
+characters_after number start (suc n) before = node (character (number + n) (start + n)) nil
+    (characters_after number start n before)
 
 -- the left list that some entries are, where no further run closes
 abbrev pub flat : List Entry → Forest Numbered
@@ -78,6 +80,7 @@ drop_entry (settled a below) = settled a below
 drop_entry (lone number start n) = lone number start n
 drop_entry (waiting start r) = waiting start (drop_run r)
 
+-- after a search by `~` or `^` that found nothing
 abbrev pub entries_dropped : Run → List Entry → List Entry
 entries_dropped closer es = if is_tilde_or_caret closer.delimiter then map drop_entry es else es
 
@@ -97,30 +100,36 @@ enclosed m d number start top end (suc (suc (suc n))) inside =
 abbrev pub without_last : ℕ → Characters → Characters
 without_last n c = record c { count = c.count - n }
 
+-- the characters of a run without its first
 abbrev pub without_first : ℕ → Characters → Characters
 without_first n c = record c { number = c.number + n; count = c.count - n }
 
 -- the opener's characters that did not pair stay open
 abbrev pub rest_open : ℕ → Taken → List Entry
 rest_open n t =
-    if nat_lt n t.opener.count then waiting t.start (record { dropped = false; opener = without_last n t.opener }) ∷ t.before else t.before
+    if nat_lt n t.opener.count then waiting t.start (record { dropped = false; opener = without_last n t.opener })
+    ∷ t.before else t.before
 
 -- the lesser of the two counts left pairs, from the inside out
 abbrev pub with_pair : Marks → ℕ → Characters → Taken → List Entry
 with_pair m start closer t =
-    enclosed m t.opener.run.delimiter t.opener.number t.start t.opener.count start (min t.opener.count closer.count) t.inside
+    enclosed m t.opener.run.delimiter t.opener.number t.start t.opener.count start (min t.opener.count closer.count)
+    t.inside
     ∷ rest_open (min t.opener.count closer.count) t
 
 -- characters that cannot close, or found none, open if they can
 abbrev pub kept : ℕ → Characters → List Entry → List Entry
 kept start c es =
-    if c.run.can_open then waiting start (record { dropped = false; opener = c }) ∷ es else lone c.number start c.count ∷ es
+    if c.run.can_open then waiting start (record { dropped = false; opener = c }) ∷ es
+    else lone c.number start c.count ∷ es
 
 -- after a search: a closer with characters left searches again
-abbrev pub after_search : Marks → (ℕ → Characters → List Entry → List Entry) → ℕ → Characters → List Entry → Option Taken → List Entry
+abbrev pub after_search : Marks → (ℕ → Characters → List Entry → List Entry) → ℕ → Characters → List Entry
+    → Option Taken → List Entry
 after_search m again start closer es None = kept start closer (entries_dropped closer.run es)
 after_search m again start closer es (Some t) =
-    if nat_lt t.opener.count closer.count then again (start + t.opener.count) (without_first t.opener.count closer) (with_pair m start closer t)
+    if nat_lt t.opener.count closer.count then again (start + t.opener.count) (without_first t.opener.count closer)
+    (with_pair m start closer t)
     else with_pair m start closer t
 
 -- each find uses a character at least, so one turn for each is enough
@@ -138,7 +147,8 @@ abbrev pub all_of_run : Run → ℕ → Characters
 all_of_run run number = record { run = run; number = number; count = run.length }
 
 -- a tree is read; of a run the first character stands for all
-abbrev pub after_tree : Marks → (ℕ → List Entry → List Entry) → Option Run → Numbered → Forest Numbered → List Entry → List Entry
+abbrev pub after_tree : Marks → (ℕ → List Entry → List Entry) → Option Run → Numbered → Forest Numbered → List Entry
+    → List Entry
 after_tree m go_on None a below es = go_on 0 (settled a below ∷ es)
 after_tree m go_on (Some run) a below es = go_on (run.length - 1) (with_run m a.item.start (all_of_run run a.number) es)
 
@@ -146,7 +156,8 @@ after_tree m go_on (Some run) a below es = go_on (run.length - 1) (with_run m a.
 unfoldable pub paired_from : Marks → List ℕ → ℕ → Forest Numbered → List Entry → List Entry
 paired_from m text skip nil es = es
 paired_from m text (suc skip) (node a below after) es = paired_from m text skip after es
-paired_from m text zero (node a below after) es = after_tree m (λ skip fs. paired_from m text skip after fs) (run_of text a.item) a below es
+paired_from m text zero (node a below after) es = after_tree m (λ skip fs. paired_from m text skip after fs)
+    (run_of text a.item) a below es
 
 -- a chain with its runs paired: at its end no run is open any more
 abbrev pub paired : Marks → List ℕ → Forest Numbered → Forest Numbered

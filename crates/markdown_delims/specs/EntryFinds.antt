@@ -24,6 +24,7 @@ closer_finds (suc turns) closer count runs =
 abbrev pub run_finds : Run → (count : ℕ) → List OpenRun → ℕ
 run_finds run count runs = if run.can_close then closer_finds count run count runs else 0
 
+-- how many searches find an opener from a tree of the chain on
 abbrev pub tree_finds : Marks → (ℕ → List Entry → ℕ) → Option Run → Numbered → Forest Numbered → List Entry → ℕ
 tree_finds m go_on None a below es = go_on 0 (settled a below ∷ es)
 tree_finds m go_on (Some run) a below es =

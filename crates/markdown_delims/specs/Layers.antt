@@ -5,7 +5,8 @@ use Rattle.markdown_base.specs.Event.{TagView, emphasis, strong, strikethrough, 
 use Rattle.markdown_base.specs.declared.item.ItemBody.{ItemBody}
 use Rattle.markdown_base.specs.declared.item.ItemBody.TheVariants as body
 use Rattle.markdown_base.specs.declared.options.Options.{Options}
-use Rattle.markdown_chains.specs.Document.{Shape, leaf, enclosed, plain, backslash_break, unresolved, Part, Label, text_over}
+use Rattle.markdown_chains.specs.Document.{Shape, leaf, enclosed, plain, backslash_break, unresolved, Part, Label}
+use Rattle.markdown_chains.specs.Document.{text_over}
 use Rattle.markdown_delims.specs.declared.marks.Marks.{Marks}
 use Rattle.markdown_delims.specs.declared.run.Delimiter.{Delimiter}
 use Rattle.markdown_delims.specs.declared.run.Delimiter.TheVariants.{Star, Underscore, Tilde, Caret}
@@ -36,6 +37,7 @@ layer_of_two m Underscore source = enclosed strong
 layer_of_two m Tilde source = enclosed_if m.strikethrough strikethrough (text_over source)
 layer_of_two m Caret source = enclosed_if m.superscript superscript (text_over source)
 
+-- what a layer of one character makes
 abbrev pub layer_of_one : Marks → Delimiter → List ℕ → Shape
 layer_of_one m Star source = enclosed emphasis
 layer_of_one m Underscore source = enclosed emphasis
@@ -61,10 +63,12 @@ run_by zero opens closes (Some d) = None
 run_by (suc n) opens closes (Some d) =
     Some (record { delimiter = d; length = suc n; can_open = opens; can_close = closes })
 
+-- the run of an open item
 abbrev pub run_of_body : ItemBody → Option Delimiter → Option Run
 run_of_body (body.MaybeEmphasis count opens closes) d = run_by count opens closes d
 run_of_body other d = None
 
+-- the run of a shape, where it is open
 abbrev pub run_of_shape : Shape → Option Delimiter → Option Run
 run_of_shape (leaf e origins) d = None
 run_of_shape (enclosed tag) d = None

@@ -1,5 +1,6 @@
 -- Which delimiter characters pair.
-use Rattle.std.specs.Prelude.{ℕ, ◌+◌, ◌%◌, List, [], ◌∷◌, map, Bool, true, false, not, ◌&&◌, ◌||◌, ◌==◌, if◌then◌else◌, Option, Some, None}
+use Rattle.std.specs.Prelude.{ℕ, ◌+◌, ◌%◌, List, [], ◌∷◌, map, Bool, true, false, not, ◌&&◌, ◌||◌, ◌==◌, if◌then◌else◌}
+use Rattle.std.specs.Prelude.{Option, Some, None}
 use Rattle.markdown_delims.specs.declared.run.Delimiter.{Delimiter}
 use Rattle.markdown_delims.specs.declared.run.Delimiter.TheVariants.{Star, Underscore, Tilde, Caret}
 use Rattle.markdown_delims.specs.declared.run.Run.{Run}
@@ -8,7 +9,8 @@ use Rattle.markdown_delims.specs.declared.run.Characters.{Characters}
 -- the character that a byte is
 abbrev pub delimiter_of : ℕ → Option Delimiter
 delimiter_of byte =
-    if byte == 42 then Some Star else if byte == 95 then Some Underscore else if byte == 126 then Some Tilde else if byte == 94 then Some Caret else None
+    if byte == 42 then Some Star else if byte == 95 then Some Underscore else if byte == 126 then Some Tilde
+    else if byte == 94 then Some Caret else None
 
 -- the same character
 abbrev pub same_delimiter : Delimiter → Delimiter → Bool
@@ -18,16 +20,19 @@ same_delimiter Tilde Tilde = true
 same_delimiter Caret Caret = true
 same_delimiter _ _ = false
 
+-- the delimiters of which a search that finds none drops all
 abbrev pub is_tilde_or_caret : Delimiter → Bool
 is_tilde_or_caret Star = false
 is_tilde_or_caret Underscore = false
 is_tilde_or_caret Tilde = true
 is_tilde_or_caret Caret = true
 
+-- the delimiter whose runs pair only with runs of their length
 abbrev pub needs_equal_length : Delimiter → Bool
 needs_equal_length Tilde = true
 needs_equal_length _ = false
 
+-- it can open, and it can close
 abbrev pub both : Run → Bool
 both run = run.can_open && run.can_close
 
@@ -35,6 +40,7 @@ both run = run.can_open && run.can_close
 abbrev pub lengths_agree : ℕ → ℕ → Bool
 lengths_agree opener closer = not ((opener + closer) % 3 == 0) || (closer % 3 == 0)
 
+-- an opener and a closer may pair
 abbrev pub may_pair : Run → Run → Bool
 may_pair opener closer =
     same_delimiter opener.delimiter closer.delimiter
@@ -46,6 +52,7 @@ pub record OpenRun : Type 0 where
   pub dropped : Bool
   pub opener : Characters
 
+-- an open run with which a closer may pair
 abbrev pub may_take : Run → OpenRun → Bool
 may_take closer r = not r.dropped && may_pair r.opener.run closer
 
@@ -57,8 +64,10 @@ pub record Found : Type 0 where
 -- the nearest open run that is not dropped and may pair; the nearest comes first in the list
 abbrev pub nearest : Run → List OpenRun → Option Found
 nearest closer [] = None
-nearest closer (r ∷ rs) = if may_take closer r then Some (record { opener = r.opener; before = rs }) else nearest closer rs
+nearest closer (r ∷ rs) = if may_take closer r then Some (record { opener = r.opener; before = rs })
+    else nearest closer rs
 
+-- a `~` or `^` run that pairs no more
 abbrev pub drop_run : OpenRun → OpenRun
 drop_run r = record { dropped = r.dropped || is_tilde_or_caret r.opener.run.delimiter; opener = r.opener }
 

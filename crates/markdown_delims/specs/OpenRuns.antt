@@ -5,7 +5,8 @@ use Rattle.markdown_delims.specs.declared.bounds.LowerBounds.{LowerBounds}
 use Rattle.markdown_delims.specs.MayPair.{OpenRun}
 use Rattle.markdown_delims.specs.Bounds.{BoundStack, above_bounds, drop_bound}
 
--- the open runs, the nearest first; how often one was compared with a closer; and that number with what may still be compared
+-- the open runs, the nearest first; how often one was compared with a closer; and that number with what may still be
+-- compared
 pub record Openers : Type 0 where
   pub runs : List OpenRun
   pub examined : ℕ
@@ -15,6 +16,7 @@ pub record Openers : Type 0 where
 abbrev pub open_run : LowerBounds → ℕ → Characters → OpenRun
 open_run b place c = record { dropped = nat_lt place (drop_bound c.run.delimiter b); opener = c }
 
+-- the open runs of a stack, from this place on
 abbrev pub open_runs_from : LowerBounds → ℕ → List Characters → List OpenRun → List OpenRun
 open_runs_from b place [] rs = rs
 open_runs_from b place (c ∷ cs) rs = open_runs_from b (suc place) cs (open_run b place c ∷ rs)
@@ -27,10 +29,12 @@ open_runs b stack = open_runs_from b 0 stack []
 abbrev pub potential_of : List Characters → ℕ → LowerBounds → ℕ
 potential_of stack examined b = examined + length stack + above_bounds (length stack) b
 
+-- a stack as a search sees it
 abbrev pub openers_of : List Characters → ℕ → LowerBounds → Openers
 openers_of stack examined b =
     record { runs = open_runs b stack; examined = examined; potential = potential_of stack examined b }
 
+-- what a stack keeps
 pub record IsSound (stack : List Characters) (examined : ℕ) (b : LowerBounds) : Type 0 where
   pub bound : BoundStack stack b
   pub counts : All (λ c. 0 < c.count) stack

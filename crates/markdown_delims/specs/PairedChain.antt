@@ -51,7 +51,8 @@ pub record PairsChain (s : Setting) (first : ℕ) (old new : List (Node Item)) :
   pub outside : (n : ℕ) → times_in old (Some first) n ≡ 0 → IsSameAt old new n
   -- where its items were placed, they are, at every depth; and what stood before the chain still does
   pub placed : (tables : Tables) → HasNoBlock (trees_at old (Some first))
-      → Reaches (links_of old) (IsPlaced s.text tables old) (Some first) → Reaches (links_of new) (IsPlaced s.text tables new) (Some first)
+      → Reaches (links_of old) (IsPlaced s.text tables old) (Some first)
+      → Reaches (links_of new) (IsPlaced s.text tables new) (Some first)
   pub before : (a : Numbered) → StandsBefore a (Some (numbered old first)) → StandsBefore a (Some (numbered new first))
   -- no entry is named more often, and it is no heavier
   pub named : (n : Named) → named_in new (Some first) n ≤ named_in old (Some first) n

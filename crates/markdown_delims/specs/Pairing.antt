@@ -1,6 +1,7 @@
 -- Pairing of a chain: it is read from left to right, and a closer encloses what stands between it and its opener
 -- (CommonMark 6.2, and the appendix's "process emphasis").
-use Rattle.std.specs.Prelude.{ℕ, zero, suc, ◌-◌, Bool, true, false, not, ◌&&◌, ◌||◌, List, [], ◌∷◌, map, length, Option, Some, None}
+use Rattle.std.specs.Prelude.{ℕ, zero, suc, ◌-◌, Bool, true, false, not, ◌&&◌, ◌||◌, List, [], ◌∷◌, map, length, Option}
+use Rattle.std.specs.Prelude.{Some, None}
 use Rattle.markdown_base.specs.Forest.{Forest, nil, node}
 use Rattle.markdown_chains.specs.Document.{Label, as_text}
 use Rattle.markdown_chains.specs.Setting.{Setting}
@@ -22,6 +23,7 @@ abbrev pub texts_before : {A : Type 0} → List (Label A) → Forest (Label A) �
 texts_before [] chain = chain
 texts_before (x ∷ xs) chain = texts_before xs (node x nil chain)
 
+-- these are read, and open no more
 abbrev pub all_done : {A : Type 0} → List (Label A) → List (Read A) → List (Read A)
 all_done [] rs = rs
 all_done (x ∷ xs) rs = done x nil ∷ all_done xs rs
@@ -39,6 +41,7 @@ pub record FoundOpener (A : Type 0) : Type 0 where
   pub characters : List (Label A)
   pub before : List (Read A)
 
+-- the opener that was found, or what is found further on
 abbrev pub found_if : {A : Type 0} → Bool → FoundOpener A → Option (FoundOpener A) → Option (FoundOpener A)
 found_if true found further = Some found
 found_if false found further = further
@@ -56,6 +59,7 @@ abbrev pub drop_read : {A : Type 0} → Read A → Read A
 drop_read (done a below) = done a below
 drop_read (waiting dropped run xs) = waiting (dropped || is_tilde_or_caret run.delimiter) run xs
 
+-- after a search that found none, where it drops runs
 abbrev pub dropped_if : {A : Type 0} → Bool → List (Read A) → List (Read A)
 dropped_if true rs = map drop_read rs
 dropped_if false rs = rs
@@ -104,9 +108,11 @@ abbrev pub opened_if : {A : Type 0} → (opens : Bool) → Run → List (Label A
 opened_if true run xs rs = waiting false run xs ∷ rs
 opened_if false run xs rs = all_done xs rs
 
+-- what is left of a run that closed nothing more: it opens if it can
 abbrev pub left_over : {A : Type 0} → Run → List (Label A) → List (Read A) → List (Read A)
 left_over run vs rs = opened_if run.can_open run (last_first vs []) rs
 
+-- after a pair: its layers, and what is left of its opener
 abbrev pub after_layers : {A : Type 0} → FoundOpener A → Layers A → List (Read A)
 after_layers f made = trees_done made.whole (still_waiting f.run made.opening f.before)
 
@@ -126,6 +132,7 @@ closed_by s (suc turns) closer (v ∷ vs) rs =
     after_search s (λ left others. closed_by s turns closer left others) closer (v ∷ vs) rs
     (nearest_opener closer rs nil)
 
+-- a run is read: it closes if it can, and then opens if it can
 abbrev pub run_read : {A : Type 0} → Setting → (closes : Bool) → Run → List (Label A) → List (Read A) → List (Read A)
 run_read s true run vs rs = closed_by s (length vs) run vs rs
 run_read s false run vs rs = left_over run vs rs

@@ -26,6 +26,7 @@ closer_finds s zero closer (v ∷ vs) rs = 0
 closer_finds s (suc turns) closer (v ∷ vs) rs =
     search_finds s (λ left others. closer_finds s turns closer left others) (v ∷ vs) (nearest_opener closer rs nil)
 
+-- how many searches of a run find an opener
 abbrev pub run_finds : {A : Type 0} → Setting → (closes : Bool) → Run → List (Label A) → List (Read A) → ℕ
 run_finds s true run vs rs = closer_finds s (length vs) run vs rs
 run_finds s false run vs rs = 0

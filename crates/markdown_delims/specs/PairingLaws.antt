@@ -1,5 +1,6 @@
 -- Laws of pairing, in its own words.
-use Rattle.std.specs.Prelude.{◌≡◌, ◌≢◌, ℕ, zero, suc, ◌-◌, ◌≤◌, ⊤, Bool, true, false, List, [], ◌∷◌, Option, Some, None, IfSome, IfNone}
+use Rattle.std.specs.Prelude.{◌≡◌, ◌≢◌, ℕ, zero, suc, ◌-◌, ◌≤◌, ⊤, Bool, true, false, List, [], ◌∷◌, Option, Some, None}
+use Rattle.std.specs.Prelude.{IfSome, IfNone}
 use Rattle.markdown_base.specs.Forest.{Forest, nil, node, Each, Throughout}
 use Rattle.markdown_chains.specs.Document.{Shape, leaf, Label, Plain, is_unresolved}
 use Rattle.markdown_chains.specs.Labels.{Begins, is_plain, weight, retag, retagged}
@@ -54,6 +55,7 @@ pub record RunAt : Type 0 where
   pub start : ℕ
   pub run : Run
 
+-- a run, by where it starts
 abbrev pub run_at : (start : ℕ) → Option Run → Option RunAt
 run_at start None = None
 run_at start (Some run) = Some (record { start = start; run = run })
@@ -63,6 +65,7 @@ abbrev pub further : Option RunAt → ℕ
 further None = 0
 further (Some r) = r.run.length - 1
 
+-- no run
 abbrev pub no_run : {A : Type 0} → A → Option RunAt
 no_run a = None
 
@@ -85,6 +88,7 @@ abbrev pub run_if_text : Shape → Option RunAt → Option RunAt
 run_if_text (leaf e origins) r = r
 run_if_text other r = None
 
+-- the run of a character that stayed text
 abbrev pub kept_run : Label (Option RunAt) → Option RunAt
 kept_run a = run_if_text a.part.shape a.tag
 
@@ -117,7 +121,8 @@ NoneMissedLaw A =
 abbrev pub KeepsLaw : Type 0 → Type 0
 KeepsLaw A =
     (passes : Label A → Bool)
-    → ((a b : Label A) → passes a ≡ true → b.part.block ≡ a.part.block → is_unresolved b.part.shape ≡ false → passes b ≡ true)
+    → ((a b : Label A) → passes a ≡ true → b.part.block ≡ a.part.block → is_unresolved b.part.shape ≡ false
+    → passes b ≡ true)
     → (s : Setting) (chain : Forest (Label A))
     → Each (λ a. passes a ≡ true) chain → Each (λ a. passes a ≡ true) (paired s chain)
 

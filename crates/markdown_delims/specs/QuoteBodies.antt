@@ -12,21 +12,26 @@ use Rattle.markdown_delims.specs.declared.quotes.Kind.TheVariants as kind
 abbrev pub left_single : ItemBody
 left_single = body.SynthesizeChar 8216
 
+-- a right single quotation mark
 abbrev pub right_single : ItemBody
 right_single = body.SynthesizeChar 8217
 
+-- a left double quotation mark
 abbrev pub left_double : ItemBody
 left_double = body.SynthesizeChar 8220
 
+-- a right double quotation mark
 abbrev pub right_double : ItemBody
 right_double = body.SynthesizeChar 8221
 
+-- a backslash
 abbrev pub backslash : ItemBody
 backslash = body.SynthesizeChar 92
 
 -- what a body is to the reading of quotes
 abbrev pub kind_of : ItemBody → Kind
-kind_of (body.MaybeSmartQuote quote opens closes) = if quote == 39 then kind.Single opens closes else kind.Double opens closes
+kind_of (body.MaybeSmartQuote quote opens closes) = if quote == 39 then kind.Single opens closes
+    else kind.Double opens closes
 kind_of (body.HardBreak by_backslash) = if by_backslash then kind.Break else kind.Other
 kind_of other = kind.Other
 
@@ -41,16 +46,28 @@ pub record Turn : Type 0 where
   pub single : Bool
   pub double : Bool
 
+-- what an item becomes by its kind, and which quotes are remembered then
 abbrev pub turn_of : Kind → ItemBody → Bool → Bool → Bool → Bool → Turn
 turn_of (kind.Single opens closes) b single double later last =
     if single && closes then record { made = right_single; single = false; double = double }
-    else record { made = if opens && later then left_single else right_single; single = opens || single; double = double }
+    else record {
+      made = if opens && later then left_single else right_single;
+      single = opens
+          || single;
+      double = double;
+    }
 turn_of (kind.Double opens closes) b single double later last =
     if double && closes then record { made = right_double; single = single; double = false }
     else record { made = left_double; single = single; double = opens || double }
-turn_of kind.Break b single double later last = record { made = if last then backslash else b; single = single; double = double }
+turn_of kind.Break b single double later last = record {
+  made = if last then backslash else b;
+  single = single;
+  double =
+      double;
+}
 turn_of kind.Other b single double later last = record { made = b; single = single; double = double }
 
+-- nothing follows
 abbrev pub is_nil : Forest Numbered → Bool
 is_nil nil = true
 is_nil (node a below after) = false
@@ -61,13 +78,15 @@ with_body b a = record { number = a.number; item = record { start = a.item.start
 
 -- the turn of a chain's first tree
 abbrev pub turn_at : Numbered → Forest Numbered → Bool → Bool → Turn
-turn_at a after single double = turn_of (kind_of a.item.body) a.item.body single double (is_closed_later after) (is_nil after)
+turn_at a after single double = turn_of (kind_of a.item.body) a.item.body single double (is_closed_later after)
+    (is_nil after)
 
 -- a chain with its quotes, where a `'` may be remembered and a `"` open
 abbrev pub quoted_after : Bool → Bool → Forest Numbered → Forest Numbered
 quoted_after single double nil = nil
 quoted_after single double (node a below after) =
-    node (with_body (turn_at a after single double).made a) below (quoted_after (turn_at a after single double).single (turn_at a after single double).double after)
+    node (with_body (turn_at a after single double).made a) below (quoted_after (turn_at a after single double).single
+    (turn_at a after single double).double after)
 
 -- a chain with its quotes and its last break
 abbrev pub quoted : Forest Numbered → Forest Numbered

@@ -4,7 +4,8 @@ use Rattle.markdown_base.specs.Event.{text}
 use Rattle.markdown_base.specs.Forest.{Forest, nil, node}
 use Rattle.markdown_base.specs.declared.item.ItemBody.{ItemBody}
 use Rattle.markdown_base.specs.declared.item.ItemBody.TheVariants as body
-use Rattle.markdown_chains.specs.Document.{Shape, leaf, enclosed, plain, backslash_break, unresolved, Label, shaped, made}
+use Rattle.markdown_chains.specs.Document.{Shape, leaf, enclosed, plain, backslash_break, unresolved, Label, shaped}
+use Rattle.markdown_chains.specs.Document.{made}
 use Rattle.markdown_delims.specs.declared.quotes.Kind.{Kind}
 use Rattle.markdown_delims.specs.declared.quotes.Kind.TheVariants as kind
 
@@ -16,15 +17,19 @@ synthesized c = leaf (text (encode_utf8 c)) (made ∷ [])
 abbrev pub left_single : Shape
 left_single = synthesized 8216
 
+-- a right single quotation mark
 abbrev pub right_single : Shape
 right_single = synthesized 8217
 
+-- a left double quotation mark
 abbrev pub left_double : Shape
 left_double = synthesized 8220
 
+-- a right double quotation mark
 abbrev pub right_double : Shape
 right_double = synthesized 8221
 
+-- a backslash
 abbrev pub backslash : Shape
 backslash = synthesized 92
 
@@ -34,10 +39,12 @@ abbrev pub kind_by : (is_single opens closes : Bool) → Kind
 kind_by true opens closes = kind.Single opens closes
 kind_by false opens closes = kind.Double opens closes
 
+-- what an open item is to quotes
 abbrev pub kind_of_open : ItemBody → Kind
 kind_of_open (body.MaybeSmartQuote quote opens closes) = kind_by (quote == 39) opens closes
 kind_of_open other = kind.Other
 
+-- what a shape is to quotes
 abbrev pub kind_of_shape : Shape → Kind
 kind_of_shape (leaf e origins) = kind.Other
 kind_of_shape (enclosed tag) = kind.Other
@@ -52,10 +59,12 @@ closes_later (kind.Double opens closes) later = later
 closes_later kind.Break later = later
 closes_later kind.Other later = later
 
+-- whether it is, by the chain after it
 abbrev pub is_closed_later : {A : Type 0} → Forest (Label A) → Bool
 is_closed_later nil = false
 is_closed_later (node a below after) = closes_later (kind_of_shape a.part.shape) (is_closed_later after)
 
+-- nothing follows
 abbrev pub is_end : {A : Type 0} → Forest A → Bool
 is_end nil = true
 is_end (node a below after) = false
@@ -77,6 +86,7 @@ abbrev pub double_turn : (is_closing opens single double : Bool) → QuoteTurn
 double_turn true opens single double = record { made = right_double; single = single; double = false }
 double_turn false opens single double = record { made = left_double; single = single; double = opens || double }
 
+-- what an item becomes by its kind, and which quotes are remembered then
 abbrev pub turn_by : Kind → Shape → (single double later last : Bool) → QuoteTurn
 turn_by (kind.Single opens closes) shape single double later last =
     single_turn (single && closes) opens single double later

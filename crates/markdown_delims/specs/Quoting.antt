@@ -12,7 +12,8 @@ use Rattle.markdown_delims.specs.ChainForest.{RisesFrom, among, NoneBelow, chain
 use Rattle.markdown_delims.specs.declared.marks.Marks.{Marks}
 use Rattle.markdown_delims.specs.Entries.{read_back, paired}
 use Rattle.markdown_delims.specs.Enclosing.{AllTouched}
-use Rattle.markdown_delims.specs.QuoteBodies.{kind_of, is_closed_later, is_nil, with_body, left_single, quoted_after, quoted}
+use Rattle.markdown_delims.specs.QuoteBodies.{kind_of, is_closed_later, is_nil, with_body, left_single, quoted_after}
+use Rattle.markdown_delims.specs.QuoteBodies.{quoted}
 use Rattle.markdown_delims.specs.ChainStanding.{Chain}
 use Rattle.markdown_delims.specs.Views.{view_of, Wrote, Cut, Kept}
 
@@ -24,7 +25,8 @@ IsRoot ix (node a below before) = (a.number ≡ ix) ⊎ IsRoot ix before
 -- the left list with a left quote at the tree of a number
 abbrev pub left_quoted : ℕ → Forest Numbered → Forest Numbered
 left_quoted ix nil = nil
-left_quoted ix (node a below before) = if a.number == ix then node (with_body left_single a) below before else node a below (left_quoted ix before)
+left_quoted ix (node a below before) = if a.number == ix then node (with_body left_single a) below before
+    else node a below (left_quoted ix before)
 
 -- a remembered `'` is a left quote if it is closed later
 abbrev pub remembered_as : Option ℕ → Bool → Forest Numbered → Forest Numbered
@@ -33,17 +35,20 @@ remembered_as (Some ix) later read = if later then left_quoted ix read else read
 
 -- what the whole chain is, as far as it was read
 abbrev pub quoted_from : Option ℕ → Bool → Forest Numbered → Forest Numbered → Forest Numbered
-quoted_from single double read rest = read_back (remembered_as single (is_closed_later rest) read) (quoted_after (is_some single) double rest)
+quoted_from single double read rest = read_back (remembered_as single (is_closed_later rest) read)
+    (quoted_after (is_some single) double rest)
 
 -- the chain is read so far as a left list, in which the remembered `'` stands
-pub record QuotesStand (h : Chain) (s : Arena Item) (read : Forest Numbered) (single l : Option ℕ) (rest : Forest Numbered) : Type 0 where
+pub record QuotesStand (h : Chain) (s : Arena Item) (read : Forest Numbered) (single l : Option ℕ)
+    (rest : Forest Numbered) : Type 0 where
   pub cut : Cut h.touched (view_of s.nodes) h.first read l rest h.bound
   pub remembered : IfSome single (λ ix. IsRoot ix read)
   pub left_touched : AllTouched h.touched read
   pub rest_touched : AllTouched h.touched rest
 
 -- a tree was read
-pub record QuotesOn (h : Chain) (s t : Arena Item) (begun whole : Forest Numbered) (single : Option ℕ) (double : Bool) (single' : Option ℕ) (double' : Bool) (l : Option ℕ) (rest : Forest Numbered) : Type 0 where
+pub record QuotesOn (h : Chain) (s t : Arena Item) (begun whole : Forest Numbered) (single : Option ℕ) (double : Bool)
+    (single' : Option ℕ) (double' : Bool) (l : Option ℕ) (rest : Forest Numbered) : Type 0 where
   pub read : Forest Numbered
   pub stands : QuotesStand h t read single' l rest
   pub kept : Kept h.touched s t
@@ -51,12 +56,18 @@ pub record QuotesOn (h : Chain) (s t : Arena Item) (begun whole : Forest Numbere
 
 -- another body at one node
 abbrev pub WroteBody : Arena Item → Arena Item → ℕ → ItemBody → Type 0
-WroteBody s t ix b = Wrote s t ix (record { start = (item_at s.nodes ix).start; end = (item_at s.nodes ix).end; body = b }) (child_of s.nodes ix) (sibling_of s.nodes ix)
+WroteBody s t ix b = Wrote s t ix (record {
+  start = (item_at s.nodes ix).start;
+  end = (item_at s.nodes ix).end;
+  body =
+      b;
+}) (child_of s.nodes ix) (sibling_of s.nodes ix)
 
 -- the first tree of the rest is read, which is of this kind
 abbrev pub QuotesTree : Kind → ℕ → Bool → Arena Item → Arena Item → Option ℕ → Bool → Option ℕ → Bool → Type 0
 QuotesTree kind ix last s t single double single' double' =
-    (h : Chain) (begun : Forest Numbered) (a : Numbered) (below after : Forest Numbered) → QuotesStand h s begun single (Some ix) (node a below after) → kind ≡ kind_of a.item.body → last ≡ is_nil after
+    (h : Chain) (begun : Forest Numbered) (a : Numbered) (below after : Forest Numbered)
+    → QuotesStand h s begun single (Some ix) (node a below after) → kind ≡ kind_of a.item.body → last ≡ is_nil after
     → QuotesOn h s t begun (node a below after) single double single' double' (sibling_of s.nodes ix) after
 
 -- there is such a tree

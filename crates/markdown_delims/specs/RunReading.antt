@@ -21,14 +21,17 @@ pub record StandsWhole (text : List ℕ) (a : Numbered) (below after : Forest Nu
 -- each run of a chain is whole. Of chains further down it says nothing.
 abbrev pub IsWhole : List ℕ → Forest Numbered → Type 0
 IsWhole text nil = Unit {0}
-IsWhole text (node a below after) = IfSome (run_character a.item.body) (StandsWhole text a below after) × IsWhole text after
+IsWhole text (node a below after) = IfSome (run_character a.item.body) (StandsWhole text a below after)
+    × IsWhole text after
 
 -- a chain begins with n nodes of consecutive numbers without children, and then comes the rest
 abbrev pub BeginsRun : ℕ → ℕ → Forest Numbered → Forest Numbered → Type 0
 BeginsRun number zero chain rest = chain ≡ rest
 BeginsRun number (suc n) nil rest = ⊥
-BeginsRun number (suc n) (node a below after) rest = (a.number ≡ number) × (below ≡ nil) × BeginsRun (suc number) n after rest
+BeginsRun number (suc n) (node a below after) rest = (a.number ≡ number) × (below ≡ nil)
+    × BeginsRun (suc number) n after rest
 
+-- 1 for a character of a run
 abbrev pub counts_one : Option RunCharacter → ℕ
 counts_one None = 0
 counts_one (Some c) = 1
@@ -39,14 +42,16 @@ delimiters_of nil = 0
 delimiters_of (node a below after) = counts_one (run_character a.item.body) + delimiters_of after
 
 -- characters of a run were settled as text
-pub record IsSettled (h : Chain) (s t : Arena Item) (es : List Entry) (number start n : ℕ) (last : Option ℕ) (rest : Forest Numbered) : Type 0 where
+pub record IsSettled (h : Chain) (s t : Arena Item) (es : List Entry) (number start n : ℕ) (last : Option ℕ)
+    (rest : Forest Numbered) : Type 0 where
   pub stands : Stands h t es last (Some number) (characters number start n rest)
   pub kept : Kept h.touched s t
 
 -- the first n nodes of the rest become characters that stay text
 abbrev pub Settles : ℕ → ℕ → ℕ → Arena Item → Arena Item → Type 0
 Settles number start n s t =
-    (h : Chain) (es : List Entry) (last : Option ℕ) (chain rest : Forest Numbered) → Stands h s es last (Some number) chain → BeginsRun number n chain rest
+    (h : Chain) (es : List Entry) (last : Option ℕ) (chain rest : Forest Numbered)
+    → Stands h s es last (Some number) chain → BeginsRun number n chain rest
     → IsSettled h s t es number start n last rest
 
 -- that there are n such nodes
@@ -60,7 +65,8 @@ pub record CanSettle (number n : ℕ) (s : Arena Item) : Type 0 where
   pub begins : BeginsRun number n whole rest
 
 -- a chain that was read somewhat further: the same is made of the whole, and each search that found was counted
-pub record ReadFurther (m : Marks) (text : List ℕ) (h : Chain) (s t : Arena Item) (begun : List Entry) (chain : Forest Numbered) (old new : Openers) (last' l : Option ℕ) (from : ℕ) : Type 0 where
+pub record ReadFurther (m : Marks) (text : List ℕ) (h : Chain) (s t : Arena Item) (begun : List Entry)
+    (chain : Forest Numbered) (old new : Openers) (last' l : Option ℕ) (from : ℕ) : Type 0 where
   pub es : List Entry
   pub rest : Forest Numbered
   pub is_read : IsRead h s t es new.runs last' l rest
@@ -71,13 +77,16 @@ pub record ReadFurther (m : Marks) (text : List ℕ) (h : Chain) (s t : Arena It
   pub further : Rises h.touched from rest h.bound
 
 -- a tree is read: the first of the rest, or all characters of a run
-abbrev pub ReadsTree : Marks → List ℕ → ℕ → Option ℕ → Arena Item → Arena Item → Openers → Openers → Option ℕ → Option ℕ → Type 0
+abbrev pub ReadsTree : Marks → List ℕ → ℕ → Option ℕ → Arena Item → Arena Item → Openers → Openers → Option ℕ → Option ℕ
+    → Type 0
 ReadsTree m text ix last s t old new last' l =
-    (h : Chain) (es : List Entry) (chain : Forest Numbered) → Stands h s es last (Some ix) chain → IsWhole text chain → old.runs ≡ open_of es
+    (h : Chain) (es : List Entry) (chain : Forest Numbered) → Stands h s es last (Some ix) chain → IsWhole text chain
+    → old.runs ≡ open_of es
     → ReadFurther m text h s t es chain old new last' l (suc ix)
 
 -- that there is one
-pub record CanReadTree (text : List ℕ) (ix : ℕ) (last : Option ℕ) (s : Arena Item) (runs : List OpenRun) (cost : ℕ) : Type 0 where
+pub record CanReadTree (text : List ℕ) (ix : ℕ) (last : Option ℕ) (s : Arena Item) (runs : List OpenRun) (cost : ℕ)
+    : Type 0 where
   pub chain : Chain
   pub es : List Entry
   pub rest : Forest Numbered

@@ -1,5 +1,6 @@
 ghost use Rattle.std.specs.Prelude.{◌≡◌};
-ghost use Rattle.markdown_delims.specs.Bounds.{bound_for, raised_for, lowered, no_bounds, zero_bounds, character_bound_for, character_raised_for, character_lowered};
+ghost use Rattle.markdown_delims.specs.Bounds.{bound_for, raised_for, lowered, no_bounds, zero_bounds};
+ghost use Rattle.markdown_delims.specs.Bounds.{character_bound_for, character_raised_for, character_lowered};
 
 use crate::run::{Delimiter, Run};
 

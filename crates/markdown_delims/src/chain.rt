@@ -37,7 +37,8 @@ fn counts_one(body: ItemBody) -> u128
 /// How many items of the chain from `first` on are characters of delimiter runs.
 fn count_delimiters(tree: &Tree<Item>, first: usize) -> u128
     requires chain { (f : Forest ℕ) × IsSpelled tree.now.nodes first f }
-    ensures count { (f : Forest ℕ) → IsSpelled tree.now.nodes first f → result ≡ delimiters_of (chain_of tree.now.nodes f) }
+    ensures count { (f : Forest ℕ) → IsSpelled tree.now.nodes first f
+        → result ≡ delimiters_of (chain_of tree.now.nodes f) }
     ensures small { result < 2 ^ 64 }
 {
     // bounds the numbers
@@ -63,8 +64,10 @@ fn pair_runs(
 ) -> Result<(), AllocError>
     requires emptied { IsEmptied openers.old }
     requires chain { CanPairAll text.now tree.old.nodes first openers.old }
-    ensures pairs { OnOk result ((f : Forest ℕ) → IsChain text.now tree.old.nodes first f → IsPaired marks text.now tree.old tree.new first f) }
-    ensures examined { OnOk result ((f : Forest ℕ) → IsChain text.now tree.old.nodes first f → openers.new.examined ≤ openers.old.examined + 10 * delimiters_of (chain_of tree.old.nodes f)) }
+    ensures pairs { OnOk result ((f : Forest ℕ) → IsChain text.now tree.old.nodes first f
+        → IsPaired marks text.now tree.old tree.new first f) }
+    ensures examined { OnOk result ((f : Forest ℕ) → IsChain text.now tree.old.nodes first f
+        → openers.new.examined ≤ openers.old.examined + 10 * delimiters_of (chain_of tree.old.nodes f)) }
     ensures found { OnOk result ((f : Forest ℕ) → IsChain text.now tree.old.nodes first f
         → openers.old.examined + finds_from marks text.now 0 (chain_of tree.old.nodes f) [] ≤ openers.new.examined) }
 {

@@ -1,6 +1,7 @@
 //! Laws of pairing. The functions have no code: what each ensures is proved.
 ghost use Rattle.std.specs.Prelude.{ℕ, ⊤};
-ghost use Rattle.markdown_delims.specs.PairingLaws.{ClosedLaw, OrderLaw, JoinsLaw, MissesNoneLaw, NoneMissedLaw, KeepsLaw, BeginsLaw, WeightLaw, TagLaw};
+ghost use Rattle.markdown_delims.specs.PairingLaws.{ClosedLaw, OrderLaw, JoinsLaw, MissesNoneLaw, NoneMissedLaw};
+ghost use Rattle.markdown_delims.specs.PairingLaws.{KeepsLaw, BeginsLaw, WeightLaw, TagLaw};
 
 /// Pairing leaves nothing of its chain open.
 pub fn pairing_leaves_nothing_open()
@@ -22,8 +23,8 @@ pub fn closer_misses_none()
     ensures { MissesNoneLaw ℕ × MissesNoneLaw ⊤ }
 {}
 
-/// Of two runs of `*` or `_` in a chain that may pair, the earlier one as the opener, some pair encloses what is left of
-/// one as text, and not what is left of the other.
+/// Of two runs of `*` or `_` in a chain that may pair, the earlier one as the opener, some pair encloses what is left
+/// of one as text, and not what is left of the other.
 pub fn none_is_missed()
     ensures { NoneMissedLaw ℕ × NoneMissedLaw ⊤ }
 {}

@@ -22,7 +22,12 @@ fn enclose_in(
     requires node { root < length tree.old.nodes }
     requires inside { IfSome inside (λ below. below < length tree.old.nodes) }
     requires next { IfSome next (λ after. after < length tree.old.nodes) }
-    ensures { Wrote tree.old tree.new root (record { start = (item_at tree.old.nodes root).start; end = end; body = body }) inside next }
+    ensures { Wrote tree.old tree.new root (record {
+      start = (item_at tree.old.nodes root).start;
+      end = end;
+      body =
+          body;
+    }) inside next }
 {
     let start = tree.item(root).start;
     put_node(tree, root, Item { start, end, body }, inside, next);

@@ -1,4 +1,5 @@
-ghost use Rattle.std.specs.Prelude.{false, ◌≡◌, ℕ, ◌+◌, ◌^◌, ◌<◌, ◌≤◌, [], ◌∷◌, IfSome, IfNone, OnOk, OnErr, slice_index_or, vec_len};
+ghost use Rattle.std.specs.Prelude.{false, ◌≡◌, ℕ, ◌+◌, ◌^◌, ◌<◌, ◌≤◌, [], ◌∷◌, IfSome, IfNone, OnOk, OnErr};
+ghost use Rattle.std.specs.Prelude.{slice_index_or, vec_len};
 ghost use Rattle.markdown_delims.specs.MayPair.{may_pair, nearest, dropped_by};
 ghost use Rattle.markdown_delims.specs.declared.run.Characters.{Characters as CharactersValue};
 
@@ -19,7 +20,8 @@ impl Stack {
     fn compare(&mut self, i: usize, closer: &Run) -> bool
         requires in_range { i < vec_len self.old.items }
         requires room { self.old.examined + 1 < 2 ^ 128 }
-        ensures answer { (d : CharactersValue) → result ≡ may_pair (slice_index_or self.old.items.items i d).run closer.now }
+        ensures answer { (d : CharactersValue)
+            → result ≡ may_pair (slice_index_or self.old.items.items i d).run closer.now }
         ensures counted { self.new ≡ record self.old { examined = self.old.examined + 1 } }
     {
         self.examined += 1;
@@ -79,7 +81,12 @@ impl OpenRuns {
     pub fn push(&mut self, opener: Characters) -> Result<(), AllocError>
         requires some { 0 < opener.count }
         requires room { self.old.potential + 10 < 2 ^ 128 }
-        ensures ok { OnOk result (self.new ≡ record { runs = record { dropped = false; opener = opener } ∷ self.old.runs; examined = self.old.examined; potential = self.old.potential + 10 }) }
+        ensures ok { OnOk result (self.new
+            ≡ record {
+              runs = record { dropped = false; opener = opener } ∷ self.old.runs;
+              examined = self.old.examined;
+              potential = self.old.potential + 10;
+            }) }
         ensures err { OnErr result (self.new ≡ self.old) }
     {
         self.stack.items.push(opener)?;
@@ -88,8 +95,10 @@ impl OpenRuns {
 
     /// Takes the nearest open run with which a closer may pair, and all that are nearer.
     pub fn take_nearest(&mut self, closer: &Run) -> Option<Characters>
-        ensures found { IfSome result (λ opener. nearest closer.now self.old.runs ≡ Some (record { opener = opener; before = self.new.runs })) }
-        ensures missed { IfNone result ((nearest closer.now self.old.runs ≡ None) × (self.new.runs ≡ dropped_by closer.now self.old.runs)) }
+        ensures found { IfSome result (λ opener. nearest closer.now self.old.runs
+            ≡ Some (record { opener = opener; before = self.new.runs })) }
+        ensures missed { IfNone result ((nearest closer.now self.old.runs ≡ None)
+            × (self.new.runs ≡ dropped_by closer.now self.old.runs)) }
         ensures some { IfSome result (λ opener. 0 < opener.count) }
         ensures counted { IfSome result (λ _. self.old.examined < self.new.examined) }
         ensures rises { self.old.examined ≤ self.new.examined }

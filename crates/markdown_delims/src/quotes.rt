@@ -62,7 +62,8 @@ fn quote_single(
     closes: bool,
 ) -> Option<usize>
     requires stands { CanQuote ix tree.old single }
-    ensures quotes { (double last : Bool) → QuotesTree (Kind.Single opens closes) ix last tree.old tree.new single double result double }
+    ensures quotes { (double last : Bool)
+        → QuotesTree (Kind.Single opens closes) ix last tree.old tree.new single double result double }
 {
     match single {
         None => {
@@ -84,7 +85,8 @@ fn quote_single(
 /// Reads a `"`, where another may be open. Answers whether one is open then.
 fn quote_double(tree: &mut Tree<Item>, ix: usize, double: bool, opens: bool, closes: bool) -> bool
     requires stands { (single : Option ℕ) × CanQuote ix tree.old single }
-    ensures quotes { (single : Option ℕ) (last : Bool) → QuotesTree (Kind.Double opens closes) ix last tree.old tree.new single double single result }
+    ensures quotes { (single : Option ℕ) (last : Bool)
+        → QuotesTree (Kind.Double opens closes) ix last tree.old tree.new single double single result }
 {
     if double && closes {
         put_body(tree, ix, ItemBody::SynthesizeChar('”'));

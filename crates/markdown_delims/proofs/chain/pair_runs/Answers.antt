@@ -16,41 +16,51 @@ read_tree-requires c =
     let room : c.args.openers.now.examined + 10 * delimiters_of (chain_of c.args.tree.now.nodes p.forest) < 2 ^ 128 = p.room in
     record {
       stands =
-          can_go_on c.args.marks c.args.text.now c.args.tree.now c.args.first p.forest p.chain c.trees.tree c.args.openers.now c.trees.openers c.trees.last c.in-Some.ix
+          can_go_on c.args.marks c.args.text.now c.args.tree.now c.args.first p.forest p.chain c.trees.tree c.args.openers.now
+          c.trees.openers c.trees.last c.in-Some.ix
           (omega (arith, c.requires.emptied.potential))
-          (subst (λ l. ReadFurther c.args.marks c.args.text.now (whole_chain c.args.marks c.args.text.now c.args.tree.now c.args.first p.forest p.chain) c.args.tree.now c.trees.tree [] (chain_of c.args.tree.now.nodes p.forest) c.args.openers.now c.trees.openers c.trees.last l 0) c.in-Some.is a);
+          (subst (λ l. ReadFurther c.args.marks c.args.text.now (whole_chain c.args.marks c.args.text.now c.args.tree.now c.args.first
+          p.forest p.chain) c.args.tree.now c.trees.tree [] (chain_of c.args.tree.now.nodes p.forest) c.args.openers.now c.trees.openers
+          c.trees.last l 0) c.in-Some.is a);
     }
 
 pub trees-preserved : goal.trees-preserved
 trees-preserved c f ch =
     let a = c.trees.invariant f ch in
-    reads_more c.args.marks c.args.text.now c.args.tree.now c.args.first f ch c.trees.tree c.read_tree.new.tree c.args.openers.now c.trees.openers c.read_tree.new.openers
+    reads_more c.args.marks c.args.text.now c.args.tree.now c.args.first f ch c.trees.tree c.read_tree.new.tree c.args.openers.now
+    c.trees.openers c.read_tree.new.openers
     c.trees.last c.in_ok-read.read c.in_ok-read.next c.in-Some.ix
-    (subst (λ l. ReadFurther c.args.marks c.args.text.now (whole_chain c.args.marks c.args.text.now c.args.tree.now c.args.first f ch) c.args.tree.now c.trees.tree [] (chain_of c.args.tree.now.nodes f) c.args.openers.now c.trees.openers c.trees.last l 0) c.in-Some.is a)
+    (subst (λ l. ReadFurther c.args.marks c.args.text.now (whole_chain c.args.marks c.args.text.now c.args.tree.now c.args.first f ch)
+    c.args.tree.now c.trees.tree [] (chain_of c.args.tree.now.nodes f) c.args.openers.now c.trees.openers c.trees.last l 0) c.in-Some.is
+    a)
     c.in_ok-read.ensures.ok
 
 pub trees-smaller : goal.trees-smaller
 trees-smaller c =
     let p = c.requires.chain in
     let h = whole_chain c.args.marks c.args.text.now c.args.tree.now c.args.first p.forest p.chain in
-    let a = subst (λ l. ReadFurther c.args.marks c.args.text.now h c.args.tree.now c.trees.tree [] (chain_of c.args.tree.now.nodes p.forest) c.args.openers.now c.trees.openers c.trees.last l 0) c.in-Some.is (c.trees.invariant p.forest p.chain) in
+    let a = subst (λ l. ReadFurther c.args.marks c.args.text.now h c.args.tree.now c.trees.tree [] (chain_of c.args.tree.now.nodes p.forest)
+    c.args.openers.now c.trees.openers c.trees.last l 0) c.in-Some.is (c.trees.invariant p.forest p.chain) in
     let b = c.in_ok-read.ensures.ok h a.es a.rest a.is_read.reads.stands a.whole a.is_read.runs_are in
     let w = head_within c.args.marks c.args.text.now h c.trees.tree a.es c.trees.last c.in-Some.ix a.rest a.is_read.reads.stands in
     rw c.in-Some.is
-    (goes_down c.args.marks c.args.text.now h c.args.tree.now c.trees.tree c.read_tree.new.tree a.es a.rest c.trees.openers c.read_tree.new.openers
+    (goes_down c.args.marks c.args.text.now h c.args.tree.now c.trees.tree c.read_tree.new.tree a.es a.rest c.trees.openers
+    c.read_tree.new.openers
     c.in_ok-read.read c.in_ok-read.next c.in-Some.ix w b.is_read.reads.kept.size b)
 
 pub returns-clause-pairs : goal.returns-clause-pairs
 returns-clause-pairs c f ch =
     let h = whole_chain c.args.marks c.args.text.now c.args.tree.now c.args.first f ch in
     all_read c.args.marks c.args.text.now c.args.tree.now c.args.first f ch c.trees.tree c.args.openers.now c.trees.openers c.trees.last
-    (subst (λ l. ReadFurther c.args.marks c.args.text.now h c.args.tree.now c.trees.tree [] (chain_of c.args.tree.now.nodes f) c.args.openers.now c.trees.openers c.trees.last l 0) c.in_default.is (c.trees.invariant f ch))
+    (subst (λ l. ReadFurther c.args.marks c.args.text.now h c.args.tree.now c.trees.tree [] (chain_of c.args.tree.now.nodes f)
+    c.args.openers.now c.trees.openers c.trees.last l 0) c.in_default.is (c.trees.invariant f ch))
 
 pub returns-clause-found : goal.returns-clause-found
 returns-clause-found c f ch =
     let h = whole_chain c.args.marks c.args.text.now c.args.tree.now c.args.first f ch in
     all_found c.args.marks c.args.text.now c.args.tree.now c.args.first f ch c.trees.tree c.args.openers.now c.trees.openers c.trees.last
-    (subst (λ l. ReadFurther c.args.marks c.args.text.now h c.args.tree.now c.trees.tree [] (chain_of c.args.tree.now.nodes f) c.args.openers.now c.trees.openers c.trees.last l 0) c.in_default.is (c.trees.invariant f ch))
+    (subst (λ l. ReadFurther c.args.marks c.args.text.now h c.args.tree.now c.trees.tree [] (chain_of c.args.tree.now.nodes f)
+    c.args.openers.now c.trees.openers c.trees.last l 0) c.in_default.is (c.trees.invariant f ch))
 
 pub returns-clause-examined : goal.returns-clause-examined
 returns-clause-examined c f ch =

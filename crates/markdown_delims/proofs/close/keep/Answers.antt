@@ -23,7 +23,9 @@ returns-in_ok-push-clause-ok c h es after st runs =
     let opens = kept_open c.args.start c.args.left es c.if-left.true in
     let put = ap (λ o. o.runs) c.in_ok-push.ensures.ok ∙ ap (λ rs. record { dropped = false; opener = c.args.left } ∷ rs) runs in
     rw (opens, c.next-next.ensures.value)
-    (let r : IsRead h c.args.tree.now c.args.tree.now (waiting c.args.start (record { dropped = false; opener = c.args.left }) ∷ es) c.push.new.self.runs (Some (c.args.left.number + (c.args.left.count - 1))) (sibling_of c.args.tree.now.nodes (c.args.left.number + (c.args.left.count - 1))) after =
+    (let r : IsRead h c.args.tree.now c.args.tree.now (waiting c.args.start (record { dropped = false; opener = c.args.left }) ∷ es)
+    c.push.new.self.runs (Some (c.args.left.number + (c.args.left.count - 1))) (sibling_of c.args.tree.now.nodes (c.args.left.number
+    + (c.args.left.count - 1))) after =
     record {
       reads = record {
         stands = read_characters h c.args.tree.now es c.args.last c.args.start c.args.left after st c.requires.some _ refl;
@@ -36,7 +38,9 @@ pub returns-else-left-clause-ok : goal.returns-else-left-clause-ok
 returns-else-left-clause-ok c h es after st runs =
     let closed = kept_lone c.args.start c.args.left es c.if-left.false in
     rw (closed, c.next-next.ensures.value)
-    (let r : IsRead h c.args.tree.now c.args.tree.now (lone c.args.left.number c.args.start c.args.left.count ∷ es) c.args.openers.now.runs (Some (c.args.left.number + (c.args.left.count - 1))) (sibling_of c.args.tree.now.nodes (c.args.left.number + (c.args.left.count - 1))) after =
+    (let r : IsRead h c.args.tree.now c.args.tree.now (lone c.args.left.number c.args.start c.args.left.count ∷ es) c.args.openers.now.runs
+    (Some (c.args.left.number + (c.args.left.count - 1))) (sibling_of c.args.tree.now.nodes (c.args.left.number
+    + (c.args.left.count - 1))) after =
     record {
       reads = record {
         stands = read_characters h c.args.tree.now es c.args.last c.args.start c.args.left after st c.requires.some _ refl;

@@ -13,12 +13,14 @@ abbrev pub invariant-turns : goal.invariant-turns
 invariant-turns l =
     record {
       goes_on :
-          (h : Chain) (es : List Entry) (after : Forest Numbered) → StandsAt h l.fn.tree es l.fn.last l.fn.start l.fn.met after → l.fn.openers.runs ≡ open_of es
+          (h : Chain) (es : List Entry) (after : Forest Numbered) → StandsAt h l.fn.tree es l.fn.last l.fn.start l.fn.met after
+          → l.fn.openers.runs ≡ open_of es
           → ClosingAt l.marks l.fn.start l.fn.met h es after l.fn.tree l.tree l.openers.runs l.at l.closer l.before;
       some : 0 < l.closer.count;
       bytes : l.at + l.closer.count ≡ l.fn.start + l.fn.met.count;
       paid : l.openers.potential ≤ l.fn.openers.potential;
-      found : StillFinds (l.fn.openers.examined + run_finds l.fn.met.run l.fn.met.count l.fn.openers.runs) l.openers.examined l.closer.run l.closer.count l.openers.runs;
+      found : StillFinds (l.fn.openers.examined + run_finds l.fn.met.run l.fn.met.count l.fn.openers.runs) l.openers.examined l.closer.run
+          l.closer.count l.openers.runs;
     }
 
 abbrev pub decreases-turns : goal.decreases-turns

@@ -12,9 +12,12 @@ pub returns-then-closes : goal.returns-then-closes
 returns-then-closes c =
     record {
       quotes = λ single last h begun a below after st e n.
-          put_on h c.args.tree.now begun single c.args.ix a below after st c.put_body.new.tree right_double (kind.Double c.args.opens c.args.closes) c.args.double single false c.put_body.ensures e
-          (put_here h c.args.tree.now begun single c.args.ix a below after st c.put_body.new.tree right_double c.put_body.ensures).remembered
-          (turn_double_closes begun a below after single c.args.opens (remembered_low h c.args.tree.now begun single c.args.ix a below after st)
+          put_on h c.args.tree.now begun single c.args.ix a below after st c.put_body.new.tree right_double
+          (kind.Double c.args.opens c.args.closes) c.args.double single false c.put_body.ensures e
+          (put_here h c.args.tree.now begun single c.args.ix a below after st c.put_body.new.tree right_double
+          c.put_body.ensures).remembered
+          (turn_double_closes begun a below after single c.args.opens (remembered_low h c.args.tree.now begun single c.args.ix a below after
+          st)
           ∙ ap (λ d. turned begun a below after single d (kind.Double c.args.opens true)) (sym c.if-double.true)
           ∙ ap (λ b. turned begun a below after single c.args.double (kind.Double c.args.opens b)) (sym c.if-closes.true));
     }
@@ -27,24 +30,35 @@ pub returns-then-opens : goal.returns-then-opens
 returns-then-opens c =
     record {
       quotes = λ single last h begun a below after st e n.
-          put_on h c.args.tree.now begun single c.args.ix a below after st c.put_body-else-double.new.tree left_double (kind.Double c.args.opens c.args.closes) c.args.double single c.args.opens c.put_body-else-double.ensures e
-          (put_here h c.args.tree.now begun single c.args.ix a below after st c.put_body-else-double.new.tree left_double c.put_body-else-double.ensures).remembered
-          (ap (λ b. quoted_from single b (node (with_body left_double a) below begun) after) (c.if-opens.true ∙ sym (ap (λ b. b || c.args.double) c.if-opens.true))
-          ∙ turn_double_opens begun a below after single c.args.double c.args.opens c.args.closes (remembered_low h c.args.tree.now begun single c.args.ix a below after st) (not_both c.args.double c.args.closes c.else-double.either));
+          put_on h c.args.tree.now begun single c.args.ix a below after st c.put_body-else-double.new.tree left_double
+          (kind.Double c.args.opens c.args.closes) c.args.double single c.args.opens c.put_body-else-double.ensures e
+          (put_here h c.args.tree.now begun single c.args.ix a below after st c.put_body-else-double.new.tree left_double
+          c.put_body-else-double.ensures).remembered
+          (ap (λ b. quoted_from single b (node (with_body left_double a) below begun) after) (c.if-opens.true
+          ∙ sym (ap (λ b. b || c.args.double) c.if-opens.true))
+          ∙ turn_double_opens begun a below after single c.args.double c.args.opens c.args.closes
+          (remembered_low h c.args.tree.now begun single c.args.ix a below after st)
+          (not_both c.args.double c.args.closes c.else-double.either));
     }
 
 pub returns-else-opens : goal.returns-else-opens
 returns-else-opens c =
     record {
       quotes = λ single last h begun a below after st e n.
-          put_on h c.args.tree.now begun single c.args.ix a below after st c.put_body-else-double.new.tree left_double (kind.Double c.args.opens c.args.closes) c.args.double single c.args.double c.put_body-else-double.ensures e
-          (put_here h c.args.tree.now begun single c.args.ix a below after st c.put_body-else-double.new.tree left_double c.put_body-else-double.ensures).remembered
-          (ap (λ b. quoted_from single b (node (with_body left_double a) below begun) after) (sym (ap (λ b. b || c.args.double) c.if-opens.false))
-          ∙ turn_double_opens begun a below after single c.args.double c.args.opens c.args.closes (remembered_low h c.args.tree.now begun single c.args.ix a below after st) (not_both c.args.double c.args.closes c.else-double.either));
+          put_on h c.args.tree.now begun single c.args.ix a below after st c.put_body-else-double.new.tree left_double
+          (kind.Double c.args.opens c.args.closes) c.args.double single c.args.double c.put_body-else-double.ensures e
+          (put_here h c.args.tree.now begun single c.args.ix a below after st c.put_body-else-double.new.tree left_double
+          c.put_body-else-double.ensures).remembered
+          (ap (λ b. quoted_from single b (node (with_body left_double a) below begun) after)
+          (sym (ap (λ b. b || c.args.double) c.if-opens.false))
+          ∙ turn_double_opens begun a below after single c.args.double c.args.opens c.args.closes
+          (remembered_low h c.args.tree.now begun single c.args.ix a below after st)
+          (not_both c.args.double c.args.closes c.else-double.either));
     }
 
 pub put_body-requires : goal.put_body-requires
 put_body-requires c = let p = c.requires.stands.1 in can_here p.chain c.args.tree.now p.begun p.rest c.requires.stands.0 c.args.ix p.stands
 
 pub put_body-requires-else-double : goal.put_body-requires-else-double
-put_body-requires-else-double c = let p = c.requires.stands.1 in can_here p.chain c.args.tree.now p.begun p.rest c.requires.stands.0 c.args.ix p.stands
+put_body-requires-else-double c = let p = c.requires.stands.1 in can_here p.chain c.args.tree.now p.begun p.rest c.requires.stands.0
+    c.args.ix p.stands

@@ -6,7 +6,8 @@ use Rattle.markdown_base.specs.Forest.{node}
 use Rattle.markdown_delims.specs.declared.quotes.Kind.TheVariants as kind
 use Rattle.markdown_delims.specs.QuoteBodies.{right_single, with_body}
 use Rattle.markdown_delims.specs.Quoting.{IsRoot, QuotesStand, QuotesOn, quoted_from}
-use Rattle.markdown_delims.proofs.QuoteLemmas.{turned, turn_none_opens, turn_none_stays, turn_some_opens, turn_some_stays, number_is, remembered_low, put_here, put_on, here_root, close_on, can_here, can_left}
+use Rattle.markdown_delims.proofs.QuoteLemmas.{turned, turn_none_opens, turn_none_stays, turn_some_opens, turn_some_stays, number_is}
+use Rattle.markdown_delims.proofs.QuoteLemmas.{remembered_low, put_here, put_on, here_root, close_on, can_here, can_left}
 use Rattle.markdown_delims.proofs.quotes.quote_single.Goals as goal
 
 pub put_body-requires : goal.put_body-requires
@@ -15,7 +16,8 @@ put_body-requires c = let p = c.requires.stands in can_here p.chain c.args.tree.
 pub put_body-requires-then-closes : goal.put_body-requires-then-closes
 put_body-requires-then-closes c =
     let p = c.requires.stands in
-    can_left p.chain c.args.tree.now p.begun p.rest c.in-Some.left (Some c.args.ix) (subst (λ o. QuotesStand p.chain c.args.tree.now p.begun o (Some c.args.ix) p.rest) c.in-Some.is p.stands)
+    can_left p.chain c.args.tree.now p.begun p.rest c.in-Some.left (Some c.args.ix)
+    (subst (λ o. QuotesStand p.chain c.args.tree.now p.begun o (Some c.args.ix) p.rest) c.in-Some.is p.stands)
 
 pub put_body-requires-then-closes-2 : goal.put_body-requires-then-closes-2
 put_body-requires-then-closes-2 c =
@@ -29,19 +31,24 @@ pub returns-then-closes : goal.returns-then-closes
 returns-then-closes c =
     record {
       quotes = λ double last h begun a below after st e n.
-          subst (λ o. QuotesOn h c.args.tree.now c.put_body-then-closes-2.new.tree begun (node a below after) o double None double (sibling_of c.args.tree.now.nodes c.args.ix) after) (sym c.in-Some.is)
-          (close_on h c.args.tree.now c.put_body-then-closes.new.tree c.put_body-then-closes-2.new.tree begun c.in-Some.left c.args.ix a below after double c.args.opens
+          subst (λ o. QuotesOn h c.args.tree.now c.put_body-then-closes-2.new.tree begun (node a below after) o double None double
+          (sibling_of c.args.tree.now.nodes c.args.ix) after) (sym c.in-Some.is)
+          (close_on h c.args.tree.now c.put_body-then-closes.new.tree c.put_body-then-closes-2.new.tree begun c.in-Some.left c.args.ix a
+          below after double c.args.opens
           (subst (λ o. QuotesStand h c.args.tree.now begun o (Some c.args.ix) (node a below after)) c.in-Some.is st)
-          (ap (λ b. kind.Single c.args.opens b) (sym c.if-closes.true) ∙ e) c.put_body-then-closes.ensures c.put_body-then-closes-2.ensures);
+          (ap (λ b. kind.Single c.args.opens b) (sym c.if-closes.true) ∙ e) c.put_body-then-closes.ensures
+          c.put_body-then-closes-2.ensures);
     }
 
 pub returns-then-opens : goal.returns-then-opens
 returns-then-opens c =
     record {
       quotes = λ double last h begun a below after st e n.
-          put_on h c.args.tree.now begun c.args.single c.args.ix a below after st c.put_body.new.tree right_single (kind.Single c.args.opens c.args.closes) double (Some c.args.ix) double c.put_body.ensures e
+          put_on h c.args.tree.now begun c.args.single c.args.ix a below after st c.put_body.new.tree right_single
+          (kind.Single c.args.opens c.args.closes) double (Some c.args.ix) double c.put_body.ensures e
           (here_root h c.args.tree.now begun c.args.single c.args.ix a below after st right_single)
-          (ap (λ i. quoted_from (Some i) double (node (with_body right_single a) below begun) after) (number_is h c.args.tree.now begun c.args.single c.args.ix a below after st)
+          (ap (λ i. quoted_from (Some i) double (node (with_body right_single a) below begun) after)
+          (number_is h c.args.tree.now begun c.args.single c.args.ix a below after st)
           ∙ turn_none_opens begun a below after double c.args.closes
           ∙ ap (λ o. turned begun a below after o double (kind.Single true c.args.closes)) (sym c.in-None.is)
           ∙ ap (λ b. turned begun a below after c.args.single double (kind.Single b c.args.closes)) (sym c.if-opens.true));
@@ -51,7 +58,8 @@ pub returns-else-opens : goal.returns-else-opens
 returns-else-opens c =
     record {
       quotes = λ double last h begun a below after st e n.
-          put_on h c.args.tree.now begun c.args.single c.args.ix a below after st c.put_body.new.tree right_single (kind.Single c.args.opens c.args.closes) double None double c.put_body.ensures e tt
+          put_on h c.args.tree.now begun c.args.single c.args.ix a below after st c.put_body.new.tree right_single
+          (kind.Single c.args.opens c.args.closes) double None double c.put_body.ensures e tt
           (turn_none_stays begun a below after double c.args.closes
           ∙ ap (λ o. turned begun a below after o double (kind.Single false c.args.closes)) (sym c.in-None.is)
           ∙ ap (λ b. turned begun a below after c.args.single double (kind.Single b c.args.closes)) (sym c.if-opens.false));
@@ -61,9 +69,11 @@ pub returns-then-opens-2 : goal.returns-then-opens-2
 returns-then-opens-2 c =
     record {
       quotes = λ double last h begun a below after st e n.
-          put_on h c.args.tree.now begun c.args.single c.args.ix a below after st c.put_body-in-Some.new.tree right_single (kind.Single c.args.opens c.args.closes) double (Some c.args.ix) double c.put_body-in-Some.ensures e
+          put_on h c.args.tree.now begun c.args.single c.args.ix a below after st c.put_body-in-Some.new.tree right_single
+          (kind.Single c.args.opens c.args.closes) double (Some c.args.ix) double c.put_body-in-Some.ensures e
           (here_root h c.args.tree.now begun c.args.single c.args.ix a below after st right_single)
-          (ap (λ i. quoted_from (Some i) double (node (with_body right_single a) below begun) after) (number_is h c.args.tree.now begun c.args.single c.args.ix a below after st)
+          (ap (λ i. quoted_from (Some i) double (node (with_body right_single a) below begun) after)
+          (number_is h c.args.tree.now begun c.args.single c.args.ix a below after st)
           ∙ turn_some_opens begun a below after c.in-Some.left double
           ∙ ap (λ o. turned begun a below after o double (kind.Single true false)) (sym c.in-Some.is)
           ∙ ap (λ b. turned begun a below after c.args.single double (kind.Single b false)) (sym c.if-opens-2.true)
@@ -74,10 +84,13 @@ pub returns-else-opens-2 : goal.returns-else-opens-2
 returns-else-opens-2 c =
     record {
       quotes = λ double last h begun a below after st e n.
-          put_on h c.args.tree.now begun c.args.single c.args.ix a below after st c.put_body-in-Some.new.tree right_single (kind.Single c.args.opens c.args.closes) double (Some c.in-Some.left) double c.put_body-in-Some.ensures e
+          put_on h c.args.tree.now begun c.args.single c.args.ix a below after st c.put_body-in-Some.new.tree right_single
+          (kind.Single c.args.opens c.args.closes) double (Some c.in-Some.left) double c.put_body-in-Some.ensures e
           (subst (λ o. IfSome o (λ x. IsRoot x (node (with_body right_single a) below begun))) c.in-Some.is
-          (put_here h c.args.tree.now begun c.args.single c.args.ix a below after st c.put_body-in-Some.new.tree right_single c.put_body-in-Some.ensures).remembered)
-          (turn_some_stays begun a below after c.in-Some.left double (subst (λ o. IfSome o (λ x. x < a.number)) c.in-Some.is (remembered_low h c.args.tree.now begun c.args.single c.args.ix a below after st))
+          (put_here h c.args.tree.now begun c.args.single c.args.ix a below after st c.put_body-in-Some.new.tree right_single
+          c.put_body-in-Some.ensures).remembered)
+          (turn_some_stays begun a below after c.in-Some.left double (subst (λ o. IfSome o (λ x. x < a.number)) c.in-Some.is
+          (remembered_low h c.args.tree.now begun c.args.single c.args.ix a below after st))
           ∙ ap (λ o. turned begun a below after o double (kind.Single false false)) (sym c.in-Some.is)
           ∙ ap (λ b. turned begun a below after c.args.single double (kind.Single b false)) (sym c.if-opens-2.false)
           ∙ ap (λ b. turned begun a below after c.args.single double (kind.Single c.args.opens b)) (sym c.if-closes.false));

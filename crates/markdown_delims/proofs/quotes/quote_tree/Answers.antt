@@ -9,9 +9,12 @@ pub returns-then-last : goal.returns-then-last
 returns-then-last c =
     record {
       quotes = λ h begun a below after st e n.
-          put_on h c.args.tree.now begun c.args.single c.args.ix a below after st c.put_body.new.tree backslash kind.Break c.args.double c.args.single c.args.double c.put_body.ensures (sym c.in-Break.is ∙ e)
-          (put_here h c.args.tree.now begun c.args.single c.args.ix a below after st c.put_body.new.tree backslash c.put_body.ensures).remembered
-          (turn_break begun a below after c.args.single c.args.double (remembered_low h c.args.tree.now begun c.args.single c.args.ix a below after st) (sym n ∙ c.if-last.true));
+          put_on h c.args.tree.now begun c.args.single c.args.ix a below after st c.put_body.new.tree backslash kind.Break c.args.double
+          c.args.single c.args.double c.put_body.ensures (sym c.in-Break.is ∙ e)
+          (put_here h c.args.tree.now begun c.args.single c.args.ix a below after st c.put_body.new.tree backslash
+          c.put_body.ensures).remembered
+          (turn_break begun a below after c.args.single c.args.double (remembered_low h c.args.tree.now begun c.args.single c.args.ix a
+          below after st) (sym n ∙ c.if-last.true));
     }
 
 pub returns-else-last : goal.returns-else-last
@@ -19,7 +22,8 @@ returns-else-last c =
     record {
       quotes = λ h begun a below after st e n.
           stay_on h c.args.tree.now begun c.args.single c.args.ix a below after st kind.Break c.args.double (sym c.in-Break.is ∙ e)
-          (turn_no_break begun a below after c.args.single c.args.double (remembered_low h c.args.tree.now begun c.args.single c.args.ix a below after st) (sym n ∙ c.if-last.false));
+          (turn_no_break begun a below after c.args.single c.args.double (remembered_low h c.args.tree.now begun c.args.single c.args.ix a
+          below after st) (sym n ∙ c.if-last.false));
     }
 
 pub returns-in-Other : goal.returns-in-Other
@@ -27,5 +31,6 @@ returns-in-Other c =
     record {
       quotes = λ h begun a below after st e n.
           stay_on h c.args.tree.now begun c.args.single c.args.ix a below after st kind.Other c.args.double (sym c.in-Other.is ∙ e)
-          (turn_other begun a below after c.args.single c.args.double (remembered_low h c.args.tree.now begun c.args.single c.args.ix a below after st));
+          (turn_other begun a below after c.args.single c.args.double (remembered_low h c.args.tree.now begun c.args.single c.args.ix a
+          below after st));
     }

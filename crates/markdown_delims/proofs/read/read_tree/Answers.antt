@@ -16,27 +16,43 @@ item-item-requires c =
     head_within c.args.marks c.args.text.now p.chain c.args.tree.now p.es c.args.last c.args.ix p.rest p.stands
 
 pub settle_run-requires-clause-bytes : goal.settle_run-requires-clause-bytes
-settle_run-requires-clause-bytes c = omega (arith, run_bytes c.args.marks c.args.text.now c.args.tree.now c.args.ix c.args.last c.args.openers.now.runs c.args.openers.now.potential c.requires.stands c.item-item.result.now c.in-Some.run' (c.item-item.ensures no_item) c.in-Some.ensures)
+settle_run-requires-clause-bytes c = omega (
+  arith,
+  run_bytes c.args.marks c.args.text.now c.args.tree.now c.args.ix c.args.last
+      c.args.openers.now.runs c.args.openers.now.potential c.requires.stands c.item-item.result.now c.in-Some.run'
+      (c.item-item.ensures no_item) c.in-Some.ensures,
+)
 
 pub settle_run-requires-clause-some : goal.settle_run-requires-clause-some
-settle_run-requires-clause-some c = (met_here c.args.marks c.args.text.now c.args.tree.now c.args.ix c.args.last c.args.openers.now.runs c.args.openers.now.potential c.requires.stands c.item-item.result.now c.in-Some.run' (c.item-item.ensures no_item) c.in-Some.ensures).begins.some
+settle_run-requires-clause-some c = (met_here c.args.marks c.args.text.now c.args.tree.now c.args.ix c.args.last c.args.openers.now.runs
+    c.args.openers.now.potential c.requires.stands c.item-item.result.now c.in-Some.run' (c.item-item.ensures no_item)
+    c.in-Some.ensures).begins.some
 
 pub settle_run-requires-clause-stands : goal.settle_run-requires-clause-stands
 settle_run-requires-clause-stands c =
     let p = c.requires.stands in
     can_settle c.args.marks c.args.text.now p.chain c.args.tree.now p.es c.args.last c.args.ix c.in-Some.run' p.rest p.stands
-    (met_here c.args.marks c.args.text.now c.args.tree.now c.args.ix c.args.last c.args.openers.now.runs c.args.openers.now.potential c.requires.stands c.item-item.result.now c.in-Some.run' (c.item-item.ensures no_item) c.in-Some.ensures)
+    (met_here c.args.marks c.args.text.now c.args.tree.now c.args.ix c.args.last c.args.openers.now.runs c.args.openers.now.potential
+    c.requires.stands c.item-item.result.now c.in-Some.run' (c.item-item.ensures no_item) c.in-Some.ensures)
 
 pub read_run-requires-clause-bytes : goal.read_run-requires-clause-bytes
-read_run-requires-clause-bytes c = omega (arith, run_bytes c.args.marks c.args.text.now c.args.tree.now c.args.ix c.args.last c.args.openers.now.runs c.args.openers.now.potential c.requires.stands c.item-item.result.now c.in-Some.run' (c.item-item.ensures no_item) c.in-Some.ensures)
+read_run-requires-clause-bytes c = omega (
+  arith,
+  run_bytes c.args.marks c.args.text.now c.args.tree.now c.args.ix c.args.last
+      c.args.openers.now.runs c.args.openers.now.potential c.requires.stands c.item-item.result.now c.in-Some.run'
+      (c.item-item.ensures no_item) c.in-Some.ensures,
+)
 
 pub read_run-requires-clause-some : goal.read_run-requires-clause-some
-read_run-requires-clause-some c = (met_here c.args.marks c.args.text.now c.args.tree.now c.args.ix c.args.last c.args.openers.now.runs c.args.openers.now.potential c.requires.stands c.item-item.result.now c.in-Some.run' (c.item-item.ensures no_item) c.in-Some.ensures).begins.some
+read_run-requires-clause-some c = (met_here c.args.marks c.args.text.now c.args.tree.now c.args.ix c.args.last c.args.openers.now.runs
+    c.args.openers.now.potential c.requires.stands c.item-item.result.now c.in-Some.run' (c.item-item.ensures no_item)
+    c.in-Some.ensures).begins.some
 
 pub read_run-requires-clause-room : goal.read_run-requires-clause-room
 read_run-requires-clause-room c =
     let p = c.requires.stands in
-    let r = met_here c.args.marks c.args.text.now c.args.tree.now c.args.ix c.args.last c.args.openers.now.runs c.args.openers.now.potential c.requires.stands c.item-item.result.now c.in-Some.run' (c.item-item.ensures no_item) c.in-Some.ensures in
+    let r = met_here c.args.marks c.args.text.now c.args.tree.now c.args.ix c.args.last c.args.openers.now.runs c.args.openers.now.potential
+    c.requires.stands c.item-item.result.now c.in-Some.run' (c.item-item.ensures no_item) c.in-Some.ensures in
     let room : c.args.openers.now.potential + 10 * delimiters_of p.rest < 2 ^ 128 = p.room in
     omega (arith, r.begins.fewer)
 
@@ -47,9 +63,12 @@ pub read_run-requires-clause-stands : goal.read_run-requires-clause-stands
 read_run-requires-clause-stands c =
     let p = c.requires.stands in
     let i : c.item-item.result.now ≡ item_at c.args.tree.now.nodes c.args.ix = c.item-item.ensures no_item in
-    let r = met_here c.args.marks c.args.text.now c.args.tree.now c.args.ix c.args.last c.args.openers.now.runs c.args.openers.now.potential c.requires.stands c.item-item.result.now c.in-Some.run' (c.item-item.ensures no_item) c.in-Some.ensures in
-    subst (λ (x : Item). CanRead x.start (all_of_run c.in-Some.run' c.args.ix) c.args.last c.settle_run.new.tree c.args.openers.now.runs) (sym i)
-    (can_read c.args.marks c.args.text.now p.chain c.args.tree.now p.es c.args.last c.args.ix c.in-Some.run' p.rest c.args.openers.now.runs c.settle_run.new.tree p.stands p.runs_are r
+    let r = met_here c.args.marks c.args.text.now c.args.tree.now c.args.ix c.args.last c.args.openers.now.runs c.args.openers.now.potential
+    c.requires.stands c.item-item.result.now c.in-Some.run' (c.item-item.ensures no_item) c.in-Some.ensures in
+    subst (λ (x : Item). CanRead x.start (all_of_run c.in-Some.run' c.args.ix) c.args.last c.settle_run.new.tree c.args.openers.now.runs)
+    (sym i)
+    (can_read c.args.marks c.args.text.now p.chain c.args.tree.now p.es c.args.last c.args.ix c.in-Some.run' p.rest c.args.openers.now.runs
+    c.settle_run.new.tree p.stands p.runs_are r
     (settles_as c.args.ix c.in-Some.run'.length _ _ c.args.tree.now c.settle_run.new.tree i c.settle_run.ensures))
 
 pub returns-in-None : goal.returns-in-None
@@ -72,10 +91,14 @@ returns-in-Some c =
     record {
       ok = if_ok _ _ c.read_run.result
           (λ x on h es chain st w r.
-          read_some c.args.marks c.args.text.now h c.args.tree.now es c.args.last c.args.ix c.in-Some.run' chain c.args.openers.now c.read_run.new.openers x.0 x.1 c.settle_run.new.tree c.read_run.new.tree st r
-          (run_here c.args.marks c.args.text.now h c.args.tree.now es c.args.last c.args.ix c.in-Some.run' chain st w (ap (run_of c.args.text.now) (sym i) ∙ sym c.in-Some.ensures))
+          read_some c.args.marks c.args.text.now h c.args.tree.now es c.args.last c.args.ix c.in-Some.run' chain c.args.openers.now
+          c.read_run.new.openers x.0 x.1 c.settle_run.new.tree c.read_run.new.tree st r
+          (run_here c.args.marks c.args.text.now h c.args.tree.now es c.args.last c.args.ix c.in-Some.run' chain st w
+          (ap (run_of c.args.text.now) (sym i) ∙ sym c.in-Some.ensures))
           (settles_as c.args.ix c.in-Some.run'.length _ _ c.args.tree.now c.settle_run.new.tree i c.settle_run.ensures)
           c.read_run.ensures.paid c.read_run.ensures.found
-          (subst (λ (y : Item). ReadsOn (λ fs. with_run c.args.marks y.start (all_of_run c.in-Some.run' c.args.ix) fs) y.start (all_of_run c.in-Some.run' c.args.ix) c.args.last c.settle_run.new.tree c.read_run.new.tree c.args.openers.now.runs c.read_run.new.openers.runs x.0 x.1) i on))
+          (subst (λ (y : Item). ReadsOn (λ fs. with_run c.args.marks y.start (all_of_run c.in-Some.run' c.args.ix) fs) y.start
+          (all_of_run c.in-Some.run' c.args.ix) c.args.last c.settle_run.new.tree c.read_run.new.tree c.args.openers.now.runs
+          c.read_run.new.openers.runs x.0 x.1) i on))
           c.read_run.ensures.ok;
     }

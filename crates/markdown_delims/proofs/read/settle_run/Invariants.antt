@@ -10,5 +10,6 @@ use Rattle.markdown_delims.proofs.read.settle_run.Given as goal
 
 abbrev pub invariant-settle : goal.invariant-settle
 invariant-settle l =
-    (h : Chain) (es : List Entry) (last : Option ℕ) (chain rest : Forest Numbered) → Stands h l.fn.tree es last (Some l.number) chain → BeginsRun l.number l.count chain rest
+    (h : Chain) (es : List Entry) (last : Option ℕ) (chain rest : Forest Numbered) → Stands h l.fn.tree es last (Some l.number) chain
+    → BeginsRun l.number l.count chain rest
     → SettlingAt h l.fn.tree l.tree es l.number l.start l.count l.i rest
