@@ -1,5 +1,6 @@
 -- What stands after a `]` in an arena, as its links tell it, is what the definition says of the chain that it reads as.
-use Rattle.std.proofs.Common.{◌≡◌, ℕ, ◌+◌, ◌-◌, ◌<◌, Bool, true, false, ◌&&◌, ◌==◌, List, Option, Some, None, refl, sym, ◌∙◌, ap, subst, arith, drop, nat_lt}
+use Rattle.std.proofs.Common.{◌≡◌, ℕ, ◌+◌, ◌-◌, ◌<◌, Bool, true, false, ◌&&◌, ◌==◌, List, Option, Some, None, refl, sym, ◌∙◌, ap, subst}
+use Rattle.std.proofs.Common.{arith, drop, nat_lt}
 use Rattle.std.specs.Prelude.{if◌then◌else◌}
 use Rattle.std.specs.Option.{option_and_then, option_map}
 use Rattle.markdown_base.specs.Arena.{sibling_of}
@@ -16,7 +17,8 @@ use Rattle.markdown_chains.specs.Tables.{Tables}
 use Rattle.markdown_brackets.specs.BracketDecision.{closer_ends_at, first_item, second_item, start_of_first_past}
 use Rattle.markdown_brackets.specs.ChainAhead.{begins_with_closer, first_start, numbers_past, reaches_closer, starts_from}
 use Rattle.markdown_brackets.specs.ChainHeld.{Holds, numbers_of}
-use Rattle.markdown_brackets.specs.Reference.{FoundLabel, reference, collapsed, shortcut, form_at, form_by_label, is_closer, is_opener, label_at, stands_at}
+use Rattle.markdown_brackets.specs.Reference.{FoundLabel, reference, collapsed, shortcut, form_at, form_by_label, is_closer, is_opener}
+use Rattle.markdown_brackets.specs.Reference.{label_at, stands_at}
 use Rattle.markdown_brackets.specs.WrittenView.{EndsBehind}
 use Rattle.markdown_brackets.specs.declared.footnote.FootnoteStyle.{FootnoteStyle}
 use Rattle.markdown_brackets.proofs.ChainAheadLemmas.{below_is, not_below_is, is_below, is_not_below}
@@ -79,13 +81,16 @@ module _ (source : List ℕ) (tables : Tables) (nodes : List (Node Item)) where
     where
       Goal : Bool → Bool → Type 0
       Goal b d =
-          begins_with_closer nodes i (if b then node a.tag (numbers_of below) (numbers_of after) else numbers_past nodes (i - 1) (numbers_of after))
+          begins_with_closer nodes i (if b then node a.tag (numbers_of below) (numbers_of after)
+          else numbers_past nodes (i - 1) (numbers_of after))
           ≡ (if d then closer_ends_at i after else is_closer (open_body a.part.shape) && (end_of a == i))
 
-      here : is_closer (item_at nodes a.tag).body && ((item_at nodes a.tag).end == i) ≡ is_closer (open_body a.part.shape) && (end_of a == i)
+      here : is_closer (item_at nodes a.tag).body && ((item_at nodes a.tag).end == i) ≡ is_closer (open_body a.part.shape)
+          && (end_of a == i)
       here = rw (same_closer a h.2, same_end a h.2) refl
 
-      by : (d : Bool) → nat_lt (end_of a) i ≡ d → begins_with_closer nodes i (numbers_past nodes (i - 1) (numbers_of after)) ≡ closer_ends_at i after
+      by : (d : Bool) → nat_lt (end_of a) i ≡ d → begins_with_closer nodes i (numbers_past nodes (i - 1) (numbers_of after))
+          ≡ closer_ends_at i after
           → Goal (nat_lt (i - 1) (end_of a)) d
       by true e more =
           let before = is_below (end_of a) i e in
@@ -99,13 +104,15 @@ module _ (source : List ℕ) (tables : Tables) (nodes : List (Node Item)) where
   closers_ahead l f h found i some = rw found (closer_ahead i some l f h)
 
   -- what stands at a byte, of the first item and the second
-  first_stands : (at : ℕ) (kind : ItemBody → Bool) → ((a : Label ℕ) → ReadsAs a → kind (item_at nodes a.tag).body ≡ kind (open_body a.part.shape))
+  first_stands : (at : ℕ) (kind : ItemBody → Bool)
+      → ((a : Label ℕ) → ReadsAs a → kind (item_at nodes a.tag).body ≡ kind (open_body a.part.shape))
       → (l : Option ℕ) (f : Forest (Label ℕ)) → Holds source tables nodes l f
       → stands_at at kind (option_map (item_at nodes) l) ≡ stands_at at kind (first_item f)
   first_stands at kind same l nil h = rw h refl
   first_stands at kind same l (node a below after) h = rw (h.0, same_start a h.2, same a h.2) refl
 
-  second_stands : (at : ℕ) (kind : ItemBody → Bool) → ((a : Label ℕ) → ReadsAs a → kind (item_at nodes a.tag).body ≡ kind (open_body a.part.shape))
+  second_stands : (at : ℕ) (kind : ItemBody → Bool)
+      → ((a : Label ℕ) → ReadsAs a → kind (item_at nodes a.tag).body ≡ kind (open_body a.part.shape))
       → (l : Option ℕ) (f : Forest (Label ℕ)) → Holds source tables nodes l f
       → stands_at at kind (option_map (item_at nodes) (option_and_then (sibling_of nodes) l)) ≡ stands_at at kind (second_item f)
   second_stands at kind same l nil h = rw h refl
@@ -113,10 +120,16 @@ module _ (source : List ℕ) (tables : Tables) (nodes : List (Node Item)) where
 
   pub form_ahead_is : (style : FootnoteStyle) (skipped : List ℕ → Option ℕ) (in_table : Bool) (text : List ℕ) (at : ℕ)
       (l : Option ℕ) (f : Forest (Label ℕ)) → Holds source tables nodes l f
-      → form_at style skipped in_table text at (option_map (item_at nodes) l) (option_map (item_at nodes) (option_and_then (sibling_of nodes) l))
+      → form_at style skipped in_table text at (option_map (item_at nodes) l)
+      (option_map (item_at nodes) (option_and_then (sibling_of nodes) l))
       ≡ form_at style skipped in_table text at (first_item f) (second_item f)
   form_ahead_is style skipped in_table text at l f h =
-      rw (first_stands at is_opener same_opener l f h, second_stands (at + 1) is_closer same_closer l f h, first_stands at (λ b. true) (λ a r. refl) l f h) refl
+      rw (
+        first_stands at is_opener same_opener l f h,
+        second_stands (at + 1) is_closer same_closer l f h,
+        first_stands at (λ b. true)
+            (λ a r. refl) l f h,
+      ) refl
 
 -- the label of a full reference ends behind its `]`
 label_behind : (at : ℕ) (l : Option FoundLabel) → 0 < at → EndsBehind 0 (form_by_label at l)
@@ -127,12 +140,14 @@ label_behind at (Some l) some = by l.is_footnote
     by true = tt
     by false = omega (arith, some)
 
-pub form_behind : (style : FootnoteStyle) (skipped : List ℕ → Option ℕ) (in_table : Bool) (text : List ℕ) (at : ℕ) (next after : Option Item)
+pub form_behind : (style : FootnoteStyle) (skipped : List ℕ → Option ℕ) (in_table : Bool) (text : List ℕ) (at : ℕ)
+    (next after : Option Item)
     → 0 < at → EndsBehind 0 (form_at style skipped in_table text at next after)
 form_behind style skipped in_table text at next after some =
     by (stands_at at is_opener next && stands_at (at + 1) is_closer after) (stands_at at (λ b. true) next)
   where
-    by : (empty starts : Bool) → EndsBehind 0 (if empty then collapsed else if starts then form_by_label at (label_at style skipped in_table (drop at text)) else shortcut)
+    by : (empty starts : Bool) → EndsBehind 0 (if empty then collapsed else if starts
+        then form_by_label at (label_at style skipped in_table (drop at text)) else shortcut)
     by true starts = tt
     by false true = label_behind at (label_at style skipped in_table (drop at text)) some
     by false false = tt

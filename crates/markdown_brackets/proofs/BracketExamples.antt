@@ -31,11 +31,14 @@ items_from i j bang true (b ∷ bytes) = items_from i (j + 1) false false bytes
 items_from i j bang false (b ∷ bytes) =
     elim (b == 91) [
       | true ↦ elim bang [
-        | true ↦ item_text i (j - 1) (record { start = j - 1; end = j + 1; body = body.MaybeImage } ∷ items_from (j + 1) (j + 1) false false bytes)
-        | false ↦ item_text i j (record { start = j; end = j + 1; body = body.MaybeLinkOpen } ∷ items_from (j + 1) (j + 1) false false bytes)
+        | true ↦ item_text i (j - 1) (record { start = j - 1; end = j + 1; body = body.MaybeImage } ∷ items_from (j + 1) (j + 1) false false
+            bytes)
+        | false ↦ item_text i j (record { start = j; end = j + 1; body = body.MaybeLinkOpen } ∷ items_from (j + 1) (j + 1) false false
+            bytes)
       ]
       | false ↦ elim (b == 93) [
-        | true ↦ item_text i j (record { start = j; end = j + 1; body = body.MaybeLinkClose true } ∷ items_from (j + 1) (j + 1) false false bytes)
+        | true ↦ item_text i j (record { start = j; end = j + 1; body = body.MaybeLinkClose true } ∷ items_from (j + 1) (j + 1) false false
+            bytes)
         | false ↦ elim (b == 92) [
           | true ↦ item_text i j (items_from (j + 1) (j + 1) false true bytes)
           | false ↦ items_from i (j + 1) (b == 33) false bytes
@@ -235,7 +238,8 @@ unfolding read_chain closed decided
 used_twice = refl
 
 -- wikilinks, without a pipe and with one
-two_wikilinks : ranges (forest_of (progress wikilinks false 100 [] (codes "[[foo]] [[bar|baz]]"))) ≡ (0, 7) ∷ (2, 5) ∷ (7, 8) ∷ (8, 19) ∷ (14, 17) ∷ []
+two_wikilinks : ranges (forest_of (progress wikilinks false 100 [] (codes "[[foo]] [[bar|baz]]")))
+    ≡ (0, 7) ∷ (2, 5) ∷ (7, 8) ∷ (8, 19) ∷ (14, 17) ∷ []
 unfolding read_chain closed decided
 two_wikilinks = refl
 

@@ -12,12 +12,21 @@ use Rattle.markdown_base.specs.declared.tag.LinkType.{LinkType}
 use Rattle.markdown_chains.specs.Document.{Label, as_text}
 use Rattle.markdown_chains.specs.Labels.{retag, retagged}
 use Rattle.markdown_chains.specs.ChainRest.{begun_at, past_byte, start_of, end_of, open_body}
-use Rattle.markdown_brackets.specs.BracketDecision.{Around, Becomes, Closing, Decision, Progress, Wikilink, Written, a_footnote, a_link, a_text, a_wikilink, after_look_up, block_text, children_of, closer_ends_at, decided, decided_before, first_item, footnote_label, footnote_tried, footnote_used, form_of, if_some, inline_link, is_next, link_label, look_up_tried, no_link, one_decided, opener_tried, past_second, question_at, reference_written, second_item, spent_by, start_of_first_past, target_tried, to_be, tried, wikilink_by, wikilink_in, wikilink_opener, wikilink_or_one, wikilink_tried, written, tail_or, label_of_opener}
+use Rattle.markdown_brackets.specs.BracketDecision.{Around, Becomes, Closing, Decision, Progress, Wikilink, Written, a_footnote, a_link}
+use Rattle.markdown_brackets.specs.BracketDecision.{a_text, a_wikilink, after_look_up, block_text, children_of, closer_ends_at, decided}
+use Rattle.markdown_brackets.specs.BracketDecision.{decided_before, first_item, footnote_label, footnote_tried, footnote_used, form_of}
+use Rattle.markdown_brackets.specs.BracketDecision.{if_some, inline_link, is_next, link_label, look_up_tried, no_link, one_decided}
+use Rattle.markdown_brackets.specs.BracketDecision.{opener_tried, past_second, question_at, reference_written, second_item, spent_by}
+use Rattle.markdown_brackets.specs.BracketDecision.{start_of_first_past, target_tried, to_be, tried, wikilink_by, wikilink_in}
+use Rattle.markdown_brackets.specs.BracketDecision.{wikilink_opener, wikilink_or_one, wikilink_tried, written, tail_or, label_of_opener}
 use Rattle.markdown_brackets.specs.BracketOptions.{footnote_style, wikilinks_on}
 use Rattle.markdown_brackets.specs.BracketTags.{Follows, TagLaw, retag_entry, retag_left, retag_progress}
 use Rattle.markdown_brackets.specs.ClosingBracket.{closed, footnote_onto, linked, put, put_decided, wikilink_target}
 use Rattle.markdown_brackets.specs.FootnoteUse.{is_reference}
-use Rattle.markdown_brackets.specs.LeftList.{Entry, Mark, Split, before_footnote, before_link, before_wikilink, behind, bracket_taken, change_nearest, disabled_mark, done, gone, inside, is_live, live, nearest, on_mark, on_marks, opens_bracket, opens_wikilink, second_folded, trees_onto, waits, wikilink_taken, without_bracket, without_wikilink}
+use Rattle.markdown_brackets.specs.LeftList.{Entry, Mark, Split, before_footnote, before_link, before_wikilink, behind, bracket_taken}
+use Rattle.markdown_brackets.specs.LeftList.{change_nearest, disabled_mark, done, gone, inside, is_live, live, nearest, on_mark, on_marks}
+use Rattle.markdown_brackets.specs.LeftList.{opens_bracket, opens_wikilink, second_folded, trees_onto, waits, wikilink_taken}
+use Rattle.markdown_brackets.specs.LeftList.{without_bracket, without_wikilink}
 use Rattle.markdown_brackets.specs.LinkTail.{LinkTail, link_tail}
 use Rattle.markdown_brackets.specs.Lookup.{LookedUp, look_up}
 use Rattle.markdown_brackets.specs.ReadChain.{Reader, closing, opened, read, read_as, read_chain, read_past}
@@ -48,7 +57,8 @@ module _ {A B : Type 0} (f : A → B) where
   retag_decision d = record { becomes = retag_becomes d.becomes; progress = retag_progress f d.progress }
 
   -- marks are changed by marks alone
-  pub change_retag : (test : Mark → Bool) (g : Mark → Mark) (left : List (Entry A)) → change_nearest test g (retag_left f left) ≡ retag_left f (change_nearest test g left)
+  pub change_retag : (test : Mark → Bool) (g : Mark → Mark) (left : List (Entry A)) → change_nearest test g (retag_left f left)
+      ≡ retag_left f (change_nearest test g left)
   change_retag test g [] = refl
   change_retag test g (done a below ∷ left) = ap (λ l. done (retag f a) (retagged f below) ∷ l) (change_retag test g left)
   change_retag test g (waits m a ∷ left) = by (test m) (change_retag test g left)
@@ -73,7 +83,8 @@ module _ {A B : Type 0} (f : A → B) where
   second_retag [] = refl
   second_retag (e ∷ left) = ap (λ x. x ∷ retag_left f left) (on_mark_retag without_wikilink e)
 
-  pub before_link_retag : (is_image : Bool) (left : List (Entry A)) → before_link is_image (retag_left f left) ≡ retag_left f (before_link is_image left)
+  pub before_link_retag : (is_image : Bool) (left : List (Entry A)) → before_link is_image (retag_left f left)
+      ≡ retag_left f (before_link is_image left)
   before_link_retag true left = second_retag left
   before_link_retag false left = ap (on_marks disabled_mark) (second_retag left) ∙ on_marks_retag disabled_mark (second_folded left)
 
@@ -85,24 +96,30 @@ module _ {A B : Type 0} (f : A → B) where
   before_footnote_retag left = ap (on_marks without_bracket) (second_retag left) ∙ on_marks_retag without_bracket (second_folded left)
 
   -- the same opener is nearest
-  behind_retag : (e : Entry A) (o : Option (Split A)) → option_map (behind (retag_entry f e)) (option_map retag_split o) ≡ option_map retag_split (option_map (behind e) o)
+  behind_retag : (e : Entry A) (o : Option (Split A)) → option_map (behind (retag_entry f e)) (option_map retag_split o)
+      ≡ option_map retag_split (option_map (behind e) o)
   behind_retag e None = refl
   behind_retag e (Some o) = refl
 
-  pub nearest_retag : (test : Mark → Bool) (left : List (Entry A)) → nearest test (retag_left f left) ≡ option_map retag_split (nearest test left)
+  pub nearest_retag : (test : Mark → Bool) (left : List (Entry A))
+      → nearest test (retag_left f left) ≡ option_map retag_split (nearest test left)
   nearest_retag test [] = refl
   nearest_retag test (done a below ∷ left) =
-      ap (option_map (behind (done (retag f a) (retagged f below)))) (nearest_retag test left) ∙ behind_retag (done a below) (nearest test left)
+      ap (option_map (behind (done (retag f a) (retagged f below)))) (nearest_retag test left)
+      ∙ behind_retag (done a below) (nearest test left)
   nearest_retag test (waits m a ∷ left) = by (test m) (nearest_retag test left)
     where
       by : (b : Bool) → nearest test (retag_left f left) ≡ option_map retag_split (nearest test left)
-          → (if b then Some (record { mark = m; opener = retag f a; after = []; before = retag_left f left }) else option_map (behind (waits m (retag f a))) (nearest test (retag_left f left)))
-          ≡ option_map retag_split (if b then Some (record { mark = m; opener = a; after = []; before = left }) else option_map (behind (waits m a)) (nearest test left))
+          → (if b then Some (record { mark = m; opener = retag f a; after = []; before = retag_left f left })
+          else option_map (behind (waits m (retag f a))) (nearest test (retag_left f left)))
+          ≡ option_map retag_split (if b then Some (record { mark = m; opener = a; after = []; before = left })
+          else option_map (behind (waits m a)) (nearest test left))
       by true e = refl
       by false e = ap (option_map (behind (waits m (retag f a)))) e ∙ behind_retag (waits m a) (nearest test left)
 
   -- the trees of a left list
-  pub onto_retag : (left : List (Entry A)) (later : Forest (Label A)) → trees_onto (retag_left f left) (retagged f later) ≡ retagged f (trees_onto left later)
+  pub onto_retag : (left : List (Entry A)) (later : Forest (Label A)) → trees_onto (retag_left f left) (retagged f later)
+      ≡ retagged f (trees_onto left later)
   onto_retag [] later = refl
   onto_retag (done a below ∷ left) later = onto_retag left (node a below later)
   onto_retag (waits m a ∷ left) later = onto_retag left (node a nil later)
@@ -146,20 +163,24 @@ module _ {A B : Type 0} (f : A → B) where
     -- what is written at an opener and its `]`
     pub form_retag : (c : Closing A) → form_of w (retag_closing c) ≡ form_of w c
     form_retag c =
-        ap (λ next. form_at (footnote_style w.setting.rules.options) w.skipped w.above.in_table (block_text w) (end_of c.label) next (second_item (retagged f c.rest))) (first_retag c.rest)
-        ∙ ap (form_at (footnote_style w.setting.rules.options) w.skipped w.above.in_table (block_text w) (end_of c.label) (first_item c.rest)) (second_item_retag c.rest)
+        ap (λ next. form_at (footnote_style w.setting.rules.options) w.skipped w.above.in_table (block_text w) (end_of c.label) next
+        (second_item (retagged f c.rest))) (first_retag c.rest)
+        ∙ ap (form_at (footnote_style w.setting.rules.options) w.skipped w.above.in_table (block_text w) (end_of c.label)
+        (first_item c.rest)) (second_item_retag c.rest)
 
     closes_retag : (c : Closing A) (own : Option FoundLabel) (form : Form)
         → reference_written c.could_be_reference (end_of c.label) (λ i. closer_ends_at i (retagged f c.rest)) own form
         ≡ reference_written c.could_be_reference (end_of c.label) (λ i. closer_ends_at i c.rest) own form
     closes_retag c own form =
-        ap (λ (closes : ℕ → Bool). reference_written c.could_be_reference (end_of c.label) closes own form) (fun_ext (λ i. ends_at_retag i c.rest))
+        ap (λ (closes : ℕ → Bool). reference_written c.could_be_reference (end_of c.label) closes own form)
+        (fun_ext (λ i. ends_at_retag i c.rest))
 
     pub written_retag : (c : Closing A) (o : Split A) → written w (retag_closing c) (retag_split o) ≡ written w c o
     written_retag c o =
         let end : ℕ = end_of c.label in
         let tail : (ℕ → Option ℕ) → Option LinkTail = λ starts. link_tail w.skipped starts (block_text w) end in
-        let other : Form → Written = λ form. reference_written c.could_be_reference end (λ i. closer_ends_at i (retagged f c.rest)) (label_of_opener w c o) form in
+        let other : Form → Written = λ form. reference_written c.could_be_reference end (λ i. closer_ends_at i (retagged f c.rest))
+        (label_of_opener w c o) form in
         ap (λ (starts : ℕ → Option ℕ). tail_or (other (form_of w (retag_closing c))) (tail starts)) (fun_ext (start_retag c.rest))
         ∙ ap (λ (form : Form). tail_or (other form) (tail (start_of_first_past c.rest))) (form_retag c)
         ∙ ap (λ (x : Written). tail_or x (tail (start_of_first_past c.rest))) (closes_retag c (label_of_opener w c o) (form_of w c))
@@ -171,28 +192,36 @@ module _ {A B : Type 0} (f : A → B) where
     target_retag o end next (Some target) p = refl
 
     look_up_retag : (o : Split A) (link_type : LinkType) (label : List ℕ) (end next : ℕ) (p : Progress A)
-        → look_up_tried w (retag_split o) link_type label end next (retag_progress f p) ≡ retag_decision (look_up_tried w o link_type label end next p)
+        → look_up_tried w (retag_split o) link_type label end next (retag_progress f p)
+        ≡ retag_decision (look_up_tried w o link_type label end next p)
     look_up_retag o link_type label end next p =
-        let found : LookedUp = look_up w.setting.rules.definitions w.setting.rules.asks p.known.limit p.known.answers (question_at o link_type label end) in
+        let found : LookedUp = look_up w.setting.rules.definitions w.setting.rules.asks p.known.limit p.known.answers
+        (question_at o link_type label end) in
         target_retag o end next found.target (after_look_up found p)
 
     used_retag : (is_defined : Bool) (o : Split A) (name : List ℕ) (p : Progress A)
-        → to_be (a_footnote (retag_split o) name) (footnote_used is_defined name (retag_progress f p)) ≡ retag_decision (to_be (a_footnote o name) (footnote_used is_defined name p))
+        → to_be (a_footnote (retag_split o) name) (footnote_used is_defined name (retag_progress f p))
+        ≡ retag_decision (to_be (a_footnote o name) (footnote_used is_defined name p))
     used_retag true o name p = refl
     used_retag false o name p = refl
 
-    footnote_retag : (o : Split A) (name : List ℕ) (p : Progress A) → footnote_tried w (retag_split o) name (retag_progress f p) ≡ retag_decision (footnote_tried w o name p)
+    footnote_retag : (o : Split A) (name : List ℕ) (p : Progress A) → footnote_tried w (retag_split o) name (retag_progress f p)
+        ≡ retag_decision (footnote_tried w o name p)
     footnote_retag o name p = by (is_reference (footnote_style w.setting.rules.options) (w.setting.rules.is_footnote name))
       where
-        by : (b : Bool) → (if b then to_be (a_footnote (retag_split o) name) (footnote_used (w.setting.rules.is_footnote name) name (retag_progress f p)) else to_be a_text (retag_progress f p))
-            ≡ retag_decision (if b then to_be (a_footnote o name) (footnote_used (w.setting.rules.is_footnote name) name p) else to_be a_text p)
+        by : (b : Bool) → (if b then to_be (a_footnote (retag_split o) name) (footnote_used (w.setting.rules.is_footnote name) name
+            (retag_progress f p)) else to_be a_text (retag_progress f p))
+            ≡ retag_decision (if b then to_be (a_footnote o name) (footnote_used (w.setting.rules.is_footnote name) name p)
+            else to_be a_text p)
         by true = used_retag (w.setting.rules.is_footnote name) o name p
         by false = refl
 
-    pub tried_retag : (o : Split A) (x : Written) (p : Progress A) → tried w (retag_split o) x (retag_progress f p) ≡ retag_decision (tried w o x p)
+    pub tried_retag : (o : Split A) (x : Written) (p : Progress A) → tried w (retag_split o) x (retag_progress f p)
+        ≡ retag_decision (tried w o x p)
     tried_retag o no_link p = refl
     tried_retag o (inline_link t) p = refl
-    tried_retag o (link_label link_type label end next) p = look_up_retag o link_type label end next (record p { spent = spent_by link_type end p.spent })
+    tried_retag o (link_label link_type label end next) p = look_up_retag o link_type label end next
+        (record p { spent = spent_by link_type end p.spent })
     tried_retag o (footnote_label name) p = footnote_retag o name p
 
     -- one `]`
@@ -201,15 +230,19 @@ module _ {A B : Type 0} (f : A → B) where
     opener_retag c None p = refl
     opener_retag c (Some o) p = by (is_live o.mark.bracket)
       where
-        by : (b : Bool) → (if b then tried w (retag_split o) (written w (retag_closing c) (retag_split o)) (retag_progress f p) else to_be a_text (retag_progress f p))
+        by : (b : Bool) → (if b then tried w (retag_split o) (written w (retag_closing c) (retag_split o)) (retag_progress f p)
+            else to_be a_text (retag_progress f p))
             ≡ retag_decision (if b then tried w o (written w c o) p else to_be a_text p)
         by true = ap (λ x. tried w (retag_split o) x (retag_progress f p)) (written_retag c o) ∙ tried_retag o (written w c o) p
         by false = refl
 
-    pub one_retag : (c : Closing A) (p : Progress A) → one_decided w (retag_closing c) (retag_progress f p) ≡ retag_decision (one_decided w c p)
+    pub one_retag : (c : Closing A) (p : Progress A) → one_decided w (retag_closing c) (retag_progress f p)
+        ≡ retag_decision (one_decided w c p)
     one_retag c p =
-        ap (λ o. opener_tried w (retag_closing c) o (record (retag_progress f p) { left = bracket_taken (retag_left f p.left) })) (nearest_retag opens_bracket p.left)
-        ∙ ap (λ l. opener_tried w (retag_closing c) (option_map retag_split (nearest opens_bracket p.left)) (record (retag_progress f p) { left = l })) (change_retag opens_bracket without_bracket p.left)
+        ap (λ o. opener_tried w (retag_closing c) o (record (retag_progress f p) { left = bracket_taken (retag_left f p.left) }))
+        (nearest_retag opens_bracket p.left)
+        ∙ ap (λ l. opener_tried w (retag_closing c) (option_map retag_split (nearest opens_bracket p.left))
+        (record (retag_progress f p) { left = l })) (change_retag opens_bracket without_bracket p.left)
         ∙ opener_retag c (nearest opens_bracket p.left) (record p { left = bracket_taken p.left })
 
     -- a wikilink
@@ -229,21 +262,25 @@ module _ {A B : Type 0} (f : A → B) where
     shown_retag b (Some children) = refl
 
     body_retag : (first : Label A) (trees : Forest (Label A)) (end : ℕ) (b : Option WikilinkBody)
-        → option_and_then (wikilink_by w (retag f first) (retagged f trees) end) b ≡ option_map retag_wikilink (option_and_then (wikilink_by w first trees end) b)
+        → option_and_then (wikilink_by w (retag f first) (retagged f trees) end) b
+        ≡ option_map retag_wikilink (option_and_then (wikilink_by w first trees end) b)
     body_retag first trees end None = refl
     body_retag first trees end (Some b) =
         ap (option_map (shown_as b)) (children_retag first trees end b.shows) ∙ shown_retag b (children_of w first trees end b.shows)
 
-    pub wikilink_in_retag : (trees : Forest (Label A)) (end : ℕ) → wikilink_in w (retagged f trees) end ≡ option_map retag_wikilink (wikilink_in w trees end)
+    pub wikilink_in_retag : (trees : Forest (Label A)) (end : ℕ) → wikilink_in w (retagged f trees) end
+        ≡ option_map retag_wikilink (wikilink_in w trees end)
     wikilink_in_retag nil end = refl
-    wikilink_in_retag (node first below after) end = body_retag first (node first below after) end (wikilink_body w.setting.text (start_of first) end)
+    wikilink_in_retag (node first below after) end = body_retag first (node first below after) end
+        (wikilink_body w.setting.text (start_of first) end)
 
     pub past_second_retag : (trees : Forest (Label A)) → past_second (retagged f trees) ≡ retagged f (past_second trees)
     past_second_retag nil = refl
     past_second_retag (node a below after) = refl
 
     found_retag : (b : Bool) (o : Split A) (end : ℕ)
-        → (if b then wikilink_in w (past_second (inside (retag_split o))) end else None) ≡ option_map retag_wikilink (if b then wikilink_in w (past_second (inside o)) end else None)
+        → (if b then wikilink_in w (past_second (inside (retag_split o))) end else None)
+        ≡ option_map retag_wikilink (if b then wikilink_in w (past_second (inside o)) end else None)
     found_retag false o end = refl
     found_retag true o end =
         ap (λ trees. wikilink_in w (past_second trees) end) (inside_retag o)
@@ -251,23 +288,30 @@ module _ {A B : Type 0} (f : A → B) where
         ∙ wikilink_in_retag (past_second (inside o)) end
 
     or_one_retag : (c : Closing A) (end : ℕ) (o : Split A) (found : Option (Wikilink A)) (p : Progress A)
-        → wikilink_or_one w (retag_closing c) end (retag_split o) (option_map retag_wikilink found) (retag_progress f p) ≡ retag_decision (wikilink_or_one w c end o found p)
+        → wikilink_or_one w (retag_closing c) end (retag_split o) (option_map retag_wikilink found) (retag_progress f p)
+        ≡ retag_decision (wikilink_or_one w c end o found p)
     or_one_retag c end o None p =
-        ap (λ l. one_decided w (retag_closing c) (record (retag_progress f p) { left = l })) (change_retag opens_wikilink without_wikilink p.left)
+        ap (λ l. one_decided w (retag_closing c) (record (retag_progress f p) { left = l })) (change_retag opens_wikilink without_wikilink
+        p.left)
         ∙ one_retag c (record p { left = wikilink_taken p.left })
     or_one_retag c end o (Some found) p =
         let becomes : Becomes B = a_wikilink (retag_split o) (retag_wikilink found) end in
-        ap (λ l. to_be becomes (record (retag_progress f p) { left = wikilink_taken l })) (change_retag opens_bracket without_bracket p.left)
-        ∙ ap (λ l. to_be becomes (record (retag_progress f p) { left = l })) (change_retag opens_wikilink without_wikilink (bracket_taken p.left))
+        ap (λ l. to_be becomes (record (retag_progress f p) { left = wikilink_taken l })) (change_retag opens_bracket without_bracket
+        p.left)
+        ∙ ap (λ l. to_be becomes (record (retag_progress f p) { left = l })) (change_retag opens_wikilink without_wikilink
+        (bracket_taken p.left))
 
     wikilink_retag : (c : Closing A) (end : ℕ) (o : Option (Split A)) (p : Progress A)
-        → wikilink_tried w (retag_closing c) end (option_map retag_split o) (retag_progress f p) ≡ retag_decision (wikilink_tried w c end o p)
+        → wikilink_tried w (retag_closing c) end (option_map retag_split o) (retag_progress f p)
+        ≡ retag_decision (wikilink_tried w c end o p)
     wikilink_retag c end None p = one_retag c p
     wikilink_retag c end (Some o) p =
-        ap (λ found. wikilink_or_one w (retag_closing c) end (retag_split o) found (retag_progress f p)) (found_retag (is_live o.mark.wikilink) o (start_of c.label))
+        ap (λ found. wikilink_or_one w (retag_closing c) end (retag_split o) found (retag_progress f p))
+        (found_retag (is_live o.mark.wikilink) o (start_of c.label))
         ∙ or_one_retag c end o (if is_live o.mark.wikilink then wikilink_in w (past_second (inside o)) (start_of c.label) else None) p
 
-    pub wikilink_opener_retag : (left : List (Entry A)) → wikilink_opener (retag_left f left) ≡ option_map retag_split (wikilink_opener left)
+    pub wikilink_opener_retag : (left : List (Entry A)) → wikilink_opener (retag_left f left)
+        ≡ option_map retag_split (wikilink_opener left)
     wikilink_opener_retag left =
         ap (nearest opens_wikilink) (change_retag opens_bracket without_bracket left) ∙ nearest_retag opens_wikilink (bracket_taken left)
 
@@ -276,7 +320,8 @@ module _ {A B : Type 0} (f : A → B) where
     before_retag c nil p = one_retag c p
     before_retag c (node a below after) p = by (wikilinks_on w.setting.rules.options && is_closer (open_body a.part.shape))
       where
-        by : (b : Bool) → (if b then wikilink_tried w (retag_closing c) (end_of a) (wikilink_opener (retag_left f p.left)) (retag_progress f p) else one_decided w (retag_closing c) (retag_progress f p))
+        by : (b : Bool) → (if b then wikilink_tried w (retag_closing c) (end_of a) (wikilink_opener (retag_left f p.left))
+            (retag_progress f p) else one_decided w (retag_closing c) (retag_progress f p))
             ≡ retag_decision (if b then wikilink_tried w c (end_of a) (wikilink_opener p.left) p else one_decided w c p)
         by true =
             ap (λ o. wikilink_tried w (retag_closing c) (end_of a) o (retag_progress f p)) (wikilink_opener_retag p.left)
@@ -289,55 +334,80 @@ module _ {A B : Type 0} (f : A → B) where
     decided_retag c p = before_retag c c.rest p
 
     pub footnote_onto_retag : (c : Closing A) (is_image : Bool) (opener : Label A) (name : List ℕ) (left : List (Entry A))
-        → footnote_onto w (retag_closing c) is_image (retag f opener) name (retag_left f left) ≡ retag_left f (footnote_onto w c is_image opener name left)
+        → footnote_onto w (retag_closing c) is_image (retag f opener) name (retag_left f left)
+        ≡ retag_left f (footnote_onto w c is_image opener name left)
     footnote_onto_retag c true opener name left = refl
     footnote_onto_retag c false opener name left = refl
 
     -- what is put for it
-    pub put_retag : (c : Closing A) (becomes : Becomes A) (p : Progress A) → put w (retag_closing c) (retag_becomes becomes) (retag_progress f p) ≡ retag_progress f (put w c becomes p)
+    pub put_retag : (c : Closing A) (becomes : Becomes A) (p : Progress A)
+        → put w (retag_closing c) (retag_becomes becomes) (retag_progress f p) ≡ retag_progress f (put w c becomes p)
     put_retag c a_text p = refl
     put_retag c (a_link o target end next) p =
         let linked' : Label B = retag f (linked o target end) in
-        ap (λ below. record (retag_progress f p) { left = done linked' below ∷ before_link o.mark.is_image (retag_left f o.before); goes_on = Some next }) (inside_retag o)
-        ∙ ap (λ l. record (retag_progress f p) { left = done linked' (retagged f (inside o)) ∷ l; goes_on = Some next }) (before_link_retag o.mark.is_image o.before)
+        ap (λ below. record (retag_progress f p) {
+          left = done linked' below ∷ before_link o.mark.is_image (retag_left f o.before);
+          goes_on
+              = Some next;
+        }) (inside_retag o)
+        ∙ ap (λ l. record (retag_progress f p) { left = done linked' (retagged f (inside o)) ∷ l; goes_on = Some next })
+        (before_link_retag o.mark.is_image o.before)
     put_retag c (a_footnote o name) p =
-        ap (λ l. record (retag_progress f p) { left = footnote_onto w (retag_closing c) o.mark.is_image (retag f o.opener) name l; goes_on = Some (end_of c.label) }) (before_footnote_retag o.before)
-        ∙ ap (λ l. record (retag_progress f p) { left = l; goes_on = Some (end_of c.label) }) (footnote_onto_retag c o.mark.is_image o.opener name (before_footnote o.before))
+        ap (λ l. record (retag_progress f p) {
+          left = footnote_onto w (retag_closing c) o.mark.is_image (retag f o.opener) name l;
+          goes_on =
+              Some (end_of c.label);
+        }) (before_footnote_retag o.before)
+        ∙ ap (λ l. record (retag_progress f p) { left = l; goes_on = Some (end_of c.label) })
+        (footnote_onto_retag c o.mark.is_image o.opener name (before_footnote o.before))
     put_retag c (a_wikilink o found end) p =
-        ap (λ l. record (retag_progress f p) { left = done (retag f (linked o (wikilink_target found) end)) (retagged f found.children) ∷ l; goes_on = Some end }) (before_wikilink_retag o.before)
+        ap (λ l. record (retag_progress f p) {
+          left = done (retag f (linked o (wikilink_target found) end)) (retagged f found.children) ∷ l;
+          goes_on = Some end;
+        }) (before_wikilink_retag o.before)
 
     pub closed_retag : (c : Closing A) (p : Progress A) → closed w (retag_closing c) (retag_progress f p) ≡ retag_progress f (closed w c p)
     unfolding closed
-    closed_retag c p = ap (put_decided w (retag_closing c)) (decided_retag c p) ∙ put_retag c (decided w c p).becomes (decided w c p).progress
+    closed_retag c p = ap (put_decided w (retag_closing c)) (decided_retag c p)
+        ∙ put_retag c (decided w c p).becomes (decided w c p).progress
 
     -- a `]` of a chain
     pub closing_retag : (could : Bool) (a : Label A) (rest : Forest (Label A)) (p : Progress A)
-        → closed w (closing could (retag f a) (retagged f rest) (retag_progress f p)) (retag_progress f p) ≡ retag_progress f (closed w (closing could a rest p) p)
+        → closed w (closing could (retag f a) (retagged f rest) (retag_progress f p)) (retag_progress f p)
+        ≡ retag_progress f (closed w (closing could a rest p) p)
     closing_retag could a rest p = closed_retag (closing could a rest p) p
 
     pub opened_retag : (is_image : Bool) (a : Label A) (rest : Forest (Label A)) (p : Progress A)
         → opened w is_image (retag f a) (retagged f rest) (retag_progress f p) ≡ retag_progress f (opened w is_image a rest p)
     opened_retag is_image a rest p =
         ap (λ b. record (retag_progress f p) {
-          left = waits (record { is_image = is_image; bracket = live; wikilink = if wikilinks_on w.setting.rules.options && b then live else gone })
+          left = waits (record {
+            is_image = is_image;
+            bracket = live;
+            wikilink = if wikilinks_on w.setting.rules.options && b then live
+                else gone;
+          })
               (retag f (as_text w.setting.text a)) ∷ retag_left f p.left;
         }) (is_next_retag is_opener rest)
 
     -- a chain
     module _ (others : Reader A) (others' : Reader B) (follows : Follows f others others') where
       pub read_as_retag : (b : ItemBody) (a : Label A) (below rest : Forest (Label A)) (p : Progress A)
-          → read_as w others' b (retag f a) (retagged f below) (retagged f rest) (retag_progress f p) ≡ retag_progress f (read_as w others b a below rest p)
+          → read_as w others' b (retag f a) (retagged f below) (retagged f rest) (retag_progress f p)
+          ≡ retag_progress f (read_as w others b a below rest p)
       read_as_retag body.MaybeLinkOpen a below rest p = opened_retag false a rest p
       read_as_retag body.MaybeImage a below rest p = opened_retag true a rest p
       read_as_retag (body.MaybeLinkClose could) a below rest p = closed_retag (closing could a rest p) p
       read_as_retag other a below rest p = follows a below rest p
 
       pub read_past_retag : (goes_on : Option ℕ) (a : Label A) (below rest : Forest (Label A)) (p : Progress A)
-          → read_past w others' goes_on (retag f a) (retagged f below) (retagged f rest) (retag_progress f p) ≡ retag_progress f (read_past w others goes_on a below rest p)
+          → read_past w others' goes_on (retag f a) (retagged f below) (retagged f rest) (retag_progress f p)
+          ≡ retag_progress f (read_past w others goes_on a below rest p)
       read_past_retag None a below rest p = read_as_retag (open_body a.part.shape) a below rest p
       read_past_retag (Some i) a below rest p = by (nat_le (end_of a) i)
         where
-          by : (b : Bool) → (if b then retag_progress f p else read w others' (retag f (begun_at i a)) (retagged f below) (retagged f rest) (record (retag_progress f p) { goes_on = None }))
+          by : (b : Bool) → (if b then retag_progress f p else read w others' (retag f (begun_at i a)) (retagged f below) (retagged f rest)
+              (record (retag_progress f p) { goes_on = None }))
               ≡ retag_progress f (if b then p else read w others (begun_at i a) below rest (record p { goes_on = None }))
           by true = refl
           by false = read_as_retag (open_body (begun_at i a).part.shape) (begun_at i a) below rest (record p { goes_on = None })
@@ -347,7 +417,8 @@ module _ {A B : Type 0} (f : A → B) where
       unfolding read_chain
       read_chain_retag nil p = refl
       read_chain_retag (node a below rest) p =
-          ap (read_chain w others' (retagged f rest)) (read_past_retag p.goes_on a below rest p) ∙ read_chain_retag rest (read_past w others p.goes_on a below rest p)
+          ap (read_chain w others' (retagged f rest)) (read_past_retag p.goes_on a below rest p)
+          ∙ read_chain_retag rest (read_past w others p.goes_on a below rest p)
 
 pub tag_law : {A B : Type 0} → TagLaw A B
 tag_law f w others others' follows chain p = read_chain_retag f w others others' follows chain p

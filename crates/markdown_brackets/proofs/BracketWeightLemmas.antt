@@ -9,9 +9,12 @@ use Rattle.markdown_chains.specs.Labels.{weight}
 use Rattle.markdown_chains.specs.Document.{Shape, leaf, enclosed, plain, backslash_break, unresolved, Label}
 use Rattle.markdown_chains.specs.Setting.{Known}
 use Rattle.markdown_chains.specs.ChainRest.{begun_at, past_byte, cut_shape, start_of, end_of, open_body}
-use Rattle.markdown_brackets.specs.BracketDecision.{Around, Closing, Progress, Wikilink, wikilink_in, wikilink_by, children_of, if_some, past_second}
+use Rattle.markdown_brackets.specs.BracketDecision.{Around, Closing, Progress, Wikilink, wikilink_in, wikilink_by, children_of, if_some}
+use Rattle.markdown_brackets.specs.BracketDecision.{past_second}
 use Rattle.markdown_brackets.specs.ClosingBracket.{footnote_onto, closed}
-use Rattle.markdown_brackets.specs.LeftList.{Mark, Entry, done, waits, trees_onto, Split, inside, behind, nearest, change_nearest, opens_bracket, opens_wikilink, without_bracket, without_wikilink, on_marks, disabled_mark, second_folded, before_link, before_wikilink, before_footnote}
+use Rattle.markdown_brackets.specs.LeftList.{Mark, Entry, done, waits, trees_onto, Split, inside, behind, nearest, change_nearest}
+use Rattle.markdown_brackets.specs.LeftList.{opens_bracket, opens_wikilink, without_bracket, without_wikilink, on_marks, disabled_mark}
+use Rattle.markdown_brackets.specs.LeftList.{second_folded, before_link, before_wikilink, before_footnote}
 use Rattle.markdown_brackets.specs.ReadChain.{Reader, begun, closing, read_as, read, read_past, read_chain}
 use Rattle.markdown_brackets.specs.Wikilink.{WikilinkBody, Shows, shows_name, shows_nothing, shows_from, has_pothole, wikilink_body}
 use Rattle.markdown_chains.specs.Document.{is_unresolved}
@@ -36,7 +39,8 @@ w_second [] = refl
 w_second (done a below ∷ left) = refl
 w_second (waits m a ∷ left) = refl
 
-w_change : {A : Type 0} (test : Mark → Bool) (f : Mark → Mark) (left : List (Entry A)) → weight_left (change_nearest test f left) ≡ weight_left left
+w_change : {A : Type 0} (test : Mark → Bool) (f : Mark → Mark) (left : List (Entry A)) → weight_left (change_nearest test f left)
+    ≡ weight_left left
 w_change test f [] = refl
 w_change test f (done a below ∷ left) = omega (arith, w_change test f left)
 w_change {A} test f (waits m a ∷ left) = by (test m) (w_change test f left)
@@ -61,7 +65,8 @@ abbrev WeighsAt : {A : Type 0} → List (Entry A) → Split A → Type 0
 WeighsAt left o = weight_left left ≡ weight_left o.after + (weight_at o.opener + weight_left o.before)
 
 w_behind : {A : Type 0} (e : Entry A) (n : ℕ) (left : List (Entry A)) (o : Option (Split A)) → weight_left (e ∷ left) ≡ n + weight_left left
-    → ((more : List (Entry A)) → weight_left (e ∷ more) ≡ n + weight_left more) → IfSome o (WeighsAt left) → IfSome (option_map (behind e) o) (WeighsAt (e ∷ left))
+    → ((more : List (Entry A)) → weight_left (e ∷ more) ≡ n + weight_left more) → IfSome o (WeighsAt left)
+    → IfSome (option_map (behind e) o) (WeighsAt (e ∷ left))
 w_behind e n left None q r h = tt
 w_behind e n left (Some o) q r h = let m = r o.after in omega (arith, q, m, h)
 
@@ -72,7 +77,8 @@ w_nearest test (done a below ∷ left) =
 w_nearest {A} test (waits m a ∷ left) = by (test m) (w_nearest test left)
   where
     by : (b : Bool) → IfSome (nearest test left) (WeighsAt left)
-        → IfSome (if b then Some (record { mark = m; opener = a; after = []; before = left }) else option_map (behind (waits m a)) (nearest test left)) (WeighsAt (waits m a ∷ left))
+        → IfSome (if b then Some (record { mark = m; opener = a; after = []; before = left })
+        else option_map (behind (waits m a)) (nearest test left)) (WeighsAt (waits m a ∷ left))
     by true h = omega arith
     by false h = w_behind (waits m a) (weight_at a) left (nearest test left) refl (λ more. refl) h
 
@@ -101,26 +107,32 @@ w_some : {A : Type 0} (n : ℕ) (f : Forest (Label A)) → weight f ≤ n → If
 w_some n nil h = tt
 w_some n (node a below after) h = h
 
-w_shown : {A : Type 0} (w : Around) (first : Label A) (trees : Forest (Label A)) (end : ℕ) (shows : Shows) → 2 ≤ weight trees → IfSome (children_of w first trees end shows) (λ g. weight g ≤ weight trees)
+w_shown : {A : Type 0} (w : Around) (first : Label A) (trees : Forest (Label A)) (end : ℕ) (shows : Shows) → 2 ≤ weight trees
+    → IfSome (children_of w first trees end shows) (λ g. weight g ≤ weight trees)
 w_shown w first trees end shows_name h = omega (arith, h)
 w_shown w first trees end (shows_nothing at) h = omega (arith, h)
 w_shown w first trees end (shows_from at) h = w_some (weight trees) (past_byte at trees) (w_from at trees)
 
-w_named : {A : Type 0} (w : Around) (first : Label A) (trees : Forest (Label A)) (end : ℕ) (b : WikilinkBody) → 2 ≤ weight trees → IfSome (wikilink_by w first trees end b) (λ found. weight found.children ≤ weight trees)
+w_named : {A : Type 0} (w : Around) (first : Label A) (trees : Forest (Label A)) (end : ℕ) (b : WikilinkBody) → 2 ≤ weight trees
+    → IfSome (wikilink_by w first trees end b) (λ found. weight found.children ≤ weight trees)
 w_named {A} w first trees end b h = by (children_of w first trees end b.shows) (w_shown w first trees end b.shows h)
   where
     by : (o : Option (Forest (Label A))) → IfSome o (λ g. weight g ≤ weight trees)
-        → IfSome (option_map (λ children. record { name = b.name; has_pothole = has_pothole b.shows; children = children }) o) (λ (found : Wikilink A). weight found.children ≤ weight trees)
+        → IfSome (option_map (λ children. record { name = b.name; has_pothole = has_pothole b.shows; children = children }) o)
+        (λ (found : Wikilink A). weight found.children ≤ weight trees)
     by None k = tt
     by (Some f) k = k
 
-w_wikilink : {A : Type 0} (w : Around) (trees : Forest (Label A)) (end : ℕ) → IfSome (wikilink_in w trees end) (λ found. weight found.children ≤ weight trees)
+w_wikilink : {A : Type 0} (w : Around) (trees : Forest (Label A)) (end : ℕ)
+    → IfSome (wikilink_in w trees end) (λ found. weight found.children ≤ weight trees)
 w_wikilink w nil end = tt
 w_wikilink {A} w (node first below after) end = by (wikilink_body w.setting.text (start_of first) end)
   where
-    by : (o : Option WikilinkBody) → IfSome (option_and_then (wikilink_by w first (node first below after) end) o) (λ found. weight found.children ≤ weight (node first below after))
+    by : (o : Option WikilinkBody) → IfSome (option_and_then (wikilink_by w first (node first below after) end) o)
+        (λ found. weight found.children ≤ weight (node first below after))
     by None = tt
-    by (Some b) = w_named w first (node first below after) end b (let least = some_weight (is_unresolved first.part.shape) in omega (arith, least))
+    by (Some b) = w_named w first (node first below after) end b (let least = some_weight (is_unresolved first.part.shape)
+        in omega (arith, least))
 
 w_past : {A : Type 0} (f : Forest (Label A)) → weight (past_second f) ≤ weight f
 w_past nil = omega arith
@@ -136,7 +148,8 @@ module _ {A : Type 0} (w : Around) (c : Closing A) (n : ℕ) where
   least : (a : Label A) → 2 ≤ weight_at a
   least a = some_weight (is_unresolved a.part.shape)
 
-  w_footnote : (i : Bool) (a : Label A) (name : List ℕ) (before : List (Entry A)) → weight_left (footnote_onto w c i a name before) ≤ 4 + weight_left before
+  w_footnote : (i : Bool) (a : Label A) (name : List ℕ) (before : List (Entry A)) → weight_left (footnote_onto w c i a name before) ≤ 4
+      + weight_left before
   w_footnote true a name before = omega arith
   w_footnote false a name before = omega arith
 
@@ -160,7 +173,8 @@ module _ {A : Type 0} (w : Around) (c : Closing A) (n : ℕ) where
         omega (arith, at, h, before, made, l, m);
     wikilink = λ left o v end h found live is.
         let at : WeighsAt left o = some_of (nearest opens_wikilink left) o (WeighsAt left) found (w_nearest opens_wikilink left) in
-        let shown = some_of (wikilink_in w (past_second (inside o)) (start_of c.label)) v (λ v. weight v.children ≤ weight (past_second (inside o))) is
+        let shown = some_of (wikilink_in w (past_second (inside o)) (start_of c.label)) v
+        (λ v. weight v.children ≤ weight (past_second (inside o))) is
         (w_wikilink w (past_second (inside o)) (start_of c.label)) in
         let past = w_past (inside o) in
         let before = w_before_wikilink o.before in
@@ -169,29 +183,35 @@ module _ {A : Type 0} (w : Around) (c : Closing A) (n : ℕ) where
         omega (arith, at, h, shown, past, before, inner, l);
   }
 
-closed_weight : {A : Type 0} (w : Around) (c : Closing A) (p : Progress A) → weight_left (closed w c p).left ≤ weight_left p.left + weight_at c.label
+closed_weight : {A : Type 0} (w : Around) (c : Closing A) (p : Progress A) → weight_left (closed w c p).left ≤ weight_left p.left
+    + weight_at c.label
 closed_weight w c p =
     in_each_case w c (Weighs w c (weight_left p.left)) (Fits w c (weight_left p.left)) (weight_cases w c (weight_left p.left)) p refl
 
 module _ {A : Type 0} (w : Around) (others : Reader A)
-    (rule : (a : Label A) (below rest : Forest (Label A)) (p : Progress A) → weight_left (others a below rest p).left ≤ weight_left p.left + (weight_at a + weight below)) where
-  read_as_weight : (b : ItemBody) (a : Label A) (below rest : Forest (Label A)) (p : Progress A) → weight_left (read_as w others b a below rest p).left ≤ weight_left p.left + (weight_at a + weight below)
+    (rule : (a : Label A) (below rest : Forest (Label A)) (p : Progress A) → weight_left (others a below rest p).left ≤ weight_left p.left
+    + (weight_at a + weight below)) where
+  read_as_weight : (b : ItemBody) (a : Label A) (below rest : Forest (Label A)) (p : Progress A)
+      → weight_left (read_as w others b a below rest p).left ≤ weight_left p.left + (weight_at a + weight below)
   read_as_weight body.MaybeLinkOpen a below rest p = let l = some_weight (is_unresolved a.part.shape) in omega (arith, l)
   read_as_weight body.MaybeImage a below rest p = let l = some_weight (is_unresolved a.part.shape) in omega (arith, l)
   read_as_weight (body.MaybeLinkClose could) a below rest p = let h = closed_weight w (closing could a rest p) p in omega (arith, h)
   read_as_weight other a below rest p = rule a below rest p
 
-  read_past_weight : (o : Option ℕ) (a : Label A) (below rest : Forest (Label A)) (p : Progress A) → weight_left (read_past w others o a below rest p).left ≤ weight_left p.left + (weight_at a + weight below)
+  read_past_weight : (o : Option ℕ) (a : Label A) (below rest : Forest (Label A)) (p : Progress A)
+      → weight_left (read_past w others o a below rest p).left ≤ weight_left p.left + (weight_at a + weight below)
   read_past_weight None a below rest p = read_as_weight (open_body a.part.shape) a below rest p
   read_past_weight (Some i) a below rest p = by (nat_le (end_of a) i)
     where
-      by : (b : Bool) → weight_left (if b then p else read w others (begun_at i a) below rest (record p { goes_on = None })).left ≤ weight_left p.left + (weight_at a + weight below)
+      by : (b : Bool) → weight_left (if b then p else read w others (begun_at i a) below rest (record p { goes_on = None })).left
+          ≤ weight_left p.left + (weight_at a + weight below)
       by true = omega arith
       by false =
           let h = read_as_weight (open_body (begun_at i a).part.shape) (begun_at i a) below rest (record p { goes_on = None }) in
           omega (arith, h, w_begun i a)
 
-  chain_weight : (chain : Forest (Label A)) (p : Progress A) → weight_left (read_chain w others chain p).left ≤ weight_left p.left + weight chain
+  chain_weight : (chain : Forest (Label A)) (p : Progress A) → weight_left (read_chain w others chain p).left ≤ weight_left p.left
+      + weight chain
   unfolding read_chain
   chain_weight nil p = omega arith
   chain_weight (node a below rest) p =
@@ -199,7 +219,8 @@ module _ {A : Type 0} (w : Around) (others : Reader A)
       let later = chain_weight rest (read_past w others p.goes_on a below rest p) in
       omega (arith, here, later)
 
-  pub no_heavier : (chain : Forest (Label A)) (known : Known) → weight (trees_onto (read_chain w others chain (begun known)).left nil) ≤ weight chain
+  pub no_heavier : (chain : Forest (Label A)) (known : Known)
+      → weight (trees_onto (read_chain w others chain (begun known)).left nil) ≤ weight chain
   no_heavier chain known =
       let whole = chain_weight chain (begun known) in
       let read = w_onto (read_chain w others chain (begun known)).left nil in

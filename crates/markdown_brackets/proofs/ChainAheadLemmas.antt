@@ -20,9 +20,11 @@ pub record StepsOn (nodes : List (Node Item)) (byte ix : ℕ) : Type 0 where
   pub within : ix < length nodes
   pub later : IsChain nodes (sibling_of nodes ix)
   pub falls : trees_ahead nodes (sibling_of nodes ix) < trees_ahead nodes (Some ix)
-  pub stops : byte < (item_at nodes ix).end → numbers_past nodes byte (forest_at (links_of nodes) (Some ix)) ≡ forest_at (links_of nodes) (Some ix)
+  pub stops : byte < (item_at nodes ix).end → numbers_past nodes byte (forest_at (links_of nodes) (Some ix))
+      ≡ forest_at (links_of nodes) (Some ix)
   pub passes : (item_at nodes ix).end ≤ byte
-      → numbers_past nodes byte (forest_at (links_of nodes) (Some ix)) ≡ numbers_past nodes byte (forest_at (links_of nodes) (sibling_of nodes ix))
+      → numbers_past nodes byte (forest_at (links_of nodes) (Some ix))
+      ≡ numbers_past nodes byte (forest_at (links_of nodes) (sibling_of nodes ix))
   pub root : first_root (forest_at (links_of nodes) (Some ix)) ≡ Some ix
   pub starts : first_start nodes (forest_at (links_of nodes) (Some ix)) ≡ Some (item_at nodes ix).start
 
@@ -66,18 +68,21 @@ pub steps_at : (nodes : List (Node Item)) (byte : ℕ) (link : Option ℕ) (ix :
 steps_at nodes byte link ix e chain = steps_on nodes byte ix (subst (IsChain nodes) e chain)
 
 -- nothing is past a byte where nothing is
-pub past_none : (nodes : List (Node Item)) (byte : ℕ) → numbers_past nodes byte (forest_at (links_of nodes) None) ≡ forest_at (links_of nodes) None
+pub past_none : (nodes : List (Node Item)) (byte : ℕ) → numbers_past nodes byte (forest_at (links_of nodes) None)
+    ≡ forest_at (links_of nodes) None
 past_none nodes byte = rw (forest_at-none (links_of nodes)) refl
 
 pub root_none : (nodes : List (Node Item)) → first_root (forest_at (links_of nodes) None) ≡ None
 root_none nodes = rw (forest_at-none (links_of nodes)) refl
 
 -- what a byte leaves is what it leaves of what an earlier one leaves
-pub past_twice : (nodes : List (Node Item)) (i j : ℕ) (f : Forest ℕ) → i ≤ j → numbers_past nodes j (numbers_past nodes i f) ≡ numbers_past nodes j f
+pub past_twice : (nodes : List (Node Item)) (i j : ℕ) (f : Forest ℕ) → i ≤ j → numbers_past nodes j (numbers_past nodes i f)
+    ≡ numbers_past nodes j f
 past_twice nodes i j nil h = refl
 past_twice nodes i j (node ix below after) h = by (nat_lt i (item_at nodes ix).end) refl (past_twice nodes i j after h)
   where
     by : (b : Bool) → nat_lt i (item_at nodes ix).end ≡ b → numbers_past nodes j (numbers_past nodes i after) ≡ numbers_past nodes j after
         → numbers_past nodes j (if b then node ix below after else numbers_past nodes i after) ≡ numbers_past nodes j (node ix below after)
     by true e more = refl
-    by false e more = more ∙ sym (past_goes nodes j ix below after (let before = is_not_below i (item_at nodes ix).end e in omega (arith, before, h)))
+    by false e more = more ∙ sym (past_goes nodes j ix below after (let before = is_not_below i (item_at nodes ix).end e
+        in omega (arith, before, h)))

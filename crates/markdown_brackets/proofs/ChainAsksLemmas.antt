@@ -1,5 +1,6 @@
 -- Reading a chain asks on top of what was asked: no question is taken back, and none is put before another.
-use Rattle.std.proofs.Common.{◌≡◌, ℕ, Bool, true, false, ◌&&◌, List, [], ◌++◌, Option, Some, None, cond, refl, sym, ◌∙◌, ap, append-nil, append_assoc, if◌then◌else◌, nat_le}
+use Rattle.std.proofs.Common.{◌≡◌, ℕ, Bool, true, false, ◌&&◌, List, [], ◌++◌, Option, Some, None, cond, refl, sym, ◌∙◌, ap, append-nil}
+use Rattle.std.proofs.Common.{append_assoc, if◌then◌else◌, nat_le}
 use Rattle.markdown_base.specs.Event.{LinkView}
 use Rattle.markdown_base.specs.Forest.{Forest, nil, node}
 use Rattle.markdown_base.specs.Questions.{Question}
@@ -8,7 +9,11 @@ use Rattle.markdown_base.specs.declared.item.ItemBody.TheVariants as body
 use Rattle.markdown_base.specs.declared.tag.LinkType.{LinkType}
 use Rattle.markdown_chains.specs.Document.{Label}
 use Rattle.markdown_chains.specs.ChainRest.{begun_at, end_of, open_body, start_of}
-use Rattle.markdown_brackets.specs.BracketDecision.{Around, Becomes, Closing, Decision, Progress, Wikilink, Written, a_footnote, a_link, a_text, a_wikilink, after_look_up, decided, decided_before, footnote_label, footnote_tried, footnote_used, inline_link, link_label, look_up_tried, no_link, one_decided, opener_tried, past_second, question_at, spent_by, target_tried, to_be, tried, wikilink_in, wikilink_opener, wikilink_or_one, wikilink_tried, written}
+use Rattle.markdown_brackets.specs.BracketDecision.{Around, Becomes, Closing, Decision, Progress, Wikilink, Written, a_footnote, a_link}
+use Rattle.markdown_brackets.specs.BracketDecision.{a_text, a_wikilink, after_look_up, decided, decided_before, footnote_label}
+use Rattle.markdown_brackets.specs.BracketDecision.{footnote_tried, footnote_used, inline_link, link_label, look_up_tried, no_link}
+use Rattle.markdown_brackets.specs.BracketDecision.{one_decided, opener_tried, past_second, question_at, spent_by, target_tried, to_be}
+use Rattle.markdown_brackets.specs.BracketDecision.{tried, wikilink_in, wikilink_opener, wikilink_or_one, wikilink_tried, written}
 use Rattle.markdown_brackets.specs.BracketOptions.{footnote_style, wikilinks_on}
 use Rattle.markdown_brackets.specs.ClosingBracket.{closed, put}
 use Rattle.markdown_brackets.specs.FootnoteUse.{is_reference}
@@ -33,7 +38,8 @@ asks_on r q p later here = record {
 
 module _ {A : Type 0} (w : Around) (c : Closing A) where
   -- what a `]` becomes
-  target_asks : (o : Split A) (end next : ℕ) (target : Option LinkView) (p : Progress A) → (target_tried o end next target p).progress.asked ≡ p.asked
+  target_asks : (o : Split A) (end next : ℕ) (target : Option LinkView) (p : Progress A) → (target_tried o end next target p).progress.asked
+      ≡ p.asked
   target_asks o end next None p = refl
   target_asks o end next (Some target) p = refl
 
@@ -51,8 +57,10 @@ module _ {A : Type 0} (w : Around) (c : Closing A) where
   footnote_asks : (o : Split A) (name : List ℕ) (p : Progress A) → AsksMore (footnote_tried w o name p).progress p
   footnote_asks o name p = by (is_reference (footnote_style w.setting.rules.options) (w.setting.rules.is_footnote name))
     where
-      by : (b : Bool) → AsksMore (cond b (to_be (a_footnote o name) (footnote_used (w.setting.rules.is_footnote name) name p)) (to_be a_text p)).progress p
-      by true = asks_nothing (footnote_used (w.setting.rules.is_footnote name) name p) p (used_asks (w.setting.rules.is_footnote name) name p)
+      by : (b : Bool) → AsksMore (cond b (to_be (a_footnote o name) (footnote_used (w.setting.rules.is_footnote name) name p))
+          (to_be a_text p)).progress p
+      by true = asks_nothing (footnote_used (w.setting.rules.is_footnote name) name p) p (used_asks (w.setting.rules.is_footnote name) name
+          p)
       by false = asks_nothing p p refl
 
   spent_asks : (o : Split A) (link_type : LinkType) (label : List ℕ) (end next : ℕ) (p : Progress A)
@@ -80,7 +88,8 @@ module _ {A : Type 0} (w : Around) (c : Closing A) where
       let r = opener_asks (nearest opens_bracket p.left) (record p { left = bracket_taken p.left }) in
       record { more = r.more; asked = r.asked }
 
-  or_one_asks : (end : ℕ) (o : Split A) (found : Option (Wikilink A)) (p : Progress A) → AsksMore (wikilink_or_one w c end o found p).progress p
+  or_one_asks : (end : ℕ) (o : Split A) (found : Option (Wikilink A)) (p : Progress A)
+      → AsksMore (wikilink_or_one w c end o found p).progress p
   or_one_asks end o (Some found) p = asks_nothing (record p { left = wikilink_taken (bracket_taken p.left) }) p refl
   or_one_asks end o None p =
       let r = one_asks (record p { left = wikilink_taken p.left }) in
@@ -117,14 +126,17 @@ module _ {A : Type 0} (w : Around) (c : Closing A) where
       let r = decided_asks p in
       record { more = r.more; asked = put_asks d.becomes d.progress ∙ r.asked }
 
-module _ {A : Type 0} (w : Around) (others : Reader A) (rule : (a : Label A) (below rest : Forest (Label A)) (p : Progress A) → AsksMore (others a below rest p) p) where
-  read_as_asks : (b : ItemBody) (a : Label A) (below rest : Forest (Label A)) (p : Progress A) → AsksMore (read_as w others b a below rest p) p
+module _ {A : Type 0} (w : Around) (others : Reader A) (rule : (a : Label A) (below rest : Forest (Label A)) (p : Progress A)
+    → AsksMore (others a below rest p) p) where
+  read_as_asks : (b : ItemBody) (a : Label A) (below rest : Forest (Label A)) (p : Progress A)
+      → AsksMore (read_as w others b a below rest p) p
   read_as_asks body.MaybeLinkOpen a below rest p = asks_nothing (opened w false a rest p) p refl
   read_as_asks body.MaybeImage a below rest p = asks_nothing (opened w true a rest p) p refl
   read_as_asks (body.MaybeLinkClose could) a below rest p = closed_asks w (closing could a rest p) p
   read_as_asks other a below rest p = rule a below rest p
 
-  pub read_past_asks : (goes_on : Option ℕ) (a : Label A) (below rest : Forest (Label A)) (p : Progress A) → AsksMore (read_past w others goes_on a below rest p) p
+  pub read_past_asks : (goes_on : Option ℕ) (a : Label A) (below rest : Forest (Label A)) (p : Progress A)
+      → AsksMore (read_past w others goes_on a below rest p) p
   read_past_asks None a below rest p = read_as_asks (open_body a.part.shape) a below rest p
   read_past_asks (Some i) a below rest p = by (nat_le (end_of a) i)
     where

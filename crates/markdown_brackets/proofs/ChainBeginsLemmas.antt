@@ -13,30 +13,36 @@ use Rattle.markdown_chains.specs.Setting.{Known}
 use Rattle.markdown_brackets.specs.BracketDecision.{Around, Closing, Progress}
 use Rattle.markdown_brackets.specs.ChainBegins.{BeginsLaw, BeginsSo, BeginsWith, trees_of}
 use Rattle.markdown_brackets.specs.ClosingBracket.{footnote_onto}
-use Rattle.markdown_brackets.specs.LeftList.{Entry, Mark, Split, before_footnote, before_link, behind, change_nearest, disabled_mark, done, nearest, on_marks, opens_bracket, opens_wikilink, second_folded, trees_onto, waits, without_bracket, without_wikilink}
+use Rattle.markdown_brackets.specs.LeftList.{Entry, Mark, Split, before_footnote, before_link, behind, change_nearest, disabled_mark, done}
+use Rattle.markdown_brackets.specs.LeftList.{nearest, on_marks, opens_bracket, opens_wikilink, second_folded, trees_onto, waits}
+use Rattle.markdown_brackets.specs.LeftList.{without_bracket, without_wikilink}
 use Rattle.markdown_brackets.specs.ReadChain.{Reader, begun, closing, read, read_as, read_chain, read_past}
 use Rattle.markdown_brackets.proofs.ClosingBracketLemmas.{Cases, in_each_case, some_of}
 
 -- what is put behind a tree says nothing on how the trees begin: so a rule that puts more trees lets the first one stand
-pub begins_onto : {A : Type 0} (test : Shape → Bool) (left : List (Entry A)) (one other : Forest (Label A)) → (BeginsWith test one → BeginsWith test other)
+pub begins_onto : {A : Type 0} (test : Shape → Bool) (left : List (Entry A)) (one other : Forest (Label A))
+    → (BeginsWith test one → BeginsWith test other)
     → BeginsWith test (trees_onto left one) → BeginsWith test (trees_onto left other)
 begins_onto test [] one other k h = k h
 begins_onto test (done a below ∷ left) one other k h = begins_onto test left (node a below one) (node a below other) (λ first. first) h
 begins_onto test (waits m a ∷ left) one other k h = begins_onto test left (node a nil one) (node a nil other) (λ first. first) h
 
-module _ {A : Type 0} (w : Around) (test : Shape → Bool) (events : (e : EventView) (origins : List Origin) → test (leaf e origins) ≡ true) (tags : (tag : TagView) → test (enclosed tag) ≡ true) where
+module _ {A : Type 0} (w : Around) (test : Shape → Bool) (events : (e : EventView) (origins : List Origin)
+    → test (leaf e origins) ≡ true) (tags : (tag : TagView) → test (enclosed tag) ≡ true) where
   -- the first tree of a left list passes, and where there is none, this holds
   abbrev First : Type 0 → List (Entry A) → Type 0
   First none [] = none
   First none (done a below ∷ left) = First (test a.part.shape ≡ true) left
   First none (waits m a ∷ left) = First (test a.part.shape ≡ true) left
 
-  first-from_trees : (left : List (Entry A)) (later : Forest (Label A)) → BeginsWith test (trees_onto left later) → First (BeginsWith test later) left
+  first-from_trees : (left : List (Entry A)) (later : Forest (Label A)) → BeginsWith test (trees_onto left later)
+      → First (BeginsWith test later) left
   first-from_trees [] later h = h
   first-from_trees (done a below ∷ left) later h = first-from_trees left (node a below later) h
   first-from_trees (waits m a ∷ left) later h = first-from_trees left (node a nil later) h
 
-  first-trees : (left : List (Entry A)) (later : Forest (Label A)) → First (BeginsWith test later) left → BeginsWith test (trees_onto left later)
+  first-trees : (left : List (Entry A)) (later : Forest (Label A)) → First (BeginsWith test later) left
+      → BeginsWith test (trees_onto left later)
   first-trees [] later h = h
   first-trees (done a below ∷ left) later h = first-trees left (node a below later) h
   first-trees (waits m a ∷ left) later h = first-trees left (node a nil later) h
@@ -58,12 +64,14 @@ module _ {A : Type 0} (w : Around) (test : Shape → Bool) (events : (e : EventV
   first_second none (done a below ∷ left) h = h
   first_second none (waits m a ∷ left) h = h
 
-  first_change : (opens : Mark → Bool) (f : Mark → Mark) (none : Type 0) (left : List (Entry A)) → First none left → First none (change_nearest opens f left)
+  first_change : (opens : Mark → Bool) (f : Mark → Mark) (none : Type 0) (left : List (Entry A)) → First none left
+      → First none (change_nearest opens f left)
   first_change opens f none [] h = h
   first_change opens f none (done a below ∷ left) h = first_change opens f (test a.part.shape ≡ true) left h
   first_change opens f none (waits m a ∷ left) h = by (opens m) (first_change opens f (test a.part.shape ≡ true) left h)
     where
-      by : (b : Bool) → First (test a.part.shape ≡ true) (change_nearest opens f left) → First none (if b then waits (f m) a ∷ left else waits m a ∷ change_nearest opens f left)
+      by : (b : Bool) → First (test a.part.shape ≡ true) (change_nearest opens f left)
+          → First none (if b then waits (f m) a ∷ left else waits m a ∷ change_nearest opens f left)
       by true k = h
       by false k = k
 
@@ -81,16 +89,19 @@ module _ {A : Type 0} (w : Around) (test : Shape → Bool) (events : (e : EventV
 
   first_nearest : (opens : Mark → Bool) (none : Type 0) (left : List (Entry A)) → First none left → IfSome (nearest opens left) IsFirstAt
   first_nearest opens none [] h = tt
-  first_nearest opens none (done a below ∷ left) h = first_behind (done a below) (nearest opens left) (first_nearest opens (test a.part.shape ≡ true) left h)
+  first_nearest opens none (done a below ∷ left) h = first_behind (done a below) (nearest opens left)
+      (first_nearest opens (test a.part.shape ≡ true) left h)
   first_nearest opens none (waits m a ∷ left) h = by (opens m) (first_nearest opens (test a.part.shape ≡ true) left h)
     where
       by : (b : Bool) → IfSome (nearest opens left) IsFirstAt
-          → IfSome (if b then Some (record { mark = m; opener = a; after = []; before = left }) else option_map (behind (waits m a)) (nearest opens left)) IsFirstAt
+          → IfSome (if b then Some (record { mark = m; opener = a; after = []; before = left })
+          else option_map (behind (waits m a)) (nearest opens left)) IsFirstAt
       by true k = h
       by false k = first_behind (waits m a) (nearest opens left) k
 
   module _ (c : Closing A) where
-    first_footnote : (is_image : Bool) (a : Label A) (name : List ℕ) (none : Type 0) (before : List (Entry A)) → First none before → First ⊥ (footnote_onto w c is_image a name before)
+    first_footnote : (is_image : Bool) (a : Label A) (name : List ℕ) (none : Type 0) (before : List (Entry A)) → First none before
+        → First ⊥ (footnote_onto w c is_image a name before)
     first_footnote true a name none before h = first_or before (λ k. events _ _) h
     first_footnote false a name none before h = first_or before (λ k. events _ _) h
 
@@ -121,18 +132,22 @@ module _ {A : Type 0} (w : Around) (test : Shape → Bool) (events : (e : EventV
     first_put body.MaybeLinkOpen a below rest known h = events _ _
     first_put body.MaybeImage a below rest known h = events _ _
     first_put (body.MaybeLinkClose could) a below rest known h =
-        in_each_case w (closing could a rest (begun known)) (First ⊤) (First ⊥) (first_cases (closing could a rest (begun known))) (begun known) tt
+        in_each_case w (closing could a rest (begun known)) (First ⊤) (First ⊥) (first_cases (closing could a rest (begun known)))
+        (begun known) tt
     first_put other a below rest known h = first-from_trees (others a below rest (begun known)).left nil (rule.puts a below rest known h)
 
     -- and each later item keeps one
-    first_kept : (b : ItemBody) (a : Label A) (below rest : Forest (Label A)) (p : Progress A) → First ⊥ p.left → First ⊥ (read_as w others b a below rest p).left
+    first_kept : (b : ItemBody) (a : Label A) (below rest : Forest (Label A)) (p : Progress A) → First ⊥ p.left
+        → First ⊥ (read_as w others b a below rest p).left
     first_kept body.MaybeLinkOpen a below rest p h = first_or p.left (λ k. events _ _) h
     first_kept body.MaybeImage a below rest p h = first_or p.left (λ k. events _ _) h
     first_kept (body.MaybeLinkClose could) a below rest p h =
         in_each_case w (closing could a rest p) (First ⊤) (First ⊥) (first_cases (closing could a rest p)) p (first_or p.left (λ k. tt) h)
-    first_kept other a below rest p h = first-from_trees (others a below rest p).left nil (rule.keeps a below rest p (first-trees p.left nil h))
+    first_kept other a below rest p h = first-from_trees (others a below rest p).left nil
+        (rule.keeps a below rest p (first-trees p.left nil h))
 
-    first_past : (goes_on : Option ℕ) (a : Label A) (below rest : Forest (Label A)) (p : Progress A) → First ⊥ p.left → First ⊥ (read_past w others goes_on a below rest p).left
+    first_past : (goes_on : Option ℕ) (a : Label A) (below rest : Forest (Label A)) (p : Progress A) → First ⊥ p.left
+        → First ⊥ (read_past w others goes_on a below rest p).left
     first_past None a below rest p h = first_kept (open_body a.part.shape) a below rest p h
     first_past (Some i) a below rest p h = by (nat_le (end_of a) i)
       where
@@ -143,14 +158,16 @@ module _ {A : Type 0} (w : Around) (test : Shape → Bool) (events : (e : EventV
     first_chain : (chain : Forest (Label A)) (p : Progress A) → First ⊥ p.left → First ⊥ (read_chain w others chain p).left
     unfolding read_chain
     first_chain nil p h = h
-    first_chain (node a below rest) p h = first_chain rest (read_past w others p.goes_on a below rest p) (first_past p.goes_on a below rest p h)
+    first_chain (node a below rest) p h = first_chain rest (read_past w others p.goes_on a below rest p)
+        (first_past p.goes_on a below rest p h)
 
     pub read_begins : (a : Label A) (below rest : Forest (Label A)) (known : Known) → is_unresolved a.part.shape ≡ true
         → BeginsWith test (trees_of (read_chain w others (node a below rest) (begun known)))
     unfolding read_chain
     read_begins a below rest known h =
         let first : Progress A = read w others a below rest (begun known) in
-        first-trees (read_chain w others rest first).left nil (first_chain rest first (first_put (open_body a.part.shape) a below rest known h))
+        first-trees (read_chain w others rest first).left nil
+        (first_chain rest first (first_put (open_body a.part.shape) a below rest known h))
 
 pub begins_law : {A : Type 0} → BeginsLaw A
 begins_law w others test events tags rule a below rest known h = read_begins w test events tags others rule a below rest known h

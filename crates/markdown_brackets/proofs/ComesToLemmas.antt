@@ -11,7 +11,9 @@ use Rattle.markdown_spans.specs.Folding.{is_match}
 use Rattle.markdown_spans.specs.Footnotes.{footnote_at}
 use Rattle.markdown_spans.specs.Footnotes as footnotes
 use Rattle.markdown_spans.specs.declared.defs.footnotes.FootnoteDefs.{FootnoteDefs}
-use Rattle.markdown_brackets.specs.BracketDecision.{footnote_used, to_be, Around, Becomes, Decision, Progress, a_text, a_link, a_footnote, after_look_up, inline_target, question_at, spent_by, target_tried, tried, no_link, inline_link, link_label, footnote_label}
+use Rattle.markdown_brackets.specs.BracketDecision.{footnote_used, to_be, Around, Becomes, Decision, Progress, a_text, a_link, a_footnote}
+use Rattle.markdown_brackets.specs.BracketDecision.{after_look_up, inline_target, question_at, spent_by, target_tried, tried, no_link}
+use Rattle.markdown_brackets.specs.BracketDecision.{inline_link, link_label, footnote_label}
 use Rattle.markdown_brackets.specs.BracketOptions.{footnote_style}
 use Rattle.markdown_brackets.specs.FootnoteUse.{is_reference}
 use Rattle.markdown_brackets.specs.declared.footnote.FootnoteStyle.{FootnoteStyle}
@@ -41,7 +43,8 @@ spent_grows kind.Inline end spent = refl
 spent_grows kind.Reference end spent = refl
 spent_grows other end spent = refl
 
-module _ {C : Type 0} (step : C → Question → Option Answer → C → Type 0) (w : Around) (o : Split ℕ) (limit : ℕ) (uses : List ℕ → ℕ) (callback : Option C) where
+module _ {C : Type 0} (step : C → Question → Option Answer → C → Type 0) (w : Around) (o : Split ℕ) (limit : ℕ) (uses : List ℕ
+    → ℕ) (callback : Option C) where
   -- where nobody is asked
   pub comes_to_text : ComesTo step w (tried w o no_link) [] limit limit uses uses callback callback Text
   comes_to_text = record {
@@ -50,7 +53,11 @@ module _ {C : Type 0} (step : C → Question → Option Answer → C → Type 0)
     asked = refl;
     becomes = a_text;
     comes = λ p later.
-        ap (λ (asked : List Question). let d : Decision ℕ = record { becomes = a_text; progress = record (knowing limit later uses p) { asked = asked } } in d) (sym (append-nil p.asked));
+        ap (λ (asked : List Question). let d : Decision ℕ = record {
+          becomes = a_text;
+          progress = record (knowing limit later uses p)
+              { asked = asked };
+        } in d) (sym (append-nil p.asked));
     is = tt;
   }
 
@@ -62,7 +69,11 @@ module _ {C : Type 0} (step : C → Question → Option Answer → C → Type 0)
     asked = refl;
     becomes = a_link o (inline_target w t) t.ends t.ends;
     comes = λ p later.
-        ap (λ (asked : List Question). let d : Decision ℕ = record { becomes = a_link o (inline_target w t) t.ends t.ends; progress = record (knowing limit later uses p) { asked = asked } } in d) (sym (append-nil p.asked));
+        ap (λ (asked : List Question). let d : Decision ℕ = record {
+          becomes = a_link o (inline_target w t) t.ends t.ends;
+          progress =
+              record (knowing limit later uses p) { asked = asked };
+        } in d) (sym (append-nil p.asked));
     is = is;
   }
 
@@ -82,10 +93,13 @@ module _ {C : Type 0} (step : C → Question → Option Answer → C → Type 0)
   is_link_or_text end next (Some target) (ClosedFootnote a b) is = absurd is
   is_link_or_text end next (Some target) (Wikilinked a b c d e) is = absurd is
 
-  pub comes_to_reference : (link_type : LinkType) (label : List ℕ) (end next limit' : ℕ) (callback' : Option C) (target : Option LinkView) (found : ClosedBracket)
-      → LooksUp step w.setting.rules.definitions w.setting.rules.asks (question_at o link_type label end) limit limit' callback callback' target
+  pub comes_to_reference : (link_type : LinkType) (label : List ℕ) (end next limit' : ℕ) (callback' : Option C) (target : Option LinkView)
+      (found : ClosedBracket)
+      → LooksUp step w.setting.rules.definitions w.setting.rules.asks (question_at o link_type label end) limit limit' callback callback'
+      target
       → IsLinkOr (opener_of o) end next target found
-      → ComesTo step w (tried w o (link_label link_type label end next)) (spent_by link_type end []) limit limit' uses uses callback callback' found
+      → ComesTo step w (tried w o (link_label link_type label end next)) (spent_by link_type end []) limit limit' uses uses callback
+      callback' found
   comes_to_reference link_type label end next limit' callback' target found looks is = record {
     answers = looks.answers;
     questions = looks.questions;
@@ -95,13 +109,26 @@ module _ {C : Type 0} (step : C → Question → Option Answer → C → Type 0)
         let before : Progress ℕ = record (knowing limit (looks.answers ++ later) uses p) { spent = spent_by link_type end p.spent } in
         ap (λ (f : LookedUp). target_tried o end next f.target (after_look_up f before)) (looks.finds later)
         ∙ (by target p later
-        ∙ ap (λ (spent : List ℕ). let d : Decision ℕ = record { becomes = link_or_text end next target; progress = record (knowing limit' later uses p) { spent = spent; asked = p.asked ++ looks.questions } } in d) (spent_grows link_type end p.spent));
+        ∙ ap (λ (spent : List ℕ). let d : Decision ℕ = record {
+          becomes = link_or_text end next target;
+          progress =
+              record (knowing limit' later uses p) { spent = spent; asked = p.asked ++ looks.questions };
+        } in d)
+        (spent_grows link_type end p.spent));
     is = is_link_or_text end next target found is;
   }
     where
       by : (target : Option LinkView) (p : Progress ℕ) (later : Answers)
-          → target_tried o end next target (record (knowing limit' later uses p) { spent = spent_by link_type end p.spent; asked = p.asked ++ looks.questions })
-          ≡ record { becomes = link_or_text end next target; progress = record (knowing limit' later uses p) { spent = spent_by link_type end p.spent; asked = p.asked ++ looks.questions } }
+          → target_tried o end next target (record (knowing limit' later uses p) {
+            spent = spent_by link_type end p.spent;
+            asked = p.asked
+                ++ looks.questions;
+          })
+          ≡ record {
+            becomes = link_or_text end next target;
+            progress = record (knowing limit' later uses p)
+                { spent = spent_by link_type end p.spent; asked = p.asked ++ looks.questions };
+          }
       by None p later = refl
       by (Some t) p later = refl
 
@@ -120,10 +147,13 @@ module _ {C : Type 0} (step : C → Question → Option Answer → C → Type 0)
       → to_be becomes (knowing limit later (uses_of new) p)
       ≡ record { becomes = becomes; progress = record (knowing limit later (uses_of new) p) { asked = p.asked ++ [] } }
   asks_nothing becomes p later =
-      ap (λ (asked : List Question). let d : Decision ℕ = record { becomes = becomes; progress = record (knowing limit later (uses_of new) p) { asked = asked } } in d) (sym (append-nil p.asked))
+      ap (λ (asked : List Question). let d : Decision ℕ =
+      record { becomes = becomes; progress = record (knowing limit later (uses_of new) p) { asked = asked } } in d)
+      (sym (append-nil p.asked))
 
   -- it is a reference
-  pub comes_to_footnote : is_reference how (is_some (footnote_at old name)) ≡ true → (found : ClosedBracket) → IsBecome w (a_footnote o name) found
+  pub comes_to_footnote : is_reference how (is_some (footnote_at old name)) ≡ true → (found : ClosedBracket)
+      → IsBecome w (a_footnote o name) found
       → ComesTo step w (tried w o (footnote_label name)) [] limit limit (uses_of old) (uses_of new) callback callback found
   comes_to_footnote is_one found is = record {
     answers = [];
@@ -132,7 +162,8 @@ module _ {C : Type 0} (step : C → Question → Option Answer → C → Type 0)
     becomes = a_footnote o name;
     comes = λ p later.
         rw (styled, defined, is_one)
-        (ap (to_be (a_footnote o name)) (knows_uses (is_some (footnote_at old name)) refl p later) ∙ asks_nothing (a_footnote o name) p later);
+        (ap (to_be (a_footnote o name)) (knows_uses (is_some (footnote_at old name)) refl p later)
+        ∙ asks_nothing (a_footnote o name) p later);
     is = is;
   }
 
@@ -151,7 +182,9 @@ module _ {C : Type 0} (step : C → Question → Option Answer → C → Type 0)
     becomes = a_text;
     comes = λ p later.
         rw (styled, defined, is_none)
-        (ap (λ uses. to_be a_text (knowing limit later uses p)) (sym (uses_stay old new name counted (none_defined how (is_some (footnote_at old name)) is_none))) ∙ asks_nothing a_text p later);
+        (ap (λ uses. to_be a_text (knowing limit later uses p))
+        (sym (uses_stay old new name counted (none_defined how (is_some (footnote_at old name)) is_none)))
+        ∙ asks_nothing a_text p later);
     is = tt;
   }
 
@@ -164,7 +197,8 @@ module _ {C : Type 0} (step : C → Question → Option Answer → C → Type 0)
   comes_read_nothing (link_label a b d e) limit uses callback h = absurd h
   comes_read_nothing (footnote_label a) limit uses callback h = absurd h
 
-  pub comes_read_inline : (x : decision.Written) (limit : ℕ) (uses : List ℕ → ℕ) (callback : Option C) (tail : LinkTail) (found : ClosedBracket)
+  pub comes_read_inline : (x : decision.Written) (limit : ℕ) (uses : List ℕ → ℕ) (callback : Option C) (tail : LinkTail)
+      (found : ClosedBracket)
       → IsRead in_table x (Inline tail)
       → ((t : scanned.LinkTail) → IsTail in_table t tail → IsBecome w (a_link o (inline_target w t) t.ends t.ends) found)
       → ComesTo step w (tried w o x) (spent_in x) limit limit uses uses callback callback found
@@ -174,24 +208,32 @@ module _ {C : Type 0} (step : C → Question → Option Answer → C → Type 0)
   comes_read_inline (footnote_label a) limit uses callback tail found h is = absurd h
 
   pub comes_read_label : (x : decision.Written) (limit limit' : ℕ) (uses : List ℕ → ℕ) (callback callback' : Option C)
-      (link_type : LinkType) (label : CowStr) (end next start : ℕ) (opener : Opener) (definitions : List Labelled) (asks : Bool) (target : Option LinkView) (found : ClosedBracket)
+      (link_type : LinkType) (label : CowStr) (end next start : ℕ) (opener : Opener) (definitions : List Labelled) (asks : Bool)
+      (target : Option LinkView) (found : ClosedBracket)
       → IsRead in_table x (Label link_type label end next)
       → w.setting.rules.definitions ≡ definitions → w.setting.rules.asks ≡ asks → opener ≡ opener_of o → start_of o.opener ≡ start
-      → LooksUp step definitions asks (question (record { start = start; end = end }) link_type label) limit limit' callback callback' target
+      → LooksUp step definitions asks (question (record { start = start; end = end }) link_type label) limit limit' callback callback'
+      target
       → IsLinkOr opener end next target found
       → ComesTo step w (tried w o x) (spent_in x) limit limit' uses uses callback callback' found
   comes_read_label no_link limit limit' uses callback callback' lt l e n start opener d asks target found h hd ha ho hs looks is = absurd h
-  comes_read_label (inline_link t) limit limit' uses callback callback' lt l e n start opener d asks target found h hd ha ho hs looks is = absurd h
-  comes_read_label (footnote_label a) limit limit' uses callback callback' lt l e n start opener d asks target found h hd ha ho hs looks is = absurd h
-  comes_read_label (link_label kind label end next) limit limit' uses callback callback' lt l e n start opener d asks target found h hd ha ho hs looks is =
+  comes_read_label (inline_link t) limit limit' uses callback callback' lt l e n start opener d asks target found h hd ha ho hs looks is =
+      absurd h
+  comes_read_label (footnote_label a) limit limit' uses callback callback' lt l e n start opener d asks target found h hd ha ho hs looks is
+      = absurd h
+  comes_read_label (link_label kind label end next) limit limit' uses callback callback' lt l e n start opener d asks target found h hd ha
+      ho hs looks is =
       comes_to_reference step w o limit uses callback kind label end next limit' callback' target found
       (rw (hd, ha, hs, ← h.0, ← h.1, ← h.2) looks) (rw (← ho, ← h.2, ← h.3) is)
 
-  pub comes_read_footnote : (x : decision.Written) (limit : ℕ) (callback : Option C) (old new : FootnoteDefs) (name : CowStr) (how : FootnoteStyle) (opener : Opener) (found : ClosedBracket)
+  pub comes_read_footnote : (x : decision.Written) (limit : ℕ) (callback : Option C) (old new : FootnoteDefs) (name : CowStr)
+      (how : FootnoteStyle) (opener : Opener) (found : ClosedBracket)
       → IsRead in_table x (Footnote name)
-      → ((name : List ℕ) → w.setting.rules.is_footnote name ≡ is_some (footnote_at old name)) → footnote_style w.setting.rules.options ≡ how → opener ≡ opener_of o
+      → ((name : List ℕ) → w.setting.rules.is_footnote name ≡ is_some (footnote_at old name)) → footnote_style w.setting.rules.options ≡ how
+      → opener ≡ opener_of o
       → ((other : List ℕ) → footnote_at new other
-      ≡ (if is_match (text_of name) other then option_map footnotes.used_once_more (footnote_at old (text_of name)) else footnote_at old other))
+      ≡ (if is_match (text_of name) other then option_map footnotes.used_once_more (footnote_at old (text_of name))
+      else footnote_at old other))
       → IsFootnoteOr opener (text_of name) (is_reference how (is_some (footnote_at old (text_of name)))) found
       → ComesTo step w (tried w o x) (spent_in x) limit limit (uses_of old) (uses_of new) callback callback found
   comes_read_footnote no_link limit callback old new name how opener found h hd hs ho counted is = absurd h
@@ -201,7 +243,8 @@ module _ {C : Type 0} (step : C → Question → Option Answer → C → Type 0)
       subst (λ n. ComesTo step w (tried w o (footnote_label n)) [] limit limit (uses_of old) (uses_of new) callback callback found) h
       (by (is_reference how (is_some (footnote_at old (text_of name)))) refl found is)
     where
-      by : (b : Bool) → is_reference how (is_some (footnote_at old (text_of name))) ≡ b → (found : ClosedBracket) → IsFootnoteOr opener (text_of name) b found
+      by : (b : Bool) → is_reference how (is_some (footnote_at old (text_of name))) ≡ b → (found : ClosedBracket)
+          → IsFootnoteOr opener (text_of name) b found
           → ComesTo step w (tried w o (footnote_label (text_of name))) [] limit limit (uses_of old) (uses_of new) callback callback found
       by false e Text is = comes_to_no_footnote step w o limit callback old new (text_of name) how (hd (text_of name)) hs counted e
       by false e (Link a b d f) is = absurd is
@@ -210,4 +253,5 @@ module _ {C : Type 0} (step : C → Question → Option Answer → C → Type 0)
       by true e Text is = absurd is
       by true e (Link a b d f) is = absurd is
       by true e (Wikilinked a b d f g) is = absurd is
-      by true e (ClosedFootnote a b) is = comes_to_footnote step w o limit callback old new (text_of name) how (hd (text_of name)) hs counted e (ClosedFootnote a b) (is.0 ∙ ho, is.1)
+      by true e (ClosedFootnote a b) is = comes_to_footnote step w o limit callback old new (text_of name) how (hd (text_of name)) hs
+          counted e (ClosedFootnote a b) (is.0 ∙ ho, is.1)

@@ -12,7 +12,8 @@ use Rattle.markdown_brackets.specs.BracketDecision.{Around, Closing, Decision, P
 use Rattle.markdown_brackets.specs.Decides.{Decides, StandsBefore, TakesNone, TakesOne}
 use Rattle.markdown_brackets.specs.DecisionView.{knowing, opener_of}
 use Rattle.markdown_brackets.specs.Finish.{SplitsAs}
-use Rattle.markdown_brackets.specs.LeftList.{Entry, Split, nearest, opens_bracket, without_bracket, bracket_taken, wikilink_taken, brackets_of}
+use Rattle.markdown_brackets.specs.LeftList.{Entry, Split, nearest, opens_bracket, without_bracket, bracket_taken, wikilink_taken}
+use Rattle.markdown_brackets.specs.LeftList.{brackets_of}
 use Rattle.markdown_brackets.specs.Openers.{Waiting}
 use Rattle.markdown_brackets.specs.ReadChain.{begun}
 use Rattle.markdown_brackets.specs.StandsAt.{AreTaken, ComesToOpener, TriesOpener}
@@ -34,80 +35,90 @@ left_of (Some t) old new m = sym (ap rest_of m)
 module _ {C : Type 0} (step : C → Question → Option Answer → C → Type 0) (w : Around) (c : Closing ℕ) (left : List (Entry ℕ))
     (limit : ℕ) (uses : List ℕ → ℕ) (spent : SpentEnds) (callback : Option C)
     (taken : Option (Opener × Bool)) (old new held : List Waiting) (old_is : old ≡ brackets_of left)
-    (m : MatchOption taken ((old ≡ []) × (new ≡ [])) (λ t. old ≡ record { opener = t.0; is_live = t.1 } ∷ new)) (found : ClosedBracket) where
-  pub decides_wikilink : TakesOne w c left held found
-      → Decides step w c left limit limit uses uses spent spent callback callback new held found
-  decides_wikilink t = record {
-    answers = [];
-    questions = [];
-    asked = refl;
-    becomes = a_wikilink t.opener t.wikilink t.end;
-    is = t.is;
-    left_then = wikilink_taken (bracket_taken left);
-    splits = t.splits;
-    more = [];
-    decides = λ p later.
-        t.decides (knowing limit later uses p)
-        ∙ ap (λ (asked : List Question). let d : Decision ℕ = record { becomes = a_wikilink t.opener t.wikilink t.end; progress = record (knowing limit later uses p) { left = wikilink_taken (bracket_taken left); asked = asked } } in d) (sym (append-nil p.asked));
-    spends = λ end. refl;
-    brackets_are = left_of taken old new m ∙ (ap rest_of old_is ∙ (rest_brackets left ∙ sym (brackets_stay (bracket_taken left))));
-    wikilinks_are = t.held_is;
-  }
+    (m : MatchOption taken ((old ≡ []) × (new ≡ [])) (λ t. old ≡ record { opener = t.0; is_live = t.1 } ∷ new)) (found : ClosedBracket)
+  where
+    pub decides_wikilink : TakesOne w c left held found
+        → Decides step w c left limit limit uses uses spent spent callback callback new held found
+    decides_wikilink t = record {
+      answers = [];
+      questions = [];
+      asked = refl;
+      becomes = a_wikilink t.opener t.wikilink t.end;
+      is = t.is;
+      left_then = wikilink_taken (bracket_taken left);
+      splits = t.splits;
+      more = [];
+      decides = λ p later.
+          t.decides (knowing limit later uses p)
+          ∙ ap (λ (asked : List Question). let d : Decision ℕ = record {
+            becomes = a_wikilink t.opener t.wikilink t.end;
+            progress =
+                record (knowing limit later uses p) { left = wikilink_taken (bracket_taken left); asked = asked };
+          } in d)
+          (sym (append-nil p.asked));
+      spends = λ end. refl;
+      brackets_are = left_of taken old new m ∙ (ap rest_of old_is ∙ (rest_brackets left ∙ sym (brackets_stay (bracket_taken left))));
+      wikilinks_are = t.held_is;
+    }
 
-  pub decides_one : (limit' : ℕ) (uses' : List ℕ → ℕ) (spent' : SpentEnds) (callback' : Option C) (t : TakesNone w c left held)
-      → ComesToOpener step w c (nearest opens_bracket t.left_then) limit limit' uses uses' spent spent' callback callback' found
-      → Decides step w c left limit limit' uses uses' spent spent' callback callback' new held found
-  decides_one limit' uses' spent' callback' t h = record {
-    answers = h.comes.answers;
-    questions = h.comes.questions;
-    asked = h.comes.asked;
-    becomes = h.comes.becomes;
-    is = h.comes.is;
-    left_then = bracket_taken t.left_then;
-    splits =
-        let none : Known = record { limit = 0; answers = []; uses = λ name. 0 } in
-        let start : Progress ℕ = begun none in
-        subst (λ becomes. SplitsAs (bracket_taken t.left_then) becomes) (ap (λ (d : Decision ℕ). d.becomes) (h.comes.comes start []))
-        (opener_splits w c (bracket_taken t.left_then) (nearest opens_bracket t.left_then) (knowing limit (h.comes.answers ++ []) uses start)
-        (taken_splits opens_bracket without_bracket t.left_then));
-    more = h.more;
-    decides = λ p later.
-        t.decides (knowing limit (h.comes.answers ++ later) uses p)
-        ∙ h.comes.comes (record p { left = bracket_taken t.left_then }) later;
-    spends = h.spends;
-    brackets_are = left_of taken old new m ∙ (ap rest_of (old_is ∙ sym t.brackets) ∙ rest_brackets t.left_then);
-    wikilinks_are = t.held_is ∙ sym (wikilinks_stay t.left_then);
-  }
+    pub decides_one : (limit' : ℕ) (uses' : List ℕ → ℕ) (spent' : SpentEnds) (callback' : Option C) (t : TakesNone w c left held)
+        → ComesToOpener step w c (nearest opens_bracket t.left_then) limit limit' uses uses' spent spent' callback callback' found
+        → Decides step w c left limit limit' uses uses' spent spent' callback callback' new held found
+    decides_one limit' uses' spent' callback' t h = record {
+      answers = h.comes.answers;
+      questions = h.comes.questions;
+      asked = h.comes.asked;
+      becomes = h.comes.becomes;
+      is = h.comes.is;
+      left_then = bracket_taken t.left_then;
+      splits =
+          let none : Known = record { limit = 0; answers = []; uses = λ name. 0 } in
+          let start : Progress ℕ = begun none in
+          subst (λ becomes. SplitsAs (bracket_taken t.left_then) becomes) (ap (λ (d : Decision ℕ). d.becomes) (h.comes.comes start []))
+          (opener_splits w c (bracket_taken t.left_then) (nearest opens_bracket t.left_then) (knowing limit (h.comes.answers ++ []) uses
+          start)
+          (taken_splits opens_bracket without_bracket t.left_then));
+      more = h.more;
+      decides = λ p later.
+          t.decides (knowing limit (h.comes.answers ++ later) uses p)
+          ∙ h.comes.comes (record p { left = bracket_taken t.left_then }) later;
+      spends = h.spends;
+      brackets_are = left_of taken old new m ∙ (ap rest_of (old_is ∙ sym t.brackets) ∙ rest_brackets t.left_then);
+      wikilinks_are = t.held_is ∙ sym (wikilinks_stay t.left_then);
+    }
 
-  -- the opener that was taken off is the nearest one
-  pub tries_nearest : (nodes : List (Node Item)) (closer : ℕ) (could_be : Bool) (s : StandsBefore nodes closer left c) → c.could_be_reference ≡ could_be
-      → (t : TakesNone w c left held) → TriesOpener nodes closer could_be taken c (nearest opens_bracket t.left_then)
-  tries_nearest nodes closer could_be s could t =
-      let there = rest_found nodes closer left c s in
-      record {
-        source = s.source;
-        tables = s.tables;
-        rest = there.holds;
-        rest_found = found_at s.source s.tables nodes (sibling_of nodes closer) c.rest there;
-        ends = subst (λ n. (item_at nodes n).end ≡ end_of c.label) s.number (same_end s.source s.tables nodes c.label (closer_found nodes closer left c s).holds.2);
-        could = could;
-        openers = by taken m (nearest opens_bracket t.left_then) (top_bracket t.left_then) (splits_at opens_bracket t.left_then);
-      }
-    where
-      by : (taken : Option (Opener × Bool)) → MatchOption taken ((old ≡ []) × (new ≡ [])) (λ t. old ≡ record { opener = t.0; is_live = t.1 } ∷ new)
-          → (o : Option (Split ℕ)) → TopBracket t.left_then o → IfSome o (SplitsAt t.left_then) → AreTaken nodes taken o
-      by None m None top splits = tt
-      by None m (Some o) top splits = let a = sym m.0 ∙ (old_is ∙ (sym t.brackets ∙ top)) in cc
-      by (Some k) m None top splits = let a = sym m ∙ (old_is ∙ (sym t.brackets ∙ top.0)) in cc
-      by (Some k) m (Some o) top splits =
-          let a = sym m ∙ (old_is ∙ (sym t.brackets ∙ top)) in
-          let first = ap (first_of (record { opener = k.0; is_live = k.1 })) a in
-          let opener : k.0 ≡ opener_of o = ap (λ (v : Waiting). v.opener) first in
-          let number : k.0.node ≡ o.opener.tag = ap (λ (p : Opener). p.node) opener in
-          let here = opener_holds nodes closer left c s t.left_then t.trees o splits in
-          record {
-            opener = opener;
-            live = ap (λ (v : Waiting). v.is_live) first;
-            starts = ap (λ n. (item_at nodes n).start) number ∙ same_start s.source s.tables nodes o.opener here.2;
-            ends = ap (λ n. (item_at nodes n).end) number ∙ same_end s.source s.tables nodes o.opener here.2;
-          }
+    -- the opener that was taken off is the nearest one
+    pub tries_nearest : (nodes : List (Node Item)) (closer : ℕ) (could_be : Bool) (s : StandsBefore nodes closer left c)
+        → c.could_be_reference ≡ could_be
+        → (t : TakesNone w c left held) → TriesOpener nodes closer could_be taken c (nearest opens_bracket t.left_then)
+    tries_nearest nodes closer could_be s could t =
+        let there = rest_found nodes closer left c s in
+        record {
+          source = s.source;
+          tables = s.tables;
+          rest = there.holds;
+          rest_found = found_at s.source s.tables nodes (sibling_of nodes closer) c.rest there;
+          ends = subst (λ n. (item_at nodes n).end ≡ end_of c.label) s.number (same_end s.source s.tables nodes c.label
+              (closer_found nodes closer left c s).holds.2);
+          could = could;
+          openers = by taken m (nearest opens_bracket t.left_then) (top_bracket t.left_then) (splits_at opens_bracket t.left_then);
+        }
+      where
+        by : (taken : Option (Opener × Bool)) → MatchOption taken ((old ≡ []) × (new ≡ [])) (λ t. old ≡ record { opener = t.0; is_live = t.1 }
+            ∷ new)
+            → (o : Option (Split ℕ)) → TopBracket t.left_then o → IfSome o (SplitsAt t.left_then) → AreTaken nodes taken o
+        by None m None top splits = tt
+        by None m (Some o) top splits = let a = sym m.0 ∙ (old_is ∙ (sym t.brackets ∙ top)) in cc
+        by (Some k) m None top splits = let a = sym m ∙ (old_is ∙ (sym t.brackets ∙ top.0)) in cc
+        by (Some k) m (Some o) top splits =
+            let a = sym m ∙ (old_is ∙ (sym t.brackets ∙ top)) in
+            let first = ap (first_of (record { opener = k.0; is_live = k.1 })) a in
+            let opener : k.0 ≡ opener_of o = ap (λ (v : Waiting). v.opener) first in
+            let number : k.0.node ≡ o.opener.tag = ap (λ (p : Opener). p.node) opener in
+            let here = opener_holds nodes closer left c s t.left_then t.trees o splits in
+            record {
+              opener = opener;
+              live = ap (λ (v : Waiting). v.is_live) first;
+              starts = ap (λ n. (item_at nodes n).start) number ∙ same_start s.source s.tables nodes o.opener here.2;
+              ends = ap (λ n. (item_at nodes n).end) number ∙ same_end s.source s.tables nodes o.opener here.2;
+            }

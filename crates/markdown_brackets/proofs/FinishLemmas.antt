@@ -1,6 +1,7 @@
 -- What is put into a left list takes openers off the stacks: numbers rise along the list, so that an opener and all after it go, and those
 -- before it stay; the one just before it leads to it, and no other.
-use Rattle.std.proofs.Common.{◌≡◌, ℕ, ◌<◌, ◌≤◌, ◌==◌, Bool, true, false, List, [], ◌∷◌, ◌++◌, Option, Some, map, nat_le, refl, sym, ◌∙◌, ap, subst, arith}
+use Rattle.std.proofs.Common.{◌≡◌, ℕ, ◌<◌, ◌≤◌, ◌==◌, Bool, true, false, List, [], ◌∷◌, ◌++◌, Option, Some, map, nat_le, refl, sym, ◌∙◌, ap}
+use Rattle.std.proofs.Common.{subst, arith}
 use Rattle.std.specs.Prelude.{if◌then◌else◌, ⊤}
 use Rattle.std.proofs.lemmas.Bool.Decides.{nat_tests}
 use Rattle.markdown_base.specs.Arena.{sibling_of}
@@ -15,7 +16,9 @@ use Rattle.markdown_brackets.specs.ClosingBracket.{footnote_onto, put}
 use Rattle.markdown_brackets.specs.DecisionView.{IsBecome, opener_of}
 use Rattle.markdown_brackets.specs.Decides.{EachOpener, StandsBefore}
 use Rattle.markdown_brackets.specs.Finish.{AreBehind, AreRising, IsSplit, LeftRises, SplitsAs}
-use Rattle.markdown_brackets.specs.LeftList.{Entry, Flag, Mark, Split, before_footnote, before_link, before_wikilink, brackets_of, disabled, disabled_flag, disabled_mark, done, gone, held_as, live, on_marks, second_folded, trees_onto, waits, wikilinks_of, without_bracket, without_wikilink}
+use Rattle.markdown_brackets.specs.LeftList.{Entry, Flag, Mark, Split, before_footnote, before_link, before_wikilink, brackets_of, disabled}
+use Rattle.markdown_brackets.specs.LeftList.{disabled_flag, disabled_mark, done, gone, held_as, live, on_marks, second_folded, trees_onto}
+use Rattle.markdown_brackets.specs.LeftList.{waits, wikilinks_of, without_bracket, without_wikilink}
 use Rattle.markdown_brackets.specs.Openers.{Waiting, before}
 use Rattle.markdown_brackets.specs.Openers as openers
 use Rattle.markdown_brackets.specs.SecondBracket.{without_second}
@@ -34,7 +37,8 @@ each_before P n (t ∷ held) h = by (nat_le n t.opener.node) (each_before P n he
     by true rest = rest
     by false rest = h
 
-pub first_each : (P : ℕ → Type 0) (held : List Waiting) (opener : Opener) → openers.first_opener held ≡ Some opener → EachOpener P held → P opener.node
+pub first_each : (P : ℕ → Type 0) (held : List Waiting) (opener : Opener) → openers.first_opener held ≡ Some opener → EachOpener P held
+    → P opener.node
 first_each P [] opener e h = let none = e in cc
 first_each P (t ∷ held) opener e h = let same : t.opener ≡ opener = cc in subst (λ (o : Opener). P o.node) same h.0
 
@@ -76,12 +80,14 @@ LinksOn nodes n [] = ⊤
 LinksOn nodes n (e ∷ left) = (number_of e < n) × (sibling_of nodes (number_of e) ≡ Some n) × LinksOn nodes (number_of e) left
 
 -- numbers that rise
-rising_from : (left : List (Entry ℕ)) (f : Forest (Label ℕ)) → AreRising (roots (numbers_of (trees_onto left f))) → AreRising (roots (numbers_of f))
+rising_from : (left : List (Entry ℕ)) (f : Forest (Label ℕ)) → AreRising (roots (numbers_of (trees_onto left f)))
+    → AreRising (roots (numbers_of f))
 rising_from [] f h = h
 rising_from (done a below ∷ left) f h = (rising_from left (node a below f) h).1
 rising_from (waits m a ∷ left) f h = (rising_from left (node a nil f) h).1
 
-behind_from : (n : ℕ) (left : List (Entry ℕ)) (f : Forest (Label ℕ)) → AreBehind n (roots (numbers_of (trees_onto left f))) → AreBehind n (roots (numbers_of f))
+behind_from : (n : ℕ) (left : List (Entry ℕ)) (f : Forest (Label ℕ)) → AreBehind n (roots (numbers_of (trees_onto left f)))
+    → AreBehind n (roots (numbers_of f))
 behind_from n [] f h = h
 behind_from n (done a below ∷ left) f h = (behind_from n left (node a below f) h).1
 behind_from n (waits m a ∷ left) f h = (behind_from n left (node a nil f) h).1
@@ -92,8 +98,10 @@ after_all n (done a below ∷ left) f h = ((behind_from n left (node a below f) 
 after_all n (waits m a ∷ left) f h = ((behind_from n left (node a nil f) h).0, after_all n left (node a nil f) h)
 
 -- what stands leads on
-links_on : (source : List ℕ) (tables : Tables) (nodes : List (Node Item)) (first : Option ℕ) (left : List (Entry ℕ)) (a : Label ℕ) (below later below' later' : Forest (Label ℕ))
-    → Holds source tables nodes first (trees_onto left (node a below later)) → AreRising (roots (numbers_of (trees_onto left (node a below' later')))) → LinksOn nodes a.tag left
+links_on : (source : List ℕ) (tables : Tables) (nodes : List (Node Item)) (first : Option ℕ) (left : List (Entry ℕ)) (a : Label ℕ)
+    (below later below' later' : Forest (Label ℕ))
+    → Holds source tables nodes first (trees_onto left (node a below later))
+    → AreRising (roots (numbers_of (trees_onto left (node a below' later')))) → LinksOn nodes a.tag left
 links_on source tables nodes first [] a below later below' later' h r = tt
 links_on source tables nodes first (done b under ∷ left) a below later below' later' h r =
     let at = Holds-from source tables nodes first left (node b under (node a below later)) h in
@@ -115,29 +123,35 @@ onto_append (done a below ∷ after) left f = onto_append after left (node a bel
 onto_append (waits m a ∷ after) left f = onto_append after left (node a nil f)
 
 -- an opener of a greater number goes, one of a smaller number stays
-goes : (n number : ℕ) (is_image : Bool) (f : Flag) (held : List Waiting) → n ≤ number → before n (held_as number is_image f held) ≡ before n held
+goes : (n number : ℕ) (is_image : Bool) (f : Flag) (held : List Waiting) → n ≤ number → before n (held_as number is_image f held)
+    ≡ before n held
 goes n number is_image live held le = rw (le_true n number le) refl
 goes n number is_image disabled held le = rw (le_true n number le) refl
 goes n number is_image gone held le = refl
 
-stays : (n number : ℕ) (is_image : Bool) (f : Flag) (held : List Waiting) → number < n → before n held ≡ held → before n (held_as number is_image f held) ≡ held_as number is_image f held
+stays : (n number : ℕ) (is_image : Bool) (f : Flag) (held : List Waiting) → number < n → before n held ≡ held
+    → before n (held_as number is_image f held) ≡ held_as number is_image f held
 stays n number is_image live held lt e = rw (lt_false n number lt) refl
 stays n number is_image disabled held lt e = rw (lt_false n number lt) refl
 stays n number is_image gone held lt e = e
 
-goes_all : (flag : Mark → Flag) (n : ℕ) (after left : List (Entry ℕ)) → AreAfter n after → before n (held_by flag (after ++ left)) ≡ before n (held_by flag left)
+goes_all : (flag : Mark → Flag) (n : ℕ) (after left : List (Entry ℕ)) → AreAfter n after → before n (held_by flag (after ++ left))
+    ≡ before n (held_by flag left)
 goes_all flag n [] left h = refl
 goes_all flag n (done a below ∷ after) left h = goes_all flag n after left h.1
 goes_all flag n (waits m a ∷ after) left h =
     goes n a.tag m.is_image (flag m) (held_by flag (after ++ left)) (omega (arith, h.0)) ∙ goes_all flag n after left h.1
 
-stays_all : (flag : Mark → Flag) (nodes : List (Node Item)) (n next : ℕ) (left : List (Entry ℕ)) → LinksOn nodes next left → next ≤ n → before n (held_by flag left) ≡ held_by flag left
+stays_all : (flag : Mark → Flag) (nodes : List (Node Item)) (n next : ℕ) (left : List (Entry ℕ)) → LinksOn nodes next left → next ≤ n
+    → before n (held_by flag left) ≡ held_by flag left
 stays_all flag nodes n next [] h le = refl
 stays_all flag nodes n next (done a below ∷ left) h le = stays_all flag nodes n a.tag left h.2 (omega (arith, h.0, le))
 stays_all flag nodes n next (waits m a ∷ left) h le =
-    stays n a.tag m.is_image (flag m) (held_by flag left) (omega (arith, h.0, le)) (stays_all flag nodes n a.tag left h.2 (omega (arith, h.0, le)))
+    stays n a.tag m.is_image (flag m) (held_by flag left) (omega (arith, h.0, le))
+    (stays_all flag nodes n a.tag left h.2 (omega (arith, h.0, le)))
 
-before_opener : (flag : Mark → Flag) (nodes : List (Node Item)) (m : Mark) (a : Label ℕ) (after left : List (Entry ℕ)) → AreAfter a.tag after → LinksOn nodes a.tag left
+before_opener : (flag : Mark → Flag) (nodes : List (Node Item)) (m : Mark) (a : Label ℕ) (after left : List (Entry ℕ))
+    → AreAfter a.tag after → LinksOn nodes a.tag left
     → before a.tag (held_by flag (after ++ waits m a ∷ left)) ≡ held_by flag left
 before_opener flag nodes m a after left h links =
     goes_all flag a.tag after (waits m a ∷ left) h
@@ -151,13 +165,15 @@ same_number n = grind (arith, nat_tests)
 other_number : (m n : ℕ) → m < n → (m == n) ≡ false
 other_number m n lt = grind (arith, nat_tests)
 
-far_one : (nodes : List (Node Item)) (n next number : ℕ) (is_image : Bool) (f : Flag) (held : List Waiting) → sibling_of nodes number ≡ Some next → next < n
+far_one : (nodes : List (Node Item)) (n next number : ℕ) (is_image : Bool) (f : Flag) (held : List Waiting)
+    → sibling_of nodes number ≡ Some next → next < n
     → without_second nodes n held ≡ held → without_second nodes n (held_as number is_image f held) ≡ held_as number is_image f held
 far_one nodes n next number is_image live held e lt rest = rw (e, other_number next n lt) refl
 far_one nodes n next number is_image disabled held e lt rest = rw (e, other_number next n lt) refl
 far_one nodes n next number is_image gone held e lt rest = rest
 
-far : (flag : Mark → Flag) (nodes : List (Node Item)) (n next : ℕ) (left : List (Entry ℕ)) → LinksOn nodes next left → next < n → without_second nodes n (held_by flag left) ≡ held_by flag left
+far : (flag : Mark → Flag) (nodes : List (Node Item)) (n next : ℕ) (left : List (Entry ℕ)) → LinksOn nodes next left → next < n
+    → without_second nodes n (held_by flag left) ≡ held_by flag left
 far flag nodes n next [] h lt = refl
 far flag nodes n next (done a below ∷ left) h lt = far flag nodes n a.tag left h.2 (omega (arith, h.0, lt))
 far flag nodes n next (waits m a ∷ left) h lt =
@@ -167,7 +183,8 @@ far flag nodes n next (waits m a ∷ left) h lt =
 near_one : (nodes : List (Node Item)) (n number : ℕ) (is_image : Bool) (f : Flag) (held : List Waiting) → sibling_of nodes number ≡ Some n
     → before number held ≡ held → without_second nodes n held ≡ held → without_second nodes n (held_as number is_image f held) ≡ held
 near_one nodes n number is_image live held e rest none = rw (e, same_number n) (goes number number is_image live held (omega arith) ∙ rest)
-near_one nodes n number is_image disabled held e rest none = rw (e, same_number n) (goes number number is_image disabled held (omega arith) ∙ rest)
+near_one nodes n number is_image disabled held e rest none = rw (e, same_number n) (goes number number is_image disabled held (omega arith)
+    ∙ rest)
 near_one nodes n number is_image gone held e rest none = none
 
 second_gone : (nodes : List (Node Item)) (n : ℕ) (left : List (Entry ℕ)) → LinksOn nodes n left
@@ -175,7 +192,8 @@ second_gone : (nodes : List (Node Item)) (n : ℕ) (left : List (Entry ℕ)) →
 second_gone nodes n [] h = refl
 second_gone nodes n (done a below ∷ left) h = far for_wikilink nodes n a.tag left h.2 h.0
 second_gone nodes n (waits m a ∷ left) h =
-    near_one nodes n a.tag m.is_image m.wikilink (held_by for_wikilink left) h.1 (stays_all for_wikilink nodes a.tag a.tag left h.2 (omega arith))
+    near_one nodes n a.tag m.is_image m.wikilink (held_by for_wikilink left) h.1 (stays_all for_wikilink nodes a.tag a.tag left h.2
+    (omega arith))
     (far for_wikilink nodes n a.tag left h.2 h.0)
 
 -- openers with other flags
@@ -236,7 +254,8 @@ same_brackets (done a below ∷ left) = same_brackets left
 same_brackets (waits m a ∷ left) = ap (held_as a.tag m.is_image m.bracket) (same_brackets left)
 
 -- the stacks at an opener of the left list
-module _ (nodes : List (Node Item)) (closer : ℕ) (left : List (Entry ℕ)) (c : Closing ℕ) (s : StandsBefore nodes closer left c) (rises : LeftRises left)
+module _ (nodes : List (Node Item)) (closer : ℕ) (left : List (Entry ℕ)) (c : Closing ℕ) (s : StandsBefore nodes closer left c)
+    (rises : LeftRises left)
     (o : Split ℕ) (h : IsSplit left o) where
   abbrev n : ℕ
   n = o.opener.tag
@@ -251,7 +270,8 @@ module _ (nodes : List (Node Item)) (closer : ℕ) (left : List (Entry ℕ)) (c 
 
   links : LinksOn nodes n o.before
   links =
-      links_on s.source s.tables nodes s.first o.before o.opener nil (trees_onto h.after_then (node c.label nil c.rest)) nil (trees_onto h.after_then nil)
+      links_on s.source s.tables nodes s.first o.before o.opener nil (trees_onto h.after_then (node c.label nil c.rest)) nil
+      (trees_onto h.after_then nil)
       (subst (λ (f : Forest (Label ℕ)). Holds s.source s.tables nodes s.first f) (onto (node c.label nil c.rest)) s.holds) rising
 
   later : AreAfter n h.after_then
@@ -280,18 +300,21 @@ module _ (nodes : List (Node Item)) (closer : ℕ) (left : List (Entry ℕ)) (c 
       ∙ sym (wikilinks_by (second_folded o.before))
 
   -- before a link or an image
-  link_brackets : (i : Bool) → (if i then before n (brackets_of left) else map openers.disabled (before n (brackets_of left))) ≡ brackets_of (before_link i o.before)
+  link_brackets : (i : Bool) → (if i then before n (brackets_of left) else map openers.disabled (before n (brackets_of left)))
+      ≡ brackets_of (before_link i o.before)
   link_brackets true = brackets_before ∙ sym (brackets_folded o.before)
   link_brackets false =
       ap (map openers.disabled) (brackets_before ∙ sym (brackets_folded o.before)) ∙ sym (brackets_disabled (second_folded o.before))
 
-  link_wikilinks : (i : Bool) → (let held = without_second nodes n (before n (wikilinks_of left)) in if i then before n held else map openers.disabled (before n held))
+  link_wikilinks : (i : Bool) → (let held = without_second nodes n (before n (wikilinks_of left)) in if i then before n held
+      else map openers.disabled (before n held))
       ≡ wikilinks_of (before_link i o.before)
   link_wikilinks true = wikilinks_left
   link_wikilinks false = ap (map openers.disabled) wikilinks_left ∙ sym (wikilinks_disabled (second_folded o.before))
 
   -- before a footnote reference
-  footnote_brackets : (w : Around) (i : Bool) (name : List ℕ) → [] ≡ brackets_of (footnote_onto w c i o.opener name (before_footnote o.before))
+  footnote_brackets : (w : Around) (i : Bool) (name : List ℕ)
+      → [] ≡ brackets_of (footnote_onto w c i o.opener name (before_footnote o.before))
   footnote_brackets w true name = sym (no_brackets (second_folded o.before))
   footnote_brackets w false name = sym (no_brackets (second_folded o.before))
 
@@ -320,28 +343,33 @@ Finishes nodes (Wikilinked opener name has_pothole shown end) brackets wikilinks
     (brackets' ≡ openers.before_wikilink opener.node brackets) × (wikilinks' ≡ [])
 
 -- so they hold what is left
-pub finished : (nodes : List (Node Item)) (found : ClosedBracket) (brackets wikilinks brackets' wikilinks' : List Waiting) → Finishes nodes found brackets wikilinks brackets' wikilinks'
+pub finished : (nodes : List (Node Item)) (found : ClosedBracket) (brackets wikilinks brackets' wikilinks' : List Waiting)
+    → Finishes nodes found brackets wikilinks brackets' wikilinks'
     → (w : Around) (c : Closing ℕ) (closer : ℕ) (left : List (Entry ℕ)) (becomes : Becomes ℕ) (p : Progress ℕ)
     → StandsBefore nodes closer left c → LeftRises left → SplitsAs left becomes → IsBecome w becomes found
     → brackets ≡ brackets_of left → wikilinks ≡ wikilinks_of left → p.left ≡ left
     → (brackets' ≡ brackets_of (put w c becomes p).left) × (wikilinks' ≡ wikilinks_of (put w c becomes p).left)
 finished nodes Text brackets wikilinks brackets' wikilinks' f w c closer left a_text p s rises split is eb ew ep =
     (f.0 ∙ eb ∙ ap brackets_of (sym ep), f.1 ∙ ew ∙ ap wikilinks_of (sym ep))
-finished nodes (Link opener target end next) brackets wikilinks brackets' wikilinks' f w c closer left (a_link o view to on) p s rises split is eb ew ep = (
-  f.0 ∙ ap (λ (at : Opener). openers.before_link at brackets) is.0 ∙ ap (openers.before_link (opener_of o)) eb ∙ link_brackets nodes closer left c s rises o split o.mark.is_image,
-  f.1 ∙ ap (λ (at : Opener). openers.before_link at (without_second nodes at.node (before at.node wikilinks))) is.0
-      ∙ ap (λ (held : List Waiting). openers.before_link (opener_of o) (without_second nodes o.opener.tag (before o.opener.tag held))) ew
-      ∙ link_wikilinks nodes closer left c s rises o split o.mark.is_image,
-)
-finished nodes (Footnote opener label) brackets wikilinks brackets' wikilinks' f w c closer left (a_footnote o name) p s rises split is eb ew ep = (
-  f.0 ∙ footnote_brackets nodes closer left c s rises o split w o.mark.is_image name,
-  f.1 ∙ ap (λ (at : Opener). before at.node (without_second nodes at.node (before at.node wikilinks))) is.0
-      ∙ ap (λ (held : List Waiting). before o.opener.tag (without_second nodes o.opener.tag (before o.opener.tag held))) ew
-      ∙ footnote_wikilinks nodes closer left c s rises o split w o.mark.is_image name,
-)
-finished nodes (Wikilinked opener label has_pothole shown end) brackets wikilinks brackets' wikilinks' f w c closer left (a_wikilink o found to) p s rises split is eb ew ep = (
-  f.0 ∙ ap (λ (at : Opener). openers.before_wikilink at.node brackets) is.0 ∙ ap (openers.before_wikilink o.opener.tag) eb
-      ∙ wikilink_brackets nodes closer left c s rises o split,
-  f.1 ∙ wikilink_wikilinks nodes closer left c s rises o split,
-)
+finished nodes (Link opener target end next) brackets wikilinks brackets' wikilinks' f w c closer left (a_link o view to on) p s rises split
+    is eb ew ep = (
+      f.0 ∙ ap (λ (at : Opener). openers.before_link at brackets) is.0 ∙ ap (openers.before_link (opener_of o)) eb
+          ∙ link_brackets nodes closer left c s rises o split o.mark.is_image,
+      f.1 ∙ ap (λ (at : Opener). openers.before_link at (without_second nodes at.node (before at.node wikilinks))) is.0
+          ∙ ap (λ (held : List Waiting). openers.before_link (opener_of o) (without_second nodes o.opener.tag (before o.opener.tag held))) ew
+          ∙ link_wikilinks nodes closer left c s rises o split o.mark.is_image,
+    )
+finished nodes (Footnote opener label) brackets wikilinks brackets' wikilinks' f w c closer left (a_footnote o name) p s rises split is eb
+    ew ep = (
+      f.0 ∙ footnote_brackets nodes closer left c s rises o split w o.mark.is_image name,
+      f.1 ∙ ap (λ (at : Opener). before at.node (without_second nodes at.node (before at.node wikilinks))) is.0
+          ∙ ap (λ (held : List Waiting). before o.opener.tag (without_second nodes o.opener.tag (before o.opener.tag held))) ew
+          ∙ footnote_wikilinks nodes closer left c s rises o split w o.mark.is_image name,
+    )
+finished nodes (Wikilinked opener label has_pothole shown end) brackets wikilinks brackets' wikilinks' f w c closer left
+    (a_wikilink o found to) p s rises split is eb ew ep = (
+      f.0 ∙ ap (λ (at : Opener). openers.before_wikilink at.node brackets) is.0 ∙ ap (openers.before_wikilink o.opener.tag) eb
+          ∙ wikilink_brackets nodes closer left c s rises o split,
+      f.1 ∙ wikilink_wikilinks nodes closer left c s rises o split,
+    )
 finished nodes found brackets wikilinks brackets' wikilinks' f w c closer left becomes p s rises split is eb ew ep = absurd is

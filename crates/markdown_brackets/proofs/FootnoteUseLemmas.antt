@@ -29,7 +29,8 @@ module _ (old new : FootnoteDefs) (name : List ℕ)
   counted_in None e = cc
   counted_in (Some d) e = refl
 
-  not_counted_in : (found : Option FootnoteDef) → is_some found ≡ false → use_count (option_map footnotes.used_once_more found) ≡ use_count found
+  not_counted_in : (found : Option FootnoteDef) → is_some found ≡ false → use_count (option_map footnotes.used_once_more found)
+      ≡ use_count found
   not_counted_in None e = refl
   not_counted_in (Some d) e = cc
 

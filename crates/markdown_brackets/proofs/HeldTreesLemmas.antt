@@ -22,7 +22,8 @@ total_left count (waits m a ∷ left) = count a.tag + total_left count left
 abbrev pub total_of : (ℕ → ℕ) → Forest (Label ℕ) → ℕ
 total_of count f = total count (numbers_of f)
 
-pub total-onto : (count : ℕ → ℕ) (left : List (Entry ℕ)) (later : Forest (Label ℕ)) → total_of count (trees_onto left later) ≡ total_left count left + total_of count later
+pub total-onto : (count : ℕ → ℕ) (left : List (Entry ℕ)) (later : Forest (Label ℕ)) → total_of count (trees_onto left later)
+    ≡ total_left count left + total_of count later
 total-onto count [] later = omega arith
 total-onto count (done a below ∷ left) later = omega (arith, total-onto count left (node a below later))
 total-onto count (waits m a ∷ left) later = omega (arith, total-onto count left (node a nil later))
@@ -39,7 +40,8 @@ height-later (waits m a ∷ left) f = omega (arith, height-later left (node a ni
 
 module _ (source : List ℕ) (tables : Tables) where
   -- what stands behind a left list stands somewhere
-  pub Holds-from : (nodes : List (Node Item)) (l : Option ℕ) (left : List (Entry ℕ)) (later : Forest (Label ℕ)) → Holds source tables nodes l (trees_onto left later) → (m : Option ℕ) × Holds source tables nodes m later
+  pub Holds-from : (nodes : List (Node Item)) (l : Option ℕ) (left : List (Entry ℕ)) (later : Forest (Label ℕ))
+      → Holds source tables nodes l (trees_onto left later) → (m : Option ℕ) × Holds source tables nodes m later
   Holds-from nodes l [] later h = (l, h)
   Holds-from nodes l (done a below ∷ left) later h =
       let r = Holds-from nodes l left (node a below later) h in (sibling_of nodes a.tag, r.1.4)
@@ -47,6 +49,13 @@ module _ (source : List ℕ) (tables : Tables) where
       let r = Holds-from nodes l left (node a nil later) h in (sibling_of nodes a.tag, r.1.4)
 
   -- the links spell their numbers
-  pub Holds-spells : (nodes : List (Node Item)) (l : Option ℕ) (f : Forest (Label ℕ)) → Holds source tables nodes l f → Spells (links_of nodes) l (numbers_of f)
+  pub Holds-spells : (nodes : List (Node Item)) (l : Option ℕ) (f : Forest (Label ℕ)) → Holds source tables nodes l f
+      → Spells (links_of nodes) l (numbers_of f)
   Holds-spells nodes l nil h = h
-  Holds-spells nodes l (node a below after) h = (h.0, h.1, Holds-spells nodes (child_of nodes a.tag) below h.3, Holds-spells nodes (sibling_of nodes a.tag) after h.4)
+  Holds-spells nodes l (node a below after) h = (
+    h.0,
+    h.1,
+    Holds-spells nodes (child_of nodes a.tag) below h.3,
+    Holds-spells nodes
+        (sibling_of nodes a.tag) after h.4,
+  )

@@ -13,20 +13,24 @@ use Rattle.markdown_chains.specs.Document.{Shape, leaf, enclosed, plain, backsla
 use Rattle.markdown_chains.specs.Setting.{Known}
 use Rattle.markdown_brackets.specs.BracketDecision.{Around, Closing, Progress, wikilink_in, past_second}
 use Rattle.markdown_brackets.specs.ClosingBracket.{footnote_onto}
-use Rattle.markdown_brackets.specs.LeftList.{Mark, Entry, done, waits, trees_onto, Split, inside, behind, nearest, change_nearest, opens_bracket, opens_wikilink, without_bracket, without_wikilink, on_marks, disabled_mark, second_folded, before_link, before_footnote}
+use Rattle.markdown_brackets.specs.LeftList.{Mark, Entry, done, waits, trees_onto, Split, inside, behind, nearest, change_nearest}
+use Rattle.markdown_brackets.specs.LeftList.{opens_bracket, opens_wikilink, without_bracket, without_wikilink, on_marks, disabled_mark}
+use Rattle.markdown_brackets.specs.LeftList.{second_folded, before_link, before_footnote}
 use Rattle.markdown_brackets.proofs.NoLinkLemmas.{wikilink_keeps}
 use Rattle.markdown_brackets.proofs.ClosingBracketLemmas.{Cases, in_each_case, some_of}
 use Rattle.markdown_brackets.specs.ReadChain.{Reader, begun, closing, read_as, read, read_past, read_chain}
 
 -- a shape that begins later passes as before
-k_later : (test : Shape → Bool) → ((e : EventView) (origins : List Origin) → test (leaf e origins) ≡ true) → (n : ℕ) (shape : Shape) → test shape ≡ true → test (cut_shape n shape) ≡ true
+k_later : (test : Shape → Bool) → ((e : EventView) (origins : List Origin) → test (leaf e origins) ≡ true) → (n : ℕ) (shape : Shape)
+    → test shape ≡ true → test (cut_shape n shape) ≡ true
 k_later test events n (leaf e o) h = events _ o
 k_later test events n (enclosed tag) h = h
 k_later test events n plain h = h
 k_later test events n backslash_break h = h
 k_later test events n (unresolved b) h = h
 
-module _ {A : Type 0} (w : Around) (test : Shape → Bool) (events : (e : EventView) (origins : List Origin) → test (leaf e origins) ≡ true) (tags : (tag : TagView) → test (enclosed tag) ≡ true) where
+module _ {A : Type 0} (w : Around) (test : Shape → Bool) (events : (e : EventView) (origins : List Origin)
+    → test (leaf e origins) ≡ true) (tags : (tag : TagView) → test (enclosed tag) ≡ true) where
   abbrev Passes : List (Entry A) → Type 0
   Passes left = PassesLeft test left
 
@@ -54,7 +58,8 @@ module _ {A : Type 0} (w : Around) (test : Shape → Bool) (events : (e : EventV
   k_change opens f (done a below ∷ left) h = (h.0, h.1, k_change opens f left h.2)
   k_change opens f (waits m a ∷ left) h = by (opens m) (k_change opens f left h.1)
     where
-      by : (b : Bool) → Passes (change_nearest opens f left) → Passes (if b then waits (f m) a ∷ left else waits m a ∷ change_nearest opens f left)
+      by : (b : Bool) → Passes (change_nearest opens f left)
+          → Passes (if b then waits (f m) a ∷ left else waits m a ∷ change_nearest opens f left)
       by true k = h
       by false k = (h.0, k)
 
@@ -67,17 +72,20 @@ module _ {A : Type 0} (w : Around) (test : Shape → Bool) (events : (e : EventV
     after : Passes o.after
     before : Passes o.before
 
-  k_behind : (e : Entry A) (o : Option (Split A)) → ((more : List (Entry A)) → Passes more → Passes (e ∷ more)) → IfSome o PassesAt → IfSome (option_map (behind e) o) PassesAt
+  k_behind : (e : Entry A) (o : Option (Split A)) → ((more : List (Entry A)) → Passes more → Passes (e ∷ more)) → IfSome o PassesAt
+      → IfSome (option_map (behind e) o) PassesAt
   k_behind e None r h = tt
   k_behind e (Some o) r h = record { after = r o.after h.after; before = h.before }
 
   k_nearest : (opens : Mark → Bool) (left : List (Entry A)) → Passes left → IfSome (nearest opens left) PassesAt
   k_nearest opens [] h = tt
-  k_nearest opens (done a below ∷ left) h = k_behind (done a below) (nearest opens left) (λ more k. (h.0, h.1, k)) (k_nearest opens left h.2)
+  k_nearest opens (done a below ∷ left) h = k_behind (done a below) (nearest opens left) (λ more k. (h.0, h.1, k))
+      (k_nearest opens left h.2)
   k_nearest opens (waits m a ∷ left) h = by (opens m) (k_nearest opens left h.1)
     where
       by : (b : Bool) → IfSome (nearest opens left) PassesAt
-          → IfSome (if b then Some (record { mark = m; opener = a; after = []; before = left }) else option_map (behind (waits m a)) (nearest opens left)) PassesAt
+          → IfSome (if b then Some (record { mark = m; opener = a; after = []; before = left })
+          else option_map (behind (waits m a)) (nearest opens left)) PassesAt
       by true k = record { after = tt; before = h.1 }
       by false k = k_behind (waits m a) (nearest opens left) (λ more k. (h.0, k)) k
 
@@ -95,7 +103,8 @@ module _ {A : Type 0} (w : Around) (test : Shape → Bool) (events : (e : EventV
   k_past (node a below after) h = h.2
 
   module _ (c : Closing A) where
-    k_footnote : (i : Bool) (a : Label A) (name : List ℕ) (before : List (Entry A)) → Passes before → Passes (footnote_onto w c i a name before)
+    k_footnote : (i : Bool) (a : Label A) (name : List ℕ) (before : List (Entry A)) → Passes before
+        → Passes (footnote_onto w c i a name before)
     k_footnote true a name before h = (events _ _, tt, (events _ _, tt, h))
     k_footnote false a name before h = (events _ _, tt, h)
 
@@ -109,22 +118,28 @@ module _ {A : Type 0} (w : Around) (test : Shape → Bool) (events : (e : EventV
           (tags _, k_onto o.after nil at.after tt, k_before_link o.mark.is_image o.before at.before);
       footnote = λ left o name h found live.
           let at : PassesAt o = some_of (nearest opens_bracket left) o PassesAt found (k_nearest opens_bracket left h) in
-          k_footnote o.mark.is_image o.opener name (before_footnote o.before) (k_marks without_bracket (second_folded o.before) (k_second o.before at.before));
+          k_footnote o.mark.is_image o.opener name (before_footnote o.before) (k_marks without_bracket (second_folded o.before)
+          (k_second o.before at.before));
       wikilink = λ left o v end h found live is.
           let at : PassesAt o = some_of (nearest opens_wikilink left) o PassesAt found (k_nearest opens_wikilink left h) in
           let shown = some_of (wikilink_in w (past_second (inside o)) (start_of c.label)) v (λ v. All v.children) is
-          (wikilink_keeps w All (λ a x y. (events _ _, tt, tt)) k_from (past_second (inside o)) (start_of c.label) (k_past (inside o) (k_onto o.after nil at.after tt))) in
+          (wikilink_keeps w All (λ a x y. (events _ _, tt, tt)) k_from (past_second (inside o)) (start_of c.label)
+          (k_past (inside o) (k_onto o.after nil at.after tt))) in
           (tags _, shown, k_marks without_wikilink (on_marks disabled_mark o.before) (k_marks disabled_mark o.before at.before));
     }
 
-  module _ (others : Reader A) (rule : (a : Label A) (below rest : Forest (Label A)) (p : Progress A) → All below → Passes p.left → Passes (others a below rest p).left) where
-    k_read : (b : ItemBody) (a : Label A) (below rest : Forest (Label A)) (p : Progress A) → All below → Passes p.left → Passes (read_as w others b a below rest p).left
+  module _ (others : Reader A) (rule : (a : Label A) (below rest : Forest (Label A)) (p : Progress A) → All below → Passes p.left
+      → Passes (others a below rest p).left) where
+    k_read : (b : ItemBody) (a : Label A) (below rest : Forest (Label A)) (p : Progress A) → All below → Passes p.left
+        → Passes (read_as w others b a below rest p).left
     k_read body.MaybeLinkOpen a below rest p g h = (events _ _, h)
     k_read body.MaybeImage a below rest p g h = (events _ _, h)
-    k_read (body.MaybeLinkClose could) a below rest p g h = in_each_case w (closing could a rest p) Passes Passes (kept_cases (closing could a rest p)) p h
+    k_read (body.MaybeLinkClose could) a below rest p g h = in_each_case w (closing could a rest p) Passes Passes
+        (kept_cases (closing could a rest p)) p h
     k_read other a below rest p g h = rule a below rest p g h
 
-    k_read_past : (o : Option ℕ) (a : Label A) (below rest : Forest (Label A)) (p : Progress A) → All below → Passes p.left → Passes (read_past w others o a below rest p).left
+    k_read_past : (o : Option ℕ) (a : Label A) (below rest : Forest (Label A)) (p : Progress A) → All below → Passes p.left
+        → Passes (read_past w others o a below rest p).left
     k_read_past None a below rest p g h = k_read (open_body a.part.shape) a below rest p g h
     k_read_past (Some i) a below rest p g h = by (nat_le (end_of a) i)
       where
@@ -132,10 +147,13 @@ module _ {A : Type 0} (w : Around) (test : Shape → Bool) (events : (e : EventV
         by true = h
         by false = k_read (open_body (begun_at i a).part.shape) (begun_at i a) below rest (record p { goes_on = None }) g h
 
-    k_chain : (chain : Forest (Label A)) (p : Progress A) → PassesBelow test chain → Passes p.left → Passes (read_chain w others chain p).left
+    k_chain : (chain : Forest (Label A)) (p : Progress A) → PassesBelow test chain → Passes p.left
+        → Passes (read_chain w others chain p).left
     unfolding read_chain
     k_chain nil p g h = h
-    k_chain (node a below rest) p g h = k_chain rest (read_past w others p.goes_on a below rest p) g.1 (k_read_past p.goes_on a below rest p g.0 h)
+    k_chain (node a below rest) p g h = k_chain rest (read_past w others p.goes_on a below rest p) g.1
+        (k_read_past p.goes_on a below rest p g.0 h)
 
-    pub all_kept : (chain : Forest (Label A)) (known : Known) → PassesBelow test chain → All (trees_onto (read_chain w others chain (begun known)).left nil)
+    pub all_kept : (chain : Forest (Label A)) (known : Known) → PassesBelow test chain
+        → All (trees_onto (read_chain w others chain (begun known)).left nil)
     all_kept chain known g = k_onto (read_chain w others chain (begun known)).left nil (k_chain chain (begun known) g tt) tt

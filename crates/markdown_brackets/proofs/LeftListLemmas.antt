@@ -1,6 +1,7 @@
 -- What a stack holds is what the left list says: disabling, and what is gone.
 use Rattle.std.proofs.Common.{◌≡◌, ℕ, Bool, true, false, List, [], ◌∷◌, map, refl, ap, ◌∙◌}
-use Rattle.markdown_brackets.specs.LeftList.{Entry, done, waits, Flag, live, disabled, gone, on_marks, disabled_mark, disabled_flag, without_bracket, without_wikilink, brackets_of, wikilinks_of, held_as}
+use Rattle.markdown_brackets.specs.LeftList.{Entry, done, waits, Flag, live, disabled, gone, on_marks, disabled_mark, disabled_flag}
+use Rattle.markdown_brackets.specs.LeftList.{without_bracket, without_wikilink, brackets_of, wikilinks_of, held_as}
 use Rattle.markdown_brackets.specs.Openers as openers
 use Rattle.markdown_brackets.specs.Openers.{Waiting}
 
@@ -22,10 +23,12 @@ pub brackets_of-disabled : (left : List (Entry ℕ)) → brackets_of (on_marks d
 brackets_of-disabled [] = refl
 brackets_of-disabled (done a below ∷ left) = brackets_of-disabled left
 brackets_of-disabled (waits m a ∷ left) =
-    ap (held_as a.tag (disabled_mark m).is_image (disabled_mark m).bracket) (brackets_of-disabled left) ∙ here m.is_image m.bracket m.wikilink
+    ap (held_as a.tag (disabled_mark m).is_image (disabled_mark m).bracket) (brackets_of-disabled left)
+    ∙ here m.is_image m.bracket m.wikilink
   where
     here : (image : Bool) (b w : Flag)
-        → held_as a.tag (disabled_mark (record { is_image = image; bracket = b; wikilink = w })).is_image (disabled_mark (record { is_image = image; bracket = b; wikilink = w })).bracket (map openers.disabled (brackets_of left))
+        → held_as a.tag (disabled_mark (record { is_image = image; bracket = b; wikilink = w })).is_image
+        (disabled_mark (record { is_image = image; bracket = b; wikilink = w })).bracket (map openers.disabled (brackets_of left))
         ≡ map openers.disabled (held_as a.tag image b (brackets_of left))
     here true b w = held_for_image a.tag b (brackets_of left)
     here false b w = held_disabled a.tag b (brackets_of left)
@@ -34,10 +37,12 @@ pub wikilinks_of-disabled : (left : List (Entry ℕ)) → wikilinks_of (on_marks
 wikilinks_of-disabled [] = refl
 wikilinks_of-disabled (done a below ∷ left) = wikilinks_of-disabled left
 wikilinks_of-disabled (waits m a ∷ left) =
-    ap (held_as a.tag (disabled_mark m).is_image (disabled_mark m).wikilink) (wikilinks_of-disabled left) ∙ here m.is_image m.bracket m.wikilink
+    ap (held_as a.tag (disabled_mark m).is_image (disabled_mark m).wikilink) (wikilinks_of-disabled left)
+    ∙ here m.is_image m.bracket m.wikilink
   where
     here : (image : Bool) (b w : Flag)
-        → held_as a.tag (disabled_mark (record { is_image = image; bracket = b; wikilink = w })).is_image (disabled_mark (record { is_image = image; bracket = b; wikilink = w })).wikilink (map openers.disabled (wikilinks_of left))
+        → held_as a.tag (disabled_mark (record { is_image = image; bracket = b; wikilink = w })).is_image
+        (disabled_mark (record { is_image = image; bracket = b; wikilink = w })).wikilink (map openers.disabled (wikilinks_of left))
         ≡ map openers.disabled (held_as a.tag image w (wikilinks_of left))
     here true b w = held_for_image a.tag w (wikilinks_of left)
     here false b w = held_disabled a.tag w (wikilinks_of left)

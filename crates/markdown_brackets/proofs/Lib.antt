@@ -8,6 +8,9 @@ pub mod OpenerLemmas
 pub mod LeftListLemmas
 pub mod BracketLawLemmas
 pub mod ChainAsksLemmas
+pub mod LabelPairLemmas
+pub mod AsksAboutLemmas
+pub mod QuestionEndsLemmas
 pub mod ClosingBracketLemmas
 pub mod NoLinkLemmas
 pub mod BracketWeightLemmas

@@ -1,5 +1,6 @@
 -- The tail of a link, from its parts.
-use Rattle.std.proofs.Common.{◌≡◌, ℕ, ◌+◌, ◌==◌, Bool, true, false, List, [], Option, Some, None, ◌≤◌, cond, length, sym, ◌∙◌, ap, subst, drop}
+use Rattle.std.proofs.Common.{◌≡◌, ℕ, ◌+◌, ◌==◌, Bool, true, false, List, [], Option, Some, None, ◌≤◌, cond, length, sym, ◌∙◌, ap, subst}
+use Rattle.std.proofs.Common.{drop}
 use Rattle.std.specs.Prelude.{slice_index, if◌then◌else◌}
 use Rattle.std.proofs.lemmas.List.{get_or_past}
 use Rattle.markdown_base.specs.CowText.{text_of, IsBorrowed}
@@ -13,8 +14,10 @@ use Rattle.markdown_brackets.specs.LinkTitle.{Title, title_at}
 use Rattle.markdown_brackets.specs.TitlePart.{IsTitleText, IsTitlePart}
 use Rattle.markdown_brackets.specs.declared.link_tail.LinkTail.{LinkTail}
 
-module _ (in_table : Bool) (skipped : List ℕ → Option ℕ) (starts : ℕ → Option ℕ) (text : List ℕ) (at close : ℕ) (written : List ℕ) (found title : CowStr)
-    (closes : (slice_index text close == 41) ≡ true) (is : text_of found ≡ unescaped in_table written) (sliced : text_of found ≡ written → IsBorrowed found) where
+module _ (in_table : Bool) (skipped : List ℕ → Option ℕ) (starts : ℕ → Option ℕ) (text : List ℕ) (at close : ℕ) (written : List ℕ)
+    (found title : CowStr)
+    (closes : (slice_index text close == 41) ≡ true) (is : text_of found ≡ unescaped in_table written) (sliced : text_of found ≡ written
+    → IsBorrowed found) where
   abbrev pub made : LinkTail
   made = record { end = close + 1; destination = found; title = title }
 
@@ -23,7 +26,8 @@ module _ (in_table : Bool) (skipped : List ℕ → Option ℕ) (starts : ℕ →
     pub reads : ReadsTail in_table t (Some made)
     pub borrows : BorrowsTail t (Some made)
 
-  closed : (i : ℕ) (title_text : List ℕ) (joined : Bool) → IsTitleText in_table i close title_text joined title → Reads (closed_at text i written title_text joined)
+  closed : (i : ℕ) (title_text : List ℕ) (joined : Bool) → IsTitleText in_table i close title_text joined title
+      → Reads (closed_at text i written title_text joined)
   closed i title_text joined h = by (slice_index text i == 41) (subst (λ n. (slice_index text n == 41) ≡ true) h.ends closes)
     where
       by : (b : Bool) → b ≡ true
@@ -34,7 +38,8 @@ module _ (in_table : Bool) (skipped : List ℕ → Option ℕ) (starts : ℕ →
       }
       by false e = cc
 
-  titled : (next : ℕ) (t : Option Title) → IsTitlePart skipped in_table text next t close title → Reads (after_title skipped text next written t)
+  titled : (next : ℕ) (t : Option Title) → IsTitlePart skipped in_table text next t close title
+      → Reads (after_title skipped text next written t)
   titled next None h = closed next [] false h
   titled next (Some t) h = closed (past_separator skipped text t.ends) t.text t.is_joined h
 
@@ -46,13 +51,16 @@ module _ (in_table : Bool) (skipped : List ℕ → Option ℕ) (starts : ℕ →
   tail_reads length opens e part =
       let next : ℕ = past_separator skipped text (past_separator skipped text (at + 1) + length) in
       let here : link_tail skipped starts text at ≡ after_title skipped text next written (title_at starts text next) =
-      ap (λ b. cond b (after_destination skipped starts text (past_separator skipped text (at + 1)) (destination max_nesting (drop (past_separator skipped text (at + 1)) text))) None) opens
+      ap (λ b. cond b (after_destination skipped starts text (past_separator skipped text (at + 1))
+      (destination max_nesting (drop (past_separator skipped text (at + 1)) text))) None) opens
       ∙ ap (after_destination skipped starts text (past_separator skipped text (at + 1))) e in
       subst Reads (sym here) (titled next (title_at starts text next) part)
 
 -- no tail stands past the text's end
-pub tail_past_end : (skipped : List ℕ → Option ℕ) (starts : ℕ → Option ℕ) (text : List ℕ) (at : ℕ) → length text ≤ at → link_tail skipped starts text at ≡ None
+pub tail_past_end : (skipped : List ℕ → Option ℕ) (starts : ℕ → Option ℕ) (text : List ℕ) (at : ℕ) → length text ≤ at
+    → link_tail skipped starts text at ≡ None
 tail_past_end skipped starts text at past =
     ap (λ (b : ℕ). cond (b == 40)
-    (after_destination skipped starts text (past_separator skipped text (at + 1)) (destination max_nesting (drop (past_separator skipped text (at + 1)) text))) None)
+    (after_destination skipped starts text (past_separator skipped text (at + 1))
+    (destination max_nesting (drop (past_separator skipped text (at + 1)) text))) None)
     (get_or_past text at 0 past)

@@ -6,7 +6,9 @@ use Rattle.markdown_base.specs.Forest.{Forest, nil, node}
 use Rattle.markdown_chains.specs.ChainRest.{joined}
 use Rattle.markdown_chains.specs.Document.{Label}
 use Rattle.markdown_brackets.specs.DecisionView.{opener_of}
-use Rattle.markdown_brackets.specs.LeftList.{Flag, live, disabled, gone, Mark, Entry, done, waits, is_live, trees_onto, Split, behind, nearest, change_nearest, opens_bracket, opens_wikilink, without_bracket, without_wikilink, bracket_taken, wikilink_taken, brackets_of, wikilinks_of, held_as}
+use Rattle.markdown_brackets.specs.LeftList.{Flag, live, disabled, gone, Mark, Entry, done, waits, is_live, trees_onto, Split, behind}
+use Rattle.markdown_brackets.specs.LeftList.{nearest, change_nearest, opens_bracket, opens_wikilink, without_bracket, without_wikilink}
+use Rattle.markdown_brackets.specs.LeftList.{bracket_taken, wikilink_taken, brackets_of, wikilinks_of, held_as}
 
 -- the nearest opener for a `]` is on top of the stack, and taking it off is taking it off the stack
 abbrev pub TopBracket : List (Entry ℕ) → Option (Split ℕ) → Type 0
@@ -25,7 +27,8 @@ bracket_behind_done a below left None h = h
 bracket_behind_done a below left (Some o) h = h
 
 bracket_behind_gone : (i : Bool) (w : Flag) (a : Label ℕ) (left : List (Entry ℕ)) (o : Option (Split ℕ)) → TopBracket left o
-    → TopBracket (waits (record { is_image = i; bracket = gone; wikilink = w }) a ∷ left) (option_map (behind (waits (record { is_image = i; bracket = gone; wikilink = w }) a)) o)
+    → TopBracket (waits (record { is_image = i; bracket = gone; wikilink = w }) a ∷ left)
+    (option_map (behind (waits (record { is_image = i; bracket = gone; wikilink = w }) a)) o)
 bracket_behind_gone i w a left None h = h
 bracket_behind_gone i w a left (Some o) h = h
 
@@ -35,7 +38,8 @@ top_bracket (done a below ∷ left) = bracket_behind_done a below left (nearest 
 top_bracket (waits m a ∷ left) = by m.is_image m.bracket m.wikilink (top_bracket left)
   where
     by : (i : Bool) (b w : Flag) → TopBracket left (nearest opens_bracket left)
-        → TopBracket (waits (record { is_image = i; bracket = b; wikilink = w }) a ∷ left) (nearest opens_bracket (waits (record { is_image = i; bracket = b; wikilink = w }) a ∷ left))
+        → TopBracket (waits (record { is_image = i; bracket = b; wikilink = w }) a ∷ left)
+        (nearest opens_bracket (waits (record { is_image = i; bracket = b; wikilink = w }) a ∷ left))
     by i live w h = refl
     by i disabled w h = refl
     by i gone w h = bracket_behind_gone i w a left (nearest opens_bracket left) h
@@ -46,7 +50,8 @@ wikilink_behind_done a below left None h = h
 wikilink_behind_done a below left (Some o) h = h
 
 wikilink_behind_gone : (i : Bool) (b : Flag) (a : Label ℕ) (left : List (Entry ℕ)) (o : Option (Split ℕ)) → TopWikilink left o
-    → TopWikilink (waits (record { is_image = i; bracket = b; wikilink = gone }) a ∷ left) (option_map (behind (waits (record { is_image = i; bracket = b; wikilink = gone }) a)) o)
+    → TopWikilink (waits (record { is_image = i; bracket = b; wikilink = gone }) a ∷ left)
+    (option_map (behind (waits (record { is_image = i; bracket = b; wikilink = gone }) a)) o)
 wikilink_behind_gone i b a left None h = h
 wikilink_behind_gone i b a left (Some o) h = h
 
@@ -56,7 +61,8 @@ top_wikilink (done a below ∷ left) = wikilink_behind_done a below left (neares
 top_wikilink (waits m a ∷ left) = by m.is_image m.bracket m.wikilink (top_wikilink left)
   where
     by : (i : Bool) (b w : Flag) → TopWikilink left (nearest opens_wikilink left)
-        → TopWikilink (waits (record { is_image = i; bracket = b; wikilink = w }) a ∷ left) (nearest opens_wikilink (waits (record { is_image = i; bracket = b; wikilink = w }) a ∷ left))
+        → TopWikilink (waits (record { is_image = i; bracket = b; wikilink = w }) a ∷ left)
+        (nearest opens_wikilink (waits (record { is_image = i; bracket = b; wikilink = w }) a ∷ left))
     by i b live h = refl
     by i b disabled h = refl
     by i b gone h = wikilink_behind_gone i b a left (nearest opens_wikilink left) h
@@ -114,7 +120,8 @@ splits_at test (done a below ∷ left) = splits_behind_done a below left (neares
 splits_at test (waits m a ∷ left) = by (test m) (splits_at test left)
   where
     by : (b : Bool) → IfSome (nearest test left) (SplitsAt left)
-        → IfSome (if b then Some (record { mark = m; opener = a; after = []; before = left }) else option_map (behind (waits m a)) (nearest test left)) (SplitsAt (waits m a ∷ left))
+        → IfSome (if b then Some (record { mark = m; opener = a; after = []; before = left })
+        else option_map (behind (waits m a)) (nearest test left)) (SplitsAt (waits m a ∷ left))
     by true h = λ later. refl
     by false h = splits_behind_waits m a left (nearest test left) h
 

@@ -1,5 +1,6 @@
 -- A stack of openers as the list for which it stands.
-use Rattle.std.proofs.Common.{◌≡◌, ℕ, suc, zero, ◌+◌, ◌-◌, ◌<◌, ◌≤◌, Bool, true, false, ◌&&◌, List, [], ◌∷◌, ◌++◌, Some, length, get_or, take, map, min, cond, nat_le, arith, refl, sym, ◌∙◌, ap, reverse, subst}
+use Rattle.std.proofs.Common.{◌≡◌, ℕ, suc, zero, ◌+◌, ◌-◌, ◌<◌, ◌≤◌, Bool, true, false, ◌&&◌, List, [], ◌∷◌, ◌++◌, Some, length, get_or}
+use Rattle.std.proofs.Common.{take, map, min, cond, nat_le, arith, refl, sym, ◌∙◌, ap, reverse, subst}
 use Rattle.std.proofs.lemmas.Bool.{leb-true}
 use Rattle.std.proofs.lemmas.Bool.Decides.{nat_tests}
 use Rattle.std.proofs.lemmas.List.{reverse-append, map-append, take_more, take_all}
@@ -20,21 +21,25 @@ map-reverse f (x ∷ xs) =
     ∙ ap (λ ys. ys ++ f x ∷ []) (map-reverse f xs) ∙ sym (reverse-append (f x ∷ []) (map f xs))
 
 -- one more, which is not disabled
-marked_live : (n : ℕ) (openers : List Opener) (o : Opener) → n ≤ length openers → marked n (openers ++ o ∷ []) ≡ marked n openers ++ live o ∷ []
+marked_live : (n : ℕ) (openers : List Opener) (o : Opener) → n ≤ length openers → marked n (openers ++ o ∷ []) ≡ marked n openers
+    ++ live o ∷ []
 marked_live zero [] o h = refl
 marked_live (suc n) [] o h = absurd (omega arith)
 marked_live zero (x ∷ openers) o h = ap (λ ws. live x ∷ ws) (marked_live zero openers o (omega arith))
 marked_live (suc n) (x ∷ openers) o h = ap (λ ws. disabled (live x) ∷ ws) (marked_live n openers o (omega arith))
 
-pub waiting_live : (n : ℕ) (openers : List Opener) (o : Opener) → n ≤ length openers → waiting n (openers ++ o ∷ []) ≡ live o ∷ waiting n openers
+pub waiting_live : (n : ℕ) (openers : List Opener) (o : Opener) → n ≤ length openers
+    → waiting n (openers ++ o ∷ []) ≡ live o ∷ waiting n openers
 waiting_live n openers o h = ap reverse (marked_live n openers o h) ∙ reverse-snoc (marked n openers) (live o)
 
 -- one more, which is
-marked_disabled : (openers : List Opener) (o : Opener) → marked (suc (length openers)) (openers ++ o ∷ []) ≡ marked (length openers) openers ++ disabled (live o) ∷ []
+marked_disabled : (openers : List Opener) (o : Opener) → marked (suc (length openers)) (openers ++ o ∷ []) ≡ marked (length openers) openers
+    ++ disabled (live o) ∷ []
 marked_disabled [] o = refl
 marked_disabled (x ∷ openers) o = ap (λ ws. disabled (live x) ∷ ws) (marked_disabled openers o)
 
-pub waiting_disabled : (openers : List Opener) (o : Opener) → waiting (suc (length openers)) (openers ++ o ∷ []) ≡ disabled (live o) ∷ waiting (length openers) openers
+pub waiting_disabled : (openers : List Opener) (o : Opener) → waiting (suc (length openers)) (openers ++ o ∷ [])
+    ≡ disabled (live o) ∷ waiting (length openers) openers
 waiting_disabled openers o = ap reverse (marked_disabled openers o) ∙ reverse-snoc (marked (length openers) openers) (disabled (live o))
 
 -- one more
@@ -74,7 +79,8 @@ disabled_twice o = ap (λ b. record { opener = o; is_live = b }) (twice o.is_ima
 marked_all : (n : ℕ) (openers : List Opener) → marked (length openers) openers ≡ map disabled (marked n openers)
 marked_all n [] = refl
 marked_all zero (x ∷ openers) = ap (λ ws. disabled (live x) ∷ ws) (marked_all zero openers)
-marked_all (suc n) (x ∷ openers) = ap (λ w. w ∷ marked (length openers) openers) (sym (disabled_twice x)) ∙ ap (λ ws. disabled (disabled (live x)) ∷ ws) (marked_all n openers)
+marked_all (suc n) (x ∷ openers) = ap (λ w. w ∷ marked (length openers) openers) (sym (disabled_twice x))
+    ∙ ap (λ ws. disabled (disabled (live x)) ∷ ws) (marked_all n openers)
 
 -- all are disabled
 pub waiting_all : (n : ℕ) (openers : List Opener) → waiting (length openers) openers ≡ map disabled (waiting n openers)
@@ -90,14 +96,16 @@ pub waiting_past : (n : ℕ) (openers : List Opener) → length openers ≤ n �
 waiting_past n openers h = ap reverse (marked_past n openers h)
 
 -- a nearest one whose number is this one or greater goes
-pub before_goes : (node n : ℕ) (openers : List Opener) (o : Opener) → nat_le node o.node ≡ true → before node (waiting n (openers ++ o ∷ [])) ≡ before node (waiting n openers)
+pub before_goes : (node n : ℕ) (openers : List Opener) (o : Opener) → nat_le node o.node ≡ true
+    → before node (waiting n (openers ++ o ∷ [])) ≡ before node (waiting n openers)
 before_goes node n openers o e =
     let l = waiting_last n openers o in
     let test : nat_le node l.last.opener.node ≡ true = ap (λ p. nat_le node p.node) l.is_it ∙ e in
     ap (before node) l.stands ∙ ap (λ b. cond b (before node (waiting n openers)) (l.last ∷ waiting n openers)) test
 
 -- one whose number is smaller stays
-pub before_stays : (node n : ℕ) (openers : List Opener) (o : Opener) → nat_le node o.node ≡ false → before node (waiting n (openers ++ o ∷ [])) ≡ waiting n (openers ++ o ∷ [])
+pub before_stays : (node n : ℕ) (openers : List Opener) (o : Opener) → nat_le node o.node ≡ false
+    → before node (waiting n (openers ++ o ∷ [])) ≡ waiting n (openers ++ o ∷ [])
 before_stays node n openers o e =
     let l = waiting_last n openers o in
     let test : nat_le node l.last.opener.node ≡ false = ap (λ p. nat_le node p.node) l.is_it ∙ e in
@@ -108,8 +116,10 @@ and_true true = refl
 and_true false = refl
 
 -- the last one of all, where all are disabled
-pub waiting_image : (openers : List Opener) (o : Opener) → waiting (suc (length openers)) (openers ++ o ∷ []) ≡ record { opener = o; is_live = o.is_image } ∷ waiting (length openers) openers
-waiting_image openers o = waiting_disabled openers o ∙ ap (λ b. record { opener = o; is_live = b } ∷ waiting (length openers) openers) (and_true o.is_image)
+pub waiting_image : (openers : List Opener) (o : Opener) → waiting (suc (length openers)) (openers ++ o ∷ [])
+    ≡ record { opener = o; is_live = o.is_image } ∷ waiting (length openers) openers
+waiting_image openers o = waiting_disabled openers o ∙ ap (λ b. record { opener = o; is_live = b } ∷ waiting (length openers) openers)
+    (and_true o.is_image)
 
 pub le_true : (a b : ℕ) → a ≤ b → nat_le a b ≡ true
 le_true a b h = grind (arith, nat_tests)
@@ -118,12 +128,16 @@ pub lt_false : (a b : ℕ) → b < a → nat_le a b ≡ false
 lt_false a b h = grind (arith, nat_tests)
 
 -- of the first k + 1 openers the last goes
-pub last_goes : (node n k : ℕ) (openers : List Opener) (d : Opener) → k < length openers → node ≤ (get_or openers k d).node → before node (waiting n (take (k + 1) openers)) ≡ before node (waiting n (take k openers))
-last_goes node n k openers d h le = rw (take_more openers k d h) (before_goes node n (take k openers) (get_or openers k d) (le_true node (get_or openers k d).node le))
+pub last_goes : (node n k : ℕ) (openers : List Opener) (d : Opener) → k < length openers → node ≤ (get_or openers k d).node
+    → before node (waiting n (take (k + 1) openers)) ≡ before node (waiting n (take k openers))
+last_goes node n k openers d h le = rw (take_more openers k d h) (before_goes node n (take k openers) (get_or openers k d)
+    (le_true node (get_or openers k d).node le))
 
 -- or it stays, and all before it
-pub last_stays : (node n k : ℕ) (openers : List Opener) (d : Opener) → k < length openers → (get_or openers k d).node < node → before node (waiting n (take (k + 1) openers)) ≡ waiting n (take (k + 1) openers)
-last_stays node n k openers d h lt = rw (take_more openers k d h) (before_stays node n (take k openers) (get_or openers k d) (lt_false node (get_or openers k d).node lt))
+pub last_stays : (node n k : ℕ) (openers : List Opener) (d : Opener) → k < length openers → (get_or openers k d).node < node
+    → before node (waiting n (take (k + 1) openers)) ≡ waiting n (take (k + 1) openers)
+last_stays node n k openers d h lt = rw (take_more openers k d h) (before_stays node n (take k openers) (get_or openers k d)
+    (lt_false node (get_or openers k d).node lt))
 
 past_of : (a b : ℕ) → nat_le a b ≡ false → b ≤ a
 past_of a b e = grind (arith, nat_tests)
@@ -143,13 +157,16 @@ waiting_min n openers = cases (nat_le n (length openers)) refl
         waiting_past n openers past ∙ ap (λ m. waiting m openers) same
 
 -- the last of so many goes, or stays
-pub nearest_goes : (node n left : ℕ) (openers : List Opener) (d : Opener) → 0 < left → left ≤ length openers → node ≤ (get_or openers (left - 1) d).node → before node (waiting n (take left openers)) ≡ before node (waiting n (take (left - 1) openers))
+pub nearest_goes : (node n left : ℕ) (openers : List Opener) (d : Opener) → 0 < left → left ≤ length openers
+    → node ≤ (get_or openers (left - 1) d).node → before node (waiting n (take left openers))
+    ≡ before node (waiting n (take (left - 1) openers))
 nearest_goes node n left openers d some within le =
     let P : ℕ → Type 0 = λ m. before node (waiting n (take m openers)) ≡ before node (waiting n (take (left - 1) openers)) in
     let same : left - 1 + 1 ≡ left = omega arith in
     subst P same (last_goes node n (left - 1) openers d (omega arith) le)
 
-pub nearest_stays : (node n left : ℕ) (openers : List Opener) (d : Opener) → 0 < left → left ≤ length openers → (get_or openers (left - 1) d).node < node → before node (waiting n (take left openers)) ≡ waiting n (take left openers)
+pub nearest_stays : (node n left : ℕ) (openers : List Opener) (d : Opener) → 0 < left → left ≤ length openers
+    → (get_or openers (left - 1) d).node < node → before node (waiting n (take left openers)) ≡ waiting n (take left openers)
 nearest_stays node n left openers d some within lt =
     let P : ℕ → Type 0 = λ m. before node (waiting n (take m openers)) ≡ waiting n (take m openers) in
     let same : left - 1 + 1 ≡ left = omega arith in

@@ -12,7 +12,8 @@ use Rattle.markdown_brackets.specs.QuietItems.{LeavesQuiet, QuietItemsLaw, Waits
 use Rattle.markdown_brackets.specs.ReadChain.{Reader, begun, read_as, read_chain, read_past}
 
 -- the trees put are the chain's, after those that stood there
-pub all_done_trees : {A : Type 0} (chain : Forest (Label A)) (left : List (Entry A)) → trees_onto (all_done chain left) nil ≡ trees_onto left chain
+pub all_done_trees : {A : Type 0} (chain : Forest (Label A)) (left : List (Entry A)) → trees_onto (all_done chain left) nil
+    ≡ trees_onto left chain
 all_done_trees nil left = refl
 all_done_trees (node a below after) left = all_done_trees after (done a below ∷ left)
 
@@ -33,7 +34,8 @@ module _ {A : Type 0} (w : Around) (others : Reader A) (leaves : LeavesQuiet oth
   read_elsewhere backslash_break a below rest p h = refl
   read_elsewhere (unresolved b) a below rest p h = waits_elsewhere b a below rest p h
 
-  all_left : (chain : Forest (Label A)) (p : Progress A) → p.goes_on ≡ None → WaitsAtMost chain → read_chain w others chain p ≡ record p { left = all_done chain p.left }
+  all_left : (chain : Forest (Label A)) (p : Progress A) → p.goes_on ≡ None → WaitsAtMost chain
+      → read_chain w others chain p ≡ record p { left = all_done chain p.left }
   unfolding read_chain
   all_left nil p none h = refl
   all_left (node a below rest) p none h =

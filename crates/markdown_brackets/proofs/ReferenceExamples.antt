@@ -34,7 +34,8 @@ empty_name = refl
 name_of_two_lines : label_at Gfm no_prefix false (codes "[^a\nb]") ≡ Some (record { is_footnote = false; length = 6; name = codes "^a b" })
 name_of_two_lines = refl
 
-name_of_two_lines_old : label_at Old no_prefix false (codes "[^a\nb]") ≡ Some (record { is_footnote = true; length = 6; name = codes "a b" })
+name_of_two_lines_old : label_at Old no_prefix false (codes "[^a\nb]")
+    ≡ Some (record { is_footnote = true; length = 6; name = codes "a b" })
 name_of_two_lines_old = refl
 
 abbrev opener_at : ℕ → Option Item
@@ -65,7 +66,8 @@ abbrev about : List ℕ → Question
 about label = record { span = record { start = 0; end = 3 }; link_type = Shortcut; reference = label }
 
 -- nobody is asked at a limit of 0
-at_zero : lookup.look_up [] true 0 (None ∷ []) (about (codes "a")) ≡ record { target = None; questions = []; limit = 0; answers = None ∷ [] }
+at_zero : lookup.look_up [] true 0 (None ∷ []) (about (codes "a"))
+    ≡ record { target = None; questions = []; limit = 0; answers = None ∷ [] }
 at_zero = refl
 
 nobody_to_ask : lookup.look_up [] false 9 [] (about (codes "a")) ≡ record { target = None; questions = []; limit = 9; answers = [] }
@@ -73,8 +75,14 @@ nobody_to_ask = refl
 
 -- an answer may be longer than what is left of the limit
 long_answer : lookup.look_up [] true 4 (Some (record { destination = codes "http"; title = codes "t" }) ∷ None ∷ []) (about (codes "a"))
-    ≡ record { target = Some (record { kind = ShortcutUnknown; destination = codes "http"; title = codes "t"; label = codes "a" }); questions = about (codes "a") ∷ []; limit = 0; answers = None ∷ [] }
+    ≡ record {
+      target = Some (record { kind = ShortcutUnknown; destination = codes "http"; title = codes "t"; label = codes "a" });
+      questions = about (codes "a") ∷ [];
+      limit = 0;
+      answers = None ∷ [];
+    }
 long_answer = refl
 
-no_answer : lookup.look_up [] true 4 (None ∷ []) (about (codes "a")) ≡ record { target = None; questions = about (codes "a") ∷ []; limit = 4; answers = [] }
+no_answer : lookup.look_up [] true 4 (None ∷ []) (about (codes "a"))
+    ≡ record { target = None; questions = about (codes "a") ∷ []; limit = 4; answers = [] }
 no_answer = refl

@@ -1,5 +1,6 @@
 -- Names of labels, as slices of the label and of what follows its first bytes; and the form of a reference where no text is left.
-use Rattle.std.proofs.Common.{◌≡◌, ℕ, ◌+◌, ◌-◌, ◌≤◌, ◌&&◌, Bool, true, false, List, [], Option, length, take, drop, slice_range, refl, sym, ◌∙◌, ap, arith}
+use Rattle.std.proofs.Common.{◌≡◌, ℕ, ◌+◌, ◌-◌, ◌≤◌, ◌&&◌, Bool, true, false, List, [], Option, length, take, drop, slice_range, refl, sym}
+use Rattle.std.proofs.Common.{◌∙◌, ap, arith}
 use Rattle.std.specs.Prelude.{if◌then◌else◌}
 use Rattle.std.proofs.lemmas.List.{drop_all}
 use Rattle.markdown_base.specs.declared.item.Item.{Item}
@@ -9,21 +10,27 @@ use Rattle.markdown_brackets.specs.ReferenceView.{BorrowsLabel, BorrowsName, nam
 use Rattle.markdown_brackets.specs.declared.reference.FoundLabel.{FoundLabel}
 
 -- a slice where it is one after the first bytes
-pub BorrowsName-from_rest : (text rest : List ℕ) (start : ℕ) (l : FoundLabel) → rest ≡ drop start text → name_start l.is_footnote ≡ start → BorrowsLabel start rest l → BorrowsName text l
+pub BorrowsName-from_rest : (text rest : List ℕ) (start : ℕ) (l : FoundLabel) → rest ≡ drop start text → name_start l.is_footnote ≡ start
+    → BorrowsLabel start rest l → BorrowsName text l
 BorrowsName-from_rest text rest start l is kind borrows e =
     let n : l.length - 1 - start ≡ l.length - start - 1 = omega arith in
-    borrows (e ∙ ap (λ (k : ℕ). slice_range text k (l.length - 1)) kind ∙ ap (λ (k : ℕ). take k (drop start text)) n ∙ ap (take (l.length - start - 1)) (sym is))
+    borrows (e ∙ ap (λ (k : ℕ). slice_range text k (l.length - 1)) kind ∙ ap (λ (k : ℕ). take k (drop start text)) n
+    ∙ ap (take (l.length - start - 1)) (sym is))
 
 -- no label stands past the text's end
 by_items : (style : FootnoteStyle) (skipped : List ℕ → Option ℕ) (in_table : Bool) (at : ℕ) (empty starts : Bool)
-    → (if empty then collapsed else if starts then form_by_label at (label_at style skipped in_table []) else shortcut) ≡ (if empty then collapsed else shortcut)
+    → (if empty then collapsed else if starts then form_by_label at (label_at style skipped in_table []) else shortcut)
+    ≡ (if empty then collapsed else shortcut)
 by_items style skipped in_table at true starts = refl
 by_items style skipped in_table at false true = refl
 by_items style skipped in_table at false false = refl
 
-pub form_past : (style : FootnoteStyle) (skipped : List ℕ → Option ℕ) (in_table : Bool) (text : List ℕ) (at : ℕ) (next after : Option Item) → length text ≤ at
-    → form_at style skipped in_table text at next after ≡ (if stands_at at is_opener next && stands_at (at + 1) is_closer after then collapsed else shortcut)
+pub form_past : (style : FootnoteStyle) (skipped : List ℕ → Option ℕ) (in_table : Bool) (text : List ℕ) (at : ℕ) (next after : Option Item)
+    → length text ≤ at
+    → form_at style skipped in_table text at next after ≡ (if stands_at at is_opener next && stands_at (at + 1) is_closer after
+    then collapsed else shortcut)
 form_past style skipped in_table text at next after past =
     ap (λ (rest : List ℕ). if stands_at at is_opener next && stands_at (at + 1) is_closer after then collapsed
-    else if stands_at at (λ b. true) next then form_by_label at (label_at style skipped in_table rest) else shortcut) (drop_all at text past)
+    else if stands_at at (λ b. true) next then form_by_label at (label_at style skipped in_table rest) else shortcut)
+    (drop_all at text past)
     ∙ by_items style skipped in_table at (stands_at at is_opener next && stands_at (at + 1) is_closer after) (stands_at at (λ b. true) next)

@@ -1,5 +1,6 @@
 -- Separators are ASCII: the text may be cut after them.
-use Rattle.std.proofs.Common.{◌≡◌, ℕ, suc, ◌+◌, ◌≤◌, Bool, true, ◌&&◌, ◌==◌, List, [], ◌∷◌, Option, Some, None, IfSome, length, take, drop, cond, arith, refl, subst}
+use Rattle.std.proofs.Common.{◌≡◌, ℕ, suc, ◌+◌, ◌≤◌, Bool, true, ◌&&◌, ◌==◌, List, [], ◌∷◌, Option, Some, None, IfSome, length, take, drop}
+use Rattle.std.proofs.Common.{cond, arith, refl, subst}
 use Rattle.std.specs.List.{list_all, prefix_len}
 use Rattle.std.specs.Char.{is_ascii}
 use Rattle.std.specs.Str.{IsUtf8, IsCharBoundary}
@@ -47,7 +48,8 @@ blanks_are_ascii (b ∷ bytes) =
     (λ e. nothing_ascii (b ∷ bytes))
 
 -- and line endings
-after_return : (b : ℕ) (bytes : List ℕ) → is_ascii b ≡ true → IfSome (cond (begins_line_feed bytes) (Some 2) (Some 1)) (BeginsAscii (b ∷ bytes))
+after_return : (b : ℕ) (bytes : List ℕ) → is_ascii b ≡ true
+    → IfSome (cond (begins_line_feed bytes) (Some 2) (Some 1)) (BeginsAscii (b ∷ bytes))
 after_return b [] e = one_more b [] 0 e (nothing_ascii [])
 after_return b (c ∷ bytes) e =
     cond_both (c == line_feed) (Some 2) (Some 1) (λ r. IfSome r (BeginsAscii (b ∷ c ∷ bytes)))
@@ -71,6 +73,7 @@ pub after_ascii : (text : List ℕ) (n : ℕ) → IsUtf8 text → BeginsAscii te
 after_ascii text n utf8 begins = after_ascii_bytes text n utf8 begins.within begins.ascii
 
 -- and after ASCII that follows a place where it may be cut
-pub after_more_ascii : (text : List ℕ) (n m : ℕ) → IsUtf8 text → IsCharBoundary text n → m ≤ length (drop n text) → list_all is_ascii (take m (drop n text)) ≡ true → IsCharBoundary text (n + m)
+pub after_more_ascii : (text : List ℕ) (n m : ℕ) → IsUtf8 text → IsCharBoundary text n → m ≤ length (drop n text)
+    → list_all is_ascii (take m (drop n text)) ≡ true → IsCharBoundary text (n + m)
 after_more_ascii text n m utf8 here within all =
     IsCharBoundary-from_rest text n m here.0 (after_ascii_bytes (drop n text) m (IsUtf8-drop text n utf8 here) within all)

@@ -15,17 +15,20 @@ no_item at = None
 abbrev quote_prefix : List ℕ → Option ℕ
 quote_prefix rest = Some 2
 
-destination_alone : link_tail no_prefix no_item (codes "[a](c)") 3 ≡ Some (record { ends = 6; destination = codes "c"; title = []; is_joined = false })
+destination_alone : link_tail no_prefix no_item (codes "[a](c)") 3
+    ≡ Some (record { ends = 6; destination = codes "c"; title = []; is_joined = false })
 destination_alone = refl
 
-with_title : link_tail no_prefix no_item (codes "[a](c 't' )") 3 ≡ Some (record { ends = 11; destination = codes "c"; title = codes "t"; is_joined = false })
+with_title : link_tail no_prefix no_item (codes "[a](c 't' )") 3
+    ≡ Some (record { ends = 11; destination = codes "c"; title = codes "t"; is_joined = false })
 with_title = refl
 
 -- the destination may be left out, and the separator before a title
 nothing_in_it : link_tail no_prefix no_item (codes "[a]()") 3 ≡ Some (record { ends = 5; destination = []; title = []; is_joined = false })
 nothing_in_it = refl
 
-title_after_brackets : link_tail no_prefix no_item (codes "[a](<c d>(t))x") 3 ≡ Some (record { ends = 13; destination = codes "c d"; title = codes "t"; is_joined = false })
+title_after_brackets : link_tail no_prefix no_item (codes "[a](<c d>(t))x") 3
+    ≡ Some (record { ends = 13; destination = codes "c d"; title = codes "t"; is_joined = false })
 title_after_brackets = refl
 
 -- an open parenthesis refuses a title in parentheses, and a title that does not end is none
@@ -36,21 +39,24 @@ title_left_open : link_tail no_prefix no_item (codes "[a](c 't)") 3 ≡ None
 title_left_open = refl
 
 -- an escaped mark closes nothing
-escaped_mark : link_tail no_prefix no_item (codes "[a](c '\\'t')") 3 ≡ Some (record { ends = 12; destination = codes "c"; title = codes "\\'t"; is_joined = false })
+escaped_mark : link_tail no_prefix no_item (codes "[a](c '\\'t')") 3
+    ≡ Some (record { ends = 12; destination = codes "c"; title = codes "\\'t"; is_joined = false })
 escaped_mark = refl
 
 -- 33 parentheses may be open in a destination, and 34 may not
 abbrev parentheses : ℕ → List ℕ
 parentheses n = codes "[a](" ++ replicate n 40 ++ replicate n 41 ++ codes ")"
 
-nested_33 : link_tail no_prefix no_item (parentheses 33) 3 ≡ Some (record { ends = 71; destination = replicate 33 40 ++ replicate 33 41; title = []; is_joined = false })
+nested_33 : link_tail no_prefix no_item (parentheses 33) 3
+    ≡ Some (record { ends = 71; destination = replicate 33 40 ++ replicate 33 41; title = []; is_joined = false })
 nested_33 = refl
 
 nested_34 : link_tail no_prefix no_item (parentheses 34) 3 ≡ None
 nested_34 = refl
 
 -- one line ending with its prefix separates, two do not
-line_separates : link_tail quote_prefix no_item (codes "[a](c\n> 't')") 3 ≡ Some (record { ends = 12; destination = codes "c"; title = codes "t"; is_joined = false })
+line_separates : link_tail quote_prefix no_item (codes "[a](c\n> 't')") 3
+    ≡ Some (record { ends = 12; destination = codes "c"; title = codes "t"; is_joined = false })
 line_separates = refl
 
 two_lines_do_not : link_tail no_prefix no_item (codes "[a](c\n\n't')") 3 ≡ None
@@ -60,10 +66,12 @@ two_lines_do_not = refl
 abbrev item_from_11 : ℕ → Option ℕ
 item_from_11 at = if nat_lt at 14 then Some 11 else None
 
-title_of_two_lines : link_tail quote_prefix item_from_11 (codes "[a](c 't\n> u')") 3 ≡ Some (record { ends = 14; destination = codes "c"; title = codes "t\nu"; is_joined = true })
+title_of_two_lines : link_tail quote_prefix item_from_11 (codes "[a](c 't\n> u')") 3
+    ≡ Some (record { ends = 14; destination = codes "c"; title = codes "t\nu"; is_joined = true })
 title_of_two_lines = refl
 
-line_ending_stays : link_tail quote_prefix no_item (codes "[a](c 't\n> u')") 3 ≡ Some (record { ends = 14; destination = codes "c"; title = codes "t\n> u"; is_joined = false })
+line_ending_stays : link_tail quote_prefix no_item (codes "[a](c 't\n> u')") 3
+    ≡ Some (record { ends = 14; destination = codes "c"; title = codes "t\n> u"; is_joined = false })
 line_ending_stays = refl
 
 -- wikilinks

@@ -1,5 +1,6 @@
 -- A left list before a `]` in an arena: the openers on the stacks are those of the list, and stand where it says.
-use Rattle.std.proofs.Common.{◌≡◌, ℕ, ◌≤◌, Bool, true, false, ◌&&◌, List, [], ◌∷◌, Option, Some, None, length, refl, sym, ◌∙◌, ap, subst, arith}
+use Rattle.std.proofs.Common.{◌≡◌, ℕ, ◌≤◌, Bool, true, false, ◌&&◌, List, [], ◌∷◌, Option, Some, None, length, refl, sym, ◌∙◌, ap, subst}
+use Rattle.std.proofs.Common.{arith}
 use Rattle.std.specs.Prelude.{IfSome, MatchOption, if◌then◌else◌}
 use Rattle.markdown_base.specs.Arena.{sibling_of}
 use Rattle.markdown_base.specs.ArenaForest.{links_of}
@@ -12,13 +13,15 @@ use Rattle.markdown_chains.specs.ChainRest.{start_of, end_of, joined, open_body}
 use Rattle.markdown_chains.specs.Document.{Label}
 use Rattle.markdown_chains.specs.Totals.{same}
 use Rattle.markdown_chains.proofs.TablesLemmas.{same-refl}
-use Rattle.markdown_brackets.specs.BracketDecision.{Around, Closing, Progress, Wikilink, decided, decided_before, one_decided, past_second, wikilink_in, wikilink_opener, wikilink_or_one, wikilink_tried}
+use Rattle.markdown_brackets.specs.BracketDecision.{Around, Closing, Progress, Wikilink, decided, decided_before, one_decided, past_second}
+use Rattle.markdown_brackets.specs.BracketDecision.{wikilink_in, wikilink_opener, wikilink_or_one, wikilink_tried}
 use Rattle.markdown_brackets.specs.BracketOptions.{wikilinks_on}
 use Rattle.markdown_brackets.specs.ChainHeld.{Holds, numbers_of, times_of}
 use Rattle.markdown_brackets.specs.Decides.{StandsBefore, TakesNone, TakesWikilink}
 use Rattle.markdown_brackets.specs.DecisionView.{opener_of}
 use Rattle.markdown_brackets.specs.Finish.{IsSplit}
-use Rattle.markdown_brackets.specs.LeftList.{Entry, Split, inside, is_live, nearest, opens_bracket, opens_wikilink, without_bracket, without_wikilink, bracket_taken, wikilink_taken, brackets_of, wikilinks_of, trees_onto}
+use Rattle.markdown_brackets.specs.LeftList.{Entry, Split, inside, is_live, nearest, opens_bracket, opens_wikilink, without_bracket}
+use Rattle.markdown_brackets.specs.LeftList.{without_wikilink, bracket_taken, wikilink_taken, brackets_of, wikilinks_of, trees_onto}
 use Rattle.markdown_brackets.specs.Openers.{Waiting}
 use Rattle.markdown_brackets.specs.Reference.{is_closer}
 use Rattle.markdown_brackets.specs.StandsAt.{FindsWikilink, IsWikilink, StandsBetween, TriesWikilink}
@@ -28,7 +31,8 @@ use Rattle.markdown_brackets.specs.declared.openers.Opener.{Opener}
 use Rattle.markdown_brackets.proofs.AheadOfBracketLemmas.{same_start, same_end, same_closer}
 use Rattle.markdown_brackets.proofs.BracketStandsLemmas.{Found, found_after, found_at, height_found}
 use Rattle.markdown_brackets.proofs.HeldTreesLemmas.{Holds-from, height-later, total-onto, total-joined}
-use Rattle.markdown_brackets.proofs.OpenerHeldLemmas.{TopBracket, TopWikilink, top_bracket, top_wikilink, wikilinks_stay, brackets_stay, trees_stay, splits_at, SplitsAt, onto_joined}
+use Rattle.markdown_brackets.proofs.OpenerHeldLemmas.{TopBracket, TopWikilink, top_bracket, top_wikilink, wikilinks_stay, brackets_stay}
+use Rattle.markdown_brackets.proofs.OpenerHeldLemmas.{trees_stay, splits_at, SplitsAt, onto_joined}
 use Rattle.markdown_brackets.proofs.SplitLemmas.{taken_splits}
 
 -- a stack that was not empty
@@ -74,10 +78,12 @@ module _ (nodes : List (Node Item)) (closer : ℕ) (left : List (Entry ℕ)) (c 
       }
 
   pub rest_found : Found s.source s.tables nodes (sibling_of nodes closer) c.rest
-  rest_found = subst (λ n. Found s.source s.tables nodes (sibling_of nodes n) c.rest) s.number (found_after s.source s.tables nodes (Some closer) c.label nil c.rest closer_found)
+  rest_found = subst (λ n. Found s.source s.tables nodes (sibling_of nodes n) c.rest) s.number
+      (found_after s.source s.tables nodes (Some closer) c.label nil c.rest closer_found)
 
   -- an opener of the left list, with flags of its own
-  module _ (other : List (Entry ℕ)) (trees : (later : Forest (Label ℕ)) → trees_onto other later ≡ trees_onto left later) (o : Split ℕ) (splits : SplitsAt other o) where
+  module _ (other : List (Entry ℕ)) (trees : (later : Forest (Label ℕ)) → trees_onto other later ≡ trees_onto left later) (o : Split ℕ)
+      (splits : SplitsAt other o) where
     onto : trees_onto left behind_left ≡ trees_onto o.before (node o.opener nil (trees_onto o.after behind_left))
     onto = sym (trees behind_left) ∙ splits behind_left
 
@@ -114,15 +120,24 @@ module _ (nodes : List (Node Item)) (closer : ℕ) (left : List (Entry ℕ)) (c 
           found = found_at s.source s.tables nodes (sibling_of nodes opener.node) (joined (inside o) behind_left) there;
           apart = omega (arith, once, counted, first, second, third, same-refl c.label.tag);
           number = s.number;
-          starts = subst (λ m. (item_at nodes m).start ≡ start_of c.label) s.number (same_start s.source s.tables nodes c.label closer_found.holds.2);
+          starts = subst (λ m. (item_at nodes m).start ≡ start_of c.label) s.number (same_start s.source s.tables nodes c.label
+              closer_found.holds.2);
           order = s.order;
         }
 
   module _ (w : Around) where
     -- where no wikilink is tried
-    pub none_by_off : (held : List Waiting) → held ≡ wikilinks_of left → wikilinks_on w.setting.rules.options ≡ false → TakesNone w c left held
+    pub none_by_off : (held : List Waiting) → held ≡ wikilinks_of left → wikilinks_on w.setting.rules.options ≡ false
+        → TakesNone w c left held
     unfolding decided
-    none_by_off held h off = record { left_then = left; held_is = h; brackets = refl; trees = λ later. refl; decides = λ p. decides (record p { left = left }) }
+    none_by_off held h off = record {
+      left_then = left;
+      held_is = h;
+      brackets = refl;
+      trees = λ later. refl;
+      decides = λ p. decides
+          (record p { left = left });
+    }
       where
         by : (rest : Forest (Label ℕ)) (p : Progress ℕ) → decided_before w c rest p ≡ one_decided w c p
         by nil p = refl
@@ -138,9 +153,17 @@ module _ (nodes : List (Node Item)) (closer : ℕ) (left : List (Entry ℕ)) (c 
     pub none_by_next : (held : List Waiting) → held ≡ wikilinks_of left
         → MatchOption (sibling_of nodes closer) (Unit {0}) (λ next. is_closer (item_at nodes next).body ≡ false) → TakesNone w c left held
     unfolding decided
-    none_by_next held h next = record { left_then = left; held_is = h; brackets = refl; trees = λ later. refl; decides = λ p. decides (record p { left = left }) }
+    none_by_next held h next = record {
+      left_then = left;
+      held_is = h;
+      brackets = refl;
+      trees = λ later. refl;
+      decides = λ p. decides
+          (record p { left = left });
+    }
       where
-        by : (rest : Forest (Label ℕ)) (l : Option ℕ) → Holds s.source s.tables nodes l rest → MatchOption l (Unit {0}) (λ next. is_closer (item_at nodes next).body ≡ false)
+        by : (rest : Forest (Label ℕ)) (l : Option ℕ) → Holds s.source s.tables nodes l rest
+            → MatchOption l (Unit {0}) (λ next. is_closer (item_at nodes next).body ≡ false)
             → (p : Progress ℕ) → decided_before w c rest p ≡ one_decided w c p
         by nil l h m p = refl
         by (node a below after) None h m p = let e = h.0 in cc
@@ -154,7 +177,8 @@ module _ (nodes : List (Node Item)) (closer : ℕ) (left : List (Entry ℕ)) (c 
         decides p = by c.rest (sibling_of nodes closer) rest_found.holds next p
 
     -- where a wikilink is tried
-    module _ (next : ℕ) (is_next : sibling_of nodes closer ≡ Some next) (closes : is_closer (item_at nodes next).body ≡ true) (on : wikilinks_on w.setting.rules.options ≡ true) where
+    module _ (next : ℕ) (is_next : sibling_of nodes closer ≡ Some next) (closes : is_closer (item_at nodes next).body ≡ true)
+        (on : wikilinks_on w.setting.rules.options ≡ true) where
       abbrev end : ℕ
       end = (item_at nodes next).end
 
@@ -177,15 +201,19 @@ module _ (nodes : List (Node Item)) (closer : ℕ) (left : List (Entry ℕ)) (c 
         new_is : new ≡ rest_of (wikilinks_of left)
         new_is = by taken m ∙ ap rest_of old_is
           where
-            by : (taken : Option (Opener × Bool)) → MatchOption taken ((old ≡ []) × (new ≡ [])) (λ t. old ≡ record { opener = t.0; is_live = t.1 } ∷ new) → new ≡ rest_of old
+            by : (taken : Option (Opener × Bool))
+                → MatchOption taken ((old ≡ []) × (new ≡ [])) (λ t. old ≡ record { opener = t.0; is_live = t.1 } ∷ new) → new ≡ rest_of old
             by None m = m.1 ∙ sym (ap rest_of m.0)
             by (Some t) m = sym (ap rest_of m)
 
         tries_two : (o : Option (Split ℕ)) → wikilink_opener left ≡ o → TriesWikilink nodes closer taken c o
-        tries_two o e = by taken m o (subst (TopWikilink (bracket_taken left)) e (top_wikilink (bracket_taken left))) (subst (λ o. IfSome o (SplitsAt (bracket_taken left))) e (splits_at opens_wikilink (bracket_taken left)))
+        tries_two o e = by taken m o (subst (TopWikilink (bracket_taken left)) e (top_wikilink (bracket_taken left)))
+            (subst (λ o. IfSome o (SplitsAt (bracket_taken left))) e (splits_at opens_wikilink (bracket_taken left)))
           where
-            by : (taken : Option (Opener × Bool)) → MatchOption taken ((old ≡ []) × (new ≡ [])) (λ t. old ≡ record { opener = t.0; is_live = t.1 } ∷ new)
-                → (o : Option (Split ℕ)) → TopWikilink (bracket_taken left) o → IfSome o (SplitsAt (bracket_taken left)) → TriesWikilink nodes closer taken c o
+            by : (taken : Option (Opener × Bool))
+                → MatchOption taken ((old ≡ []) × (new ≡ [])) (λ t. old ≡ record { opener = t.0; is_live = t.1 } ∷ new)
+                → (o : Option (Split ℕ)) → TopWikilink (bracket_taken left) o → IfSome o (SplitsAt (bracket_taken left))
+                → TriesWikilink nodes closer taken c o
             by None m None top splits = tt
             by None m (Some o) top splits = let a = sym m.0 ∙ (old_is ∙ (sym (wikilinks_stay left) ∙ top)) in cc
             by (Some t) m None top splits = let a = sym m ∙ (old_is ∙ (sym (wikilinks_stay left) ∙ top.0)) in cc
@@ -216,16 +244,21 @@ module _ (nodes : List (Node Item)) (closer : ℕ) (left : List (Entry ℕ)) (c 
               where
                 none_waits : wikilink_opener left ≡ None → rest_of (wikilinks_of left) ≡ wikilinks_of left
                 none_waits q =
-                    let top : TopWikilink (bracket_taken left) None = subst (TopWikilink (bracket_taken left)) q (top_wikilink (bracket_taken left)) in
+                    let top : TopWikilink (bracket_taken left) None = subst (TopWikilink (bracket_taken left)) q
+                    (top_wikilink (bracket_taken left)) in
                     let none : wikilinks_of left ≡ [] = sym (wikilinks_stay left) ∙ top.0 in
                     ap rest_of none ∙ sym none
-            by (Some o) q h = inner (if is_live o.mark.wikilink then wikilink_in w (past_second (inside o)) (start_of c.label) else None) refl r h
+            by (Some o) q h = inner (if is_live o.mark.wikilink then wikilink_in w (past_second (inside o)) (start_of c.label) else None)
+                refl r h
               where
                 splits : IsSplit (wikilink_taken (bracket_taken left)) o
-                splits = subst (λ o. IfSome o (IsSplit (wikilink_taken (bracket_taken left)))) q (taken_splits opens_wikilink without_wikilink (bracket_taken left))
+                splits = subst (λ o. IfSome o (IsSplit (wikilink_taken (bracket_taken left)))) q
+                    (taken_splits opens_wikilink without_wikilink (bracket_taken left))
 
-                inner : (x : Option (Wikilink ℕ)) → (if is_live o.mark.wikilink then wikilink_in w (past_second (inside o)) (start_of c.label) else None) ≡ x
-                    → (r : Option ClosedBracket) → IsWikilink w (opener_of o) end (past_second (inside o)) x r → TakesWikilink w c left new r
+                inner : (x : Option (Wikilink ℕ))
+                    → (if is_live o.mark.wikilink then wikilink_in w (past_second (inside o)) (start_of c.label) else None) ≡ x
+                    → (r : Option ClosedBracket) → IsWikilink w (opener_of o) end (past_second (inside o)) x r
+                    → TakesWikilink w c left new r
                 inner None e None h = record {
                   left_then = wikilink_taken left;
                   held_is = new_is ∙ rest_wikilinks left;

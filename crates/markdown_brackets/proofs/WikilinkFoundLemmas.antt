@@ -1,5 +1,6 @@
 -- What a wikilink is in an arena is what the definition makes of the trees between its opener and the `]`.
-use Rattle.std.proofs.Common.{◌≡◌, ℕ, ◌-◌, ◌<◌, ◌≤◌, Bool, true, false, List, [], ◌∷◌, Option, Some, None, length, refl, sym, ◌∙◌, ap, subst, arith, nat_lt}
+use Rattle.std.proofs.Common.{◌≡◌, ℕ, ◌-◌, ◌<◌, ◌≤◌, Bool, true, false, List, [], ◌∷◌, Option, Some, None, length, refl, sym, ◌∙◌, ap}
+use Rattle.std.proofs.Common.{subst, arith, nat_lt}
 use Rattle.std.specs.Prelude.{IfSome, if◌then◌else◌, slice_range}
 use Rattle.std.specs.Option.{option_and_then, option_map}
 use Rattle.markdown_base.specs.Arena.{sibling_of}
@@ -16,7 +17,8 @@ use Rattle.markdown_brackets.specs.BracketDecision.{Around, Closing, Wikilink, p
 use Rattle.markdown_brackets.specs.ChainAhead.{numbers_past}
 use Rattle.markdown_brackets.specs.ChainHeld.{numbers_of, times_of, link_to}
 use Rattle.markdown_brackets.specs.DecisionView.{first_shown, shown_of}
-use Rattle.markdown_brackets.specs.Wikilink.{WikilinkBody, Shows, shows_name, shows_nothing, shows_from, cut_at, has_pothole, named, shown_from, wikilink_body}
+use Rattle.markdown_brackets.specs.Wikilink.{WikilinkBody, Shows, shows_name, shows_nothing, shows_from, cut_at, has_pothole, named}
+use Rattle.markdown_brackets.specs.Wikilink.{shown_from, wikilink_body}
 use Rattle.markdown_base.proofs.ArenaForestLemmas.{height}
 use Rattle.markdown_brackets.specs.LeftList.{Split, inside, is_live}
 use Rattle.markdown_brackets.specs.StandsAt.{FindsWikilink, IsWikilink, IsWikilinkAt, TriesWikilink}
@@ -43,18 +45,21 @@ shown_before at end = by (nat_lt at end) refl
     by true e = is_below at end e
     by false e = tt
 
-named_before : (end : ℕ) (name : List ℕ) (shows : Shows) → StartsBefore end shows → IfSome (named name shows) (λ b. StartsBefore end b.shows)
+named_before : (end : ℕ) (name : List ℕ) (shows : Shows) → StartsBefore end shows
+    → IfSome (named name shows) (λ b. StartsBefore end b.shows)
 named_before end [] shows h = tt
 named_before end (x ∷ name) shows h = h
 
-cut_before : (text : List ℕ) (start end : ℕ) (pipe : Option (ℕ × List ℕ)) → IfSome (cut_at text start end pipe) (λ b. StartsBefore end b.shows)
+cut_before : (text : List ℕ) (start end : ℕ) (pipe : Option (ℕ × List ℕ))
+    → IfSome (cut_at text start end pipe) (λ b. StartsBefore end b.shows)
 cut_before text start end None = named_before end (slice_range text start end) shows_name tt
 cut_before text start end (Some p) = named_before end p.1 (shown_from p.0 end) (shown_before p.0 end)
 
 body_before : (text : List ℕ) (start end : ℕ) → IfSome (wikilink_body text start end) (λ b. StartsBefore end b.shows)
 body_before text start end = by (nat_lt start end)
   where
-    by : (b : Bool) → IfSome (if b then cut_at text start end (wikilink_pipe text start (end - start)) else None) (λ b. StartsBefore end b.shows)
+    by : (b : Bool) → IfSome (if b then cut_at text start end (wikilink_pipe text start (end - start)) else None)
+        (λ b. StartsBefore end b.shows)
     by true = cut_before text start end (wikilink_pipe text start (end - start))
     by false = tt
 
@@ -64,8 +69,10 @@ module _ (source : List ℕ) (tables : Tables) (nodes : List (Node Item)) (w : A
     abbrev as_wikilink : Forest (Label ℕ) → Wikilink ℕ
     as_wikilink children = record { name = b.name; has_pothole = has_pothole b.shows; children = children }
 
-    is_found : (shown : ShownNodes) (children : Forest (Label ℕ)) → shown_of w trees shown ≡ children → link_to children ≡ Some (first_shown shown)
-        → (r : Option ClosedBracket) → IsWikilinkAt opener end (Some (b, shown)) r → IsWikilink w opener end trees (Some (as_wikilink children)) r
+    is_found : (shown : ShownNodes) (children : Forest (Label ℕ)) → shown_of w trees shown ≡ children
+        → link_to children ≡ Some (first_shown shown)
+        → (r : Option ClosedBracket) → IsWikilinkAt opener end (Some (b, shown)) r
+        → IsWikilink w opener end trees (Some (as_wikilink children)) r
     is_found shown children so first None h = absurd h
     is_found shown children so first (Some Text) h = absurd h
     is_found shown children so first (Some (Link a d e f)) h = absurd h
@@ -84,11 +91,15 @@ module _ (source : List ℕ) (tables : Tables) (nodes : List (Node Item)) (w : A
     from_found at (node q below after) so r h = is_found (From q.tag at) (node q below after) (so q.tag) refl r h
 
   -- what it shows
-  shows_so : (f : Label ℕ) (below after : Forest (Label ℕ)) (l : Option ℕ) → Found source tables nodes l (joined (node f below after) (node closer nil rest))
-      → times_of closer.tag (node f below after) ≡ 0 → l ≡ Some f.tag → (name : List ℕ) (shows : Shows) → StartsBefore (start_of closer) shows
+  shows_so : (f : Label ℕ) (below after : Forest (Label ℕ)) (l : Option ℕ)
+      → Found source tables nodes l (joined (node f below after) (node closer nil rest))
+      → times_of closer.tag (node f below after) ≡ 0 → l ≡ Some f.tag → (name : List ℕ) (shows : Shows)
+      → StartsBefore (start_of closer) shows
       → (r : Option ClosedBracket)
-      → IsWikilinkAt opener end (option_map (λ shown. (record { name = name; shows = shows }, shown)) (shown_in nodes f.tag closer.tag shows (start_of f) (start_of closer))) r
-      → IsWikilink w opener end (node f below after) (wikilink_by w f (node f below after) (start_of closer) (record { name = name; shows = shows })) r
+      → IsWikilinkAt opener end (option_map (λ shown. (record { name = name; shows = shows }, shown))
+      (shown_in nodes f.tag closer.tag shows (start_of f) (start_of closer))) r
+      → IsWikilink w opener end (node f below after) (wikilink_by w f (node f below after) (start_of closer)
+      (record { name = name; shows = shows })) r
   shows_so f below after l s apart e name shows_name behind r h =
       is_found (record { name = name; shows = shows_name }) (node f below after) (Over f.tag (start_of f) (start_of closer))
       (node (text_from w f (start_of f) (start_of closer)) nil nil) refl refl r h
@@ -98,39 +109,46 @@ module _ (source : List ℕ) (tables : Tables) (nodes : List (Node Item)) (w : A
   shows_so f below after l s apart e name (shows_from at) behind r h =
       let trees = node f below after in
       let b : WikilinkBody = record { name = name; shows = shows_from at } in
-      let is : shown_from_node closer.tag at (first_root (numbers_past nodes at (forest_at (links_of nodes) (Some f.tag)))) ≡ option_map (λ n. From n at) (link_to (past_byte at trees)) =
+      let is : shown_from_node closer.tag at (first_root (numbers_past nodes at (forest_at (links_of nodes) (Some f.tag))))
+      ≡ option_map (λ n. From n at) (link_to (past_byte at trees)) =
       ap (λ g. shown_from_node closer.tag at (first_root (numbers_past nodes at g)))
       (ap (λ m. forest_at (links_of nodes) m) (sym e) ∙ found_at source tables nodes l _ s)
       ∙ from_is source tables nodes closer nil rest at (omega (arith, behind, order)) l trees s.holds apart in
       from_found b trees at (past_byte at trees) (λ n. refl) r
       (subst (λ o. IsWikilinkAt opener end (option_map (λ shown. (b, shown)) o) r) is h)
 
-  none_at_all : (trees : Forest (Label ℕ)) (r : Option ClosedBracket) → IsWikilinkAt opener end None r → IsWikilink w opener end trees None r
+  none_at_all : (trees : Forest (Label ℕ)) (r : Option ClosedBracket) → IsWikilinkAt opener end None r
+      → IsWikilink w opener end trees None r
   none_at_all trees None h = tt
   none_at_all trees (Some x) h = absurd h
 
   -- the wikilink of these trees
-  pub wikilink_is : (trees : Forest (Label ℕ)) (l : Option ℕ) → Found source tables nodes l (joined trees (node closer nil rest)) → times_of closer.tag trees ≡ 0
+  pub wikilink_is : (trees : Forest (Label ℕ)) (l : Option ℕ) → Found source tables nodes l (joined trees (node closer nil rest))
+      → times_of closer.tag trees ≡ 0
       → (r : Option ClosedBracket)
       → IsWikilinkAt opener end (option_and_then (wikilink_from nodes w.setting.text closer.tag) (link_to trees)) r
       → IsWikilink w opener end trees (wikilink_in w trees (start_of closer)) r
   wikilink_is nil l s apart r h = none_at_all nil r h
   wikilink_is (node f below after) l s apart r h =
       by (wikilink_body w.setting.text (start_of f) (start_of closer)) (body_before w.setting.text (start_of f) (start_of closer))
-      (subst (λ j. At (start_of f) j) reads (subst (λ i. At i (item_at nodes closer.tag).start) (same_start source tables nodes f s.holds.2) h))
+      (subst (λ j. At (start_of f) j) reads (subst (λ i. At i (item_at nodes closer.tag).start) (same_start source tables nodes f s.holds.2)
+      h))
     where
       At : (start stop : ℕ) → Type 0
       At start stop =
-          IsWikilinkAt opener end (option_and_then (λ b. option_map (λ shown. (b, shown)) (shown_in nodes f.tag closer.tag b.shows start stop)) (wikilink_body w.setting.text start stop)) r
+          IsWikilinkAt opener end (option_and_then (λ b. option_map (λ shown. (b, shown)) (shown_in nodes f.tag closer.tag b.shows start
+          stop)) (wikilink_body w.setting.text start stop)) r
 
       by : (o : Option WikilinkBody) → IfSome o (λ b. StartsBefore (start_of closer) b.shows)
-          → IsWikilinkAt opener end (option_and_then (λ b. option_map (λ shown. (b, shown)) (shown_in nodes f.tag closer.tag b.shows (start_of f) (start_of closer))) o) r
+          → IsWikilinkAt opener end (option_and_then
+          (λ b. option_map (λ shown. (b, shown)) (shown_in nodes f.tag closer.tag b.shows (start_of f) (start_of closer))) o) r
           → IsWikilink w opener end (node f below after) (option_and_then (wikilink_by w f (node f below after) (start_of closer)) o) r
       by None behind h = none_at_all (node f below after) r h
       by (Some b) behind h = shows_so f below after l s apart s.holds.0 b.name b.shows behind r h
 
 -- by the opener that was taken off
-low_of : (nodes : List (Node Item)) (l : Option ℕ) (f : Forest (Label ℕ)) → forest_at (links_of nodes) l ≡ numbers_of f → height (numbers_of f) ≤ length nodes
+low_of : (nodes : List (Node Item)) (l : Option ℕ) (f : Forest (Label ℕ)) → forest_at (links_of nodes) l ≡ numbers_of f
+    → height (numbers_of f) ≤ length nodes
 low_of nodes l f e = subst (λ g. height g ≤ length nodes) e (height_found (links_of nodes) l)
 
 -- the trees past the second of some, in an arena
@@ -140,24 +158,28 @@ module _ (source : List ℕ) (tables : Tables) (nodes : List (Node Item)) (close
     pub found : Found source tables nodes link (joined (past_second trees) (node closer nil rest))
     pub apart : times_of closer.tag (past_second trees) ≡ 0
 
-  pub past_second_found : (l : Option ℕ) (trees : Forest (Label ℕ)) → Found source tables nodes l (joined trees (node closer nil rest)) → times_of closer.tag trees ≡ 0
+  pub past_second_found : (l : Option ℕ) (trees : Forest (Label ℕ)) → Found source tables nodes l (joined trees (node closer nil rest))
+      → times_of closer.tag trees ≡ 0
       → PastSecond trees
   past_second_found l nil s apart = record { link = l; found = s; apart = apart }
   past_second_found l (node a below after) s apart =
       record { link = sibling_of nodes a.tag; found = found_after source tables nodes l a below _ s; apart = omega (arith, apart) }
 
-pub finds_none : (nodes : List (Node Item)) (w : Around) (end closer : ℕ) (c : Closing ℕ) (o : Option (Split ℕ)) → TriesWikilink nodes closer None c o → FindsWikilink w end c o None
+pub finds_none : (nodes : List (Node Item)) (w : Around) (end closer : ℕ) (c : Closing ℕ) (o : Option (Split ℕ))
+    → TriesWikilink nodes closer None c o → FindsWikilink w end c o None
 finds_none nodes w end closer c None t = refl
 finds_none nodes w end closer c (Some o) t = absurd t
 
-pub finds_dead : (nodes : List (Node Item)) (w : Around) (end closer : ℕ) (opener : Opener) (live : Bool) (c : Closing ℕ) (o : Option (Split ℕ)) → live ≡ false
+pub finds_dead : (nodes : List (Node Item)) (w : Around) (end closer : ℕ) (opener : Opener) (live : Bool) (c : Closing ℕ)
+    (o : Option (Split ℕ)) → live ≡ false
     → TriesWikilink nodes closer (Some (opener, live)) c o → FindsWikilink w end c o None
 finds_dead nodes w end closer opener live c None e t = absurd t
 finds_dead nodes w end closer opener live c (Some o) e t =
     let dead : is_live o.mark.wikilink ≡ false = sym t.live ∙ e in
     rw dead tt
 
-pub finds_live : (nodes : List (Node Item)) (w : Around) (end closer : ℕ) (opener : Opener) (live : Bool) (c : Closing ℕ) (o : Option (Split ℕ)) (r : Option ClosedBracket) → live ≡ true
+pub finds_live : (nodes : List (Node Item)) (w : Around) (end closer : ℕ) (opener : Opener) (live : Bool) (c : Closing ℕ)
+    (o : Option (Split ℕ)) (r : Option ClosedBracket) → live ≡ true
     → IsWikilinkAt opener end (wikilink_nodes nodes w.setting.text opener.node closer) r
     → TriesWikilink nodes closer (Some (opener, live)) c o → FindsWikilink w end c o r
 finds_live nodes w end closer opener live c None r e h t = absurd t
@@ -169,10 +191,14 @@ finds_live nodes w end closer opener live c (Some o) r e h t =
     let past = past_second_found s.source s.tables nodes c.label c.rest (sibling_of nodes opener.node) (inside o) all s.apart in
     let begins : body_start nodes opener.node c.label.tag ≡ link_to (past_second (inside o)) =
     second_is s.source s.tables nodes c.label nil c.rest opener.node (inside o) s.holds s.apart in
-    let reads : (item_at nodes c.label.tag).start ≡ start_of c.label = subst (λ n. (item_at nodes n).start ≡ start_of c.label) (sym s.number) s.starts in
-    let at : IsWikilinkAt opener end (option_and_then (wikilink_from nodes w.setting.text c.label.tag) (link_to (past_second (inside o)))) r =
+    let reads : (item_at nodes c.label.tag).start ≡ start_of c.label = subst (λ n. (item_at nodes n).start ≡ start_of c.label)
+    (sym s.number) s.starts in
+    let at : IsWikilinkAt opener end (option_and_then (wikilink_from nodes w.setting.text c.label.tag) (link_to (past_second (inside o)))) r
+    =
     subst (λ l. IsWikilinkAt opener end (option_and_then (wikilink_from nodes w.setting.text c.label.tag) l) r) begins
     (subst (λ n. IsWikilinkAt opener end (wikilink_nodes nodes w.setting.text opener.node n) r) (sym s.number) h) in
     let found : IsWikilink w opener end (past_second (inside o)) (wikilink_in w (past_second (inside o)) (start_of c.label)) r =
-    wikilink_is s.source s.tables nodes w c.label c.rest reads s.order opener end (past_second (inside o)) past.link past.found past.apart r at in
-    rw alive (subst (λ p. IsWikilink w p end (past_second (inside o)) (wikilink_in w (past_second (inside o)) (start_of c.label)) r) t.opener found)
+    wikilink_is s.source s.tables nodes w c.label c.rest reads s.order opener end (past_second (inside o)) past.link past.found past.apart r
+    at in
+    rw alive (subst (λ p. IsWikilink w p end (past_second (inside o)) (wikilink_in w (past_second (inside o)) (start_of c.label)) r)
+    t.opener found)

@@ -51,7 +51,8 @@ module _ (source : List ℕ) (tables : Tables) (nodes : List (Node Item)) (close
   unless_closer l (node a below after) h none = rw (h.0, apart_root closer.tag a below after none) refl
 
   -- the second node of those
-  pub second_is : (opener : ℕ) (f : Forest (Label ℕ)) → Holds source tables nodes (sibling_of nodes opener) (Up f) → times_of closer.tag f ≡ 0
+  pub second_is : (opener : ℕ) (f : Forest (Label ℕ)) → Holds source tables nodes (sibling_of nodes opener) (Up f)
+      → times_of closer.tag f ≡ 0
       → body_start nodes opener closer.tag ≡ link_to (past_second f)
   second_is opener nil h none = rw (unless_closer (sibling_of nodes opener) nil h none) refl
   second_is opener (node a below after) h none =
@@ -59,8 +60,10 @@ module _ (source : List ℕ) (tables : Tables) (nodes : List (Node Item)) (close
       (unless_closer (sibling_of nodes a.tag) after h.4 (apart_after closer.tag a below after none))
 
   -- the node in which what stands from a byte on begins
-  pub from_is : (at : ℕ) → at < end_of closer → (l : Option ℕ) (f : Forest (Label ℕ)) → Holds source tables nodes l (Up f) → times_of closer.tag f ≡ 0
-      → shown_from_node closer.tag at (first_root (numbers_past nodes at (numbers_of (Up f)))) ≡ option_map (λ n. From n at) (link_to (past_byte at f))
+  pub from_is : (at : ℕ) → at < end_of closer → (l : Option ℕ) (f : Forest (Label ℕ)) → Holds source tables nodes l (Up f)
+      → times_of closer.tag f ≡ 0
+      → shown_from_node closer.tag at (first_root (numbers_past nodes at (numbers_of (Up f))))
+      ≡ option_map (λ n. From n at) (link_to (past_byte at f))
   from_is at behind l nil h none =
       rw (same_end source tables nodes closer h.2, below_is at (end_of closer) behind, is_itself closer.tag) refl
   from_is at behind l (node a below after) h none =
@@ -69,7 +72,8 @@ module _ (source : List ℕ) (tables : Tables) (nodes : List (Node Item)) (close
     where
       Goal : Bool → Bool → Type 0
       Goal b d =
-          shown_from_node closer.tag at (first_root (if b then node a.tag (numbers_of below) (numbers_of (Up after)) else numbers_past nodes at (numbers_of (Up after))))
+          shown_from_node closer.tag at (first_root (if b then node a.tag (numbers_of below) (numbers_of (Up after))
+          else numbers_past nodes at (numbers_of (Up after))))
           ≡ option_map (λ n. From n at) (link_to (if d then past_byte at after else node (begun_at at a) below after))
 
       less_or : (i j : ℕ) → nat_lt i j ≡ true → nat_le j i ≡ false
@@ -82,7 +86,8 @@ module _ (source : List ℕ) (tables : Tables) (nodes : List (Node Item)) (close
       here = rw (apart_root closer.tag a below after none) refl
 
       by : (b : Bool) → nat_lt at (end_of a) ≡ b
-          → shown_from_node closer.tag at (first_root (numbers_past nodes at (numbers_of (Up after)))) ≡ option_map (λ n. From n at) (link_to (past_byte at after))
+          → shown_from_node closer.tag at (first_root (numbers_past nodes at (numbers_of (Up after))))
+          ≡ option_map (λ n. From n at) (link_to (past_byte at after))
           → Goal b (nat_le (end_of a) at)
       by true e more = subst (λ d. Goal true d) (sym (less_or at (end_of a) e)) here
       by false e more = subst (λ d. Goal false d) (sym (less_not at (end_of a) e)) more

@@ -1,5 +1,6 @@
 -- An inline link's tail is what is written, and where there is none, a reference is.
-use Rattle.std.proofs.Common.{rules, ◌≡◌, ℕ, ◌<◌, ◌≤◌, Bool, List, Option, Some, None, Result, Ok, Err, get_or, length, min, take, arith, sym, subst}
+use Rattle.std.proofs.Common.{rules, ◌≡◌, ℕ, ◌<◌, ◌≤◌, Bool, List, Option, Some, None, Result, Ok, Err, get_or, length, min, take, arith}
+use Rattle.std.proofs.Common.{sym, subst}
 use Rattle.std.proofs.lemmas.List.{get_or-take, length-take}
 use Rattle.std.specs.Str.{IsCharBoundary}
 use Rattle.std.specs.Prelude.{IfOk, OnOk, slice_range}
@@ -17,19 +18,22 @@ use Rattle.markdown_brackets.specs.declared.written.Written.{Written}
 use Rattle.markdown_brackets.specs.declared.written.Written.TheVariants.{Inline}
 use Rattle.markdown_brackets.proofs.LinkTailLemmas.{tail_past_end}
 
-pub read_tail : (in_table : Bool) (other : decision.Written) (t : Option scanned.LinkTail) (found : LinkTail) → ReadsTail in_table t (Some found)
+pub read_tail : (in_table : Bool) (other : decision.Written) (t : Option scanned.LinkTail) (found : LinkTail)
+    → ReadsTail in_table t (Some found)
     → IsRead in_table (tail_or other t) (Inline found)
 read_tail in_table other None found h = absurd h
 read_tail in_table other (Some t) found h = h
 
-pub read_other : {E : Type 0} (in_table : Bool) (other : decision.Written) (t : Option scanned.LinkTail) (r : Result Written E) → ReadsTail in_table t None
+pub read_other : {E : Type 0} (in_table : Bool) (other : decision.Written) (t : Option scanned.LinkTail) (r : Result Written E)
+    → ReadsTail in_table t None
     → IfOk r (λ found. (b : Bool) → IsRead b other found) → IfOk r (IsRead in_table (tail_or other t))
 read_other in_table other None (Ok found) h k = k in_table
 read_other in_table other (Some t) (Ok found) h k = absurd h
 read_other in_table other t (Err e) h k = tt
 
 -- the same of what the reader of tails was given
-pub tail_at : (in_table : Bool) (skipped : List ℕ → Option ℕ) (nodes : List (Node Item)) (next next' : Option ℕ) (text text' : List ℕ) (item item' : Item)
+pub tail_at : (in_table : Bool) (skipped : List ℕ → Option ℕ) (nodes : List (Node Item)) (next next' : Option ℕ) (text text' : List ℕ)
+    (item item' : Item)
     (found found' : Option LinkTail) → next ≡ next' → text ≡ text' → item ≡ item' → found ≡ found'
     → ReadsTail in_table (link_tail skipped (starts_from nodes next) text item.end) found
     → ReadsTail in_table (link_tail skipped (starts_from nodes next') text' item'.end) found'
@@ -72,4 +76,5 @@ taken_past text end at h = omega (arith, h, length-take end text)
 -- where no tail stands
 pub no_tail : (in_table : Bool) (skipped : List ℕ → Option ℕ) (starts : ℕ → Option ℕ) (text : List ℕ) (at : ℕ) → length text ≤ at
     → ReadsTail in_table (link_tail skipped starts text at) None
-no_tail in_table skipped starts text at past = subst (λ (t : Option scanned.LinkTail). ReadsTail in_table t None) (sym (tail_past_end skipped starts text at past)) tt
+no_tail in_table skipped starts text at past = subst (λ (t : Option scanned.LinkTail). ReadsTail in_table t None)
+    (sym (tail_past_end skipped starts text at past)) tt

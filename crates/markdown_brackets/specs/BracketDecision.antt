@@ -42,7 +42,8 @@ pub record Closing (A : Type 0) : Type 0 where
   pub rest : Forest (Label A)
 
 -- how far a chain was read: the left list; after a find, the byte up to which what comes is left out; the ends of the
--- `]` that can be no references any more; what was asked; what is known; and how many trees were made that stood in no item
+-- `]` that can be no references any more; what was asked; what is known; and how many trees were made that stood in no
+-- item
 pub record Progress (A : Type 0) : Type 0 where
   pub left : List (Entry A)
   pub goes_on : Option ℕ
@@ -51,6 +52,7 @@ pub record Progress (A : Type 0) : Type 0 where
   pub known : Known
   pub made : ℕ
 
+-- what an item makes of what was read
 abbrev pub Step : Type 0 → Type 0
 Step A = Progress A → Progress A
 
@@ -68,15 +70,17 @@ pub data Becomes (A : Type 0) : Type 0 where
   a_footnote : Split A → List ℕ → Becomes A
   a_wikilink : Split A → Wikilink A → (end : ℕ) → Becomes A
 
--- the decision: what it becomes, and how far the chain was read before that is put: the openers that were tried are taken
--- off, it was asked, and is known
+-- the decision: what it becomes, and how far the chain was read before that is put: the openers that were tried are
+-- taken off, it was asked, and is known
 pub record Decision (A : Type 0) : Type 0 where
   pub becomes : Becomes A
   pub progress : Progress A
 
+-- what is tried at a `]`: it decides what the `]` becomes
 abbrev pub Try : Type 0 → Type 0
 Try A = Progress A → Decision A
 
+-- it becomes this, and nothing else changes
 abbrev pub to_be : {A : Type 0} → Becomes A → Try A
 to_be becomes p = record { becomes = becomes; progress = p }
 
@@ -89,6 +93,7 @@ abbrev pub over : {A : Type 0} → Label A → Shape → (start end : ℕ) → L
 over a shape start end =
     record { tag = a.tag; part = record { shape = shape; range = record { start = start; end = end }; block = None } }
 
+-- a Text over a range
 abbrev pub text_from : {A : Type 0} → Around → Label A → (start end : ℕ) → Label A
 text_from w a start end = over a (text_over (slice_range w.setting.text start end)) start end
 
@@ -97,10 +102,12 @@ abbrev pub first_item : {A : Type 0} → Forest (Label A) → Option Item
 first_item nil = None
 first_item (node a below after) = Some (as_item a)
 
+-- the second item of a chain
 abbrev pub second_item : {A : Type 0} → Forest (Label A) → Option Item
 second_item nil = None
 second_item (node a below after) = first_item after
 
+-- the next item is of this kind
 abbrev pub is_next : {A : Type 0} → (ItemBody → Bool) → Forest (Label A) → Bool
 is_next test nil = false
 is_next test (node a below after) = test (open_body a.part.shape)
@@ -121,12 +128,13 @@ closer_ends_at i (node a below after) =
 abbrev pub used_once_more : List ℕ → (List ℕ → ℕ) → (List ℕ → ℕ)
 used_once_more name uses = λ other. if is_match name other then min (uses other + 1) (2 ^ 64 - 1) else uses other
 
+-- a footnote that is defined is used once more
 abbrev pub footnote_used : {A : Type 0} → (is_defined : Bool) → List ℕ → Step A
 footnote_used false name p = p
 footnote_used true name p = record p { known = record p.known { uses = used_once_more name p.known.uses } }
 
--- what is written at an opener and its `]`: no link; an inline link, by its tail; a reference, with its kind, its label,
--- where it ends and where the chain goes on; or a footnote label
+-- what is written at an opener and its `]`: no link; an inline link, by its tail; a reference, with its kind, its
+-- label, where it ends and where the chain goes on; or a footnote label
 pub data Written : Type 0 where
   no_link : Written
   inline_link : LinkTail → Written
@@ -139,18 +147,20 @@ label_of_opener w c o =
     own_label (footnote_style w.setting.rules.options) w.skipped w.above.in_table w.setting.text
     (end_of o.opener - 1) (end_of c.label)
 
+-- what is written from the opener to the `]`, as a label of its own
 abbrev pub own_written : LinkType → (end next : ℕ) → Option FoundLabel → Written
 own_written link_type end next None = no_link
 own_written link_type end next (Some l) =
     if l.is_footnote then footnote_label l.name else link_label link_type l.name end next
 
+-- how a reference is written at a `]`
 abbrev pub form_of : {A : Type 0} → Around → Closing A → Form
 form_of w c =
     form_at (footnote_style w.setting.rules.options) w.skipped w.above.in_table (block_text w) (end_of c.label)
     (first_item c.rest) (second_item c.rest)
 
--- a reference, of a `]` that ends at a byte: in full, where a `]` ends the label that follows; collapsed; or a shortcut,
--- where what it closes is a label of its own
+-- a reference, of a `]` that ends at a byte: in full, where a `]` ends the label that follows; collapsed; or a
+-- shortcut, where what it closes is a label of its own
 abbrev pub reference_written : (could_be : Bool) → (end : ℕ) → (closes : ℕ → Bool) → Option FoundLabel → Form → Written
 reference_written could_be end closes own (reference label to) =
     if closes to then link_label kind.Reference label to to else no_link
@@ -164,6 +174,7 @@ abbrev pub tail_or : Written → Option LinkTail → Written
 tail_or other None = other
 tail_or other (Some t) = inline_link t
 
+-- what is written from an opener on: an inline link, a reference, a footnote, or no link
 abbrev pub written : {A : Type 0} → Around → Closing A → Split A → Written
 written w c o =
     let end = end_of c.label in
@@ -171,6 +182,7 @@ written w c o =
     (reference_written c.could_be_reference end (λ i. closer_ends_at i c.rest) (label_of_opener w c o) (form_of w c))
     (link_tail w.skipped (start_of_first_past c.rest) (block_text w) end)
 
+-- where an inline link leads
 abbrev pub inline_target : Around → LinkTail → LinkView
 inline_target w t = record {
   kind = kind.Inline;
@@ -192,20 +204,24 @@ abbrev pub target_tried : {A : Type 0} → Split A → (end next : ℕ) → Opti
 target_tried o end next None p = to_be a_text p
 target_tried o end next (Some target) p = to_be (a_link o target end next) p
 
+-- after a look-up: what it asked, the limit and the answers that it left
 abbrev pub after_look_up : {A : Type 0} → LookedUp → Step A
 after_look_up found p = record p {
   asked = p.asked ++ found.questions;
   known = record { limit = found.limit; answers = found.answers; uses = p.known.uses };
 }
 
+-- the question about a label, from its opener on
 abbrev pub question_at : {A : Type 0} → Split A → LinkType → List ℕ → (end : ℕ) → Question
 question_at o link_type label end =
     record { span = record { start = start_of o.opener; end = end }; link_type = link_type; reference = label }
 
+-- a link label is looked up
 abbrev pub look_up_tried : {A : Type 0} → Around → Split A → LinkType → List ℕ → (end next : ℕ) → Try A
 look_up_tried w o link_type label end next p =
     let found =
-    look_up w.setting.rules.definitions w.setting.rules.asks p.known.limit p.known.answers (question_at o link_type label end) in
+    look_up w.setting.rules.definitions w.setting.rules.asks p.known.limit p.known.answers
+    (question_at o link_type label end) in
     target_tried o end next found.target (after_look_up found p)
 
 -- the `]` of a label that follows is no reference of its own then
@@ -226,9 +242,11 @@ abbrev pub opener_tried : {A : Type 0} → Around → Closing A → Option (Spli
 opener_tried w c None p = to_be a_text p
 opener_tried w c (Some o) p = if is_live o.mark.bracket then tried w o (written w c o) p else to_be a_text p
 
+-- a `]` on its own: the nearest bracket opener is tried
 abbrev pub one_decided : {A : Type 0} → Around → Closing A → Try A
 one_decided w c p = opener_tried w c (nearest opens_bracket p.left) (record p { left = bracket_taken p.left })
 
+-- a chain, where it is not empty
 abbrev pub if_some : {A : Type 0} → Forest (Label A) → Option (Forest (Label A))
 if_some nil = None
 if_some (node a below after) = Some (node a below after)
@@ -240,6 +258,7 @@ children_of w first trees end shows_name = Some (node (text_from w first (start_
 children_of w first trees end (shows_nothing at) = Some (node (text_from w first at at) nil nil)
 children_of w first trees end (shows_from at) = if_some (past_byte at trees)
 
+-- a wikilink, by its name and by what of its body is shown
 abbrev pub wikilink_by : {A : Type 0} → Around → Label A → Forest (Label A) → (end : ℕ) → WikilinkBody
     → Option (Wikilink A)
 wikilink_by w first trees end b = option_map
@@ -261,8 +280,10 @@ past_second (node a below after) = after
 -- a wikilink up to the second `]`, which ends at a byte; or else its opener is taken off too, and one `]` is closed
 abbrev pub wikilink_or_one : {A : Type 0} → Around → Closing A → (end : ℕ) → Split A → Option (Wikilink A) → Try A
 wikilink_or_one w c end o None p = one_decided w c (record p { left = wikilink_taken p.left })
-wikilink_or_one w c end o (Some found) p = to_be (a_wikilink o found end) (record p { left = wikilink_taken (bracket_taken p.left) })
+wikilink_or_one w c end o (Some found) p = to_be (a_wikilink o found end)
+    (record p { left = wikilink_taken (bracket_taken p.left) })
 
+-- a `]` before a `]`: a wikilink is tried, and then the bracket opener
 abbrev pub wikilink_tried : {A : Type 0} → Around → Closing A → (end : ℕ) → Option (Split A) → Try A
 wikilink_tried w c end None p = one_decided w c p
 wikilink_tried w c end (Some o) p =
@@ -281,5 +302,6 @@ decided_before w c (node a below after) p =
     then wikilink_tried w c (end_of a) (wikilink_opener p.left) p
     else one_decided w c p
 
+-- what a `]` becomes
 unfoldable pub decided : {A : Type 0} → Around → Closing A → Try A
 decided w c p = decided_before w c c.rest p

@@ -25,6 +25,7 @@ pub record ClosesInOne {A : Type 0} (w : Around) (c : Closing A) (p : Progress A
   pub silent : p.known.limit ≡ 0 → length (closed w c p).asked ≡ length p.asked
   pub hands_on : HandsOn (closed w c) p
 
+-- whatever was read before a `]`
 abbrev pub ClosedLaw : Type 0 → Type 0
 ClosedLaw A = (w : Around) (c : Closing A) (p : Progress A) → ClosesInOne w c p
 

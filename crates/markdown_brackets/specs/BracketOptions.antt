@@ -9,6 +9,7 @@ use Rattle.markdown_brackets.specs.declared.footnote.FootnoteStyle.TheVariants a
 abbrev pub is_on : ℕ → Options → Bool
 is_on bits options = bit_and options.0 bits == bits
 
+-- wikilinks are on
 abbrev pub wikilinks_on : Options → Bool
 wikilinks_on options = is_on 32768 options
 

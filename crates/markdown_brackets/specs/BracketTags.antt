@@ -12,6 +12,7 @@ abbrev pub retag_entry : {A B : Type 0} → (A → B) → Entry A → Entry B
 retag_entry f (done a below) = done (retag f a) (retagged f below)
 retag_entry f (waits m a) = waits m (retag f a)
 
+-- a left list with other tags
 abbrev pub retag_left : {A B : Type 0} → (A → B) → List (Entry A) → List (Entry B)
 retag_left f left = map (retag_entry f) left
 

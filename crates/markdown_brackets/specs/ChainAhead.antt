@@ -1,5 +1,5 @@
--- A chain of an arena from a link on, by the numbers of its nodes: its trees from the first on whose item reaches past a
--- byte.
+-- A chain of an arena from a link on, by the numbers of its nodes: its trees from the first on whose item reaches past
+-- a byte.
 use Rattle.std.specs.Prelude.{ℕ, Bool, false, ◌&&◌, ◌==◌, List, Option, Some, None, ⊤, if◌then◌else◌, nat_lt}
 use Rattle.std.specs.Prelude.{◌-◌}
 use Rattle.std.specs.Coded.{Unit-prop}
@@ -15,6 +15,7 @@ use Rattle.markdown_brackets.specs.Reference.{is_closer}
 abbrev pub IsChain : List (Node Item) → Option ℕ → Type 0
 IsChain nodes link = Reaches (links_of nodes) (λ ix. ⊤) link
 
+-- it has one proof at most
 pub IsChain-prop : (nodes : List (Node Item)) (link : Option ℕ) → IsProp (IsChain nodes link)
 IsChain-prop nodes link = Reaches-prop (links_of nodes) (λ ix. ⊤) (λ ix. Unit-prop) link
 
@@ -29,6 +30,7 @@ abbrev pub first_start : List (Node Item) → Forest ℕ → Option ℕ
 first_start nodes nil = None
 first_start nodes (node ix below after) = Some (item_at nodes ix).start
 
+-- where the first item of a chain starts that ends past a byte
 abbrev pub starts_from : List (Node Item) → Option ℕ → ℕ → Option ℕ
 starts_from nodes link i = first_start nodes (numbers_past nodes i (forest_at (links_of nodes) link))
 

@@ -1,5 +1,5 @@
--- How a chain begins once it is read: where its first item is open, with a tree that brackets made, or with the one that
--- the rule for other items put first; what stands first is taken away by nothing.
+-- How a chain begins once it is read: where its first item is open, with a tree that brackets made, or with the one
+-- that the rule for other items put first; what stands first is taken away by nothing.
 use Rattle.std.specs.Prelude.{◌≡◌, Bool, true, List}
 use Rattle.markdown_base.specs.Event.{EventView, TagView}
 use Rattle.markdown_base.specs.Forest.{Forest, nil, node}
@@ -18,8 +18,8 @@ BeginsWith test (node a below after) = test a.part.shape ≡ true
 abbrev pub trees_of : {A : Type 0} → Progress A → Forest (Label A)
 trees_of p = trees_onto p.left nil
 
--- where a rule for other items puts such a tree first at an open item, with nothing before it, and lets such a tree stand
--- that is before it
+-- where a rule for other items puts such a tree first at an open item, with nothing before it, and lets such a tree
+-- stand that is before it
 pub record BeginsSo {A : Type 0} (test : Shape → Bool) (others : Reader A) : Type 0 where
   pub puts : (a : Label A) (below rest : Forest (Label A)) (known : Known) → is_unresolved a.part.shape ≡ true
       → BeginsWith test (trees_of (others a below rest (begun known)))

@@ -22,6 +22,7 @@ Holds source tables nodes l (node a below after) =
 abbrev pub numbers_of : Forest (Label ℕ) → Forest ℕ
 numbers_of f = relabelled (λ a. a.tag) f
 
+-- a forest without the numbers of its nodes
 abbrev pub untagged : Forest (Label ℕ) → Forest Plain
 untagged f = relabelled (λ a. record { tag = tt; part = a.part }) f
 

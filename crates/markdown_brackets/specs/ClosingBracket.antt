@@ -7,7 +7,8 @@ use Rattle.markdown_base.specs.declared.tag.LinkType.TheVariants as kind
 use Rattle.markdown_chains.specs.Document.{made, leaf, enclosed, Label}
 use Rattle.markdown_chains.specs.Document.{as_text}
 use Rattle.markdown_chains.specs.ChainRest.{start_of, end_of}
-use Rattle.markdown_brackets.specs.BracketDecision.{Around, Becomes, Closing, Decision, Progress, Step, Wikilink, a_footnote, a_link, a_text, a_wikilink, decided, over, text_from}
+use Rattle.markdown_brackets.specs.BracketDecision.{Around, Becomes, Closing, Decision, Progress, Step, Wikilink}
+use Rattle.markdown_brackets.specs.BracketDecision.{a_footnote, a_link, a_text, a_wikilink, decided, over, text_from}
 use Rattle.markdown_brackets.specs.LeftList.{Mark, Entry, done, Split, inside}
 use Rattle.markdown_brackets.specs.LeftList.{before_link}
 use Rattle.markdown_brackets.specs.LeftList.{before_wikilink, before_footnote}
@@ -16,6 +17,7 @@ use Rattle.markdown_brackets.specs.LeftList.{before_wikilink, before_footnote}
 abbrev pub tag_for : Mark → LinkView → TagView
 tag_for m target = if m.is_image then image target else link target
 
+-- a link or an image from its opener on
 abbrev pub linked : {A : Type 0} → Split A → LinkView → (end : ℕ) → Label A
 linked o target end = over o.opener (enclosed (tag_for o.mark target)) (start_of o.opener) end
 
@@ -23,6 +25,7 @@ linked o target end = over o.opener (enclosed (tag_for o.mark target)) (start_of
 abbrev pub footnote_from : {A : Type 0} → Label A → List ℕ → (start end : ℕ) → Label A
 footnote_from a name start end = over a (leaf (footnote_reference name) (made ∷ [])) start end
 
+-- a footnote reference in the left list, behind the `!` of an image's opener
 abbrev pub footnote_onto : {A : Type 0} → Around → Closing A → (is_image : Bool) → Label A → List ℕ → List (Entry A)
     → List (Entry A)
 footnote_onto w c false opener name left =
@@ -31,6 +34,7 @@ footnote_onto w c true opener name left =
     done (footnote_from c.label name (start_of opener + 1) (end_of c.label)) nil
     ∷ done (text_from w opener (start_of opener) (start_of opener + 1)) nil ∷ left
 
+-- where a wikilink leads
 abbrev pub wikilink_target : {A : Type 0} → Wikilink A → LinkView
 wikilink_target found =
     record { kind = kind.WikiLink found.has_pothole; destination = found.name; title = []; label = [] }
@@ -51,8 +55,10 @@ put w c (a_wikilink o found end) p = record p {
   goes_on = Some end;
 }
 
+-- what was decided is put
 abbrev pub put_decided : {A : Type 0} → Around → Closing A → Decision A → Progress A
 put_decided w c d = put w c d.becomes d.progress
 
+-- what a `]` makes of what was read
 unfoldable pub closed : {A : Type 0} → Around → Closing A → Step A
 closed w c p = put_decided w c (decided w c p)

@@ -9,11 +9,13 @@ use Rattle.markdown_chains.specs.ChainRest.{start_of, end_of}
 use Rattle.markdown_chains.specs.Document.{Label}
 use Rattle.markdown_chains.specs.Tables.{Tables}
 use Rattle.markdown_spans.specs.Callback.{Asks}
-use Rattle.markdown_brackets.specs.BracketDecision.{Around, Becomes, a_wikilink, Closing, Progress, Wikilink, decided, one_decided}
+use Rattle.markdown_brackets.specs.BracketDecision.{Around, Becomes, a_wikilink, Closing, Progress, Wikilink, decided}
+use Rattle.markdown_brackets.specs.BracketDecision.{one_decided}
 use Rattle.markdown_brackets.specs.ChainHeld.{Holds, numbers_of, times_of}
 use Rattle.markdown_brackets.specs.DecisionView.{IsBecome, knowing}
 use Rattle.markdown_brackets.specs.Finish.{IsSplit, SplitsAs}
-use Rattle.markdown_brackets.specs.LeftList.{Entry, Split, bracket_taken, wikilink_taken, brackets_of, wikilinks_of, trees_onto}
+use Rattle.markdown_brackets.specs.LeftList.{Entry, Split, bracket_taken, wikilink_taken, brackets_of, wikilinks_of}
+use Rattle.markdown_brackets.specs.LeftList.{trees_onto}
 use Rattle.markdown_brackets.specs.Openers.{Waiting}
 use Rattle.markdown_brackets.specs.ReadChain.{among}
 use Rattle.markdown_brackets.specs.SpentEnds.{is_spent}
@@ -42,7 +44,8 @@ pub record TakesNone (w : Around) (c : Closing ℕ) (left : List (Entry ℕ)) (h
   pub held_is : held ≡ wikilinks_of left_then
   pub brackets : brackets_of left_then ≡ brackets_of left
   pub trees : (later : Forest (Label ℕ)) → trees_onto left_then later ≡ trees_onto left later
-  pub decides : (p : Progress ℕ) → decided w c (record p { left = left }) ≡ one_decided w c (record p { left = left_then })
+  pub decides : (p : Progress ℕ) → decided w c (record p { left = left })
+      ≡ one_decided w c (record p { left = left_then })
 
 -- a wikilink
 pub record TakesOne (w : Around) (c : Closing ℕ) (left : List (Entry ℕ)) (held : List Waiting) (found : ClosedBracket)
@@ -53,9 +56,14 @@ pub record TakesOne (w : Around) (c : Closing ℕ) (left : List (Entry ℕ)) (he
   pub held_is : held ≡ wikilinks_of (wikilink_taken (bracket_taken left))
   pub splits : IsSplit (wikilink_taken (bracket_taken left)) opener
   pub decides : (p : Progress ℕ) → decided w c (record p { left = left })
-      ≡ record { becomes = a_wikilink opener wikilink end; progress = record p { left = wikilink_taken (bracket_taken left) } }
+      ≡ record {
+        becomes = a_wikilink opener wikilink end;
+        progress =
+            record p { left = wikilink_taken (bracket_taken left) };
+      }
   pub is : IsBecome w (a_wikilink opener wikilink end) found
 
+-- a wikilink is taken, or none
 abbrev pub TakesWikilink : Around → Closing ℕ → List (Entry ℕ) → List Waiting → Option ClosedBracket → Type 0
 TakesWikilink w c left held None = TakesNone w c left held
 TakesWikilink w c left held (Some found) = TakesOne w c left held found
@@ -77,7 +85,12 @@ pub record Decides {C : Type 0} (step : C → Question → Option Answer → C �
       → decided w c (knowing limit (answers ++ later) uses (record p { left = left }))
       ≡ record {
         becomes = becomes;
-        progress = record (knowing limit' later uses' p) { left = left_then; spent = more ++ p.spent; asked = p.asked ++ questions };
+        progress = record (knowing limit' later uses' p) {
+          left = left_then;
+          spent = more ++ p.spent;
+          asked = p.asked
+              ++ questions;
+        };
       }
   pub spends : (end : ℕ) → is_spent spent' end ≡ (among end more || is_spent spent end)
   pub brackets_are : brackets ≡ brackets_of left_then

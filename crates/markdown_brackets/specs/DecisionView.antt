@@ -11,7 +11,8 @@ use Rattle.markdown_spans.specs.Callback.{Asks}
 use Rattle.markdown_spans.specs.Definitions.{Labelled}
 use Rattle.markdown_spans.specs.Footnotes.{footnote_at}
 use Rattle.markdown_spans.specs.declared.defs.footnotes.FootnoteDefs.{FootnoteDefs}
-use Rattle.markdown_brackets.specs.BracketDecision.{Around, Becomes, a_text, a_link, a_footnote, a_wikilink, Progress, Try}
+use Rattle.markdown_brackets.specs.BracketDecision.{Around, Becomes, a_text, a_link, a_footnote, a_wikilink, Progress}
+use Rattle.markdown_brackets.specs.BracketDecision.{Try}
 use Rattle.markdown_brackets.specs.BracketDecision.{past_second, spent_by, text_from, link_label}
 use Rattle.markdown_brackets.specs.BracketDecision as decision
 use Rattle.markdown_brackets.specs.BracketOptions.{footnote_style}
@@ -53,6 +54,7 @@ shown_of w nil shown = nil
 shown_of w (node first below after) (Over ix start end) = node (text_from w first start end) nil nil
 shown_of w (node first below after) (From ix at) = past_byte at (node first below after)
 
+-- the first node that a wikilink shows
 abbrev pub first_shown : ShownNodes → ℕ
 first_shown (Over ix start end) = ix
 first_shown (From ix at) = ix
@@ -99,8 +101,8 @@ abbrev pub spent_in : decision.Written → List ℕ
 spent_in (link_label link_type label end next) = spent_by link_type end []
 spent_in other = []
 
--- a try comes to this: the callback went by these questions, one at most, and by these answers, and it is what the rules
--- say, whatever answers follow, which are handed on
+-- a try comes to this: the callback went by these questions, one at most, and by these answers, and it is what the
+-- rules say, whatever answers follow, which are handed on
 pub record ComesTo {C : Type 0} (step : C → Question → Option Answer → C → Type 0) (w : Around) (try : Try ℕ)
     (more : List ℕ) (limit limit' : ℕ) (uses uses' : List ℕ → ℕ) (callback callback' : Option C)
     (found : ClosedBracket) : Type 0 where

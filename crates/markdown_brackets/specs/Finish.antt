@@ -6,14 +6,15 @@ use Rattle.markdown_brackets.specs.BracketDecision.{Becomes, a_text, a_link, a_f
 use Rattle.markdown_brackets.specs.ChainHeld.{numbers_of}
 use Rattle.markdown_brackets.specs.LeftList.{Entry, waits, Mark, Split, trees_onto}
 
--- a left list, from which openers that were tried were taken off, at one of its openers: the entries after it have the same
--- trees, and those before it are the same
+-- a left list, from which openers that were tried were taken off, at one of its openers: the entries after it have the
+-- same trees, and those before it are the same
 pub record IsSplit (left : List (Entry ℕ)) (o : Split ℕ) : Type 0 where
   pub after_then : List (Entry ℕ)
   pub mark_then : Mark
   pub left_is : left ≡ after_then ++ waits mark_then o.opener ∷ o.before
   pub same_trees : (later : Forest (Label ℕ)) → trees_onto after_then later ≡ trees_onto o.after later
 
+-- what a `]` becomes is made of an entry that splits the left list
 abbrev pub SplitsAs : List (Entry ℕ) → Becomes ℕ → Type 0
 SplitsAs left a_text = ⊤
 SplitsAs left (a_link o target end next) = IsSplit left o
@@ -25,6 +26,7 @@ abbrev pub AreBehind : ℕ → List ℕ → Type 0
 AreBehind n [] = ⊤
 AreBehind n (m ∷ numbers) = (n < m) × AreBehind n numbers
 
+-- numbers rise
 abbrev pub AreRising : List ℕ → Type 0
 AreRising [] = ⊤
 AreRising (n ∷ numbers) = AreBehind n numbers × AreRising numbers

@@ -13,10 +13,12 @@ use Rattle.markdown_brackets.specs.ReadChain.{Reader, begun, read_chain}
 abbrev pub PassesAll : {A : Type 0} → (Shape → Bool) → Forest (Label A) → Type 0
 PassesAll test f = Each (λ a. test a.part.shape ≡ true) f
 
+-- all that is below a chain's items passes
 abbrev pub PassesBelow : {A : Type 0} → (Shape → Bool) → Forest (Label A) → Type 0
 PassesBelow test nil = ⊤
 PassesBelow test (node a below after) = PassesAll test below × PassesBelow test after
 
+-- so does all of a left list that is read, and what is below its openers
 abbrev pub PassesLeft : {A : Type 0} → (Shape → Bool) → List (Entry A) → Type 0
 PassesLeft test [] = ⊤
 PassesLeft test (done a below ∷ left) = (test a.part.shape ≡ true) × PassesAll test below × PassesLeft test left

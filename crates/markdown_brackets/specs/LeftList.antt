@@ -23,11 +23,13 @@ pub data Entry (A : Type 0) : Type 0 where
   done : Label A → Forest (Label A) → Entry A
   waits : Mark → Label A → Entry A
 
+-- an opener that was taken off
 abbrev pub is_gone : Flag → Bool
 is_gone live = false
 is_gone disabled = false
 is_gone gone = true
 
+-- an opener that can still become a link
 abbrev pub is_live : Flag → Bool
 is_live live = true
 is_live disabled = false
@@ -50,6 +52,7 @@ pub record Split (A : Type 0) : Type 0 where
 abbrev pub inside : {A : Type 0} → Split A → Forest (Label A)
 inside o = trees_onto o.after nil
 
+-- a split with one more entry behind its opener
 abbrev pub behind : {A : Type 0} → Entry A → Split A → Split A
 behind e o = record o { after = e ∷ o.after }
 
@@ -72,12 +75,15 @@ change_nearest test f (waits m a ∷ left) =
 abbrev pub opens_bracket : Mark → Bool
 opens_bracket m = not (is_gone m.bracket)
 
+-- it waits on the stack of wikilinks
 abbrev pub opens_wikilink : Mark → Bool
 opens_wikilink m = not (is_gone m.wikilink)
 
+-- it was taken off the stack of brackets
 abbrev pub without_bracket : Mark → Mark
 without_bracket m = record m { bracket = gone }
 
+-- it was taken off the stack of wikilinks
 abbrev pub without_wikilink : Mark → Mark
 without_wikilink m = record m { wikilink = gone }
 
@@ -85,9 +91,11 @@ without_wikilink m = record m { wikilink = gone }
 abbrev pub bracket_taken : {A : Type 0} → List (Entry A) → List (Entry A)
 bracket_taken left = change_nearest opens_bracket without_bracket left
 
+-- the nearest opener of a wikilink is taken off
 abbrev pub wikilink_taken : {A : Type 0} → List (Entry A) → List (Entry A)
 wikilink_taken left = change_nearest opens_wikilink without_wikilink left
 
+-- an opener's mark is changed
 abbrev pub on_mark : {A : Type 0} → (Mark → Mark) → Entry A → Entry A
 on_mark f (done a below) = done a below
 on_mark f (waits m a) = waits (f m) a
@@ -96,6 +104,7 @@ on_mark f (waits m a) = waits (f m) a
 abbrev pub on_marks : {A : Type 0} → (Mark → Mark) → List (Entry A) → List (Entry A)
 on_marks f left = map (on_mark f) left
 
+-- a live opener is disabled
 abbrev pub disabled_flag : Flag → Flag
 disabled_flag live = disabled
 disabled_flag disabled = disabled
@@ -133,11 +142,13 @@ held_as number is_image disabled held =
     record { opener = record { node = number; is_image = is_image }; is_live = false } ∷ held
 held_as number is_image gone held = held
 
+-- the openers on the stack of brackets, the nearest first
 abbrev pub brackets_of : List (Entry ℕ) → List Waiting
 brackets_of [] = []
 brackets_of (done a below ∷ left) = brackets_of left
 brackets_of (waits m a ∷ left) = held_as a.tag m.is_image m.bracket (brackets_of left)
 
+-- the openers on the stack of wikilinks, the nearest first
 abbrev pub wikilinks_of : List (Entry ℕ) → List Waiting
 wikilinks_of [] = []
 wikilinks_of (done a below ∷ left) = wikilinks_of left

@@ -23,6 +23,7 @@ pub record IsSlicedTail (t : tail.LinkTail) (found : LinkTail) : Type 0 where
   pub destination : text_of found.destination ≡ t.destination → IsBorrowed found.destination
   pub title : t.is_joined ≡ false → text_of found.title ≡ t.title → IsBorrowed found.title
 
+-- the texts of a tail are slices of the source, where it says so
 abbrev pub BorrowsTail : Option tail.LinkTail → Option LinkTail → Type 0
 BorrowsTail None found = Unit {0}
 BorrowsTail (Some t) None = Unit {0}

@@ -1,6 +1,7 @@
 -- Titles of inline links (CommonMark 6.3), as they stand in a chain of items. `starts` gives, of a byte, the start of
 -- the first item after the link's `]` whose end is past that byte: where a line goes on after its container's prefix.
-use Rattle.std.specs.Prelude.{ℕ, zero, suc, ◌+◌, ◌-◌, Bool, true, false, ◌&&◌, ◌||◌, ◌==◌, List, [], ◌∷◌, ◌++◌, Option, Some, None, if◌then◌else◌, nat_lt, drop}
+use Rattle.std.specs.Prelude.{ℕ, zero, suc, ◌+◌, ◌-◌, Bool, true, false, ◌&&◌, ◌||◌, ◌==◌, List, [], ◌∷◌, ◌++◌, Option}
+use Rattle.std.specs.Prelude.{Some, None, if◌then◌else◌, nat_lt, drop}
 use Rattle.std.specs.Option.{option_map}
 use Rattle.markdown_scan.specs.Backslash.{backslash, is_bare}
 use Rattle.markdown_scan.specs.LineEnd.{line_feed, carriage_return}
@@ -39,10 +40,12 @@ abbrev pub byte_shown : Option ℕ → ℕ → List ℕ
 byte_shown None b = b ∷ []
 byte_shown (Some start) b = line_feed ∷ []
 
+-- a line goes on there
 abbrev pub is_line : Option ℕ → Bool
 is_line None = false
 is_line (Some start) = true
 
+-- how many bytes are passed after a line ending
 abbrev pub passed_with : ℕ → Option ℕ → ℕ
 passed_with i None = 0
 passed_with i (Some start) = start - (i + 1)
@@ -63,6 +66,7 @@ abbrev pub opened_by : (ℕ → Option ℕ) → List ℕ → ℕ → Option ℕ 
 opened_by starts text i None = None
 opened_by starts text i (Some closer) = title_from starts closer (i + 1) false 0 (drop (i + 1) text)
 
+-- the byte that ends a title which the bytes begin
 abbrev pub first_closer : List ℕ → Option ℕ
 first_closer [] = None
 first_closer (b ∷ bytes) = closer_of b

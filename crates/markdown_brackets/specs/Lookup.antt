@@ -54,6 +54,7 @@ abbrev pub answered_target : Question → Answer → LinkView
 answered_target q a =
     record { kind = unknown q.link_type; destination = a.destination; title = a.title; label = q.reference }
 
+-- what an answer finds
 abbrev pub answered : ℕ → Answers → Question → Option Answer → LookedUp
 answered limit answers q None = finds_nothing limit answers (q ∷ [])
 answered limit answers q (Some a) = finds limit answers (q ∷ []) (answered_target q a)

@@ -48,9 +48,10 @@ FindsTarget step defined q old new target =
 -- a look-up found this target: the callback went by the questions asked and by these answers, and the look-up is the
 -- defined one whatever answers follow, which are handed on
 pub record LooksUp {C : Type 0} (step : C → Question → Option Answer → C → Type 0) (defined : List Labelled)
-    (asks : Bool) (q : Question) (limit limit' : ℕ) (callback callback' : Option C) (target : Option LinkView) : Type 0 where
-  pub answers : Answers
-  pub questions : List Question
-  pub asked : Asks step callback questions answers callback'
-  pub finds : (later : Answers) → look_up defined asks limit (answers ++ later) q
-      ≡ record { target = target; questions = questions; limit = limit'; answers = later }
+    (asks : Bool) (q : Question) (limit limit' : ℕ) (callback callback' : Option C) (target : Option LinkView) : Type 0
+  where
+    pub answers : Answers
+    pub questions : List Question
+    pub asked : Asks step callback questions answers callback'
+    pub finds : (later : Answers) → look_up defined asks limit (answers ++ later) q
+        ≡ record { target = target; questions = questions; limit = limit'; answers = later }

@@ -10,6 +10,7 @@ use Rattle.markdown_brackets.specs.BracketDecision.{Around, Progress}
 use Rattle.markdown_brackets.specs.LeftList.{Entry, done, waits, trees_onto}
 use Rattle.markdown_brackets.specs.ReadChain.{Reader, begun, read_chain}
 
+-- an autolink
 abbrev pub is_autolink : LinkType → Bool
 is_autolink kind.Autolink = true
 is_autolink other = false
@@ -19,6 +20,7 @@ abbrev pub OpensNoLink : TagView → Type 0
 OpensNoLink (link v) = is_autolink v.kind ≡ true
 OpensNoLink other = ⊤
 
+-- a tree that is no link, but for autolinks
 abbrev pub IsNoLink : Shape → Type 0
 IsNoLink (enclosed tag) = OpensNoLink tag
 IsNoLink other = ⊤
@@ -32,6 +34,7 @@ abbrev pub ClosesOverNone : {A : Type 0} → TagView → Forest (Label A) → Ty
 ClosesOverNone (link v) below = IsFreeOfLinks below
 ClosesOverNone other below = ⊤
 
+-- no link stands below a link
 abbrev pub HasNoneBelow : {A : Type 0} → Shape → Forest (Label A) → Type 0
 HasNoneBelow (enclosed tag) below = ClosesOverNone tag below
 HasNoneBelow other below = ⊤

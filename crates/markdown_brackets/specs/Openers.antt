@@ -7,6 +7,7 @@ pub record Waiting : Type 0 where
   pub opener : Opener
   pub is_live : Bool
 
+-- the nearest opener that waits
 abbrev pub first_opener : List Waiting → Option Opener
 first_opener [] = None
 first_opener (w ∷ waiting) = Some w.opener

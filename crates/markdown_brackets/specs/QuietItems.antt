@@ -24,10 +24,12 @@ all_done nil left = left
 all_done (node a below after) left = all_done after (done a below ∷ left)
 
 -- reading puts the chain's own trees, and does nothing else
-pub record IsLeftAlone {A : Type 0} (w : Around) (others : Reader A) (chain : Forest (Label A)) (known : Known) : Type 0 where
-  pub reads : read_chain w others chain (begun known) ≡ record (begun known) { left = all_done chain [] }
-  pub trees : trees_onto (all_done chain []) nil ≡ chain
+pub record IsLeftAlone {A : Type 0} (w : Around) (others : Reader A) (chain : Forest (Label A)) (known : Known) : Type 0
+  where
+    pub reads : read_chain w others chain (begun known) ≡ record (begun known) { left = all_done chain [] }
+    pub trees : trees_onto (all_done chain []) nil ≡ chain
 
+-- a chain in which only runs and quotes are open is left alone
 abbrev pub QuietItemsLaw : Type 0 → Type 0
 QuietItemsLaw A = (w : Around) (others : Reader A) → LeavesQuiet others
     → (chain : Forest (Label A)) (known : Known) → WaitsAtMost chain → IsLeftAlone w others chain known

@@ -13,6 +13,7 @@ use Rattle.markdown_brackets.specs.ClosingBracket.{closed}
 use Rattle.markdown_brackets.specs.LeftList.{waits, live, gone}
 use Rattle.markdown_brackets.specs.Reference.{is_opener}
 
+-- nothing is read yet
 abbrev pub begun : {A : Type 0} → Known → Progress A
 begun known = record { left = []; goes_on = None; spent = []; asked = []; known = known; made = 0 }
 
@@ -26,6 +27,7 @@ opened w is_image a rest p = record p {
   }) (as_text w.setting.text a) ∷ p.left;
 }
 
+-- a number is among these
 abbrev pub among : ℕ → List ℕ → Bool
 among n [] = false
 among n (m ∷ others) = (n == m) || among n others
@@ -39,6 +41,7 @@ closing could_be_reference a rest p =
 abbrev pub Reader : Type 0 → Type 0
 Reader A = Label A → Forest (Label A) → Forest (Label A) → Step A
 
+-- what is read of an item, by its body
 abbrev pub read_as : {A : Type 0} → Around → Reader A → ItemBody → Reader A
 read_as w others body.MaybeLinkOpen a below rest p = opened w false a rest p
 read_as w others body.MaybeImage a below rest p = opened w true a rest p
@@ -46,6 +49,7 @@ read_as w others (body.MaybeLinkClose could_be_reference) a below rest p =
     closed w (closing could_be_reference a rest p) p
 read_as w others other a below rest p = others a below rest p
 
+-- what is read of an item
 abbrev pub read : {A : Type 0} → Around → Reader A → Reader A
 read w others a below rest p = read_as w others (open_body a.part.shape) a below rest p
 

@@ -1,6 +1,7 @@
 -- Labels, and the form of a reference (CommonMark 6.3), by what stands at a `]` and after it. `skipped` says how many
 -- bytes of what follows a line ending are its line's prefix.
-use Rattle.std.specs.Prelude.{ℕ, ◌+◌, ◌-◌, Bool, false, true, ◌&&◌, ◌==◌, List, [], ◌∷◌, Option, Some, None, if◌then◌else◌, drop, slice_range, option_and_then}
+use Rattle.std.specs.Prelude.{ℕ, ◌+◌, ◌-◌, Bool, false, true, ◌&&◌, ◌==◌, List, [], ◌∷◌, Option, Some, None}
+use Rattle.std.specs.Prelude.{if◌then◌else◌, drop, slice_range, option_and_then}
 use Rattle.std.specs.Option.{option_map, option_or}
 use Rattle.markdown_base.specs.declared.item.Item.{Item}
 use Rattle.markdown_base.specs.declared.item.ItemBody.{ItemBody}
@@ -69,10 +70,12 @@ pub data Form : Type 0 where
   collapsed : Form
   shortcut : Form
 
+-- a `[`
 abbrev pub is_opener : ItemBody → Bool
 is_opener body.MaybeLinkOpen = true
 is_opener other = false
 
+-- a `]`
 abbrev pub is_closer : ItemBody → Bool
 is_closer (body.MaybeLinkClose could_be_ref) = true
 is_closer other = false

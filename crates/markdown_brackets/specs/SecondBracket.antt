@@ -5,6 +5,7 @@ use Rattle.markdown_base.specs.declared.item.Item.{Item}
 use Rattle.markdown_base.specs.declared.node.Node.{Node}
 use Rattle.markdown_brackets.specs.Openers.{Waiting, before}
 
+-- the link leads to this node
 abbrev pub leads_to : Option ℕ → ℕ → Bool
 leads_to None node = false
 leads_to (Some next) node = next == node

@@ -39,6 +39,7 @@ pub record IsTaken (nodes : List (Node Item)) (t : Opener × Bool) (o : Split �
   pub starts : (item_at nodes t.0.node).start ≡ start_of o.opener
   pub ends : (item_at nodes t.0.node).end ≡ end_of o.opener
 
+-- the opener that was taken off is that of the split
 abbrev pub AreTaken : List (Node Item) → Option (Opener × Bool) → Option (Split ℕ) → Type 0
 AreTaken nodes None None = Unit {0}
 AreTaken nodes None (Some o) = ⊥
@@ -69,11 +70,13 @@ abbrev pub IsWikilinkAt : Opener → (end : ℕ) → Option (WikilinkBody × Sho
 IsWikilinkAt opener end None None = Unit {0}
 IsWikilinkAt opener end None (Some found) = ⊥
 IsWikilinkAt opener end (Some v) (Some (Wikilinked found_opener name pothole shown found_end)) =
-    (found_opener ≡ opener) × (name.now ≡ v.0.name) × (pothole ≡ has_pothole v.0.shows) × (shown ≡ v.1) × (found_end ≡ end)
+    (found_opener ≡ opener) × (name.now ≡ v.0.name) × (pothole ≡ has_pothole v.0.shows) × (shown ≡ v.1)
+    × (found_end ≡ end)
 IsWikilinkAt opener end (Some v) found = ⊥
 
 -- the same of trees
-abbrev pub IsWikilink : Around → Opener → (end : ℕ) → Forest (Label ℕ) → Option (Wikilink ℕ) → Option ClosedBracket → Type 0
+abbrev pub IsWikilink : Around → Opener → (end : ℕ) → Forest (Label ℕ) → Option (Wikilink ℕ) → Option ClosedBracket
+    → Type 0
 IsWikilink w opener end trees None None = Unit {0}
 IsWikilink w opener end trees None (Some found) = ⊥
 IsWikilink w opener end trees (Some v) (Some (Wikilinked found_opener name pothole shown found_end)) =
@@ -82,23 +85,28 @@ IsWikilink w opener end trees (Some v) (Some (Wikilinked found_opener name potho
 IsWikilink w opener end trees (Some v) found = ⊥
 
 -- an opener stands before the `]` of a node: the trees between them, and the chain after it
-pub record StandsBetween (nodes : List (Node Item)) (closer : ℕ) (opener : Opener) (c : Closing ℕ) (o : Split ℕ) : Type 0 where
+pub record StandsBetween (nodes : List (Node Item)) (closer : ℕ) (opener : Opener) (c : Closing ℕ) (o : Split ℕ) : Type
+    0 where
   pub source : List ℕ
   pub tables : Tables
   pub holds : Holds source tables nodes (sibling_of nodes opener.node) (joined (inside o) (node c.label nil c.rest))
-  pub found : forest_at (links_of nodes) (sibling_of nodes opener.node) ≡ numbers_of (joined (inside o) (node c.label nil c.rest))
+  pub found : forest_at (links_of nodes) (sibling_of nodes opener.node)
+      ≡ numbers_of (joined (inside o) (node c.label nil c.rest))
   pub apart : times_of c.label.tag (inside o) ≡ 0
   pub number : c.label.tag ≡ closer
   pub starts : (item_at nodes closer).start ≡ start_of c.label
   pub order : start_of c.label ≤ end_of c.label
 
 -- the opener that was taken off a stack is this one of the left list, and stands before the `]`
-pub record IsTakenBefore (nodes : List (Node Item)) (closer : ℕ) (t : Opener × Bool) (c : Closing ℕ) (o : Split ℕ) : Type 0 where
+pub record IsTakenBefore (nodes : List (Node Item)) (closer : ℕ) (t : Opener × Bool) (c : Closing ℕ) (o : Split ℕ)
+    : Type 0 where
   pub opener : t.0 ≡ opener_of o
   pub live : t.1 ≡ is_live o.mark.wikilink
   pub stands : StandsBetween nodes closer t.0 c o
 
-abbrev pub TriesWikilink : List (Node Item) → (closer : ℕ) → Option (Opener × Bool) → Closing ℕ → Option (Split ℕ) → Type 0
+-- a wikilink is tried, with the opener that was taken off
+abbrev pub TriesWikilink : List (Node Item) → (closer : ℕ) → Option (Opener × Bool) → Closing ℕ → Option (Split ℕ)
+    → Type 0
 TriesWikilink nodes closer None c None = Unit {0}
 TriesWikilink nodes closer None c (Some o) = ⊥
 TriesWikilink nodes closer (Some t) c None = ⊥

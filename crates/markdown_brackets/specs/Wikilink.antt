@@ -1,5 +1,6 @@
 -- Wikilinks, `[[name]]` and `[[name|shown text]]`, by the bytes of their body.
-use Rattle.std.specs.Prelude.{ℕ, ◌-◌, Bool, true, false, List, [], ◌∷◌, Option, Some, None, if◌then◌else◌, nat_lt, slice_range}
+use Rattle.std.specs.Prelude.{ℕ, ◌-◌, Bool, true, false, List, [], ◌∷◌, Option, Some, None, if◌then◌else◌, nat_lt}
+use Rattle.std.specs.Prelude.{slice_range}
 use Rattle.markdown_scan.specs.WikilinkPipe.{wikilink_pipe}
 
 -- what a wikilink shows: its name; after a pipe behind which nothing stands nothing, at that byte; else what stands

@@ -23,6 +23,7 @@ abbrev pub body_start : List (Node Item) → (opener closer : ℕ) → Option �
 body_start nodes opener closer =
     option_and_then (λ ix. unless_is closer (sibling_of nodes ix)) (unless_is closer (sibling_of nodes opener))
 
+-- what a wikilink shows begins at this node, unless it is the `]`
 abbrev pub shown_from_node : (closer at : ℕ) → Option ℕ → Option ShownNodes
 shown_from_node closer at None = None
 shown_from_node closer at (Some ix) = if ix == closer then None else Some (From ix at)
@@ -40,13 +41,16 @@ wikilink_of nodes first closer b =
     option_map (λ shown. (b, shown))
     (shown_in nodes first closer b.shows (item_at nodes first).start (item_at nodes closer).start)
 
+-- the name of a wikilink, and what is shown, from the first node of its body on
 abbrev pub wikilink_from : List (Node Item) → List ℕ → (closer first : ℕ) → Option (WikilinkBody × ShownNodes)
 wikilink_from nodes text closer first =
     option_and_then (wikilink_of nodes first closer)
     (wikilink_body text (item_at nodes first).start (item_at nodes closer).start)
 
+-- the name of a wikilink, and what is shown, by the nodes of its brackets
 abbrev pub wikilink_nodes : List (Node Item) → List ℕ → (opener closer : ℕ) → Option (WikilinkBody × ShownNodes)
-wikilink_nodes nodes text opener closer = option_and_then (wikilink_from nodes text closer) (body_start nodes opener closer)
+wikilink_nodes nodes text opener closer = option_and_then (wikilink_from nodes text closer)
+    (body_start nodes opener closer)
 
 -- it can be looked for: the body's first item and the `]` start between characters of the text
 pub record CanFindWikilink (nodes : List (Node Item)) (text : List ℕ) (opener closer : ℕ) : Type 0 where

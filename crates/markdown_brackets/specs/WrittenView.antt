@@ -7,7 +7,8 @@ use Rattle.markdown_base.specs.BlockTree.{item_at}
 use Rattle.markdown_base.specs.CowText.{text_of}
 use Rattle.markdown_base.specs.declared.item.Item.{Item}
 use Rattle.markdown_base.specs.declared.node.Node.{Node}
-use Rattle.markdown_brackets.specs.BracketDecision.{no_link, inline_link, link_label, footnote_label, reference_written, tail_or}
+use Rattle.markdown_brackets.specs.BracketDecision.{no_link, inline_link, link_label, footnote_label, reference_written}
+use Rattle.markdown_brackets.specs.BracketDecision.{tail_or}
 use Rattle.markdown_brackets.specs.BracketDecision as decision
 use Rattle.markdown_brackets.specs.BracketOptions.{footnote_style}
 use Rattle.markdown_brackets.specs.ChainAhead.{IsChain, reaches_closer, starts_from}
@@ -56,7 +57,8 @@ abbrev pub EndsBehind : ℕ → Form → Type 0
 EndsBehind at (reference label end) = at < end
 EndsBehind at other = Unit {0}
 
--- it can be read: the `]` stands in a chain; it ends between characters, and each item after it starts there; the opener's
+-- it can be read: the `]` stands in a chain; it ends between characters, and each item after it starts there; the
+-- opener's
 -- `[` stands before it
 pub record CanRead (nodes : List (Node Item)) (place : BracketPlace) (closer start : ℕ) : Type 0 where
   pub within : closer < length nodes

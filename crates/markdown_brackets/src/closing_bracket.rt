@@ -169,7 +169,8 @@ pub(crate) fn find_written<'a, F: BrokenLinkCallback<'a>>(
     ensures comes { IfOk result (λ found. (w : Around) (o : Split ℕ) (x : decision.Written)
         → KnowsRules w definitions.now footnotes.old (is_some callback.old) style → opener ≡ opener_of o
         → start_of o.opener ≡ start → IsRead w.above.in_table x written.entry
-        → ComesTo F.answers w (tried w o x) (spent_in x) limit.old limit.new (uses_of footnotes.old) (uses_of footnotes.new) callback.old callback.new found) }
+        → ComesTo F.answers w (tried w o x) (spent_in x) limit.old limit.new (uses_of footnotes.old)
+        (uses_of footnotes.new) callback.old callback.new found) }
     ensures spent { IfOk result (λ _. (in_table : Bool) (x : decision.Written) → IsRead in_table x written.entry
         → (end : ℕ) → is_spent spent.new end ≡ (among end (spent_in x) || is_spent spent.old end)) }
 

@@ -1,5 +1,6 @@
 //! The decision what a closing bracket becomes: it reads a tree, and changes nothing in it.
-ghost use Rattle.std.specs.Prelude.{◌≡◌, ◌<◌, ◌&&◌, ℕ, Bool, List, Option, IfErr, IfOk, IfSome, OnErr, is_some, length, not};
+ghost use Rattle.std.specs.Prelude.{◌≡◌, ◌<◌, ◌&&◌, ℕ, Bool, List, Option, IfErr, IfOk, IfSome, OnErr, is_some, length};
+ghost use Rattle.std.specs.Prelude.{not};
 ghost use Rattle.markdown_base.specs.declared.fault.Fault.{Fault};
 ghost use Rattle.markdown_base.specs.declared.item.ItemBody.{ItemBody};
 ghost use Rattle.markdown_chains.specs.Setting.{uses_of};
@@ -33,8 +34,8 @@ use markdown_scan::line_rule::LineRule;
 use markdown_spans::defs::{BrokenLinkCallback, FootnoteDefs, RefDefs};
 use std::alloc::Global;
 
-/// What a `]`, the node `closer`, becomes by the opener that was taken off for it: a link or an image, a footnote reference,
-/// or a Text. The only error is `Fault::Memory`; then nobody was asked.
+/// What a `]`, the node `closer`, becomes by the opener that was taken off for it: a link or an image, a footnote
+/// reference, or a Text. The only error is `Fault::Memory`; then nobody was asked.
 pub fn try_opener<'a, R: LineRule, F: BrokenLinkCallback<'a>>(
     alloc: Global,
     tree: &Tree<Item>,
@@ -96,8 +97,8 @@ fn has_pothole(shown: Shown) -> bool
     }
 }
 
-// The wikilink of an opener, whose body stands before the node `closer`, the first of its two `]`; the second ends at the
-// byte `end`. None where there is none.
+// The wikilink of an opener, whose body stands before the node `closer`, the first of its two `]`; the second ends at
+// the byte `end`. None where there is none.
 fn find_wikilink<'a>(
     tree: &Tree<Item>,
     opener: Opener,
@@ -122,8 +123,8 @@ fn find_wikilink<'a>(
     })
 }
 
-/// The wikilink of the opener that was taken off for two `]`, of which the first is the node `closer` and the second ends at
-/// the byte `end`. None where there is none.
+/// The wikilink of the opener that was taken off for two `]`, of which the first is the node `closer` and the second
+/// ends at the byte `end`. None where there is none.
 pub fn try_wikilink<'a>(
     tree: &Tree<Item>,
     closer: usize,
@@ -179,8 +180,9 @@ fn could_still_be(could_be: bool, spent: &SpentEnds, end: usize) -> bool
     could_be && !spent.contains(end)
 }
 
-/// Decides what a `]`, the node `closer`, becomes: by the openers that wait, by the items after it, by what is defined, and
-/// by what is answered. The openers that were tried are taken off. The only error is `Fault::Memory`; then nobody was asked.
+/// Decides what a `]`, the node `closer`, becomes: by the openers that wait, by the items after it, by what is defined,
+/// and by what is answered. The openers that were tried are taken off. The only error is `Fault::Memory`; then nobody
+/// was asked.
 pub fn decide_bracket<'a, R: LineRule, F: BrokenLinkCallback<'a>>(
     alloc: Global,
     tree: &Tree<Item>,
@@ -197,7 +199,8 @@ pub fn decide_bracket<'a, R: LineRule, F: BrokenLinkCallback<'a>>(
 ) -> Result<ClosedBracket<'a>, Fault>
     requires closer { closer < length tree.now.nodes }
     requires brackets { EachOpener (CanTry tree.now.nodes place.now closer) openers.old.brackets }
-    requires wikilinks { EachOpener (λ n. CanFindWikilink tree.now.nodes place.now.text.now n closer) openers.old.wikilinks }
+    requires wikilinks { EachOpener (λ n. CanFindWikilink tree.now.nodes place.now.text.now n closer)
+        openers.old.wikilinks }
     requires asks { IfSome callback.old F.can_ask }
     ensures decides { IfOk result (λ found. (bodies : List ItemBody) (left : List (Entry ℕ)) (c : Closing ℕ)
         → StandsBefore tree.now.nodes closer left c

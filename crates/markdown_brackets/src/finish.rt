@@ -46,7 +46,8 @@ fn close_second(openers: &mut ChainOpeners, tree: &Tree<Item>, node: usize)
 pub fn finish_bracket(openers: &mut ChainOpeners, tree: &Tree<Item>, found: &ClosedBracket<'_>)
     requires { EachOpener (λ n. n < length tree.now.nodes) openers.old.wikilinks }
     ensures { (w : Around) (c : Closing ℕ) (closer : ℕ) (left : List (Entry ℕ)) (becomes : Becomes ℕ) (p : Progress ℕ)
-        → StandsBefore tree.now.nodes closer left c → LeftRises left → SplitsAs left becomes → IsBecome w becomes found.now
+        → StandsBefore tree.now.nodes closer left c → LeftRises left → SplitsAs left becomes
+        → IsBecome w becomes found.now
         → openers.old.brackets ≡ brackets_of left → openers.old.wikilinks ≡ wikilinks_of left → p.left ≡ left
         → (openers.new.brackets ≡ brackets_of (put w c becomes p).left)
         × (openers.new.wikilinks ≡ wikilinks_of (put w c becomes p).left) }

@@ -8,6 +8,7 @@ ghost use Rattle.markdown_brackets.specs.BracketTags.{TagLaw};
 ghost use Rattle.markdown_brackets.specs.BracketWeight.{BracketWeightLaw};
 ghost use Rattle.markdown_brackets.specs.ChainBegins.{BeginsLaw};
 ghost use Rattle.markdown_brackets.specs.KeptShapes.{KeptShapesLaw};
+ghost use Rattle.markdown_brackets.specs.QuestionEnds.{QuestionCountLaw, QuestionEndsLaw};
 ghost use Rattle.markdown_brackets.specs.QuietItems.{QuietItemsLaw};
 ghost use Rattle.markdown_brackets.specs.LookupLaws.{AsksOnceAtMost, FindsNothingAtZero, HandsOnLaterAnswers};
 ghost use Rattle.markdown_brackets.specs.LookupLaws.{TakesItsBytes};
@@ -32,8 +33,8 @@ pub fn look_up_takes_its_bytes(limit: usize)
         → TakesItsBytes defined asks limit answers q }
 {}
 
-/// A `]` asks at most one question, and none at a limit of 0; with one answer for each question it makes the same of a chain whatever answers
-/// follow, which are handed on.
+/// A `]` asks at most one question, and none at a limit of 0; with one answer for each question it makes the same of a
+/// chain whatever answers follow, which are handed on.
 pub fn closing_bracket_asks_once_at_most()
     ensures { ClosedLaw ℕ × ClosedLaw ⊤ }
 {}
@@ -44,8 +45,20 @@ pub fn chain_hands_on_later_answers()
     ensures { ChainLaw ℕ × ChainLaw ⊤ }
 {}
 
-/// No link stands in a link but an autolink, whatever chain is read, if no link stands in it already and the rule for items
-/// that are no brackets makes none but autolinks.
+/// A chain asks at most one question for each of its `]`, and none at a limit of 0, if the rule for items that are no
+/// brackets asks nothing.
+pub fn chain_asks_once_for_each_bracket()
+    ensures { QuestionCountLaw ℕ × QuestionCountLaw ⊤ }
+{}
+
+/// No two questions of a chain end at the same byte, if its items stand in order and over their markup, the rule for
+/// items that are no brackets asks nothing, and no `[` stands in the prefix of a line.
+pub fn no_two_questions_end_together()
+    ensures { QuestionEndsLaw ℕ × QuestionEndsLaw ⊤ }
+{}
+
+/// No link stands in a link but an autolink, whatever chain is read, if no link stands in it already and the rule for
+/// items that are no brackets makes none but autolinks.
 pub fn no_link_stands_in_a_link()
     ensures { NoLinkLaw ℕ × NoLinkLaw ⊤ }
 {}
@@ -55,8 +68,8 @@ pub fn brackets_make_no_chain_heavier()
     ensures { BracketWeightLaw ℕ × BracketWeightLaw ⊤ }
 {}
 
-/// Brackets leave nothing open: a test that each event and each enclosing tag passes is passed by all that is read, if what
-/// the rule for other items puts passes it, and what stands below the chain's items.
+/// Brackets leave nothing open: a test that each event and each enclosing tag passes is passed by all that is read, if
+/// what the rule for other items puts passes it, and what stands below the chain's items.
 pub fn brackets_leave_nothing_open()
     ensures { KeptShapesLaw ℕ × KeptShapesLaw ⊤ }
 {}
@@ -73,8 +86,8 @@ pub fn first_tree_of_an_open_chain_passes()
     ensures { BeginsLaw ℕ × BeginsLaw ⊤ }
 {}
 
-/// A chain in which nothing is open but runs and quotes is left as it is, and nothing is asked, if the rule for items that
-/// are no brackets leaves such items.
+/// A chain in which nothing is open but runs and quotes is left as it is, and nothing is asked, if the rule for items
+/// that are no brackets leaves such items.
 pub fn runs_and_quotes_are_left_alone()
     ensures { QuietItemsLaw ℕ × QuietItemsLaw ⊤ }
 {}

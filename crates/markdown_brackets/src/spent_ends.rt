@@ -3,8 +3,8 @@ use markdown_base::fault::Fault;
 use std::alloc::Global;
 use std::collections::HashSet;
 
-/// The ends of the `]` of a chain that end the label of a full reference which was looked up. Its memory is kept when it
-/// is emptied.
+/// The ends of the `]` of a chain that end the label of a full reference which was looked up. Its memory is kept when
+/// it is emptied.
 #[derive(Drop)]
 pub struct SpentEnds {
     ends: HashSet<usize>,

@@ -58,8 +58,8 @@ fn from_node(node: Option<usize>, closer: usize, at: usize) -> Option<ShownNodes
     }
 }
 
-/// What a wikilink shows of a body from the byte `start` to the byte `end`, whose first node is this one; None where nothing
-/// of what it shows stands before the `]`.
+/// What a wikilink shows of a body from the byte `start` to the byte `end`, whose first node is this one; None where
+/// nothing of what it shows stands before the `]`.
 pub(crate) fn find_shown(
     tree: &Tree<Item>,
     first: usize,

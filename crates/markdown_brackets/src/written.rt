@@ -9,7 +9,8 @@ ghost use Rattle.markdown_brackets.specs.BracketOptions.{footnote_style, wikilin
 ghost use Rattle.markdown_brackets.specs.ChainAhead.{IsChain, reaches_closer};
 ghost use Rattle.markdown_brackets.specs.Reference.{own_label};
 ghost use Rattle.markdown_brackets.specs.ReferenceView.{form_view, label_view};
-ghost use Rattle.markdown_brackets.specs.WrittenView.{CanRead, EndsBehind, IsRead, form_ahead, reference_at, written_at};
+ghost use Rattle.markdown_brackets.specs.WrittenView.{CanRead, EndsBehind, IsRead, form_ahead, reference_at};
+ghost use Rattle.markdown_brackets.specs.WrittenView.{written_at};
 
 use crate::footnote::FootnoteStyle;
 use crate::items_ahead::{ItemsAhead, link_after, linked_item, reaches_closer};

@@ -8,12 +8,14 @@ use Rattle.markdown_brackets.proofs.closing_bracket.find_written.Goals as goal
 
 pub returns-in-Nothing-clause-comes : goal.returns-in-Nothing-clause-comes
 returns-in-Nothing-clause-comes g c w o x rules opener start read =
-    comes_read_nothing g.F.BrokenLinkCallback.answers w o w.above.in_table x c.args.limit.now (uses_of c.args.footnotes.now) c.args.callback.now
+    comes_read_nothing g.F.BrokenLinkCallback.answers w o w.above.in_table x c.args.limit.now (uses_of c.args.footnotes.now)
+    c.args.callback.now
     (subst (λ v. IsRead w.above.in_table x v) c.in-Nothing.is read)
 
 pub returns-in-Inline-clause-comes : goal.returns-in-Inline-clause-comes
 returns-in-Inline-clause-comes g c w o x rules opener start read =
-    comes_read_inline g.F.BrokenLinkCallback.answers w o w.above.in_table x c.args.limit.now (uses_of c.args.footnotes.now) c.args.callback.now
+    comes_read_inline g.F.BrokenLinkCallback.answers w o w.above.in_table x c.args.limit.now (uses_of c.args.footnotes.now)
+    c.args.callback.now
     c.in-Inline.tail c.inline_link.result (subst (λ v. IsRead w.above.in_table x v) c.in-Inline.is read)
     (λ t is. c.inline_link.ensures w o t opener is)
 
@@ -29,6 +31,9 @@ pub returns-in_ok-spend-in-Label-clause-comes : goal.returns-in_ok-spend-in-Labe
 returns-in_ok-spend-in-Label-clause-comes g c =
     ok_map c.find_reference.result _ _ c.find_reference.ensures.finds
     (λ found looks w o x rules opener start read.
-    comes_read_label g.F.BrokenLinkCallback.answers w o w.above.in_table x c.args.limit.now _ (uses_of c.args.footnotes.now) c.args.callback.now _
-    c.in-Label.link_type c.in-Label.label c.in-Label.end c.in-Label.next c.args.start c.args.opener c.args.definitions.now (is_some c.args.callback.now)
-    looks.0 found (subst (λ v. IsRead w.above.in_table x v) c.in-Label.is read) rules.definitions_are rules.asks_is opener start looks.1 looks.2)
+    comes_read_label g.F.BrokenLinkCallback.answers w o w.above.in_table x c.args.limit.now _ (uses_of c.args.footnotes.now)
+    c.args.callback.now _
+    c.in-Label.link_type c.in-Label.label c.in-Label.end c.in-Label.next c.args.start c.args.opener c.args.definitions.now
+    (is_some c.args.callback.now)
+    looks.0 found (subst (λ v. IsRead w.above.in_table x v) c.in-Label.is read) rules.definitions_are rules.asks_is opener start looks.1
+    looks.2)

@@ -16,28 +16,39 @@ use Rattle.markdown_brackets.proofs.decision.decide_bracket.Goals as goal
 
 pub returns-in-Some-clause-decides : goal.returns-in-Some-clause-decides
 returns-in-Some-clause-decides g c bodies left cl s could brackets wikilinks =
-    let w = around_at c.args.place.now (g.R.LineRule.skipped c.args.rule.now) bodies c.args.definitions.now c.args.footnotes.now (is_some c.args.callback.now) in
-    decides_wikilink g.F.BrokenLinkCallback.answers w cl left c.args.limit.now (uses_of c.args.footnotes.now) c.args.spent.now c.args.callback.now
-    c.take_nearest-bracket.result c.args.openers.now.brackets c.take_nearest-bracket.new.self c.take_wikilink.new.wikilinks brackets c.take_nearest-bracket.ensures c.in-Some.found
+    let w = around_at c.args.place.now (g.R.LineRule.skipped c.args.rule.now) bodies c.args.definitions.now c.args.footnotes.now
+    (is_some c.args.callback.now) in
+    decides_wikilink g.F.BrokenLinkCallback.answers w cl left c.args.limit.now (uses_of c.args.footnotes.now) c.args.spent.now
+    c.args.callback.now
+    c.take_nearest-bracket.result c.args.openers.now.brackets c.take_nearest-bracket.new.self c.take_wikilink.new.wikilinks brackets
+    c.take_nearest-bracket.ensures c.in-Some.found
     (subst (λ r. TakesWikilink w cl left c.take_wikilink.new.wikilinks r) c.in-Some.is
-    (c.take_wikilink.ensures (g.R.LineRule.skipped c.args.rule.now) bodies c.args.definitions.now c.args.footnotes.now (is_some c.args.callback.now) left cl s wikilinks))
+    (c.take_wikilink.ensures (g.R.LineRule.skipped c.args.rule.now) bodies c.args.definitions.now c.args.footnotes.now
+    (is_some c.args.callback.now) left cl s wikilinks))
 
 pub returns-clause-decides : goal.returns-clause-decides
 returns-clause-decides g c =
     let nodes = c.args.tree.now.nodes in
     ok_map c.try_opener.result _ _ c.try_opener.ensures.tries
     (λ found tries bodies left cl s could brackets wikilinks.
-    let w = around_at c.args.place.now (g.R.LineRule.skipped c.args.rule.now) bodies c.args.definitions.now c.args.footnotes.now (is_some c.args.callback.now) in
+    let w = around_at c.args.place.now (g.R.LineRule.skipped c.args.rule.now) bodies c.args.definitions.now c.args.footnotes.now
+    (is_some c.args.callback.now) in
     let t = subst (λ r. TakesWikilink w cl left c.take_wikilink.new.wikilinks r) c.in_default.is
-    (c.take_wikilink.ensures (g.R.LineRule.skipped c.args.rule.now) bodies c.args.definitions.now c.args.footnotes.now (is_some c.args.callback.now) left cl s wikilinks) in
+    (c.take_wikilink.ensures (g.R.LineRule.skipped c.args.rule.now) bodies c.args.definitions.now c.args.footnotes.now
+    (is_some c.args.callback.now) left cl s wikilinks) in
     let ends : c.item.result.now.end ≡ end_of cl.label =
     ap (λ (i : Item). i.end) (c.item.ensures no_item)
-    ∙ subst (λ n. (item_at nodes n).end ≡ end_of cl.label) s.number (same_end s.source s.tables nodes cl.label (closer_found nodes c.args.closer left cl s).holds.2) in
+    ∙ subst (λ n. (item_at nodes n).end ≡ end_of cl.label) s.number (same_end s.source s.tables nodes cl.label
+    (closer_found nodes c.args.closer left cl s).holds.2) in
     let could_be : cl.could_be_reference ≡ c.could_still_be-could_be.result =
     could ∙ (ap (λ end. c.args.could_be && not (is_spent c.args.spent.now end)) (sym ends) ∙ sym c.could_still_be-could_be.ensures) in
-    decides_one g.F.BrokenLinkCallback.answers w cl left c.args.limit.now (uses_of c.args.footnotes.now) c.args.spent.now c.args.callback.now
-    c.take_nearest-bracket.result c.args.openers.now.brackets c.take_nearest-bracket.new.self c.take_wikilink.new.wikilinks brackets c.take_nearest-bracket.ensures found _ _ _ _ t
+    decides_one g.F.BrokenLinkCallback.answers w cl left c.args.limit.now (uses_of c.args.footnotes.now) c.args.spent.now
+    c.args.callback.now
+    c.take_nearest-bracket.result c.args.openers.now.brackets c.take_nearest-bracket.new.self c.take_wikilink.new.wikilinks brackets
+    c.take_nearest-bracket.ensures found _ _ _ _ t
     (tries bodies cl (nearest opens_bracket t.left_then)
-    (tries_nearest g.F.BrokenLinkCallback.answers w cl left c.args.limit.now (uses_of c.args.footnotes.now) c.args.spent.now c.args.callback.now
-    c.take_nearest-bracket.result c.args.openers.now.brackets c.take_nearest-bracket.new.self c.take_wikilink.new.wikilinks brackets c.take_nearest-bracket.ensures found
+    (tries_nearest g.F.BrokenLinkCallback.answers w cl left c.args.limit.now (uses_of c.args.footnotes.now) c.args.spent.now
+    c.args.callback.now
+    c.take_nearest-bracket.result c.args.openers.now.brackets c.take_nearest-bracket.new.self c.take_wikilink.new.wikilinks brackets
+    c.take_nearest-bracket.ensures found
     nodes c.args.closer c.could_still_be-could_be.result s could_be t)))

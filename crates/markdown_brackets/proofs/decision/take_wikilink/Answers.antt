@@ -19,7 +19,8 @@ returns-in_default c skipped bodies definitions footnotes asks left cl s h =
     let nodes = c.args.tree.now.nodes in
     none_by_next nodes c.args.closer left cl s (around_at c.args.place.now skipped bodies definitions footnotes asks)
     c.args.wikilinks.now h
-    (subst (λ l. MatchOption l (Unit {0}) (λ next. is_closer (item_at nodes next).body ≡ false)) (sym (sym c.next.ensures.value ∙ c.in_default.is)) tt)
+    (subst (λ l. MatchOption l (Unit {0}) (λ next. is_closer (item_at nodes next).body ≡ false))
+    (sym (sym c.next.ensures.value ∙ c.in_default.is)) tt)
 
 pub returns-then-not-is_closer : goal.returns-then-not-is_closer
 returns-then-not-is_closer c skipped bodies definitions footnotes asks left cl s h =
@@ -28,7 +29,8 @@ returns-then-not-is_closer c skipped bodies definitions footnotes asks left cl s
     ap (λ (i : Item). is_closer i.body) (sym (c.item-second.ensures no_item)) ∙ (sym c.is_closer.ensures ∙ c.if-not-is_closer.true) in
     none_by_next nodes c.args.closer left cl s (around_at c.args.place.now skipped bodies definitions footnotes asks)
     c.args.wikilinks.now h
-    (subst (λ l. MatchOption l (Unit {0}) (λ next. is_closer (item_at nodes next).body ≡ false)) (sym (sym c.next.ensures.value ∙ c.in-Some.is)) other)
+    (subst (λ l. MatchOption l (Unit {0}) (λ next. is_closer (item_at nodes next).body ≡ false))
+    (sym (sym c.next.ensures.value ∙ c.in-Some.is)) other)
 
 pub returns : goal.returns
 returns c skipped bodies definitions footnotes asks left cl s h =

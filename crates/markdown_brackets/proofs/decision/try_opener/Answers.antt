@@ -13,7 +13,8 @@ pub returns-in_default-clause-tries : goal.returns-in_default-clause-tries
 returns-in_default-clause-tries g c bodies cl o t =
     let nodes = c.args.tree.now.nodes in
     comes_by_none g.F.BrokenLinkCallback.answers
-    (around_at c.args.place.now (g.R.LineRule.skipped c.args.rule.now) bodies c.args.definitions.now c.args.footnotes.now (is_some c.args.callback.now))
+    (around_at c.args.place.now (g.R.LineRule.skipped c.args.rule.now) bodies c.args.definitions.now c.args.footnotes.now
+    (is_some c.args.callback.now))
     cl c.args.limit.now (uses_of c.args.footnotes.now) c.args.spent.now c.args.callback.now nodes c.args.closer c.args.could_be o
     (subst (λ taken. TriesOpener nodes c.args.closer c.args.could_be taken cl o) c.in_default.is t)
 
@@ -21,7 +22,8 @@ pub returns-then-not-is_live-clause-tries : goal.returns-then-not-is_live-clause
 returns-then-not-is_live-clause-tries g c bodies cl o t =
     let nodes = c.args.tree.now.nodes in
     comes_by_dead g.F.BrokenLinkCallback.answers
-    (around_at c.args.place.now (g.R.LineRule.skipped c.args.rule.now) bodies c.args.definitions.now c.args.footnotes.now (is_some c.args.callback.now))
+    (around_at c.args.place.now (g.R.LineRule.skipped c.args.rule.now) bodies c.args.definitions.now c.args.footnotes.now
+    (is_some c.args.callback.now))
     cl c.args.limit.now (uses_of c.args.footnotes.now) c.args.spent.now c.args.callback.now nodes c.args.closer c.args.could_be
     c.in-Some.opener c.in-Some.is_live o c.if-not-is_live.true
     (subst (λ taken. TriesOpener nodes c.args.closer c.args.could_be taken cl o) c.in-Some.is t)
@@ -34,10 +36,13 @@ returns-clause-tries g c =
     subst (λ taken. IfSome taken (λ t. CanTry nodes place c.args.closer t.0.node)) c.in-Some.is c.requires.ready in
     ok_both c.find_written.result _ _ _ c.find_written.ensures.comes c.find_written.ensures.spent
     (λ found comes spends bodies cl o t.
-    comes_by_live nodes place (g.R.LineRule.skipped c.args.rule.now) bodies c.args.definitions.now c.args.footnotes.now (is_some c.args.callback.now)
-    c.args.closer c.args.could_be cl g.F.BrokenLinkCallback.answers c.args.limit.now _ (uses_of c.args.footnotes.now) _ c.args.callback.now _ found
+    comes_by_live nodes place (g.R.LineRule.skipped c.args.rule.now) bodies c.args.definitions.now c.args.footnotes.now
+    (is_some c.args.callback.now)
+    c.args.closer c.args.could_be cl g.F.BrokenLinkCallback.answers c.args.limit.now _ (uses_of c.args.footnotes.now) _ c.args.callback.now
+    _ found
     c.in-Some.opener c.in-Some.is_live c.item-item.result.now c.in_ok-written.written c.args.spent.now _ c.if-not-is_live.false
     (c.item-item.ensures no_item) can.reads.some c.in_ok-written.ensures
     (λ v s x rules. comes v s x
-    (subst (KnowsRules v c.args.definitions.now c.args.footnotes.now (is_some c.args.callback.now)) (sym c.footnote_style-style.ensures) rules))
+    (subst (KnowsRules v c.args.definitions.now c.args.footnotes.now (is_some c.args.callback.now)) (sym c.footnote_style-style.ensures)
+    rules))
     spends o (subst (λ taken. TriesOpener nodes c.args.closer c.args.could_be taken cl o) c.in-Some.is t))

@@ -17,7 +17,9 @@ returns-then-not-is_live c w cl o text t =
 
 pub returns : goal.returns
 returns c w cl o text t =
-    finds_live c.args.tree.now.nodes w c.args.end c.args.closer c.in-Some.opener c.in-Some.is_live cl o c.find_wikilink.result c.if-not-is_live.false
-    (subst (λ source. IsWikilinkAt c.in-Some.opener c.args.end (wikilink_nodes c.args.tree.now.nodes source c.in-Some.opener.node c.args.closer) c.find_wikilink.result)
+    finds_live c.args.tree.now.nodes w c.args.end c.args.closer c.in-Some.opener c.in-Some.is_live cl o c.find_wikilink.result
+    c.if-not-is_live.false
+    (subst (λ source. IsWikilinkAt c.in-Some.opener c.args.end (wikilink_nodes c.args.tree.now.nodes source c.in-Some.opener.node
+    c.args.closer) c.find_wikilink.result)
     (sym text) c.find_wikilink.ensures)
     (subst (λ taken. TriesWikilink c.args.tree.now.nodes c.args.closer taken cl o) c.in-Some.is t)

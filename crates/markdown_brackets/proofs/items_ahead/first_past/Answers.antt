@@ -47,7 +47,8 @@ chain-preserved c =
     let nodes = c.args.tree.now.nodes in
     let byte = c.args.byte in
     let here = steps_at nodes byte c.chain.at c.in-Some.ix c.in-Some.is c.chain.invariant.chain in
-    let passed : (item_at nodes c.in-Some.ix).end ≤ byte = subst (λ (i : Item). i.end ≤ byte) (c.item.ensures no_item) c.if-item-byte.false in
+    let passed : (item_at nodes c.in-Some.ix).end ≤ byte = subst (λ (i : Item). i.end ≤ byte) (c.item.ensures no_item) c.if-item-byte.false
+    in
     record {
       chain = rw c.next-at.ensures.value here.later;
       same = ap (λ l. numbers_past nodes byte (forest_at (links_of nodes) l)) c.next-at.ensures.value

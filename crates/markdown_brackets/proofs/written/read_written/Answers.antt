@@ -5,7 +5,8 @@ use Rattle.markdown_base.specs.Arena.{sibling_of}
 use Rattle.markdown_base.specs.BlockTree.{item_at, no_item}
 use Rattle.markdown_base.specs.declared.item.Item.{Item}
 use Rattle.markdown_brackets.specs.ChainAhead.{starts_from}
-use Rattle.markdown_brackets.proofs.WrittenLemmas.{boundary_within, no_tail, read_tail, read_other, tail_at, taken_past, whole_range, within_taken}
+use Rattle.markdown_brackets.proofs.WrittenLemmas.{boundary_within, no_tail, read_tail, read_other, tail_at, taken_past, whole_range}
+use Rattle.markdown_brackets.proofs.WrittenLemmas.{within_taken}
 use Rattle.markdown_brackets.proofs.written.read_written.Goals as goal
 
 pub returns-then-end-place : goal.returns-then-end-place
@@ -15,14 +16,16 @@ returns-then-end-place g c =
     let past : place.block_end < (item_at nodes c.args.closer).end =
     subst (λ (i : Item). place.block_end < i.end) (c.item.ensures no_item) c.if-end-place.true in
     read_other place.in_table _ _ c.read_reference.result
-    (no_tail place.in_table (g.R.LineRule.skipped c.args.rule.now) (starts_from nodes (sibling_of nodes c.args.closer)) (take place.block_end place.text.now) (item_at nodes c.args.closer).end
+    (no_tail place.in_table (g.R.LineRule.skipped c.args.rule.now) (starts_from nodes (sibling_of nodes c.args.closer))
+    (take place.block_end place.text.now) (item_at nodes c.args.closer).end
     (taken_past place.text.now place.block_end (item_at nodes c.args.closer).end past))
     c.read_reference.ensures
 
 pub scan_link_tail-requires-clause-at : goal.scan_link_tail-requires-clause-at
 scan_link_tail-requires-clause-at g c =
     let place = c.args.place.now in
-    subst (λ text. IsCharBoundary text c.item.result.now.end) (sym (c.range-text.ensures.value ∙ whole_range place.text.now place.block_end))
+    subst (λ text. IsCharBoundary text c.item.result.now.end)
+    (sym (c.range-text.ensures.value ∙ whole_range place.text.now place.block_end))
     (boundary_within place.text.now place.block_end c.item.result.now.end
     (subst (λ (i : Item). IsCharBoundary place.text.now i.end) (sym (c.item.ensures no_item)) c.requires.closes) c.if-end-place.false)
 
@@ -41,7 +44,8 @@ returns-in-Some g c =
     let place = c.args.place.now in
     let text = c.range-text.ensures.value ∙ whole_range place.text.now place.block_end in
     read_tail place.in_table _ _ c.in-Some.tail
-    (tail_at place.in_table (g.R.LineRule.skipped c.args.rule.now) c.args.tree.now.nodes c.next.result _ c.range-text.result.now _ c.item.result.now _
+    (tail_at place.in_table (g.R.LineRule.skipped c.args.rule.now) c.args.tree.now.nodes c.next.result _ c.range-text.result.now _
+    c.item.result.now _
     c.in_ok-tail.field-0 (Some c.in-Some.tail) c.next.ensures.value text (c.item.ensures no_item) c.in-Some.is c.in_ok-tail.ensures.value)
 
 pub returns-in-None : goal.returns-in-None
@@ -49,6 +53,7 @@ returns-in-None g c =
     let place = c.args.place.now in
     let text = c.range-text.ensures.value ∙ whole_range place.text.now place.block_end in
     read_other place.in_table _ _ c.read_reference-in-None.result
-    (tail_at place.in_table (g.R.LineRule.skipped c.args.rule.now) c.args.tree.now.nodes c.next.result _ c.range-text.result.now _ c.item.result.now _
+    (tail_at place.in_table (g.R.LineRule.skipped c.args.rule.now) c.args.tree.now.nodes c.next.result _ c.range-text.result.now _
+    c.item.result.now _
     c.in_ok-tail.field-0 None c.next.ensures.value text (c.item.ensures no_item) c.in-None.is c.in_ok-tail.ensures.value)
     c.read_reference-in-None.ensures

@@ -1,0 +1,231 @@
+-- In a link label no `[` stands directly behind a `]`: one of both would end the label, or forbid it. So no two labels end
+-- at the same byte of which the second begins directly behind a `]` in the first.
+use Rattle.std.proofs.Common.{◌≡◌, ℕ, zero, suc, ◌+◌, ◌-◌, ◌<◌, Bool, true, false, ◌||◌, ◌==◌, List, [], ◌∷◌, Option, Some, None}
+use Rattle.std.proofs.Common.{length, refl, sym, ap, subst, ◌∙◌, arith, take, drop, get_or, drop-cons, length-drop, if◌then◌else◌, is_none}
+use Rattle.std.proofs.Common.{unwrap_or, IfSome, nat_eq}
+use Rattle.std.specs.Prelude.{option_and_then}
+use Rattle.std.specs.List.{list_any}
+use Rattle.std.specs.Option.{option_map, option_or}
+use Rattle.std.proofs.lemmas.Bool.Decides.{nat_tests}
+use Rattle.std.proofs.lemmas.List.{drop-drop}
+use Rattle.std.proofs.lemmas.Option.{none-some, same_Some}
+use Rattle.markdown_scan.specs.Backslash.{backslash, is_bare}
+use Rattle.markdown_scan.specs.Label.{refused, body, fits_label, label_bytes, link_label, put_before, shown}
+use Rattle.markdown_scan.specs.Label.{collapse_whitespace, with_shown}
+use Rattle.markdown_scan.specs.LinePrefix.{ends_line, prefix_after}
+use Rattle.markdown_brackets.specs.QuestionEnds.{HoldsNoOpener}
+use Rattle.markdown_brackets.specs.Reference.{FoundLabel, footnote_label, footnote_lines, label_after, label_after_bracket, label_at}
+use Rattle.markdown_brackets.specs.Reference.{label_past}
+use Rattle.markdown_brackets.specs.declared.footnote.FootnoteStyle.{FootnoteStyle}
+use Rattle.markdown_brackets.specs.declared.footnote.FootnoteStyle.TheVariants as style
+
+-- the first n bytes are prefix, in which no `[` stands, and behind a line ending nothing is escaped
+record IsBehind (escaped : Bool) (n : ℕ) (bytes : List ℕ) : Type 0 where
+  free : list_any (nat_eq 91) (take n bytes) ≡ false
+  bare : 0 < n → escaped ≡ false
+
+-- what was found, one byte earlier
+record Found (o : Option (ℕ × List ℕ)) (k : ℕ) : Type 0 where
+  place : ℕ
+  text : List ℕ
+  found : o ≡ Some (place, text)
+  after : k ≡ suc place
+
+one_more : (x : List ℕ) (o : Option (ℕ × List ℕ)) (k : ℕ) (text : List ℕ) → put_before 1 x o ≡ Some (k, text) → Found o k
+one_more x None k text e = absurd (none-some (k, text) e)
+one_more x (Some f) k text e =
+    let same = ap (λ (p : ℕ × List ℕ). p.0) (same_Some (1 + f.0, _) (k, text) e) in
+    record { place = f.0; text = f.1; found = refl; after = omega (arith, same) }
+
+or_second : (a b : Bool) → (a || b) ≡ false → b ≡ false
+or_second true b h = absurd (cc h)
+or_second false b h = h
+
+-- a line ending is no backslash
+no_backslash : (escaped : Bool) (b : ℕ) (bytes : List ℕ) → ends_line b bytes ≡ true → is_bare escaped b backslash ≡ false
+no_backslash true b bytes h = refl
+no_backslash false b bytes h = grind (arith, nat_tests)
+
+module _ (skipped : List ℕ → Option ℕ) (none : HoldsNoOpener skipped) where
+  -- no label goes on at a `[` that is not escaped
+  opens_none : (n : ℕ) (rest : List ℕ) → list_any (nat_eq 91) (take n (91 ∷ rest)) ≡ false
+      → body false (label_bytes skipped n (91 ∷ rest)) ≡ None
+  opens_none zero rest h = refl
+  opens_none (suc n) rest h = absurd (cc h)
+
+  pair_here : (escaped : Bool) (n : ℕ) (rest : List ℕ) (k : ℕ) (text : List ℕ) → IsBehind escaped n (93 ∷ 91 ∷ rest)
+      → body escaped (label_bytes skipped n (93 ∷ 91 ∷ rest)) ≡ Some (k, text) → 1 < k → ⊥
+  pair_here true zero rest k text h e l = none-some (k, text) e
+  pair_here false zero rest k text h e l =
+      let same = ap (λ (p : ℕ × List ℕ). p.0) (same_Some (0, []) (k, text) e) in
+      absurd (omega (arith, same, l))
+  pair_here true (suc n) rest k text h e l = absurd (cc (h.bare (omega arith)))
+  pair_here false (suc n) rest k text h e l =
+      let later = one_more [] (body false (label_bytes skipped n (91 ∷ rest))) k text e in
+      none-some (later.place, later.text) (subst (λ o. o ≡ Some (later.place, later.text)) (opens_none n rest h.free) later.found)
+
+  -- behind a byte, and the prefix after it
+  behind_byte : (escaped : Bool) (b : ℕ) (bytes : List ℕ) (m : ℕ) → prefix_after skipped b bytes ≡ Some m
+      → IsBehind (is_bare escaped b backslash) m bytes
+  behind_byte escaped b bytes m e = by (ends_line b bytes) refl e
+    where
+      by : (ends : Bool) → ends_line b bytes ≡ ends → (if ends then skipped bytes else Some 0) ≡ Some m
+          → IsBehind (is_bare escaped b backslash) m bytes
+      by true line e = record {
+        free = subst (λ o. IfSome o (λ n. list_any (nat_eq 91) (take n bytes) ≡ false)) e (none bytes);
+        bare = λ l. no_backslash escaped b bytes line;
+      }
+      by false line e =
+          let same = same_Some 0 m e in
+          subst (λ m. IsBehind (is_bare escaped b backslash) m bytes) same (record { free = refl; bare = λ l. absurd (omega (arith, l)) })
+
+  -- what is found from a byte on, where it is not found there, is found behind it
+  abbrev IsPast : (later : Bool) → List ℕ → ℕ → Type 0
+  IsPast later bytes k = (m : ℕ) × IsBehind later m bytes × Found (body later (label_bytes skipped m bytes)) k
+
+  past_byte : (escaped : Bool) (b : ℕ) (bytes : List ℕ) (k : ℕ) (text : List ℕ)
+      → body escaped (label_bytes skipped 0 (b ∷ bytes)) ≡ Some (k, text) → 0 < k → IsPast (is_bare escaped b backslash) bytes k
+  past_byte escaped b bytes k text e l = by (is_bare escaped b 93) (is_bare escaped b 91) (prefix_after skipped b bytes) refl e
+    where
+      later : Bool
+      later = is_bare escaped b backslash
+
+      by : (closes opens : Bool) (o : Option ℕ) → prefix_after skipped b bytes ≡ o
+          → (if closes then Some (0, []) else if opens then None
+          else put_before 1 (b ∷ []) (body later (if is_none o then refused ∷ [] else label_bytes skipped (unwrap_or o 0) bytes)))
+          ≡ Some (k, text) → IsPast later bytes k
+      by true opens o f e = let same = ap (λ (p : ℕ × List ℕ). p.0) (same_Some (0, []) (k, text) e) in absurd (omega (arith, same, l))
+      by false true o f e = absurd (none-some (k, text) e)
+      by false false None f e = absurd (none-some (k, text) e)
+      by false false (Some m) f e =
+          (m, behind_byte escaped b bytes m f, one_more (b ∷ []) (body later (label_bytes skipped m bytes)) k text e)
+
+  no_pair : (i : ℕ) (escaped : Bool) (n : ℕ) (bytes rest : List ℕ) (k : ℕ) (text : List ℕ) → IsBehind escaped n bytes
+      → body escaped (label_bytes skipped n bytes) ≡ Some (k, text) → suc i < k → drop i bytes ≡ 93 ∷ 91 ∷ rest → ⊥
+  no_pair zero escaped n bytes rest k text h e l d =
+      let here = subst (λ xs. body escaped (label_bytes skipped n xs) ≡ Some (k, text)) d e in
+      pair_here escaped n rest k text (subst (IsBehind escaped n) d h) here l
+  no_pair (suc i) escaped n [] rest k text h e l d = absurd (cc d)
+  no_pair (suc i) escaped (suc n) (b ∷ bytes) rest k text h e l d =
+      let later = one_more [] (body escaped (label_bytes skipped n bytes)) k text e in
+      let free = or_second (nat_eq 91 b) (list_any (nat_eq 91) (take n bytes)) h.free in
+      let behind : IsBehind escaped n bytes = record { free = free; bare = λ l. h.bare (omega arith) } in
+      no_pair i escaped n bytes rest later.place later.text behind later.found (omega (arith, l, later.after)) d
+  no_pair (suc i) escaped zero (b ∷ bytes) rest k text h e l d =
+      let r = past_byte escaped b bytes k text e (omega (arith, l)) in
+      no_pair i (is_bare escaped b backslash) r.0 bytes rest r.2.place r.2.text r.1 r.2.found (omega (arith, l, r.2.after)) d
+
+-- in a text a link label begins at one byte, and ends before another
+pub record IsLabelFrom (skipped : List ℕ → Option ℕ) (text : List ℕ) (from to : ℕ) : Type 0 where
+  pub tail : List ℕ
+  pub opens : drop from text ≡ 91 ∷ tail
+  pub place : ℕ
+  pub shown : List ℕ
+  pub closes : body false (label_bytes skipped 0 tail) ≡ Some (place, shown)
+  pub ends : to ≡ from + place + 2
+
+-- the bytes are those of a link label
+record IsLabel (skipped : List ℕ → Option ℕ) (bytes : List ℕ) (size : ℕ) : Type 0 where
+  tail : List ℕ
+  opens : bytes ≡ 91 ∷ tail
+  place : ℕ
+  shown : List ℕ
+  closes : body false (label_bytes skipped 0 tail) ≡ Some (place, shown)
+  ends : size ≡ place + 2
+
+module _ (skipped : List ℕ → Option ℕ) (in_table : Bool) where
+  -- what is found behind the mark of a footnote is a footnote's label
+  past_is_footnote : (n : ℕ) (o : Option (ℕ × List ℕ)) (l : FoundLabel) → label_past true n o ≡ Some l → l.is_footnote ≡ true
+  past_is_footnote n None l e = absurd (none-some l e)
+  past_is_footnote n (Some f) l e = sym (ap (λ (l : FoundLabel). l.is_footnote) (same_Some _ l e))
+
+  is_footnote : (s : FootnoteStyle) (bytes : List ℕ) (l : FoundLabel) → footnote_label s skipped in_table bytes ≡ Some l
+      → l.is_footnote ≡ true
+  is_footnote style.Off bytes l e = absurd (none-some l e)
+  is_footnote style.Gfm bytes l e = past_is_footnote 2 (label_after 94 (footnote_lines style.Gfm skipped) in_table bytes) l e
+  is_footnote style.Old bytes l e = past_is_footnote 2 (label_after 94 (footnote_lines style.Old skipped) in_table bytes) l e
+
+  -- and else a link's
+  abbrev squeezed : ℕ × List ℕ → ℕ × List ℕ
+  squeezed f = (f.0 + 1, collapse_whitespace false false f.1)
+
+  abbrev if_fits : ℕ × List ℕ → Option (ℕ × List ℕ)
+  if_fits f = if fits_label f.1 then Some f else None
+
+  link_found : (o : Option (ℕ × List ℕ)) (l : FoundLabel)
+      → label_past false 1 (option_map squeezed (option_and_then if_fits (with_shown in_table o))) ≡ Some l
+      → (place : ℕ) × (text : List ℕ) × (o ≡ Some (place, text)) × (l.length ≡ place + 2)
+  link_found None l e = absurd (none-some l e)
+  link_found (Some f) l e = by (fits_label (shown in_table f.1)) e
+    where
+      by : (fits : Bool) → label_past false 1 (option_map squeezed (if fits then Some (f.0, shown in_table f.1) else None)) ≡ Some l
+          → (place : ℕ) × (text : List ℕ) × (Some f ≡ Some (place, text)) × (l.length ≡ place + 2)
+      by false e = absurd (none-some l e)
+      by true e =
+          let size : 1 + (f.0 + 1) ≡ l.length = ap (λ (l : FoundLabel). l.length) (same_Some _ l e) in
+          (f.0, f.1, refl, omega (arith, size))
+
+  -- a label that is no footnote's
+  of_bytes : (s : FootnoteStyle) (bytes : List ℕ) (l : FoundLabel) → label_at s skipped in_table bytes ≡ Some l → l.is_footnote ≡ false
+      → IsLabel skipped bytes l.length
+  of_bytes s [] l e plain = absurd (none-some l e)
+  of_bytes s (b ∷ bytes) l e plain = by (b == 91) refl e
+    where
+      or_link : (o : Option FoundLabel) → footnote_label s skipped in_table bytes ≡ o
+          → option_or o (label_past false 1 (link_label skipped in_table bytes)) ≡ Some l
+          → (place : ℕ) × (text : List ℕ) × (body false (label_bytes skipped 0 bytes) ≡ Some (place, text)) × (l.length ≡ place + 2)
+      or_link None f e = link_found (body false (label_bytes skipped 0 bytes)) l e
+      or_link (Some l') f e =
+          let other = is_footnote s bytes l' f in
+          let same : l'.is_footnote ≡ l.is_footnote = ap (λ (l : FoundLabel). l.is_footnote) (same_Some l' l e) in
+          absurd (cc (other, same, plain))
+
+      by : (opens : Bool) → (b == 91) ≡ opens
+          → option_and_then (label_after_bracket s skipped in_table) (if opens then Some bytes else None) ≡ Some l
+          → IsLabel skipped (b ∷ bytes) l.length
+      by false is e = absurd (none-some l e)
+      by true is e =
+          let r = or_link (footnote_label s skipped in_table bytes) refl e in
+          let byte : b ≡ 91 = grind (arith, nat_tests) in
+          record { tail = bytes; opens = ap (λ (b : ℕ). b ∷ bytes) byte; place = r.0; shown = r.1; closes = r.2; ends = r.3 }
+
+  pub label_from : (s : FootnoteStyle) (text : List ℕ) (from : ℕ) (l : FoundLabel) → label_at s skipped in_table (drop from text) ≡ Some l
+      → l.is_footnote ≡ false
+      → IsLabelFrom skipped text from (from + l.length)
+  label_from s text from l e plain =
+      let r = of_bytes s (drop from text) l e plain in
+      record { tail = r.tail; opens = r.opens; place = r.place; shown = r.shown; closes = r.closes; ends = omega (arith, r.ends) }
+
+-- the byte that a label begins with
+pub first_byte : (skipped : List ℕ → Option ℕ) (text : List ℕ) (from to : ℕ) → IsLabelFrom skipped text from to
+    → (from < length text) × (get_or text from 0 ≡ 91)
+first_byte skipped text from to label =
+    let size = ap length label.opens in
+    let within : from < length text = omega (arith, size, length-drop from text) in
+    let here = sym (drop-cons text from 0 within) ∙ label.opens in
+    (within, ap (λ (xs : List ℕ). get_or xs 0 0) here)
+
+-- a `[` and a `]` stand at two places
+not_next : (text : List ℕ) (from later : ℕ) → get_or text from 0 ≡ 91 → get_or text (later - 1) 0 ≡ 93 → later ≡ suc from → ⊥
+not_next text from later opens closes e =
+    let place : later - 1 ≡ from = omega (arith, e) in
+    let same : get_or text (later - 1) 0 ≡ get_or text from 0 = ap (λ (i : ℕ). get_or text i 0) place in
+    absurd (omega (arith, opens, closes, same))
+
+-- of two labels that end together the second does not begin directly behind a `]`
+pub labels_apart : (skipped : List ℕ → Option ℕ) → HoldsNoOpener skipped → (text : List ℕ) (from later to : ℕ)
+    → IsLabelFrom skipped text from to → IsLabelFrom skipped text later to → from < later → get_or text (later - 1) 0 ≡ 93 → ⊥
+labels_apart skipped none text from later to first second l byte =
+    let one = first_byte skipped text from to first in
+    let two = first_byte skipped text later to second in
+    let apart = not_next text from later one.1 byte in
+    let i : ℕ = later - from - 2 in
+    let here : (from + 1) + i ≡ later - 1 = omega (arith, apart, l) in
+    let next : suc (later - 1) ≡ later = omega (arith, l) in
+    let tail : drop (from + 1) text ≡ first.tail = sym (drop-drop 1 from text) ∙ ap (drop 1) first.opens in
+    let at : drop i first.tail ≡ 93 ∷ 91 ∷ second.tail =
+    ap (drop i) (sym tail) ∙ drop-drop i (from + 1) text ∙ ap (λ (n : ℕ). drop n text) here
+    ∙ drop-cons text (later - 1) 0 (omega (arith, two.0)) ∙ ap (λ (b : ℕ). b ∷ drop (suc (later - 1)) text) byte
+    ∙ ap (λ (n : ℕ). 93 ∷ drop n text) next ∙ ap (λ (xs : List ℕ). 93 ∷ xs) second.opens in
+    no_pair skipped none i false 0 first.tail second.tail first.place first.shown (record { free = refl; bare = λ l. refl }) first.closes
+    (omega (arith, first.ends, second.ends, here, next, l)) at

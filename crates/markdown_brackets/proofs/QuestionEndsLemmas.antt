@@ -1,0 +1,369 @@
+-- The questions of a chain are no more than its `]`, and no two end together: a `]` that a label of an earlier one ends asks
+-- about no label of its own, and no two labels that follow a `]` end at the same byte.
+use Rattle.std.proofs.Common.{◌≡◌, ◌⊎◌, inl, inr, ⊎_elim, ℕ, ◌+◌, ◌-◌, ◌<◌, ◌≤◌, Bool, true, false, not, ◌&&◌, ◌||◌, ◌==◌, List}
+use Rattle.std.proofs.Common.{[], ◌∷◌, ◌++◌, length, map, Option, Some, None, cond, refl, sym, ap, subst, ◌∙◌, arith, append-nil, drop}
+use Rattle.std.proofs.Common.{get_or, take, nat_le, nat_eq, length-append, length-drop, length-take}
+use Rattle.std.specs.Prelude.{IfSome, slice_range}
+use Rattle.std.specs.List.{AllByRecursion, IsDistinct, list_any}
+use Rattle.std.proofs.lemmas.Bool.Decides.{nat_tests}
+use Rattle.std.proofs.lemmas.Cmp.{nat_eq_equiv}
+use Rattle.std.proofs.lemmas.List.{map-append, get_or-drop, get_or-take}
+use Rattle.std.proofs.lemmas.List.Sums.{sum_by-cons}
+use Rattle.std.proofs.lemmas.Map.Keys.{IsDistinct-push}
+use Rattle.markdown_base.specs.Forest.{Forest, nil, node, first_root, roots}
+use Rattle.markdown_base.specs.Questions.{Question}
+use Rattle.markdown_base.specs.WellFormed.{StandsOverMarkup}
+use Rattle.markdown_base.specs.declared.item.ItemBody.{ItemBody}
+use Rattle.markdown_base.specs.declared.item.ItemBody.TheVariants as body
+use Rattle.markdown_chains.specs.ChainRest.{begun_at, cut_shape, end_of, open_body, start_of}
+use Rattle.markdown_chains.specs.Document.{Shape, leaf, enclosed, plain, backslash_break, unresolved, Label}
+use Rattle.markdown_chains.specs.Setting.{Known}
+use Rattle.markdown_brackets.specs.BracketDecision.{Around, Closing, Progress, block_text}
+use Rattle.markdown_brackets.specs.ClosingBracket.{closed}
+use Rattle.markdown_brackets.specs.QuestionEnds.{AsksAtMost, AsksNothing, EndApart, HoldsNoOpener, StandInLine, StandsInLine, closers_among}
+use Rattle.markdown_brackets.specs.QuestionEnds.{closes_bracket}
+use Rattle.markdown_brackets.specs.ReadChain.{Reader, among, begun, closing, opened, read, read_as, read_chain, read_past}
+use Rattle.markdown_brackets.specs.Reference.{is_closer}
+use Rattle.markdown_brackets.proofs.AsksAboutLemmas.{Asks, AsksFull, AsksNone, AsksOwn, AtMostOneTo, Told, closed_told, full_label, told_by}
+use Rattle.markdown_brackets.proofs.LabelPairLemmas.{IsLabelFrom, first_byte, labels_apart}
+
+-- cutting leaves it open what an item opens or closes
+cut_body : (n : ℕ) (shape : Shape) → open_body (cut_shape n shape) ≡ open_body shape
+cut_body n (leaf e origins) = refl
+cut_body n (enclosed tag) = refl
+cut_body n plain = refl
+cut_body n backslash_break = refl
+cut_body n (unresolved b) = refl
+
+-- ---- how many questions
+
+-- so many questions more at most, and none at a limit of 0, which stays 0
+record MoreAtMost (closers : ℕ) (s t : Told) : Type 0 where
+  once : length t.asked ≤ length s.asked + closers
+  silent : s.limit ≡ 0 → (t.limit ≡ 0) × (t.asked ≡ s.asked)
+
+no_more : (closers : ℕ) (s t : Told) → t ≡ s → MoreAtMost closers s t
+no_more closers s t e =
+    let size : length t.asked ≡ length s.asked = ap (λ (u : Told). length u.asked) e in
+    record {
+      once = omega (arith, size);
+      silent = λ z. (ap (λ (u : Told). u.limit) e ∙ z, ap (λ (u : Told). u.asked) e);
+    }
+
+both_more : (n m : ℕ) (s t u : Told) → MoreAtMost n s t → MoreAtMost m t u → MoreAtMost (n + m) s u
+both_more n m s t u first second = record {
+  once = omega (arith, first.once, second.once);
+  silent = λ z. let h = first.silent z in let k = second.silent h.0 in (k.0, k.1 ∙ h.1);
+}
+
+one_at_most : (end : ℕ) (more : List Question) → AtMostOneTo end more → length more ≤ 1
+one_at_most end [] h = omega arith
+one_at_most end (q ∷ []) h = omega arith
+one_at_most end (q ∷ r ∷ more) h = absurd h
+
+few_asked : {A : Type 0} (w : Around) (c : Closing A) (s t : Told) (h : Asks w c s t) → length h.more ≤ 1
+few_asked w c s t h = ⊎_elim
+    (λ (k : AsksFull w c h.more s.spent t.spent). one_at_most k.end h.more k.most)
+    (λ (k : AsksOwn w c h.more s.spent t.spent ⊎ AsksNone w c h.more s.spent t.spent). ⊎_elim
+    (λ (k : AsksOwn w c h.more s.spent t.spent). one_at_most (end_of c.label) h.more k.most)
+    (λ (k : AsksNone w c h.more s.spent t.spent). let none = ap length k.none in omega (arith, none)) k) h.way
+
+closer_more : {A : Type 0} (w : Around) (c : Closing A) (s t : Told) → Asks w c s t → MoreAtMost 1 s t
+closer_more w c s t h =
+    let sum : length t.asked ≡ length s.asked + length h.more = ap length h.asked ∙ length-append s.asked h.more in
+    let same : (more : List Question) → more ≡ [] → s.asked ++ more ≡ s.asked =
+    λ more e. ap (λ (more : List Question). s.asked ++ more) e ∙ append-nil s.asked in
+    record {
+      once = omega (arith, few_asked w c s t h, sum);
+      silent = λ z. ((h.silent z).0, h.asked ∙ same h.more (h.silent z).1);
+    }
+
+abbrev one_if : Bool → ℕ
+one_if b = cond b 1 0
+
+module _ {A : Type 0} (w : Around) (others : Reader A) (nothing : AsksNothing others) where
+  other_told : (a : Label A) (below rest : Forest (Label A)) (p : Progress A) → told_by (others a below rest p) ≡ told_by p
+  other_told a below rest p = ap told_by (nothing a below rest p)
+
+  read_as_more : (b : ItemBody) (a : Label A) (below rest : Forest (Label A)) (p : Progress A)
+      → MoreAtMost (one_if (is_closer b)) (told_by p) (told_by (read_as w others b a below rest p))
+  read_as_more body.MaybeLinkOpen a below rest p = no_more 0 (told_by p) (told_by (opened w false a rest p)) refl
+  read_as_more body.MaybeImage a below rest p = no_more 0 (told_by p) (told_by (opened w true a rest p)) refl
+  read_as_more (body.MaybeLinkClose could) a below rest p =
+      let c : Closing A = closing could a rest p in
+      closer_more w c (told_by p) (told_by (closed w c p)) (closed_told w c p)
+  read_as_more other a below rest p =
+      no_more (one_if (is_closer other)) (told_by p) (told_by (others a below rest p)) (other_told a below rest p)
+
+  read_past_more : (goes_on : Option ℕ) (a : Label A) (below rest : Forest (Label A)) (p : Progress A)
+      → MoreAtMost (one_if (closes_bracket a)) (told_by p) (told_by (read_past w others goes_on a below rest p))
+  read_past_more None a below rest p = read_as_more (open_body a.part.shape) a below rest p
+  read_past_more (Some i) a below rest p = by (nat_le (end_of a) i)
+    where
+      after : Progress A
+      after = read w others (begun_at i a) below rest (record p { goes_on = None })
+
+      here : MoreAtMost (one_if (closes_bracket a)) (told_by p) (told_by after)
+      here = subst (λ (b : ItemBody). MoreAtMost (one_if (is_closer b)) (told_by p) (told_by after))
+          (cut_body (i - start_of a) a.part.shape)
+          (read_as_more (open_body (begun_at i a).part.shape) (begun_at i a) below rest (record p { goes_on = None }))
+
+      by : (b : Bool) → MoreAtMost (one_if (closes_bracket a)) (told_by p) (told_by (cond b p after))
+      by true = no_more (one_if (closes_bracket a)) (told_by p) (told_by p) refl
+      by false = here
+
+  chain_more : (chain : Forest (Label A)) (p : Progress A)
+      → MoreAtMost (closers_among (roots chain)) (told_by p) (told_by (read_chain w others chain p))
+  unfolding read_chain
+  chain_more nil p = no_more 0 (told_by p) (told_by p) refl
+  chain_more (node a below rest) p =
+      let here : Progress A = read_past w others p.goes_on a below rest p in
+      let later = chain_more rest here in
+      subst (λ (n : ℕ). MoreAtMost n (told_by p) (told_by (read_chain w others rest here)))
+      (sym (sum_by-cons (λ (a : Label A). one_if (closes_bracket a)) a (roots rest)))
+      (both_more (one_if (closes_bracket a)) (closers_among (roots rest)) (told_by p) (told_by here)
+      (told_by (read_chain w others rest here)) (read_past_more p.goes_on a below rest p) later)
+
+  pub asks_at_most : (chain : Forest (Label A)) (known : Known)
+      → AsksAtMost (closers_among (roots chain)) known.limit (read_chain w others chain (begun known)).asked
+  asks_at_most chain known = let h = chain_more chain (begun known) in record { once = omega (arith, h.once); silent = λ z. (h.silent z).1 }
+
+  -- a limit of 0 stays
+  pub stays_zero : (chain : Forest (Label A)) (known : Known) → known.limit ≡ 0 → (read_chain w others chain (begun known)).known.limit ≡ 0
+  stays_zero chain known z = ((chain_more chain (begun known)).silent z).0
+
+-- ---- where they end
+
+-- what holds of all, where one thing follows from another
+all_also : {X : Type 0} (P Q : X → Type 0) → ((x : X) → P x → Q x) → (xs : List X) → AllByRecursion P xs → AllByRecursion Q xs
+all_also P Q f [] h = tt
+all_also P Q f (x ∷ xs) h = (f x h.0, all_also P Q f xs h.1)
+
+all_pushed : {X : Type 0} (P : X → Type 0) (xs : List X) (x : X) → AllByRecursion P xs → P x → AllByRecursion P (xs ++ x ∷ [])
+all_pushed P [] x h k = (k, tt)
+all_pushed P (y ∷ xs) x h k = (h.0, all_pushed P xs x h.1 k)
+
+-- a question that ends where none of them does
+none_there : (end : ℕ) (questions : List Question) → AllByRecursion (λ q. (end ≡ q.span.end) → ⊥) questions
+    → list_any (nat_eq end) (map (λ q. q.span.end) questions) ≡ false
+none_there end [] h = refl
+none_there end (q ∷ questions) h =
+    neither (nat_eq end q.span.end) (list_any (nat_eq end) (map (λ q. q.span.end) questions)) (apart h.0) (none_there end questions h.1)
+  where
+    apart : ((end ≡ q.span.end) → ⊥) → nat_eq end q.span.end ≡ false
+    apart h = grind (arith, nat_tests, h)
+
+    neither : (a b : Bool) → a ≡ false → b ≡ false → (a || b) ≡ false
+    neither a b e f = rw (e, f) refl
+
+apart_pushed : (questions : List Question) (q : Question) → EndApart questions
+    → AllByRecursion (λ r. (q.span.end ≡ r.span.end) → ⊥) questions → EndApart (questions ++ q ∷ [])
+apart_pushed questions q h k =
+    subst (IsDistinct nat_eq) (sym (map-append (λ (q : Question). q.span.end) questions (q ∷ [])))
+    (IsDistinct-push nat_eq_equiv (map (λ (q : Question). q.span.end) questions) q.span.end h (none_there q.span.end questions k))
+
+among_more : (n m : ℕ) (ms : List ℕ) → among n ms ≡ true → among n (m ∷ ms) ≡ true
+among_more n m ms h = by (n == m)
+  where
+    by : (b : Bool) → (b || among n ms) ≡ true
+    by true = refl
+    by false = h
+
+-- a label that follows a `]` by a byte ends there, whose own `]` is used up
+record IsUsedUp (w : Around) (last : ℕ) (spent : List ℕ) (end : ℕ) : Type 0 where
+  used : among end spent ≡ true
+  from : ℕ
+  behind : from ≤ last
+  label : IsLabelFrom w.skipped (block_text w) from end
+
+-- each question ends at a byte or before, or with such a label
+abbrev EndsBy : Around → ℕ → List ℕ → Question → Type 0
+EndsBy w last spent q = (q.span.end ≤ last) ⊎ IsUsedUp w last spent q.span.end
+
+record IsToldTo (w : Around) (last : ℕ) (t : Told) : Type 0 where
+  apart : EndApart t.asked
+  each : AllByRecursion (EndsBy w last t.spent) t.asked
+
+used_later : (w : Around) (last later : ℕ) (spent spent' : List ℕ) (end : ℕ) → last ≤ later
+    → (among end spent ≡ true → among end spent' ≡ true) → IsUsedUp w last spent end → IsUsedUp w later spent' end
+used_later w last later spent spent' end l more k =
+    record { used = more k.used; from = k.from; behind = omega (arith, k.behind, l); label = k.label }
+
+ends_later : (w : Around) (last later : ℕ) (spent spent' : List ℕ) (q : Question) → last ≤ later
+    → (among q.span.end spent ≡ true → among q.span.end spent' ≡ true) → EndsBy w last spent q → EndsBy w later spent' q
+ends_later w last later spent spent' q l more k = ⊎_elim
+    (λ (k : q.span.end ≤ last). inl (omega (arith, k, l)))
+    (λ (k : IsUsedUp w last spent q.span.end). inr (used_later w last later spent spent' q.span.end l more k)) k
+
+told_later : (w : Around) (last later : ℕ) (t : Told) → last ≤ later → IsToldTo w last t → IsToldTo w later t
+told_later w last later t l h = record {
+  apart = h.apart;
+  each = all_also (EndsBy w last t.spent) (EndsBy w later t.spent) (λ q k. ends_later w last later t.spent t.spent q l (λ u. u) k)
+      t.asked h.each;
+}
+
+-- behind the items by a byte stands a `]` up to another
+pub record ClosesUpTo (text : List ℕ) (last end : ℕ) : Type 0 where
+  pub later : last < end
+  pub byte : get_or text (end - 1) 0 ≡ 93
+
+among_first : (n m : ℕ) (ms : List ℕ) → n ≡ m → among n (m ∷ ms) ≡ true
+among_first n m ms e = grind (arith, nat_tests)
+
+module _ {A : Type 0} (w : Around) (none : HoldsNoOpener w.skipped) (c : Closing A) (last : ℕ)
+    (at : ClosesUpTo w.setting.text last (end_of c.label)) where
+  abbrev here : ℕ
+  here = end_of c.label
+
+  -- no earlier question ends where the label ends that follows
+  full_apart : (spent : List ℕ) (end : ℕ) → IsLabelFrom w.skipped (block_text w) here end → (q : Question) → EndsBy w last spent q
+      → (end ≡ q.span.end) → ⊥
+  full_apart spent end label q (inl l) e = absurd (omega (arith, l, label.ends, at.later, e))
+  full_apart spent end label q (inr k) e =
+      let first = first_byte w.skipped (block_text w) here end label in
+      let size = length-take w.above.block_end w.setting.text in
+      let within : here < w.above.block_end = omega (arith, first.0, size) in
+      let byte = get_or-take w.above.block_end w.setting.text (here - 1) 0 (omega (arith, within)) ∙ at.byte in
+      let earlier = subst (IsLabelFrom w.skipped (block_text w) k.from) (sym e) k.label in
+      labels_apart w.skipped none (block_text w) k.from here end earlier label (omega (arith, k.behind, at.later)) byte
+
+  -- nor where the `]` ends, where that is not used up
+  own_apart : (spent : List ℕ) → among here spent ≡ false → (q : Question) → EndsBy w last spent q → (here ≡ q.span.end) → ⊥
+  own_apart spent unused q (inl l) e = absurd (omega (arith, l, at.later, e))
+  own_apart spent unused q (inr k) e = let used : among here spent ≡ true = rw e k.used in absurd (cc (used, unused))
+
+  abbrev ToldWith : List Question → List ℕ → ℕ → Type 0
+  ToldWith asked spent limit = IsToldTo w here (record { asked = asked; spent = spent; limit = limit })
+
+  -- one question more at most, which ends elsewhere
+  pushed : (asked : List Question) (spent : List ℕ) (limit end : ℕ) (more : List Question) → AtMostOneTo end more → EndApart asked
+      → AllByRecursion (EndsBy w here spent) asked → AllByRecursion (λ r. (end ≡ r.span.end) → ⊥) asked
+      → ((q : Question) → q.span.end ≡ end → EndsBy w here spent q) → ToldWith (asked ++ more) spent limit
+  pushed asked spent limit end [] most apart each elsewhere new =
+      subst (λ (asked : List Question). ToldWith asked spent limit) (sym (append-nil asked)) (record { apart = apart; each = each })
+  pushed asked spent limit end (q ∷ []) most apart each elsewhere new =
+      let other = all_also (λ r. (end ≡ r.span.end) → ⊥) (λ r. (q.span.end ≡ r.span.end) → ⊥) (λ r h e. h (sym most ∙ e)) asked elsewhere in
+      record { apart = apart_pushed asked q apart other; each = all_pushed (EndsBy w here spent) asked q each (new q most) }
+  pushed asked spent limit end (q ∷ r ∷ more) most apart each elsewhere new = absurd most
+
+  module _ (s t : Told) (so : IsToldTo w last s) where
+    abbrev later : IsToldTo w here s
+    later = told_later w last here s (omega (arith, at.later)) so
+
+    -- about the label that follows
+    full_told : (more : List Question) → AsksFull w c more s.spent t.spent → ToldWith (s.asked ++ more) t.spent t.limit
+    full_told more k =
+        let label = full_label w c k.label k.end k.form in
+        let kept = all_also (EndsBy w here s.spent) (EndsBy w here (k.end ∷ s.spent))
+        (λ q j. ends_later w here here s.spent (k.end ∷ s.spent) q (omega arith) (λ u. among_more q.span.end k.end s.spent u) j)
+        s.asked later.each in
+        let other = all_also (EndsBy w last s.spent) (λ r. (k.end ≡ r.span.end) → ⊥) (full_apart s.spent k.end label) s.asked so.each in
+        let new = λ (q : Question) (e : q.span.end ≡ k.end). inr (record {
+          used = among_first q.span.end k.end s.spent e;
+          from = here;
+          behind = omega arith;
+          label = subst (IsLabelFrom w.skipped (block_text w) here) (sym e) label;
+        }) in
+        subst (λ (spent : List ℕ). ToldWith (s.asked ++ more) spent t.limit) (sym k.spends)
+        (pushed s.asked (k.end ∷ s.spent) t.limit k.end more k.most so.apart kept other new)
+
+    -- about the label that the `]` ends
+    own_told : (c.could_be_reference ≡ true → among here s.spent ≡ false) → (more : List Question) → AsksOwn w c more s.spent t.spent
+        → ToldWith (s.asked ++ more) t.spent t.limit
+    own_told unused more k =
+        let other = all_also (EndsBy w last s.spent) (λ r. (here ≡ r.span.end) → ⊥) (own_apart s.spent (unused k.could)) s.asked so.each in
+        subst (λ (spent : List ℕ). ToldWith (s.asked ++ more) spent t.limit) (sym k.keeps)
+        (pushed s.asked s.spent t.limit here more k.most so.apart later.each other (λ q e. inl (omega (arith, e))))
+
+    -- about none
+    none_told : (more : List Question) → AsksNone w c more s.spent t.spent → ToldWith (s.asked ++ more) t.spent t.limit
+    none_told more k = rw (k.keeps, k.none, append-nil) (record { apart = later.apart; each = later.each })
+
+    closer_told : (c.could_be_reference ≡ true → among here s.spent ≡ false) → Asks w c s t → IsToldTo w here t
+    closer_told unused h =
+        let otherwise = λ (k : AsksOwn w c h.more s.spent t.spent ⊎ AsksNone w c h.more s.spent t.spent).
+        ⊎_elim (own_told unused h.more) (none_told h.more) k in
+        let told = ⊎_elim (full_told h.more) otherwise h.way in
+        subst (λ (asked : List Question). ToldWith asked t.spent t.limit) (sym h.asked) told
+
+-- a `]` stands over one byte
+one_byte : (text : List ℕ) (start end : ℕ) → end ≤ length text → slice_range text start end ≡ 93 ∷ []
+    → (start < end) × (get_or text (end - 1) 0 ≡ 93)
+one_byte text start end within bytes =
+    let size : length (slice_range text start end) ≡ 1 = ap length bytes in
+    let sizes = length-take (end - start) (drop start text) in
+    let left = length-drop start text in
+    let long : end ≡ start + 1 = omega (arith, size, sizes, left, within) in
+    let first : get_or (take (end - start) (drop start text)) 0 0 ≡ 93 = ap (λ (xs : List ℕ). get_or xs 0 0) bytes in
+    let place : end - 1 ≡ start + 0 = omega (arith, long) in (
+      omega (arith, long),
+      ap (λ (i : ℕ). get_or text i 0) place ∙ sym (get_or-drop start text 0 0)
+          ∙ sym (get_or-take (end - start) (drop start text) 0 0 (omega (arith, long))) ∙ first,
+    )
+
+-- of an item that is a `]`, up to a byte
+abbrev IfCloses : List ℕ → ℕ → ItemBody → ℕ → Type 0
+IfCloses text last (body.MaybeLinkClose could) end = ClosesUpTo text last end
+IfCloses text last other end = Unit {0}
+
+if_closes : {A : Type 0} (text : List ℕ) (last : ℕ) (b : ItemBody) (a : Label A) (next : Option (Label A)) → StandsInLine text a next
+    → open_body a.part.shape ≡ b → last ≤ start_of a
+    → IfCloses text last b (end_of a)
+if_closes text last (body.MaybeLinkClose could) a next h is l =
+    let over = subst (StandsOverMarkup (slice_range text (start_of a) (end_of a))) is h.markup_is_there in
+    let r = one_byte text (start_of a) (end_of a) h.lies.end.0 over in
+    record { later = omega (arith, r.0, l); byte = r.1 }
+if_closes text last other a next h is l = tt
+
+unused_then : (could used : Bool) → (could && not used) ≡ true → used ≡ false
+unused_then could true h = by could h
+  where
+    by : (could : Bool) → (could && not true) ≡ true → true ≡ false
+    by true h = cc h
+    by false h = cc h
+unused_then could false h = refl
+
+module _ {A : Type 0} (w : Around) (others : Reader A) (nothing : AsksNothing others) (none : HoldsNoOpener w.skipped) where
+  read_as_told : (b : ItemBody) (a : Label A) (below rest : Forest (Label A)) (p : Progress A) (last : ℕ) → last ≤ end_of a
+      → IfCloses w.setting.text last b (end_of a)
+      → IsToldTo w last (told_by p) → IsToldTo w (end_of a) (told_by (read_as w others b a below rest p))
+  read_as_told body.MaybeLinkOpen a below rest p last l at so = told_later w last (end_of a) (told_by p) l so
+  read_as_told body.MaybeImage a below rest p last l at so = told_later w last (end_of a) (told_by p) l so
+  read_as_told (body.MaybeLinkClose could) a below rest p last l at so =
+      let c : Closing A = closing could a rest p in
+      let unused = unused_then could (among (end_of a) p.spent) in
+      closer_told w none c last at (told_by p) (told_by (closed w c p)) so unused (closed_told w c p)
+  read_as_told other a below rest p last l at so =
+      subst (IsToldTo w (end_of a)) (sym (other_told w others nothing a below rest p)) (told_later w last (end_of a) (told_by p) l so)
+
+  read_past_told : (goes_on : Option ℕ) (a : Label A) (below rest : Forest (Label A)) (p : Progress A) (last : ℕ) → last ≤ end_of a
+      → IfCloses w.setting.text last (open_body a.part.shape) (end_of a)
+      → IsToldTo w last (told_by p) → IsToldTo w (end_of a) (told_by (read_past w others goes_on a below rest p))
+  read_past_told None a below rest p last l at so = read_as_told (open_body a.part.shape) a below rest p last l at so
+  read_past_told (Some i) a below rest p last l at so = by (nat_le (end_of a) i)
+    where
+      by : (b : Bool) → IsToldTo w (end_of a) (told_by (cond b p (read w others (begun_at i a) below rest (record p { goes_on = None }))))
+      by true = told_later w last (end_of a) (told_by p) l so
+      by false =
+          read_as_told (open_body (begun_at i a).part.shape) (begun_at i a) below rest (record p { goes_on = None }) last l
+          (subst (λ (b : ItemBody). IfCloses w.setting.text last b (end_of a)) (sym (cut_body (i - start_of a) a.part.shape)) at) so
+
+  chain_told : (chain : Forest (Label A)) (p : Progress A) (last : ℕ) → StandInLine w.setting.text chain
+      → IfSome (first_root chain) (λ a. last ≤ start_of a) → IsToldTo w last (told_by p)
+      → EndApart (read_chain w others chain p).asked
+  unfolding read_chain
+  chain_told nil p last stand l so = so.apart
+  chain_told (node a below rest) p last stand l so =
+      let ordered : start_of a ≤ end_of a = stand.0.lies.ordered in
+      let at = if_closes w.setting.text last (open_body a.part.shape) a (first_root rest) stand.0 refl l in
+      chain_told rest (read_past w others p.goes_on a below rest p) (end_of a) stand.1 stand.0.in_order
+      (read_past_told p.goes_on a below rest p last (omega (arith, l, ordered)) at so)
+
+  pub end_apart : (chain : Forest (Label A)) (known : Known) → StandInLine w.setting.text chain
+      → EndApart (read_chain w others chain (begun known)).asked
+  unfolding IsDistinct
+  end_apart chain known stand = chain_told chain (begun known) 0 stand (from_start chain) (record { apart = tt; each = tt })
+    where
+      from_start : (chain : Forest (Label A)) → IfSome (first_root chain) (λ a. 0 ≤ start_of a)
+      from_start nil = tt
+      from_start (node a below rest) = omega arith

@@ -1,0 +1,65 @@
+-- What reading a chain asks: at most one question for each `]`, none where references may expand to no byte, and no two
+-- that end at the same byte, where items stand in order and over their markup.
+use Rattle.std.specs.Prelude.{◌≡◌, ℕ, ◌≤◌, ⊤, Bool, false, List, [], map, Option, IfSome, length, nat_eq, take}
+use Rattle.std.specs.Prelude.{count_by}
+use Rattle.std.specs.List.{IsDistinct, list_any}
+use Rattle.markdown_base.specs.Forest.{Forest, nil, node, first_root, roots}
+use Rattle.markdown_base.specs.Item.{LiesIn}
+use Rattle.markdown_base.specs.Questions.{Question}
+use Rattle.markdown_base.specs.WellFormed.{MarkupIsThere}
+use Rattle.markdown_chains.specs.ChainRest.{as_item, end_of, open_body, start_of}
+use Rattle.markdown_chains.specs.Document.{Label}
+use Rattle.markdown_chains.specs.Setting.{Known}
+use Rattle.markdown_brackets.specs.BracketDecision.{Around, Progress}
+use Rattle.markdown_brackets.specs.ReadChain.{Reader, begun, read_chain}
+use Rattle.markdown_brackets.specs.Reference.{is_closer}
+
+-- it is a `]` of which it is open what it becomes
+abbrev pub closes_bracket : {A : Type 0} → Label A → Bool
+closes_bracket a = is_closer (open_body a.part.shape)
+
+-- how many of some items are
+abbrev pub closers_among : {A : Type 0} → List (Label A) → ℕ
+closers_among items = count_by closes_bracket items
+
+-- so many questions are asked at most, and none at a limit of 0
+pub record AsksAtMost (closers limit : ℕ) (questions : List Question) : Type 0 where
+  pub once : length questions ≤ closers
+  pub silent : limit ≡ 0 → questions ≡ []
+
+-- no two questions end at the same byte
+abbrev pub EndApart : List Question → Type 0
+EndApart questions = IsDistinct nat_eq (map (λ q. q.span.end) questions)
+
+-- an item lies in the text, stands over its markup, and before the item that follows
+pub record StandsInLine {A : Type 0} (source : List ℕ) (a : Label A) (next : Option (Label A)) : Type 0 where
+  pub lies : LiesIn source (as_item a)
+  pub markup_is_there : MarkupIsThere source (as_item a)
+  pub in_order : IfSome next (λ b. end_of a ≤ start_of b)
+
+-- so does each item of a chain
+abbrev pub StandInLine : {A : Type 0} → List ℕ → Forest (Label A) → Type 0
+StandInLine source nil = ⊤
+StandInLine source (node a below after) = StandsInLine source a (first_root after) × StandInLine source after
+
+-- no `[` stands in the prefix of a line
+abbrev pub HoldsNoOpener : (List ℕ → Option ℕ) → Type 0
+HoldsNoOpener skipped = (bytes : List ℕ) → IfSome (skipped bytes) (λ n. list_any (nat_eq 91) (take n bytes) ≡ false)
+
+-- a rule for other items asks nothing, takes nothing off the limit, and uses up no `]`
+abbrev pub AsksNothing : {A : Type 0} → Reader A → Type 0
+AsksNothing {A} others = (a : Label A) (below rest : Forest (Label A)) (p : Progress A)
+    → let q : Progress A = others a below rest p in
+    q ≡ record p { left = q.left; goes_on = q.goes_on; made = q.made }
+
+-- each `]` asks one question at most, and at a limit of 0 none asks
+abbrev pub QuestionCountLaw : Type 0 → Type 0
+QuestionCountLaw A = (w : Around) (others : Reader A) → AsksNothing others
+    → (chain : Forest (Label A)) (known : Known)
+    → AsksAtMost (closers_among (roots chain)) known.limit (read_chain w others chain (begun known)).asked
+
+-- and no two questions end at the same byte
+abbrev pub QuestionEndsLaw : Type 0 → Type 0
+QuestionEndsLaw A = (w : Around) (others : Reader A) → AsksNothing others → HoldsNoOpener w.skipped
+    → (chain : Forest (Label A)) (known : Known) → StandInLine w.setting.text chain
+    → EndApart (read_chain w others chain (begun known)).asked
