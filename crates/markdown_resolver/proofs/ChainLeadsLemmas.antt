@@ -69,9 +69,11 @@ any_link (Some n) = omega arith
 pub leads_items : (source : List ℕ) (tables : Tables) (nodes : List (Node Item)) (l : Option ℕ) → CanResolve source tables nodes l
     → LeadsThrough nodes 0 l (items_along nodes (forest_at (links_of nodes) l))
 leads_items source tables nodes l ready =
-    leads_along source tables nodes 0 l (forest_at (links_of nodes) l) ready.reaches.spelled ready.reaches.each ready.quiet_below (any_link l)
+    leads_along source tables nodes 0 l (forest_at (links_of nodes) l) ready.reaches.spelled ready.reaches.each ready.quiet_below
+    (any_link l)
 
-pub chain_leads : (source : List ℕ) (tables : Tables) (nodes : List (Node Item)) (l : Option ℕ) → CanResolve source tables nodes l → HasChain nodes l
+pub chain_leads : (source : List ℕ) (tables : Tables) (nodes : List (Node Item)) (l : Option ℕ) → CanResolve source tables nodes l
+    → HasChain nodes l
 chain_leads source tables nodes l ready =
     record { low = 0; chain = items_along nodes (forest_at (links_of nodes) l); leads = leads_items source tables nodes l ready }
 
@@ -92,19 +94,23 @@ holds_past_byte kind learned nodes i low l (a ∷ after) h holds =
     by_end true later = later
     by_end false later = holds_alike kind (a ∷ after) (begun_number i a ∷ after) learned (λ n stands. stands) refl holds
 
-holds_of_past : (kind : SpanKind) (learned : Learned) (nodes : List (Node Item)) (goes_on : Option ℕ) (low : ℕ) (l : Option ℕ) (chain : List Numbered)
+holds_of_past : (kind : SpanKind) (learned : Learned) (nodes : List (Node Item)) (goes_on : Option ℕ) (low : ℕ) (l : Option ℕ)
+    (chain : List Numbered)
     → LeadsThrough nodes low l chain → HoldsOf kind learned chain → HoldsOf kind learned (numbered_past goes_on chain)
 holds_of_past kind learned nodes None low l chain h holds = holds
 holds_of_past kind learned nodes (Some i) low l chain h holds = holds_past_byte kind learned nodes i low l chain h holds
 
 -- so it is where the chain was rewritten up to that byte
-pub holds_past : (kind : SpanKind) (learned : Learned) (old new : List (Node Item)) (ix : ℕ) (goes_on next : Option ℕ) → HasChain old (sibling_of old ix)
-    → ((low : ℕ) (after : List Numbered) → LeadsThrough old low (sibling_of old ix) after → LeadsThrough new low next (numbered_past goes_on after))
+pub holds_past : (kind : SpanKind) (learned : Learned) (old new : List (Node Item)) (ix : ℕ) (goes_on next : Option ℕ)
+    → HasChain old (sibling_of old ix)
+    → ((low : ℕ) (after : List Numbered) → LeadsThrough old low (sibling_of old ix) after
+    → LeadsThrough new low next (numbered_past goes_on after))
     → HoldsFrom kind learned old (sibling_of old ix) → HoldsFrom kind learned new next
 holds_past kind learned old new ix goes_on next has leads holds =
     holds_from kind new has.low next (numbered_past goes_on has.chain) learned (leads has.low has.chain has.leads)
     (holds_of_past kind learned old goes_on has.low (sibling_of old ix) has.chain has.leads (holds has.low has.chain has.leads))
 
 -- and of the items after its first one
-pub holds_next : (kind : SpanKind) (learned : Learned) (nodes : List (Node Item)) (ix : ℕ) → HasChain nodes (Some ix) → HoldsFrom kind learned nodes (Some ix) → HoldsFrom kind learned nodes (sibling_of nodes ix)
+pub holds_next : (kind : SpanKind) (learned : Learned) (nodes : List (Node Item)) (ix : ℕ) → HasChain nodes (Some ix)
+    → HoldsFrom kind learned nodes (Some ix) → HoldsFrom kind learned nodes (sibling_of nodes ix)
 holds_next kind learned nodes ix has holds = before.holds_next kind nodes ix learned has holds

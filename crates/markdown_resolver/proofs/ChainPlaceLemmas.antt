@@ -1,6 +1,7 @@
 -- What stands above a chain: of the nodes gone into only the blocks take part of a line's prefix, and each is a node of
 -- the tree.
-use Rattle.std.proofs.Common.{◌≡◌, ℕ, zero, suc, ◌<◌, ◌≤◌, ◌+◌, Bool, true, false, List, [], ◌∷◌, ◌++◌, Option, Some, None, length, map, drop, get_or, refl, sym, ap, ◌∙◌, arith, append_assoc, append-nil}
+use Rattle.std.proofs.Common.{◌≡◌, ℕ, zero, suc, ◌<◌, ◌≤◌, ◌+◌, Bool, true, false, List, [], ◌∷◌, ◌++◌, Option, Some, None, length, map}
+use Rattle.std.proofs.Common.{drop, get_or, refl, sym, ap, ◌∙◌, arith, append_assoc, append-nil}
 use Rattle.std.specs.Prelude.{if◌then◌else◌, slice_index}
 use Rattle.std.specs.Str.{IsCharBoundary}
 use Rattle.std.proofs.lemmas.List.{drop_all, drop_more}
@@ -35,13 +36,15 @@ blocks_in nodes [] = []
 blocks_in nodes (ix ∷ deeper) = with_block (block_of (item_at nodes ix).body) (blocks_in nodes deeper)
 
 -- these are what the nodes of a spine add
-bodies_inside : (nodes : List (Node Item)) (spine : List ℕ) (above : Above) → (inside_all nodes spine above).bodies ≡ above.bodies ++ blocks_in nodes spine
+bodies_inside : (nodes : List (Node Item)) (spine : List ℕ) (above : Above) → (inside_all nodes spine above).bodies ≡ above.bodies
+    ++ blocks_in nodes spine
 unfolding blocks_in with_block
 bodies_inside nodes [] above = sym (append-nil above.bodies)
 bodies_inside nodes (ix ∷ deeper) above =
     bodies_inside nodes deeper (inside_item (item_at nodes ix) above) ∙ added (block_of (item_at nodes ix).body)
   where
-    added : (block : Option ItemBody) → (inside block (range_of (item_at nodes ix)) above).bodies ++ blocks_in nodes deeper ≡ above.bodies ++ with_block block (blocks_in nodes deeper)
+    added : (block : Option ItemBody) → (inside block (range_of (item_at nodes ix)) above).bodies ++ blocks_in nodes deeper ≡ above.bodies
+        ++ with_block block (blocks_in nodes deeper)
     added None = refl
     added (Some block) = append_assoc above.bodies (block ∷ []) (blocks_in nodes deeper)
 
@@ -61,15 +64,18 @@ same_left gfm nodes [] line = refl
 same_left gfm nodes (ix ∷ deeper) line = by_block (is_block (item_at nodes ix).body) refl (λ after. same_left gfm nodes deeper after)
   where
     read : (found : Option LineLeft)
-        → ((after : LineLeft) → past_blocks gfm (map (λ n. (item_at nodes n).body) deeper) after ≡ past_blocks gfm (blocks_in nodes deeper) after)
+        → ((after : LineLeft) → past_blocks gfm (map (λ n. (item_at nodes n).body) deeper) after ≡ past_blocks gfm (blocks_in nodes deeper)
+        after)
         → elim found as (λ x. LineLeft) [ Some after ↦ past_blocks gfm (map (λ n. (item_at nodes n).body) deeper) after | None ↦ line ]
         ≡ elim found as (λ x. LineLeft) [ Some after ↦ past_blocks gfm (blocks_in nodes deeper) after | None ↦ line ]
     read None later = refl
     read (Some after) later = later after
 
     by_block : (is : Bool) → is_block (item_at nodes ix).body ≡ is
-        → ((after : LineLeft) → past_blocks gfm (map (λ n. (item_at nodes n).body) deeper) after ≡ past_blocks gfm (blocks_in nodes deeper) after)
-        → elim (past_block gfm (item_at nodes ix).body line) as (λ x. LineLeft) [ Some after ↦ past_blocks gfm (map (λ n. (item_at nodes n).body) deeper) after | None ↦ line ]
+        → ((after : LineLeft) → past_blocks gfm (map (λ n. (item_at nodes n).body) deeper) after ≡ past_blocks gfm (blocks_in nodes deeper)
+        after)
+        → elim (past_block gfm (item_at nodes ix).body line) as (λ x. LineLeft)
+        [ Some after ↦ past_blocks gfm (map (λ n. (item_at nodes n).body) deeper) after | None ↦ line ]
         ≡ past_blocks gfm (with_block (if is then Some (item_at nodes ix).body else None) (blocks_in nodes deeper)) line
     by_block true e later = read (past_block gfm (item_at nodes ix).body line) later
     by_block false e later = rw (takes_nothing gfm (item_at nodes ix).body line e) (later line)
@@ -82,7 +88,8 @@ prefix_is prefix s e bytes =
     let tree = prefix.tree.now in
     let line : LineLeft = record { scanned = 0; owed = 0; column = 0; bytes = bytes } in
     ap (λ (left : LineLeft). left.scanned) (same_left prefix.gfm_footnotes tree.nodes tree.spine line)
-    ∙ ap (λ (blocks : List ItemBody). prefix_length prefix.gfm_footnotes blocks bytes) (sym (bodies_inside tree.nodes tree.spine (no_blocks s.text)))
+    ∙ ap (λ (blocks : List ItemBody). prefix_length prefix.gfm_footnotes blocks bytes)
+    (sym (bodies_inside tree.nodes tree.spine (no_blocks s.text)))
     ∙ ap (λ (gfm : Bool). prefix_length gfm (above_cursor s.text tree).bodies bytes) e
 
 -- each node gone into is a node of the tree
@@ -114,27 +121,32 @@ nothing_read source place nodes spine i first text ends table = record {
 }
 
 -- the node of a number in a spine lies in the text
-lies_above : (source : List ℕ) (nodes : List (Node Item)) (l : Option ℕ) (spine : List ℕ) (i : ℕ) → AreAbove source nodes l spine → i < length spine
+lies_above : (source : List ℕ) (nodes : List (Node Item)) (l : Option ℕ) (spine : List ℕ) (i : ℕ) → AreAbove source nodes l spine
+    → i < length spine
     → LiesIn source (item_at nodes (get_or spine i 0))
 lies_above source nodes l [] i above h = absurd (omega (arith, h))
 lies_above source nodes l (ix ∷ deeper) zero above h = above.0.lies
 lies_above source nodes l (ix ∷ deeper) (suc i) above h = lies_above source nodes l deeper i above.1 (omega (arith, h))
 
 -- what is inside a node more
-read_next : (nodes : List (Node Item)) (spine : List ℕ) (i : ℕ) (above : Above) (block : Option ItemBody) → i < length spine → block_of (item_at nodes (get_or spine i 0)).body ≡ block
-    → inside_all nodes (drop i spine) above ≡ inside_all nodes (drop (i + 1) spine) (inside block (range_of (item_at nodes (get_or spine i 0))) above)
+read_next : (nodes : List (Node Item)) (spine : List ℕ) (i : ℕ) (above : Above) (block : Option ItemBody) → i < length spine
+    → block_of (item_at nodes (get_or spine i 0)).body ≡ block
+    → inside_all nodes (drop i spine) above ≡ inside_all nodes (drop (i + 1) spine)
+    (inside block (range_of (item_at nodes (get_or spine i 0))) above)
 read_next nodes spine i above block within is =
     ap (λ (rest : List ℕ). inside_all nodes rest above) (drop_more spine i 0 within)
     ∙ ap (λ (b : Option ItemBody). inside_all nodes (drop (i + 1) spine) (inside b (range_of (item_at nodes (get_or spine i 0))) above)) is
 
 -- a block more: the place is that of its end
-pub block_read : (source : List ℕ) (place place' : ChainPlace) (nodes : List (Node Item)) (l : Option ℕ) (spine : List ℕ) (i : ℕ) (item : Item) → AreAbove source nodes l spine → i < length spine
+pub block_read : (source : List ℕ) (place place' : ChainPlace) (nodes : List (Node Item)) (l : Option ℕ) (spine : List ℕ) (i : ℕ)
+    (item : Item) → AreAbove source nodes l spine → i < length spine
     → item ≡ item_at nodes (get_or spine i 0) → is_block item.body ≡ true
     → place'.text.now ≡ place.text.now → place'.block_end ≡ item.end → place'.in_table ≡ is_table_cell item.body
     → IsReadUpTo source place nodes spine i → IsReadUpTo source place' nodes spine (i + 1)
 block_read source place place' nodes l spine i item above within same is text ends table r =
     let here = item_at nodes (get_or spine i 0) in
-    let block : block_of here.body ≡ Some here.body = ap (λ (x : Bool). if x then Some here.body else None) (ap (λ (t : Item). is_block t.body) (sym same) ∙ is) in
+    let block : block_of here.body ≡ Some here.body = ap (λ (x : Bool). if x then Some here.body else None)
+    (ap (λ (t : Item). is_block t.body) (sym same) ∙ is) in
     let below : Above = record { block_end = place.block_end; in_table = place.in_table; bodies = r.bodies } in
     record {
       bodies = r.bodies ++ here.body ∷ [];
@@ -145,17 +157,31 @@ block_read source place place' nodes l spine i item above within same is text en
 
 -- another node more: the place is as it was
 pub other_read : (source : List ℕ) (place : ChainPlace) (nodes : List (Node Item)) (spine : List ℕ) (i : ℕ) (item : Item) → i < length spine
-    → item ≡ item_at nodes (get_or spine i 0) → is_block item.body ≡ false → IsReadUpTo source place nodes spine i → IsReadUpTo source place nodes spine (i + 1)
+    → item ≡ item_at nodes (get_or spine i 0) → is_block item.body ≡ false → IsReadUpTo source place nodes spine i
+    → IsReadUpTo source place nodes spine (i + 1)
 other_read source place nodes spine i item within same is r =
     let here = item_at nodes (get_or spine i 0) in
-    let block : block_of here.body ≡ None = ap (λ (x : Bool). if x then Some here.body else None) (ap (λ (t : Item). is_block t.body) (sym same) ∙ is) in
+    let block : block_of here.body ≡ None = ap (λ (x : Bool). if x then Some here.body else None)
+    (ap (λ (t : Item). is_block t.body) (sym same) ∙ is) in
     let below : Above = record { block_end = place.block_end; in_table = place.in_table; bodies = r.bodies } in
-    record { bodies = r.bodies; reads = sym (read_next nodes spine i below None within block) ∙ r.reads; boundary = r.boundary; text = r.text }
+    record {
+      bodies = r.bodies;
+      reads = sym (read_next nodes spine i below None within block) ∙ r.reads;
+      boundary = r.boundary;
+      text =
+          r.text;
+    }
 
 -- after the last it is that of the chain
-pub all_above_read : (source : List ℕ) (place : ChainPlace) (tree : Arena Item) (i : ℕ) → length tree.spine ≤ i → IsReadUpTo source place tree.nodes tree.spine i → IsPlaceOf place tree
+pub all_above_read : (source : List ℕ) (place : ChainPlace) (tree : Arena Item) (i : ℕ) → length tree.spine ≤ i
+    → IsReadUpTo source place tree.nodes tree.spine i → IsPlaceOf place tree
 all_above_read source place tree i past r =
-    let e = ap (λ (rest : List ℕ). inside_all tree.nodes rest (record { block_end = place.block_end; in_table = place.in_table; bodies = r.bodies })) (sym (drop_all i tree.spine past)) ∙ r.reads in
+    let e = ap (λ (rest : List ℕ). inside_all tree.nodes rest (record {
+      block_end = place.block_end;
+      in_table = place.in_table;
+      bodies =
+          r.bodies;
+    })) (sym (drop_all i tree.spine past)) ∙ r.reads in
     record {
       block_end = rw r.text (ap (λ (a : Above). a.block_end) e);
       in_table = rw r.text (ap (λ (a : Above). a.in_table) e);

@@ -30,16 +30,19 @@ use Rattle.markdown_spans.specs.Footnotes.{footnote_at}
 
 -- the setting of a chain stays where its text, the options, the definitions, the names of its footnotes, and whether there is
 -- somebody to ask stay
-pub same_setting : (text text' : List ℕ) (options options' : Options) (held held' : Allocated) (asks asks' : Bool) → text' ≡ text → options' ≡ options → held'.refdefs ≡ held.refdefs
+pub same_setting : (text text' : List ℕ) (options options' : Options) (held held' : Allocated) (asks asks' : Bool) → text' ≡ text
+    → options' ≡ options → held'.refdefs ≡ held.refdefs
     → ((name : List ℕ) → is_some (footnote_at held'.footdefs name) ≡ is_some (footnote_at held.footdefs name)) → asks' ≡ asks
     → setting_of text' (rules_from options' held' asks') ≡ setting_of text (rules_from options held asks)
 same_setting text text' options options' held held' asks asks' of_text of_options definitions footnotes same =
-    let names : (λ name. is_some (footnote_at held'.footdefs name)) ≡ (λ name. is_some (footnote_at held.footdefs name)) = fun_ext footnotes in
+    let names : (λ name. is_some (footnote_at held'.footdefs name)) ≡ (λ name. is_some (footnote_at held.footdefs name)) = fun_ext footnotes
+    in
     rw (of_text, of_options, definitions, same) (ap (λ (names : List ℕ → Bool). let x : Setting =
     record { text = text; rules = record { options = options; definitions = held.refdefs; is_footnote = names; asks = asks } } in x) names)
 
 -- searches that were not made have looked at no item, where fewer are left
-pub looked_same : (failed : Bool) (old now all items items' : ℕ) → items' < items → LookedUpTo failed old now all items → LookedUpTo failed old now all items'
+pub looked_same : (failed : Bool) (old now all items items' : ℕ) → items' < items → LookedUpTo failed old now all items
+    → LookedUpTo failed old now all items'
 looked_same failed old now all items items' fewer l = record {
   more = l.more;
   counted = l.counted;
@@ -57,16 +60,20 @@ inside_changed source l old new tables tables' (n ∷ deeper) outer c above =
     ∙ inside_changed source l old new tables tables' deeper (inside_item (item_at old n) outer) c above.1
 
 -- a chain was read where it stands from the node `first` up to a link
-pub record ReadsUpTo {C : Type 0} (step : C → Question → Option Answer → C → Type 0) (s : Setting) (first : ℕ) (at : Option ℕ) (old now : Arena Item) (held held' : Allocated) (limit limit' : ℕ)
+pub record ReadsUpTo {C : Type 0} (step : C → Question → Option Answer → C → Type 0) (s : Setting) (first : ℕ) (at : Option ℕ)
+    (old now : Arena Item) (held held' : Allocated) (limit limit' : ℕ)
     (callback callback' : Option C) (spent : SpentEnds) (brackets wikilinks : List Waiting) : Type 0 where
   pub tree : now ≡ record old { nodes = now.nodes }
   pub begun : SpentEnds
   pub none : AreSpent begun []
-  pub reads : ReadsOn step s (above_cursor s.text old) first (Some first) at [] (stage old held limit callback) (stage now held' limit' callback') begun spent brackets wikilinks
+  pub reads : ReadsOn step s (above_cursor s.text old) first (Some first) at [] (stage old held limit callback)
+      (stage now held' limit' callback') begun spent brackets wikilinks
 
 -- none of it was read yet
-pub up_to_none : {C : Type 0} (step : C → Question → Option Answer → C → Type 0) (s : Setting) (first : ℕ) (old : Arena Item) (held : Allocated) (limit : ℕ) (callback : Option C) (spent : SpentEnds)
-    (brackets wikilinks : List Waiting) → CanResolve s.text (tables_of held) old.nodes (Some first) → AreSpent spent [] → brackets ≡ [] → wikilinks ≡ []
+pub up_to_none : {C : Type 0} (step : C → Question → Option Answer → C → Type 0) (s : Setting) (first : ℕ) (old : Arena Item)
+    (held : Allocated) (limit : ℕ) (callback : Option C) (spent : SpentEnds)
+    (brackets wikilinks : List Waiting) → CanResolve s.text (tables_of held) old.nodes (Some first) → AreSpent spent [] → brackets ≡ []
+    → wikilinks ≡ []
     → ReadsUpTo step s first (Some first) old old held held limit limit callback callback spent brackets wikilinks
 up_to_none step s first old held limit callback spent brackets wikilinks ready none no_brackets no_wikilinks =
     let at = stage old held limit callback in
@@ -78,27 +85,32 @@ up_to_none step s first old held limit callback spent brackets wikilinks ready n
       reads = rw (no_brackets, no_wikilinks) (reads_on_none step s above first at spent ready);
     }
 
-module _ {C : Type 0} {step : C → Question → Option Answer → C → Type 0} {s : Setting} {first : ℕ} {at : Option ℕ} {old now : Arena Item} {held held' : Allocated} {limit limit' : ℕ}
+module _ {C : Type 0} {step : C → Question → Option Answer → C → Type 0} {s : Setting} {first : ℕ} {at : Option ℕ} {old now : Arena Item}
+    {held held' : Allocated} {limit limit' : ℕ}
     {callback callback' : Option C} {spent : SpentEnds} {brackets wikilinks : List Waiting}
-    (r : ReadsUpTo step s first at old now held held' limit limit' callback callback' spent brackets wikilinks) (is_above : AreAbove s.text old.nodes (Some first) old.spine) where
+    (r : ReadsUpTo step s first at old now held held' limit limit' callback callback' spent brackets wikilinks)
+    (is_above : AreAbove s.text old.nodes (Some first) old.spine) where
   same_spine : now.spine ≡ old.spine
   same_spine = ap (λ (t : Arena Item). t.spine) r.tree
 
   -- the same blocks stand above it
   pub still_above : AreAbove s.text now.nodes (Some first) now.spine
-  still_above = rw same_spine (above_changed s.text (Some first) old.nodes now.nodes (tables_of held) (tables_of held') old.spine r.reads.changes is_above)
+  still_above = rw same_spine (above_changed s.text (Some first) old.nodes now.nodes (tables_of held) (tables_of held') old.spine
+      r.reads.changes is_above)
 
   pub same_above : above_cursor s.text now ≡ above_cursor s.text old
   same_above =
       ap (λ (spine : List ℕ). above_at s.text now.nodes spine) same_spine
-      ∙ inside_changed s.text (Some first) old.nodes now.nodes (tables_of held) (tables_of held') old.spine (no_blocks s.text) r.reads.changes is_above
+      ∙ inside_changed s.text (Some first) old.nodes now.nodes (tables_of held) (tables_of held') old.spine (no_blocks s.text)
+      r.reads.changes is_above
 
   -- and there is still somebody to ask, or not
   pub still_asks : is_some callback' ≡ is_some callback
   still_asks = sym (Asks-some step callback callback' r.reads.questions r.reads.answers r.reads.asked)
 
   -- what is left may be read
-  pub can_read_on : (place : ChainPlace) (ix : ℕ) → at ≡ Some ix → place.text.now ≡ s.text → IsPlaceOf place old → CanReadOn place now held' brackets wikilinks first ix r.reads.left_then
+  pub can_read_on : (place : ChainPlace) (ix : ℕ) → at ≡ Some ix → place.text.now ≡ s.text → IsPlaceOf place old
+      → CanReadOn place now held' brackets wikilinks first ix r.reads.left_then
   can_read_on place ix is text stands =
       let above : above_cursor place.text.now now ≡ above_cursor place.text.now old = rw text same_above in
       record {
@@ -112,7 +124,8 @@ module _ {C : Type 0} {step : C → Question → Option Answer → C → Type 0}
         openers = r.reads.held;
       }
 
-  pub can_read_item : (place : ChainPlace) (ix : ℕ) → at ≡ Some ix → place.text.now ≡ s.text → IsPlaceOf place old → CanReadItem place now held' ix
+  pub can_read_item : (place : ChainPlace) (ix : ℕ) → at ≡ Some ix → place.text.now ≡ s.text → IsPlaceOf place old
+      → CanReadItem place now held' ix
   can_read_item place ix is text stands =
       let c = can_read_on place ix is text stands in
       record {
@@ -122,33 +135,43 @@ module _ {C : Type 0} {step : C → Question → Option Answer → C → Type 0}
       }
 
   -- more was read
-  pub up_to_more : (s' : Setting) (ix : ℕ) (next : Option ℕ) (new : Arena Item) (held'' : Allocated) (limit'' : ℕ) (callback'' : Option C) (spent'' : SpentEnds) (brackets'' wikilinks'' : List Waiting) → s' ≡ s → at ≡ Some ix
+  pub up_to_more : (s' : Setting) (ix : ℕ) (next : Option ℕ) (new : Arena Item) (held'' : Allocated) (limit'' : ℕ) (callback'' : Option C)
+      (spent'' : SpentEnds) (brackets'' wikilinks'' : List Waiting) → s' ≡ s → at ≡ Some ix
       → new ≡ record now { nodes = new.nodes }
-      → ReadsOn step s' (above_cursor s'.text now) first (Some ix) next r.reads.left_then (stage now held' limit' callback') (stage new held'' limit'' callback'') spent spent'' brackets'' wikilinks''
+      → ReadsOn step s' (above_cursor s'.text now) first (Some ix) next r.reads.left_then (stage now held' limit' callback')
+      (stage new held'' limit'' callback'') spent spent'' brackets'' wikilinks''
       → ReadsUpTo step s first next old new held held'' limit limit'' callback callback'' spent'' brackets'' wikilinks''
   up_to_more s' ix next new held'' limit'' callback'' spent'' brackets'' wikilinks'' same is e reads =
       let before = stage old held limit callback in
       let between = stage now held' limit' callback' in
       let after = stage new held'' limit'' callback'' in
-      let from : ReadsOn step s' (above_cursor s'.text now) first at next r.reads.left_then between after spent spent'' brackets'' wikilinks'' =
-      subst (λ (l : Option ℕ). ReadsOn step s' (above_cursor s'.text now) first l next r.reads.left_then between after spent spent'' brackets'' wikilinks'') (sym is) reads in
-      let here : ReadsOn step s (above_cursor s.text now) first at next r.reads.left_then between after spent spent'' brackets'' wikilinks'' =
-      subst (λ (x : Setting). ReadsOn step x (above_cursor x.text now) first at next r.reads.left_then between after spent spent'' brackets'' wikilinks'') same from in
-      let there = subst (λ (a : Above). ReadsOn step s a first at next r.reads.left_then between after spent spent'' brackets'' wikilinks'') same_above here in
+      let from : ReadsOn step s' (above_cursor s'.text now) first at next r.reads.left_then between after spent spent'' brackets''
+      wikilinks'' =
+      subst (λ (l : Option ℕ). ReadsOn step s' (above_cursor s'.text now) first l next r.reads.left_then between after spent spent''
+      brackets'' wikilinks'') (sym is) reads in
+      let here : ReadsOn step s (above_cursor s.text now) first at next r.reads.left_then between after spent spent'' brackets'' wikilinks''
+      =
+      subst (λ (x : Setting). ReadsOn step x (above_cursor x.text now) first at next r.reads.left_then between after spent spent''
+      brackets'' wikilinks'') same from in
+      let there = subst (λ (a : Above). ReadsOn step s a first at next r.reads.left_then between after spent spent'' brackets'' wikilinks'')
+      same_above here in
       record {
         tree = e ∙ ap (λ (t : Arena Item). let u : Arena Item = record t { nodes = new.nodes } in u) r.tree;
         begun = r.begun;
         none = r.none;
-        reads = reads_on_twice step s (above_cursor s.text old) first (Some first) at [] before between r.begun spent brackets wikilinks r.reads next after spent'' brackets'' wikilinks'' there;
+        reads = reads_on_twice step s (above_cursor s.text old) first (Some first) at [] before between r.begun spent brackets wikilinks
+            r.reads next after spent'' brackets'' wikilinks'' there;
       }
 
   -- it was read to its end
-  pub up_to_all : at ≡ None → ResolvesFrom step s.text (pass_one s plain_tags (above_cursor s.text old)) (Some first) (stage old held limit callback) (stage now held' limit' callback')
+  pub up_to_all : at ≡ None → ResolvesFrom step s.text (pass_one s plain_tags (above_cursor s.text old)) (Some first)
+      (stage old held limit callback) (stage now held' limit' callback')
   up_to_all none =
       let before = stage old held limit callback in
       let after = stage now held' limit' callback' in
       reads_on_all step s (above_cursor s.text old) first before after r.begun spent brackets wikilinks r.none
-      (subst (λ (l : Option ℕ). ReadsOn step s (above_cursor s.text old) first (Some first) l [] before after r.begun spent brackets wikilinks) none r.reads)
+      (subst (λ (l : Option ℕ). ReadsOn step s (above_cursor s.text old) first (Some first) l [] before after r.begun spent brackets
+      wikilinks) none r.reads)
 
   -- memory was refused to what follows
   pub up_to_stops : (s' : Setting) (ix : ℕ) (callback'' : Option C) → s' ≡ s → at ≡ Some ix
@@ -163,4 +186,5 @@ module _ {C : Type 0} {step : C → Question → Option Answer → C → Type 0}
       subst (λ (x : Setting). StopsOn step x (above_cursor x.text now) at r.reads.left_then between spent callback'') same from in
       let there = subst (λ (a : Above). StopsOn step s a at r.reads.left_then between spent callback'') same_above here in
       stops_pass_one step s (above_cursor s.text old) first before r.begun callback'' r.none
-      (stops_later step s (above_cursor s.text old) first (Some first) at [] before between r.begun spent brackets wikilinks r.reads callback'' there)
+      (stops_later step s (above_cursor s.text old) first (Some first) at [] before between r.begun spent brackets wikilinks r.reads
+      callback'' there)

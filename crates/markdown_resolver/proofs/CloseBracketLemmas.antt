@@ -1,6 +1,7 @@
 -- A `]` behind a left list that stands in an arena: by what rules it is decided, that its openers may be tried, and what is put.
 use Rattle.markdown_base.specs.declared.item.ItemBody.TheVariants as body
-use Rattle.std.proofs.Common.{◌≡◌, ℕ, ◌-◌, ◌<◌, Bool, not, ◌&&◌, List, [], ◌++◌, Option, Some, None, length, drop, refl, sym, ap, ◌∙◌, subst, arith}
+use Rattle.std.proofs.Common.{◌≡◌, ℕ, ◌-◌, ◌<◌, Bool, not, ◌&&◌, List, [], ◌++◌, Option, Some, None, length, drop, refl, sym, ap, ◌∙◌}
+use Rattle.std.proofs.Common.{subst, arith}
 use Rattle.std.proofs.Math.Path.{fun_ext}
 use Rattle.std.proofs.lemmas.List.{length-drop, length-take}
 use Rattle.std.specs.Prelude.{Result, Ok, Err, IfErr, IfOk, is_some, slice_range}
@@ -54,7 +55,8 @@ use Rattle.markdown_resolver.proofs.WaitingOpenerLemmas.{StandsOpen, can_find, c
 use Rattle.markdown_spans.specs.Allocations.{Allocated}
 
 -- the place of a chain, as its brackets ask about it, and the prefix of its lines
-pub record AsksAbout (place : ChainPlace) (bracket : BracketPlace) (prefix : ContainerPrefix) (tree : Arena Item) (options : Options) : Type 0 where
+pub record AsksAbout (place : ChainPlace) (bracket : BracketPlace) (prefix : ContainerPrefix) (tree : Arena Item) (options : Options) : Type
+    0 where
   pub text : bracket.text.now ≡ place.text.now
   pub block_end : bracket.block_end ≡ place.block_end
   pub in_table : bracket.in_table ≡ place.in_table
@@ -63,8 +65,10 @@ pub record AsksAbout (place : ChainPlace) (bracket : BracketPlace) (prefix : Con
   pub gfm : prefix.gfm_footnotes ≡ place.gfm_footnotes
 
 -- brackets are decided by the rules of pass one
-pub around_is : (place : ChainPlace) (bracket : BracketPlace) (prefix : ContainerPrefix) (tree : Arena Item) (source : List ℕ) (options : Options) (held : Allocated) (asks : Bool)
-    → place.text.now ≡ source → place.gfm_footnotes ≡ gfm_footnotes options → IsPlaceOf place tree → AsksAbout place bracket prefix tree options
+pub around_is : (place : ChainPlace) (bracket : BracketPlace) (prefix : ContainerPrefix) (tree : Arena Item) (source : List ℕ)
+    (options : Options) (held : Allocated) (asks : Bool)
+    → place.text.now ≡ source → place.gfm_footnotes ≡ gfm_footnotes options → IsPlaceOf place tree
+    → AsksAbout place bracket prefix tree options
     → around_at bracket (λ rest. Some (length_by prefix rest)) (above_cursor source tree).bodies held.refdefs held.footdefs asks
     ≡ around (setting_of source (rules_from options held asks)) (above_cursor source tree)
 around_is place bracket prefix tree source options held asks same gfm stands about =
@@ -72,64 +76,103 @@ around_is place bracket prefix tree source options held asks same gfm stands abo
     let above = above_cursor source tree in
     let by : (bytes : List ℕ) → length_by prefix bytes ≡ prefix_below s above bytes = λ bytes.
     prefix_is prefix s (about.gfm ∙ gfm) bytes ∙ ap (λ (t : Arena Item). prefix_below s (above_cursor source t) bytes) about.here in
-    let rule : (λ rest. Some (length_by prefix rest)) ≡ (λ rest. Some (prefix_below s above rest)) = fun_ext (λ bytes. ap (λ (n : ℕ). Some n) (by bytes)) in
+    let rule : (λ rest. Some (length_by prefix rest)) ≡ (λ rest. Some (prefix_below s above rest)) =
+    fun_ext (λ bytes. ap (λ (n : ℕ). Some n) (by bytes)) in
     let text : bracket.text.now ≡ source = about.text ∙ same in
-    let block_end : bracket.block_end ≡ above.block_end = about.block_end ∙ stands.block_end ∙ ap (λ (t : List ℕ). (above_cursor t tree).block_end) same in
-    let in_table : bracket.in_table ≡ above.in_table = about.in_table ∙ stands.in_table ∙ ap (λ (t : List ℕ). (above_cursor t tree).in_table) same in
-    rw (text, block_end, in_table, about.options_are) (ap (λ (skipped : List ℕ → Option ℕ). let w : Around = record { setting = s; above = above; skipped = skipped } in w) rule)
+    let block_end : bracket.block_end ≡ above.block_end = about.block_end ∙ stands.block_end
+    ∙ ap (λ (t : List ℕ). (above_cursor t tree).block_end) same in
+    let in_table : bracket.in_table ≡ above.in_table = about.in_table ∙ stands.in_table
+    ∙ ap (λ (t : List ℕ). (above_cursor t tree).in_table) same in
+    rw (text, block_end, in_table, about.options_are)
+    (ap (λ (skipped : List ℕ → Option ℕ). let w : Around = record { setting = s; above = above; skipped = skipped } in w) rule)
 
 -- a `]` has a byte
-some_byte : (source : List ℕ) (tables : Tables) (nodes : List (Node Item)) (ix : ℕ) (could_be : Bool) → CanResolve source tables nodes (Some ix) → (item_at nodes ix).body ≡ body.MaybeLinkClose could_be
+some_byte : (source : List ℕ) (tables : Tables) (nodes : List (Node Item)) (ix : ℕ) (could_be : Bool)
+    → CanResolve source tables nodes (Some ix) → (item_at nodes ix).body ≡ body.MaybeLinkClose could_be
     → 0 < (item_at nodes ix).end
 some_byte source tables nodes ix could_be ready is =
     let item = item_at nodes ix in
     let o = opens_chain source tables nodes ix ready in
-    let over : StandsOverMarkup (slice_range source item.start item.end) (body.MaybeLinkClose could_be) = subst (StandsOverMarkup (slice_range source item.start item.end)) is o.placed.keeps.markup_is_there in
+    let over : StandsOverMarkup (slice_range source item.start item.end) (body.MaybeLinkClose could_be) =
+    subst (StandsOverMarkup (slice_range source item.start item.end)) is o.placed.keeps.markup_is_there in
     let size : length (slice_range source item.start item.end) ≡ 1 = ap length over in
     omega (arith, size, length-take (item.end - item.start) (drop item.start source), length-drop item.start source)
 
-module _ {place : ChainPlace} {tree : Arena Item} {held : Allocated} {brackets wikilinks : List Waiting} {first ix : ℕ} {left : List (Entry ℕ)}
-    (can : CanReadOn place tree held brackets wikilinks first ix left) (could_be : Bool) (is : (item_at tree.nodes ix).body ≡ body.MaybeLinkClose could_be) where
+module _ {place : ChainPlace} {tree : Arena Item} {held : Allocated} {brackets wikilinks : List Waiting} {first ix : ℕ}
+    {left : List (Entry ℕ)}
+    (can : CanReadOn place tree held brackets wikilinks first ix left) (could_be : Bool) (is : (item_at tree.nodes ix).body
+    ≡ body.MaybeLinkClose could_be) where
   here_ready : CanResolve place.text.now (tables_of held) tree.nodes (Some ix)
   here_ready = stands_rest place.text.now (tables_of held) tree.nodes first (Some ix) left can.so_far
 
   -- each opener that a stack holds may be tried, and a wikilink looked for
-  pub tries_each : (bracket : BracketPlace) → bracket.text.now ≡ place.text.now → bracket.block_end ≡ place.block_end → EachOpener (CanTry tree.nodes bracket ix) brackets
+  pub tries_each : (bracket : BracketPlace) → bracket.text.now ≡ place.text.now → bracket.block_end ≡ place.block_end
+      → EachOpener (CanTry tree.nodes bracket ix) brackets
   tries_each bracket text block_end =
       let source = bracket.text.now in
       let stands : StandsTo source (tables_of held) tree.nodes first (Some ix) left = rw text can.so_far in
       let ready = stands_rest source (tables_of held) tree.nodes first (Some ix) left stands in
-      let each = each_bracket (StandsOpen source (tables_of held) tree.nodes ix) left (each_open source (tables_of held) tree.nodes first ix left stands) in
+      let each = each_bracket (StandsOpen source (tables_of held) tree.nodes ix) left (each_open source (tables_of held) tree.nodes first ix
+      left stands) in
       subst (λ (w : List Waiting). EachOpener (CanTry tree.nodes bracket ix) w) (sym can.openers.brackets_are)
       (each_follows (StandsOpen source (tables_of held) tree.nodes ix) (CanTry tree.nodes bracket ix) _
-      (λ n o. can_try (tables_of held) tree.nodes bracket ix n ready (some_byte source (tables_of held) tree.nodes ix could_be ready is) (rw (text, block_end) can.stands.boundary) o) each)
+      (λ n o. can_try (tables_of held) tree.nodes bracket ix n ready (some_byte source (tables_of held) tree.nodes ix could_be ready is)
+      (rw (text, block_end) can.stands.boundary) o) each)
 
   pub finds_each : (source : List ℕ) → source ≡ place.text.now → EachOpener (λ n. CanFindWikilink tree.nodes source n ix) wikilinks
   finds_each source text =
       let stands : StandsTo source (tables_of held) tree.nodes first (Some ix) left = rw text can.so_far in
       let ready = stands_rest source (tables_of held) tree.nodes first (Some ix) left stands in
-      let each = each_wikilink (StandsOpen source (tables_of held) tree.nodes ix) left (each_open source (tables_of held) tree.nodes first ix left stands) in
+      let each = each_wikilink (StandsOpen source (tables_of held) tree.nodes ix) left (each_open source (tables_of held) tree.nodes first
+      ix left stands) in
       subst (λ (w : List Waiting). EachOpener (λ n. CanFindWikilink tree.nodes source n ix) w) (sym can.openers.wikilinks_are)
-      (each_follows (StandsOpen source (tables_of held) tree.nodes ix) (λ n. CanFindWikilink tree.nodes source n ix) _ (λ n o. can_find source (tables_of held) tree.nodes ix n ready o) each)
+      (each_follows (StandsOpen source (tables_of held) tree.nodes ix) (λ n. CanFindWikilink tree.nodes source n ix) _
+      (λ n o. can_find source (tables_of held) tree.nodes ix n ready o) each)
 
 -- it was decided what becomes of a `]`: the left list that is left stands where the first did, its numbers rise, and that may
 -- be put there
-pub record MayClose (source : List ℕ) (tables : Tables) (nodes : List (Node Item)) (first ix : ℕ) (w : Around) (c : Closing ℕ) (left_then : List (Entry ℕ)) (becomes : Becomes ℕ) : Type 0 where
+pub record MayClose (source : List ℕ) (tables : Tables) (nodes : List (Node Item)) (first ix : ℕ) (w : Around) (c : Closing ℕ)
+    (left_then : List (Entry ℕ)) (becomes : Becomes ℕ) : Type 0 where
   pub stands : StandsTo source tables nodes first (Some ix) left_then
   pub before : StandsBefore nodes ix left_then c
   pub rises : LeftRises left_then
   pub closes : ClosesAt source tables nodes first ix left_then w c becomes
 
-pub may_close : {C : Type 0} (step : C → Question → Option Answer → C → Type 0) (source : List ℕ) (rules : Rules) (above : Above) (tables : Tables) (nodes : List (Node Item)) (first ix : ℕ) (left : List (Entry ℕ))
-    (could_be : Bool) (limit limit' : ℕ) (uses uses' : List ℕ → ℕ) (spent spent' : SpentEnds) (callback callback' : Option C) (brackets wikilinks : List Waiting) (found : ClosedBracket)
+pub may_close : {C : Type 0} (step : C → Question → Option Answer → C → Type 0) (source : List ℕ) (rules : Rules) (above : Above)
+    (tables : Tables) (nodes : List (Node Item)) (first ix : ℕ) (left : List (Entry ℕ))
+    (could_be : Bool) (limit limit' : ℕ) (uses uses' : List ℕ → ℕ) (spent spent' : SpentEnds) (callback callback' : Option C)
+    (brackets wikilinks : List Waiting) (found : ClosedBracket)
     → IsUtf8 source → StandsTo source tables nodes first (Some ix) left → (item_at nodes ix).body ≡ body.MaybeLinkClose could_be
-    → (d : Decides step (around (setting_of source rules) above) (closing_at source tables nodes spent could_be ix) left limit limit' uses uses' spent spent' callback callback' brackets wikilinks found)
-    → MayClose source tables nodes first ix (around (setting_of source rules) above) (closing_at source tables nodes spent could_be ix) d.left_then d.becomes
-may_close step source rules above tables nodes first ix left could_be limit limit' uses uses' spent spent' callback callback' brackets wikilinks found utf8 h is d =
+    → (d : Decides step (around (setting_of source rules) above) (closing_at source tables nodes spent could_be ix) left limit limit' uses
+    uses' spent spent' callback callback' brackets wikilinks found)
+    → MayClose source tables nodes first ix (around (setting_of source rules) above) (closing_at source tables nodes spent could_be ix)
+    d.left_then d.becomes
+may_close step source rules above tables nodes first ix left could_be limit limit' uses uses' spent spent' callback callback' brackets
+    wikilinks found utf8 h is d =
     let w = around (setting_of source rules) above in
     let c = closing_at source tables nodes spent could_be ix in
-    let p : Progress ℕ = record { left = left; goes_on = None; spent = []; asked = []; known = record { limit = limit; answers = d.answers ++ []; uses = uses }; made = 0 } in
-    let q : Progress ℕ = record { left = d.left_then; goes_on = None; spent = d.more ++ []; asked = [] ++ d.questions; known = record { limit = limit'; answers = []; uses = uses' }; made = 0 } in
+    let p : Progress ℕ = record {
+      left = left;
+      goes_on = None;
+      spent = [];
+      asked = [];
+      known = record {
+        limit = limit;
+        answers = d.answers
+            ++ [];
+        uses = uses;
+      };
+      made = 0;
+    } in
+    let q : Progress ℕ = record {
+      left = d.left_then;
+      goes_on = None;
+      spent = d.more ++ [];
+      asked = []
+          ++ d.questions;
+      known = record { limit = limit'; answers = []; uses = uses' };
+      made = 0;
+    } in
     let decides : decided w c p ≡ record { becomes = d.becomes; progress = q } = d.decides p [] in
     let stands = decided_stands source tables nodes first (Some ix) left d.left_then w c d.becomes p q refl refl decides h in
     record {
@@ -148,31 +191,43 @@ may_close step source rules above tables nodes first ix left could_be limit limi
     }
 
 -- the decision, as the rules of pass one have it
-pub decides_here : {C : Type 0} (step : C → Question → Option Answer → C → Type 0) (place : ChainPlace) (bracket : BracketPlace) (prefix : ContainerPrefix) (tree : Arena Item) (source : List ℕ) (options : Options)
-    (inside held : Allocated) (limit limit' : ℕ) (uses' : List ℕ → ℕ) (spent spent' : SpentEnds) (callback callback' : Option C) (brackets wikilinks brackets' wikilinks' : List Waiting) (found : ClosedBracket)
-    (first ix : ℕ) (left : List (Entry ℕ)) (could_be : Bool) → inside ≡ held → place.text.now ≡ source → place.gfm_footnotes ≡ gfm_footnotes options → AsksAbout place bracket prefix tree options
+pub decides_here : {C : Type 0} (step : C → Question → Option Answer → C → Type 0) (place : ChainPlace) (bracket : BracketPlace)
+    (prefix : ContainerPrefix) (tree : Arena Item) (source : List ℕ) (options : Options)
+    (inside held : Allocated) (limit limit' : ℕ) (uses' : List ℕ → ℕ) (spent spent' : SpentEnds) (callback callback' : Option C)
+    (brackets wikilinks brackets' wikilinks' : List Waiting) (found : ClosedBracket)
+    (first ix : ℕ) (left : List (Entry ℕ)) (could_be : Bool) → inside ≡ held → place.text.now ≡ source
+    → place.gfm_footnotes ≡ gfm_footnotes options → AsksAbout place bracket prefix tree options
     → CanReadOn place tree held brackets wikilinks first ix left → (item_at tree.nodes ix).body ≡ body.MaybeLinkClose could_be
-    → ((bodies : List ItemBody) (left : List (Entry ℕ)) (c : Closing ℕ) → StandsBefore tree.nodes ix left c → c.could_be_reference ≡ (could_be && not (is_spent spent (end_of c.label)))
+    → ((bodies : List ItemBody) (left : List (Entry ℕ)) (c : Closing ℕ) → StandsBefore tree.nodes ix left c
+    → c.could_be_reference ≡ (could_be && not (is_spent spent (end_of c.label)))
     → brackets ≡ brackets_of left → wikilinks ≡ wikilinks_of left
-    → Decides step (around_at bracket (λ rest. Some (length_by prefix rest)) bodies inside.refdefs inside.footdefs (is_some callback)) c left limit limit' (uses_of inside.footdefs) uses'
+    → Decides step (around_at bracket (λ rest. Some (length_by prefix rest)) bodies inside.refdefs inside.footdefs (is_some callback)) c
+    left limit limit' (uses_of inside.footdefs) uses'
     spent spent' callback callback' brackets' wikilinks' found)
-    → Decides step (around (setting_of source (rules_from options held (is_some callback))) (above_cursor source tree)) (closing_at source (tables_of held) tree.nodes spent could_be ix) left
+    → Decides step (around (setting_of source (rules_from options held (is_some callback))) (above_cursor source tree))
+    (closing_at source (tables_of held) tree.nodes spent could_be ix) left
     limit limit' (uses_of held.footdefs) uses' spent spent' callback callback' brackets' wikilinks' found
-decides_here step place bracket prefix tree source options inside held limit limit' uses' spent spent' callback callback' brackets wikilinks brackets' wikilinks' found first ix left could_be view same gfm about can is decides =
+decides_here step place bracket prefix tree source options inside held limit limit' uses' spent spent' callback callback' brackets wikilinks
+    brackets' wikilinks' found first ix left could_be view same gfm about can is decides =
     let c = closing_at source (tables_of held) tree.nodes spent could_be ix in
     let bodies = (above_cursor source tree).bodies in
     let stands : StandsTo source (tables_of held) tree.nodes first (Some ix) left = rw (← same) can.so_far in
     let before = stands_before source (tables_of held) tree.nodes first ix left c could_be stands refl refl is in
     let d = decides bodies left c before refl can.openers.brackets_are can.openers.wikilinks_are in
-    let viewed = subst (λ (h : Allocated). Decides step (around_at bracket (λ rest. Some (length_by prefix rest)) bodies h.refdefs h.footdefs (is_some callback)) c left limit limit' (uses_of h.footdefs) uses'
+    let viewed = subst (λ (h : Allocated). Decides step (around_at bracket (λ rest. Some (length_by prefix rest)) bodies h.refdefs
+    h.footdefs (is_some callback)) c left limit limit' (uses_of h.footdefs) uses'
     spent spent' callback callback' brackets' wikilinks' found) view d in
-    subst (λ (w : Around). Decides step w c left limit limit' (uses_of held.footdefs) uses' spent spent' callback callback' brackets' wikilinks' found)
+    subst (λ (w : Around). Decides step w c left limit limit' (uses_of held.footdefs) uses' spent spent' callback callback' brackets'
+    wikilinks' found)
     (around_is place bracket prefix tree source options held (is_some callback) same gfm can.stands about) viewed
 
 -- it was decided, and then put, or memory was refused
-module _ {C : Type 0} (step : C → Question → Option Answer → C → Type 0) (place : ChainPlace) (source : List ℕ) (rules : Rules) (old new : Arena Item) (held : Allocated) (mid : Tables) (held' : Allocated) (limit limit' : ℕ)
-    (callback callback' : Option C) (spent spent' : SpentEnds) (brackets wikilinks brackets1 wikilinks1 brackets' wikilinks' : List Waiting) (found : ClosedBracket) (ix : ℕ) (could_be : Bool)
-    (same : place.text.now ≡ source) (utf8 : IsUtf8 source) (is : (item_at old.nodes ix).body ≡ body.MaybeLinkClose could_be) (tables : mid ≡ tables_of held) where
+module _ {C : Type 0} (step : C → Question → Option Answer → C → Type 0) (place : ChainPlace) (source : List ℕ) (rules : Rules)
+    (old new : Arena Item) (held : Allocated) (mid : Tables) (held' : Allocated) (limit limit' : ℕ)
+    (callback callback' : Option C) (spent spent' : SpentEnds) (brackets wikilinks brackets1 wikilinks1 brackets' wikilinks' : List Waiting)
+    (found : ClosedBracket) (ix : ℕ) (could_be : Bool)
+    (same : place.text.now ≡ source) (utf8 : IsUtf8 source) (is : (item_at old.nodes ix).body ≡ body.MaybeLinkClose could_be) (tables : mid
+    ≡ tables_of held) where
   abbrev around_here : Around
   around_here = around (setting_of source rules) (above_cursor source old)
 
@@ -182,32 +237,39 @@ module _ {C : Type 0} (step : C → Question → Option Answer → C → Type 0)
   -- the decision at any left list that stands there
   abbrev pub DecidesEach : (List ℕ → ℕ) → Type 0
   DecidesEach uses' = (first : ℕ) (left : List (Entry ℕ)) → CanReadOn place old held brackets wikilinks first ix left
-      → Decides step around_here closing_here left limit limit' (uses_of held.footdefs) uses' spent spent' callback callback' brackets1 wikilinks1 found
+      → Decides step around_here closing_here left limit limit' (uses_of held.footdefs) uses' spent spent' callback callback' brackets1
+      wikilinks1 found
 
   -- what is put there, whatever was decided
   abbrev pub PutsEach : Option ℕ → Type 0
-  PutsEach next = (source : List ℕ) (first : ℕ) (left : List (Entry ℕ)) (w : Around) (c : Closing ℕ) (becomes : Becomes ℕ) → ClosesAt source mid old.nodes first ix left w c becomes
+  PutsEach next = (source : List ℕ) (first : ℕ) (left : List (Entry ℕ)) (w : Around) (c : Closing ℕ) (becomes : Becomes ℕ)
+      → ClosesAt source mid old.nodes first ix left w c becomes
       → IsBecome w becomes found → PutsClosed source first ix next left w c becomes old.nodes new.nodes mid (tables_of held')
 
   -- and what the stacks hold then
   abbrev pub FinishesEach : Type 0
-  FinishesEach = (w : Around) (c : Closing ℕ) (closer : ℕ) (left : List (Entry ℕ)) (becomes : Becomes ℕ) (p : Progress ℕ) → StandsBefore old.nodes closer left c → LeftRises left → SplitsAs left becomes
+  FinishesEach = (w : Around) (c : Closing ℕ) (closer : ℕ) (left : List (Entry ℕ)) (becomes : Becomes ℕ) (p : Progress ℕ)
+      → StandsBefore old.nodes closer left c → LeftRises left → SplitsAs left becomes
       → IsBecome w becomes found → brackets1 ≡ brackets_of left → wikilinks1 ≡ wikilinks_of left → p.left ≡ left
       → (brackets' ≡ brackets_of (put w c becomes p).left) × (wikilinks' ≡ wikilinks_of (put w c becomes p).left)
 
-  here_stands : (first : ℕ) (left : List (Entry ℕ)) → CanReadOn place old held brackets wikilinks first ix left → StandsTo source (tables_of held) old.nodes first (Some ix) left
+  here_stands : (first : ℕ) (left : List (Entry ℕ)) → CanReadOn place old held brackets wikilinks first ix left
+      → StandsTo source (tables_of held) old.nodes first (Some ix) left
   here_stands first left can = rw (← same) can.so_far
 
   closes_here : (uses' : List ℕ → ℕ) (first : ℕ) (left : List (Entry ℕ)) → CanReadOn place old held brackets wikilinks first ix left
-      → (d : Decides step around_here closing_here left limit limit' (uses_of held.footdefs) uses' spent spent' callback callback' brackets1 wikilinks1 found)
+      → (d : Decides step around_here closing_here left limit limit' (uses_of held.footdefs) uses' spent spent' callback callback' brackets1
+      wikilinks1 found)
       → MayClose source (tables_of held) old.nodes first ix around_here closing_here d.left_then d.becomes
   closes_here uses' first left can d =
-      may_close step source rules (above_cursor source old) (tables_of held) old.nodes first ix left could_be limit limit' (uses_of held.footdefs) uses' spent spent' callback callback' brackets1 wikilinks1 found
+      may_close step source rules (above_cursor source old) (tables_of held) old.nodes first ix left could_be limit limit'
+      (uses_of held.footdefs) uses' spent spent' callback callback' brackets1 wikilinks1 found
       utf8 (here_stands first left can) is d
 
   -- the openers that are left are nodes
   pub within_each : (uses' : List ℕ → ℕ) (first : ℕ) (left : List (Entry ℕ)) → CanReadOn place old held brackets wikilinks first ix left
-      → (d : Decides step around_here closing_here left limit limit' (uses_of held.footdefs) uses' spent spent' callback callback' brackets1 wikilinks1 found)
+      → (d : Decides step around_here closing_here left limit limit' (uses_of held.footdefs) uses' spent spent' callback callback' brackets1
+      wikilinks1 found)
       → EachOpener (λ n. n < length old.nodes) wikilinks1
   within_each uses' first left can d =
       subst (λ (w : List Waiting). EachOpener (λ n. n < length old.nodes) w) (sym d.wikilinks_are)
@@ -215,39 +277,53 @@ module _ {C : Type 0} (step : C → Question → Option Answer → C → Type 0)
       (each_wikilink (IsOpener source old.nodes) d.left_then (closes_here uses' first left can d).stands.waiting))
 
   pub closes_there : (uses' : List ℕ → ℕ) (first : ℕ) (left : List (Entry ℕ)) → CanReadOn place old held brackets wikilinks first ix left
-      → (d : Decides step around_here closing_here left limit limit' (uses_of held.footdefs) uses' spent spent' callback callback' brackets1 wikilinks1 found)
+      → (d : Decides step around_here closing_here left limit limit' (uses_of held.footdefs) uses' spent spent' callback callback' brackets1
+      wikilinks1 found)
       → ClosesAt source mid old.nodes first ix d.left_then around_here closing_here d.becomes
   closes_there uses' first left can d =
-      subst (λ (t : Tables). ClosesAt source t old.nodes first ix d.left_then around_here closing_here d.becomes) (sym tables) (closes_here uses' first left can d).closes
+      subst (λ (t : Tables). ClosesAt source t old.nodes first ix d.left_then around_here closing_here d.becomes) (sym tables)
+      (closes_here uses' first left can d).closes
 
-  puts_here : (uses' : List ℕ → ℕ) (next : Option ℕ) (first : ℕ) (left : List (Entry ℕ)) → CanReadOn place old held brackets wikilinks first ix left
-      → (d : Decides step around_here closing_here left limit limit' (uses_of held.footdefs) uses' spent spent' callback callback' brackets1 wikilinks1 found) → PutsEach next
-      → PutsClosed source first ix next d.left_then around_here closing_here d.becomes old.nodes new.nodes (tables_of held) (tables_of held')
+  puts_here : (uses' : List ℕ → ℕ) (next : Option ℕ) (first : ℕ) (left : List (Entry ℕ))
+      → CanReadOn place old held brackets wikilinks first ix left
+      → (d : Decides step around_here closing_here left limit limit' (uses_of held.footdefs) uses' spent spent' callback callback' brackets1
+      wikilinks1 found) → PutsEach next
+      → PutsClosed source first ix next d.left_then around_here closing_here d.becomes old.nodes new.nodes (tables_of held)
+      (tables_of held')
   puts_here uses' next first left can d puts =
-      subst (λ (t : Tables). PutsClosed source first ix next d.left_then around_here closing_here d.becomes old.nodes new.nodes t (tables_of held')) tables
+      subst (λ (t : Tables). PutsClosed source first ix next d.left_then around_here closing_here d.becomes old.nodes new.nodes t
+      (tables_of held')) tables
       (puts source first d.left_then around_here closing_here d.becomes (closes_there uses' first left can d) d.is)
 
   module _ {E : Type 0} where
-    pub ok_fewer : (uses' : List ℕ → ℕ) (r : Result (Option ℕ) E) (first : ℕ) (left : List (Entry ℕ)) → CanReadOn place old held brackets wikilinks first ix left → DecidesEach uses' → IfOk r PutsEach
+    pub ok_fewer : (uses' : List ℕ → ℕ) (r : Result (Option ℕ) E) (first : ℕ) (left : List (Entry ℕ))
+        → CanReadOn place old held brackets wikilinks first ix left → DecidesEach uses' → IfOk r PutsEach
         → IfOk r (λ next. items_from new.nodes next < items_from old.nodes (Some ix))
     ok_fewer uses' (Ok next) first left can decides puts = (puts_here uses' next first left can (decides first left can) puts).fewer
     ok_fewer uses' (Err fault) first left can decides puts = tt
 
-    pub ok_holds : (uses' : List ℕ → ℕ) (r : Result (Option ℕ) E) (first : ℕ) (left : List (Entry ℕ)) → CanReadOn place old held brackets wikilinks first ix left → DecidesEach uses' → IfOk r PutsEach
-        → IfOk r (λ next. (kind : SpanKind) (learned : Learned) → HoldsFrom kind learned old.nodes (sibling_of old.nodes ix) → HoldsFrom kind learned new.nodes next)
+    pub ok_holds : (uses' : List ℕ → ℕ) (r : Result (Option ℕ) E) (first : ℕ) (left : List (Entry ℕ))
+        → CanReadOn place old held brackets wikilinks first ix left → DecidesEach uses' → IfOk r PutsEach
+        → IfOk r (λ next. (kind : SpanKind) (learned : Learned) → HoldsFrom kind learned old.nodes (sibling_of old.nodes ix)
+        → HoldsFrom kind learned new.nodes next)
     ok_holds uses' (Ok next) first left can decides puts = (puts_here uses' next first left can (decides first left can) puts).holds
     ok_holds uses' (Err fault) first left can decides puts = tt
 
     pub ok_reads : (r : Result (Option ℕ) E) → DecidesEach (uses_of held'.footdefs) → FinishesEach → IfOk r PutsEach
         → IfOk r (λ next. (first : ℕ) (left : List (Entry ℕ)) → CanReadOn place old held brackets wikilinks first ix left
-        → ReadsOn step (setting_of source rules) (above_cursor source old) first (Some ix) next left (stage old held limit callback) (stage new held' limit' callback') spent spent' brackets' wikilinks')
+        → ReadsOn step (setting_of source rules) (above_cursor source old) first (Some ix) next left (stage old held limit callback)
+        (stage new held' limit' callback') spent spent' brackets' wikilinks')
     ok_reads (Ok next) decides finishes puts = λ first left can.
         let d = decides first left can in
         let m = closes_here (uses_of held'.footdefs) first left can d in
         let p = puts_here (uses_of held'.footdefs) next first left can d puts in
-        reads_on_closer step (setting_of source rules) (above_cursor source old) first ix left could_be (stage old held limit callback) (stage new held' limit' callback') spent spent' brackets1 wikilinks1 found
+        reads_on_closer step (setting_of source rules) (above_cursor source old) first ix left could_be (stage old held limit callback)
+        (stage new held' limit' callback') spent spent' brackets1 wikilinks1 found
         next brackets' wikilinks' d (here_stands first left can) is p
-        (record { holds = λ q e. finishes around_here closing_here ix d.left_then d.becomes q m.before m.rises d.splits d.is d.brackets_are d.wikilinks_are e })
+        (record {
+          holds = λ q e. finishes around_here closing_here ix d.left_then d.becomes q m.before m.rises d.splits d.is d.brackets_are
+              d.wikilinks_are e;
+        })
     ok_reads (Err fault) decides finishes puts = tt
 
     pub err_stops : (uses' : List ℕ → ℕ) (r : Result (Option ℕ) E) → DecidesEach uses'
@@ -256,5 +332,6 @@ module _ {C : Type 0} (step : C → Question → Option Answer → C → Type 0)
     err_stops uses' (Ok next) decides = tt
     err_stops uses' (Err fault) decides = λ first left can.
         stops_at_closer step (setting_of source rules) (above_cursor source old) first ix left could_be (stage old held limit callback)
-        (record { nodes = old.nodes; tables = tables_of held; limit = limit'; uses = uses'; callback = callback' }) spent spent' brackets1 wikilinks1 found
+        (record { nodes = old.nodes; tables = tables_of held; limit = limit'; uses = uses'; callback = callback' }) spent spent' brackets1
+        wikilinks1 found
         (decides first left can) (here_stands first left can) is

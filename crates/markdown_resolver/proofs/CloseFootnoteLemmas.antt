@@ -1,5 +1,6 @@
 -- A footnote reference, put where its opener stands, or behind a Text over the `!` of an opener `![`.
-use Rattle.std.proofs.Common.{◌≡◌, ℕ, ◌+◌, ◌-◌, ◌<◌, ◌≤◌, Bool, true, false, List, [], ◌∷◌, length, Option, Some, None, refl, sym, ap, ◌∙◌, subst, arith}
+use Rattle.std.proofs.Common.{◌≡◌, ℕ, ◌+◌, ◌-◌, ◌<◌, ◌≤◌, Bool, true, false, List, [], ◌∷◌, length, Option, Some, None, refl, sym, ap, ◌∙◌}
+use Rattle.std.proofs.Common.{subst, arith}
 use Rattle.std.specs.Prelude.{IsCharBoundary, codes, drop, slice_range}
 use Rattle.std.proofs.lemmas.List.{length-take, length-drop}
 use Rattle.markdown_base.specs.BlockTree.{item_at}
@@ -36,7 +37,8 @@ pub record BecomesFootnote (becomes : Becomes ℕ) (opener : Opener) (name : Lis
   pub is : becomes ≡ a_footnote split name
   pub opener_is : opener ≡ opener_of split
 
-pub becomes_footnote : (w : Around) (becomes : Becomes ℕ) (opener : Opener) (found : CowStr) → IsBecome w becomes (Footnote opener found) → BecomesFootnote becomes opener (text_of found)
+pub becomes_footnote : (w : Around) (becomes : Becomes ℕ) (opener : Opener) (found : CowStr) → IsBecome w becomes (Footnote opener found)
+    → BecomesFootnote becomes opener (text_of found)
 becomes_footnote w a_text opener found h = absurd h
 becomes_footnote w (a_link o target e n) opener found h = absurd h
 becomes_footnote w (a_footnote o name) opener found h = record { split = o; is = rw h.1 refl; opener_is = h.0 }
@@ -55,7 +57,8 @@ names_none (some_text n) = refl
 names_none (some_link n) = refl
 names_none (some_alignments n) = refl
 
-pub can_put_text : (source : List ℕ) (tables tables' : Tables) (start end : ℕ) → start ≤ end → IsCharBoundary source start → IsCharBoundary source end
+pub can_put_text : (source : List ℕ) (tables tables' : Tables) (start end : ℕ) → start ≤ end → IsCharBoundary source start
+    → IsCharBoundary source end
     → CanPut source tables tables' (text_item_over start end)
 can_put_text source tables tables' start end ordered from to = record {
   closed = refl;
@@ -67,7 +70,8 @@ can_put_text source tables tables' start end ordered from to = record {
 }
 
 -- so may the footnote reference
-pub can_put_footnote : (source : List ℕ) (tables tables' : Tables) (number : CowIndex) (name : List ℕ) (start end : ℕ) → PutsText tables tables' number name → start ≤ end
+pub can_put_footnote : (source : List ℕ) (tables tables' : Tables) (number : CowIndex) (name : List ℕ) (start end : ℕ)
+    → PutsText tables tables' number name → start ≤ end
     → IsCharBoundary source start → IsCharBoundary source end → CanPut source tables tables' (footnote_over number start end)
 can_put_footnote source tables tables' number name start end put ordered from to = record {
   closed = refl;
@@ -84,18 +88,29 @@ can_put_footnote source tables tables' number name start end put ordered from to
     by_text (some_alignments n) h = refl
 
 -- how they read
-footnote_label : (source : List ℕ) (tables : Tables) (number : CowIndex) (name : List ℕ) (start start' end end' : ℕ) → start ≡ start' → end ≡ end' → text_at tables.cows number.0 ≡ name
+footnote_label : (source : List ℕ) (tables : Tables) (number : CowIndex) (name : List ℕ) (start start' end end' : ℕ) → start ≡ start'
+    → end ≡ end' → text_at tables.cows number.0 ≡ name
     → label_of source tables (footnote_over number start end)
-    ≡ record { tag = tt; part = record { shape = leaf (footnote_reference name) (made ∷ []); range = record { start = start'; end = end' }; block = None } }
+    ≡ record {
+      tag = tt;
+      part = record {
+        shape = leaf (footnote_reference name) (made ∷ []);
+        range = record { start = start'; end = end' };
+        block = None;
+      };
+    }
 footnote_label source tables number name start start' end end' e e' found = rw (e, e', found) refl
 
-pub text_label : (source : List ℕ) (tables : Tables) (w : Around) (a : Label ℕ) (start start' end end' : ℕ) → start ≡ start' → end ≡ end' → w.setting.text ≡ source
+pub text_label : (source : List ℕ) (tables : Tables) (w : Around) (a : Label ℕ) (start start' end end' : ℕ) → start ≡ start' → end ≡ end'
+    → w.setting.text ≡ source
     → label_of source tables (text_item_over start end) ≡ record { tag = tt; part = (text_from w a start' end').part }
 text_label source tables w a start start' end end' e e' is = rw (e, e', is) refl
 
 -- a `]` is one byte
-closer_byte : (source : List ℕ) (tables : Tables) (nodes : List (Node Item)) (first closer : ℕ) (left : List (Entry ℕ)) (w : Around) (c : Closing ℕ) (o : Split ℕ) (name : List ℕ)
-    → ClosesAt source tables nodes first closer left w c (a_footnote o name) → OpenerAt source tables nodes first closer o → (item_at nodes closer).start < (item_at nodes closer).end
+closer_byte : (source : List ℕ) (tables : Tables) (nodes : List (Node Item)) (first closer : ℕ) (left : List (Entry ℕ)) (w : Around)
+    (c : Closing ℕ) (o : Split ℕ) (name : List ℕ)
+    → ClosesAt source tables nodes first closer left w c (a_footnote o name) → OpenerAt source tables nodes first closer o
+    → (item_at nodes closer).start < (item_at nodes closer).end
 closer_byte source tables nodes first closer left w c o name closes at =
     let placed = (opens_numbered source tables nodes closer at.ready_closer).placed in
     let item = item_at nodes closer in
@@ -104,14 +119,19 @@ closer_byte source tables nodes first closer left w c o name closes at =
     omega (arith, size, length-take (item.end - item.start) (drop item.start source), length-drop item.start source)
 
 -- what may be put over an opener `[`
-pub record CanFootnote (source : List ℕ) (tables tables' : Tables) (nodes : List (Node Item)) (closer : ℕ) (o : Split ℕ) (opener : Opener) (number : CowIndex) : Type 0 where
+pub record CanFootnote (source : List ℕ) (tables tables' : Tables) (nodes : List (Node Item)) (closer : ℕ) (o : Split ℕ) (opener : Opener)
+    (number : CowIndex) : Type 0 where
   pub close : CanClose source tables nodes opener.node closer (inside_numbers o) (item_at nodes closer).end
-  pub over : CanPutOver source tables tables' nodes opener.node (footnote_over number (item_at nodes opener.node).start (item_at nodes closer).end) (item_at nodes closer).end
-  pub mark : CanPutMark source tables tables' nodes opener.node closer (text_item_over (item_at nodes opener.node).start ((item_at nodes opener.node).start + 1))
+  pub over : CanPutOver source tables tables' nodes opener.node (footnote_over number (item_at nodes opener.node).start
+      (item_at nodes closer).end) (item_at nodes closer).end
+  pub mark : CanPutMark source tables tables' nodes opener.node closer (text_item_over (item_at nodes opener.node).start
+      ((item_at nodes opener.node).start + 1))
       (footnote_over number ((item_at nodes opener.node).start + 1) (item_at nodes closer).end)
 
-pub can_footnote : (source : List ℕ) (tables tables' : Tables) (nodes : List (Node Item)) (first closer : ℕ) (left : List (Entry ℕ)) (w : Around) (c : Closing ℕ) (o : Split ℕ) (opener : Opener)
-    (number : CowIndex) (name : List ℕ) → ClosesAt source tables nodes first closer left w c (a_footnote o name) → opener ≡ opener_of o → PutsText tables tables' number name
+pub can_footnote : (source : List ℕ) (tables tables' : Tables) (nodes : List (Node Item)) (first closer : ℕ) (left : List (Entry ℕ))
+    (w : Around) (c : Closing ℕ) (o : Split ℕ) (opener : Opener)
+    (number : CowIndex) (name : List ℕ) → ClosesAt source tables nodes first closer left w c (a_footnote o name) → opener ≡ opener_of o
+    → PutsText tables tables' number name
     → CanFootnote source tables tables' nodes closer o opener number
 can_footnote source tables tables' nodes first closer left w c o opener number name closes is put =
     let at = opener_at source tables nodes first closer left o closes.stands closes.splits in
@@ -126,7 +146,12 @@ can_footnote source tables tables' nodes first closer left w c o opener number n
     rw is (record {
       close = subst (CanClose source tables nodes o.opener.tag closer (inside_numbers o)) ends
           (can_close source tables nodes first closer left w c (a_footnote o name) o (end_of c.label) closes at closes.ends);
-      over = record { puts = can_put_footnote source tables tables' number name start end put (omega arith) here.start last.end; starts = refl; ends = omega arith };
+      over = record {
+        puts = can_put_footnote source tables tables' number name start end put (omega arith) here.start last.end;
+        starts =
+            refl;
+        ends = omega arith;
+      };
       mark = record {
         puts_mark = can_put_text source tables tables' start (start + 1) (omega arith) here.start at.opener.mark;
         puts = can_put_footnote source tables tables' number name (start + 1) end put (omega arith) at.opener.mark last.end;
@@ -140,21 +165,27 @@ can_footnote source tables tables' nodes first closer left w c o opener number n
 
 -- what is put, of an opener `[` and of an opener `![`
 one_onto : (w : Around) (c : Closing ℕ) (is_image : Bool) (opener : Label ℕ) (name : List ℕ) (left : List (Entry ℕ)) → is_image ≡ false
-    → footnote_onto w c is_image opener name left ≡ all_done (node (footnote_from opener name (start_of opener) (end_of c.label)) nil nil) left
+    → footnote_onto w c is_image opener name left ≡ all_done (node (footnote_from opener name (start_of opener) (end_of c.label)) nil nil)
+    left
 one_onto w c true opener name left e = cc e
 one_onto w c false opener name left e = refl
 
 two_onto : (w : Around) (c : Closing ℕ) (is_image : Bool) (opener : Label ℕ) (name : List ℕ) (left : List (Entry ℕ)) → is_image ≡ true
     → footnote_onto w c is_image opener name left
-    ≡ all_done (node (text_from w opener (start_of opener) (start_of opener + 1)) nil (node (footnote_from c.label name (start_of opener + 1) (end_of c.label)) nil nil)) left
+    ≡ all_done (node (text_from w opener (start_of opener) (start_of opener + 1)) nil
+    (node (footnote_from c.label name (start_of opener + 1) (end_of c.label)) nil nil)) left
 two_onto w c true opener name left e = refl
 two_onto w c false opener name left e = cc e
 
 -- so it stands in the left list
-pub footnote_closed : (source : List ℕ) (tables tables' : Tables) (old new : List (Node Item)) (first closer : ℕ) (next : Option ℕ) (left : List (Entry ℕ)) (w : Around) (c : Closing ℕ) (o : Split ℕ)
-    (opener : Opener) (number : CowIndex) (name : List ℕ) → ClosesAt source tables old first closer left w c (a_footnote o name) → opener ≡ opener_of o → opener.is_image ≡ false
+pub footnote_closed : (source : List ℕ) (tables tables' : Tables) (old new : List (Node Item)) (first closer : ℕ) (next : Option ℕ)
+    (left : List (Entry ℕ)) (w : Around) (c : Closing ℕ) (o : Split ℕ)
+    (opener : Opener) (number : CowIndex) (name : List ℕ) → ClosesAt source tables old first closer left w c (a_footnote o name)
+    → opener ≡ opener_of o → opener.is_image ≡ false
     → PutsText tables tables' number name
-    → PutsOver source opener.node closer (inside_numbers o) (in_place_of source tables' (footnote_over number (item_at old opener.node).start (item_at old closer).end)) (item_at old closer).end
+    → PutsOver source opener.node closer (inside_numbers o)
+    (in_place_of source tables' (footnote_over number (item_at old opener.node).start (item_at old closer).end))
+    (item_at old closer).end
     (opener.node ∷ []) next old new tables tables'
     → PutsClosed source first closer next left w c (a_footnote o name) old new tables tables'
 footnote_closed source tables tables' old new first closer next left w c o opener number name closes is plain put over =
@@ -164,18 +195,24 @@ footnote_closed source tables tables' old new first closer next left w c o opene
     let what : Forest (Label ℕ) = node (footnote_from o.opener name (start_of o.opener) (end_of c.label)) nil nil in
     let end = (item_at old closer).end in
     let item = footnote_over number (item_at old o.opener.tag).start end in
-    let here = subst (λ (x : Opener). PutsOver source x.node closer (inside_numbers o) (in_place_of source tables' (footnote_over number (item_at old x.node).start end)) end (x.node ∷ []) next old
+    let here = subst (λ (x : Opener). PutsOver source x.node closer (inside_numbers o)
+    (in_place_of source tables' (footnote_over number (item_at old x.node).start end)) end (x.node ∷ []) next old
     new tables tables') is over in
     let mark : o.mark.is_image ≡ false = sym (ap (λ (x : Opener). x.is_image) is) ∙ plain in
-    let reads = ap (λ (a : Plain). node a nil nil) (footnote_label source tables' number name (item_at old o.opener.tag).start (start_of o.opener) end (end_of c.label) (sym starts) (sym ends)
+    let reads = ap (λ (a : Plain). node a nil nil) (footnote_label source tables' number name (item_at old o.opener.tag).start
+    (start_of o.opener) end (end_of c.label) (sym starts) (sym ends)
     put.found) in
-    puts_closed source first closer next left w c (a_footnote o name) o old new tables tables' (before_footnote o.before) (in_place_of source tables' item) what end (o.opener.tag ∷ []) closes at
+    puts_closed source first closer next left w c (a_footnote o name) o old new tables tables' (before_footnote o.before)
+    (in_place_of source tables' item) what end (o.opener.tag ∷ []) closes at
     (footnote_stands source tables old first (Some o.opener.tag) o.before at.stands)
-    (record { left_is = λ p e. one_onto w c o.mark.is_image o.opener name (before_footnote o.before) mark; goes = λ p. ap Some ends }) reads (refl, refl, tt, tt) (λ a i. refl) here
+    (record { left_is = λ p e. one_onto w c o.mark.is_image o.opener name (before_footnote o.before) mark; goes = λ p. ap Some ends }) reads
+    (refl, refl, tt, tt) (λ a i. refl) here
 
-pub image_footnote_closed : (source : List ℕ) (tables tables' : Tables) (old new : List (Node Item)) (first closer : ℕ) (next : Option ℕ) (left : List (Entry ℕ)) (w : Around) (c : Closing ℕ)
+pub image_footnote_closed : (source : List ℕ) (tables tables' : Tables) (old new : List (Node Item)) (first closer : ℕ) (next : Option ℕ)
+    (left : List (Entry ℕ)) (w : Around) (c : Closing ℕ)
     (o : Split ℕ)
-    (opener : Opener) (number : CowIndex) (name : List ℕ) → ClosesAt source tables old first closer left w c (a_footnote o name) → opener ≡ opener_of o → opener.is_image ≡ true
+    (opener : Opener) (number : CowIndex) (name : List ℕ) → ClosesAt source tables old first closer left w c (a_footnote o name)
+    → opener ≡ opener_of o → opener.is_image ≡ true
     → PutsText tables tables' number name
     → PutsOver source opener.node closer (inside_numbers o)
     (after_mark source tables' (text_item_over (item_at old opener.node).start ((item_at old opener.node).start + 1))
@@ -187,21 +224,27 @@ image_footnote_closed source tables tables' old new first closer next left w c o
     let ends : end_of c.label ≡ (item_at old closer).end = ap (λ (a : Label ℕ). end_of a) closes.label_is in
     let starts : start_of o.opener ≡ (item_at old o.opener.tag).start = ap (λ (a : Label ℕ). start_of a) at.around.label_is in
     let next_is : (item_at old o.opener.tag).start + 1 ≡ start_of o.opener + 1 = ap (λ (n : ℕ). n + 1) (sym starts) in
-    let what : Forest (Label ℕ) = node (text_from w o.opener (start_of o.opener) (start_of o.opener + 1)) nil (node (footnote_from c.label name (start_of o.opener + 1) (end_of c.label)) nil nil) in
+    let what : Forest (Label ℕ) = node (text_from w o.opener (start_of o.opener) (start_of o.opener + 1)) nil
+    (node (footnote_from c.label name (start_of o.opener + 1) (end_of c.label)) nil nil) in
     let start = (item_at old o.opener.tag).start in
     let end = (item_at old closer).end in
     let here = subst (λ (x : Opener). PutsOver source x.node closer (inside_numbers o)
-    (after_mark source tables' (text_item_over (item_at old x.node).start ((item_at old x.node).start + 1)) (footnote_over number ((item_at old x.node).start + 1) end)) end (x.node ∷ closer ∷ [])
+    (after_mark source tables' (text_item_over (item_at old x.node).start ((item_at old x.node).start + 1))
+    (footnote_over number ((item_at old x.node).start + 1) end)) end (x.node ∷ closer ∷ [])
     next old new tables tables') is over in
     let mark : o.mark.is_image ≡ true = sym (ap (λ (x : Opener). x.is_image) is) ∙ image in
-    let reads : node (label_of source tables' (text_item_over start (start + 1))) nil (node (label_of source tables' (footnote_over number (start + 1) end)) nil nil)
+    let reads : node (label_of source tables' (text_item_over start (start + 1))) nil
+    (node (label_of source tables' (footnote_over number (start + 1) end)) nil nil)
     ≡ node (record { tag = tt; part = (text_from w o.opener (start_of o.opener) (start_of o.opener + 1)).part }) nil
     (node (record { tag = tt; part = (footnote_from c.label name (start_of o.opener + 1) (end_of c.label)).part }) nil nil) =
     rw (
-      text_label source tables' w o.opener start (start_of o.opener) (start + 1) (start_of o.opener + 1) (sym starts) next_is closes.text_is,
+      text_label source tables' w o.opener start (start_of o.opener) (start + 1) (start_of o.opener + 1) (sym starts) next_is
+          closes.text_is,
       footnote_label source tables' number name (start + 1) (start_of o.opener + 1) end (end_of c.label) next_is (sym ends) put.found,
     ) refl in
     puts_closed source first closer next left w c (a_footnote o name) o old new tables tables' (before_footnote o.before)
-    (after_mark source tables' (text_item_over start (start + 1)) (footnote_over number (start + 1) end)) what end (o.opener.tag ∷ closer ∷ []) closes at
+    (after_mark source tables' (text_item_over start (start + 1)) (footnote_over number (start + 1) end)) what end
+    (o.opener.tag ∷ closer ∷ []) closes at
     (footnote_stands source tables old first (Some o.opener.tag) o.before at.stands)
-    (record { left_is = λ p e. two_onto w c o.mark.is_image o.opener name (before_footnote o.before) mark; goes = λ p. ap Some ends }) reads (refl, refl, tt, (refl, refl, tt, tt)) (λ a i. refl) here
+    (record { left_is = λ p e. two_onto w c o.mark.is_image o.opener name (before_footnote o.before) mark; goes = λ p. ap Some ends }) reads
+    (refl, refl, tt, (refl, refl, tt, tt)) (λ a i. refl) here

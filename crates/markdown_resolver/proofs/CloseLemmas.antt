@@ -1,6 +1,7 @@
 -- What a `]` becomes is put where its opener stands in the left list, over what is inside: what may be put there, and
 -- what stands there then.
-use Rattle.std.proofs.Common.{◌≡◌, ℕ, suc, ◌<◌, ◌≤◌, Bool, true, false, List, [], ◌∷◌, length, Option, Some, refl, sym, ap, ◌∙◌, subst, arith, if◌then◌else◌, nat_le}
+use Rattle.std.proofs.Common.{◌≡◌, ℕ, suc, ◌<◌, ◌≤◌, Bool, true, false, List, [], ◌∷◌, length, Option, Some, refl, sym, ap, ◌∙◌, subst}
+use Rattle.std.proofs.Common.{arith, if◌then◌else◌, nat_le}
 use Rattle.std.specs.Prelude.{slice_range}
 use Rattle.markdown_base.specs.Arena.{child_of, sibling_of}
 use Rattle.markdown_base.specs.ArenaForest.{forest_at, links_of}
@@ -47,13 +48,21 @@ pub record OpenerAt (source : List ℕ) (tables : Tables) (nodes : List (Node It
   pub ready_closer : CanResolve source tables nodes (Some closer)
   pub around : InsideOf source tables nodes closer o
 
-pub opener_at : (source : List ℕ) (tables : Tables) (nodes : List (Node Item)) (first closer : ℕ) (left : List (Entry ℕ)) (o : Split ℕ) → StandsTo source tables nodes first (Some closer) left
+pub opener_at : (source : List ℕ) (tables : Tables) (nodes : List (Node Item)) (first closer : ℕ) (left : List (Entry ℕ)) (o : Split ℕ)
+    → StandsTo source tables nodes first (Some closer) left
     → IsSplit left o
     → OpenerAt source tables nodes first closer o
 opener_at source tables nodes first closer left o stands splits =
     let at = stands_at_opener source tables nodes first (Some closer) left o stands splits in
     let ready' = stands_rest source tables nodes first (Some closer) left stands in
-    record { stands = at.stands; opener = at.opener; ready = at.ready; ready_closer = ready'; around = inside_of source tables nodes closer o at.ready ready' at.trees }
+    record {
+      stands = at.stands;
+      opener = at.opener;
+      ready = at.ready;
+      ready_closer = ready';
+      around = inside_of source tables nodes closer
+          o at.ready ready' at.trees;
+    }
 
 -- an item whose label is not open is not open
 not_open : (tables : Tables) (source : List ℕ) (b : ItemBody) → is_unresolved (shape_of tables source b) ≡ false → is_open b ≡ false
@@ -64,15 +73,18 @@ not_open tables source b closed = by (is_open b) refl
     by true e = cc (ap is_unresolved (shape-open tables source b e), closed)
 
 -- the first node that ends past a byte is not open where it starts before it
-pub none_open : (source : List ℕ) (tables : Tables) (nodes : List (Node Item)) (byte next : ℕ) (f : Forest ℕ) → NoneOpenAround byte (relabelled (numbered_label source tables nodes) f)
+pub none_open : (source : List ℕ) (tables : Tables) (nodes : List (Node Item)) (byte next : ℕ) (f : Forest ℕ)
+    → NoneOpenAround byte (relabelled (numbered_label source tables nodes) f)
     → first_past nodes byte (roots f) ≡ Some next → (item_at nodes next).start < byte → is_open (item_at nodes next).body ≡ false
 none_open source tables nodes byte next nil h first before = cc first
 none_open source tables nodes byte next (node n below after) h first before =
     by (nat_le (item_at nodes n).end byte) h first (none_open source tables nodes byte next after)
   where
-    by : (ended : Bool) → IsNotCut ended byte (numbered_label source tables nodes n) (NoneOpenAround byte (relabelled (numbered_label source tables nodes) after))
+    by : (ended : Bool) → IsNotCut ended byte (numbered_label source tables nodes n)
+        (NoneOpenAround byte (relabelled (numbered_label source tables nodes) after))
         → (if ended then first_past nodes byte (roots after) else Some n) ≡ Some next
-        → (NoneOpenAround byte (relabelled (numbered_label source tables nodes) after) → first_past nodes byte (roots after) ≡ Some next → (item_at nodes next).start < byte
+        → (NoneOpenAround byte (relabelled (numbered_label source tables nodes) after) → first_past nodes byte (roots after) ≡ Some next
+        → (item_at nodes next).start < byte
         → is_open (item_at nodes next).body ≡ false)
         → is_open (item_at nodes next).body ≡ false
     by true h first later = later h first before
@@ -80,10 +92,12 @@ none_open source tables nodes byte next (node n below after) h first before =
         let same : n ≡ next = cc first in
         let item = item_at nodes n in
         subst (λ (m : ℕ). is_open (item_at nodes m).body ≡ false) same
-        (not_open tables (slice_range source item.start item.end) item.body (h (subst (λ (m : ℕ). (item_at nodes m).start < byte) (sym same) before)))
+        (not_open tables (slice_range source item.start item.end) item.body
+        (h (subst (λ (m : ℕ). (item_at nodes m).start < byte) (sym same) before)))
 
 -- something that is found may end at a byte there
-pub can_close : (source : List ℕ) (tables : Tables) (nodes : List (Node Item)) (first closer : ℕ) (left : List (Entry ℕ)) (w : Around) (c : Closing ℕ) (becomes : Becomes ℕ) (o : Split ℕ) (byte : ℕ)
+pub can_close : (source : List ℕ) (tables : Tables) (nodes : List (Node Item)) (first closer : ℕ) (left : List (Entry ℕ)) (w : Around)
+    (c : Closing ℕ) (becomes : Becomes ℕ) (o : Split ℕ) (byte : ℕ)
     → ClosesAt source tables nodes first closer left w c becomes → OpenerAt source tables nodes first closer o → CanGoOn source c byte
     → CanClose source tables nodes o.opener.tag closer (inside_numbers o) byte
 can_close source tables nodes first closer left w c becomes o byte closes at can = record {
@@ -95,19 +109,23 @@ can_close source tables nodes first closer left w c becomes o byte closes at can
   closer_no_run = ap run_character closes.closes.1;
   closer_ends = subst (λ (a : Label ℕ). end_of a ≤ byte) closes.label_is can.behind;
   boundary = can.between;
-  between = λ next. none_open source tables nodes byte next (forest_at (links_of nodes) (sibling_of nodes closer)) (subst (NoneOpenAround byte) closes.rest_is can.none_around);
+  between = λ next. none_open source tables nodes byte next (forest_at (links_of nodes) (sibling_of nodes closer))
+      (subst (NoneOpenAround byte) closes.rest_is can.none_around);
 }
 
 -- the opener ends where the `]` starts at the latest
-pub opener_before : (source : List ℕ) (tables : Tables) (nodes : List (Node Item)) (first closer : ℕ) (o : Split ℕ) → OpenerAt source tables nodes first closer o
+pub opener_before : (source : List ℕ) (tables : Tables) (nodes : List (Node Item)) (first closer : ℕ) (o : Split ℕ)
+    → OpenerAt source tables nodes first closer o
     → (item_at nodes o.opener.tag).end ≤ (item_at nodes closer).start
 opener_before source tables nodes first closer o at =
     let chain = opens_chain source tables nodes o.opener.tag at.ready in
-    (order_around nodes (item_at nodes o.opener.tag).end (inside_numbers o) closer (roots (forest_at (links_of nodes) (sibling_of nodes closer)))
+    (order_around nodes (item_at nodes o.opener.tag).end (inside_numbers o) closer
+    (roots (forest_at (links_of nodes) (sibling_of nodes closer)))
     (subst (InOrder nodes (item_at nodes o.opener.tag).end) at.around.follows chain.ordered)).from
 
 -- trees that are done: without the numbers, and their openers
-pub without_done : (f : Forest (Label ℕ)) (left : List (Entry ℕ)) → left_without_numbers (all_done f left) ≡ all_done (without_numbers f) (left_without_numbers left)
+pub without_done : (f : Forest (Label ℕ)) (left : List (Entry ℕ)) → left_without_numbers (all_done f left)
+    ≡ all_done (without_numbers f) (left_without_numbers left)
 without_done nil left = refl
 without_done (node a below after) left = without_done after (done a below ∷ left)
 
@@ -133,53 +151,67 @@ quiet_inside left o splits quiet =
     (quiet_later o.before (node o.opener nil (inside o)) (subst IsQuiet whole quiet)).3
 
 -- what is put: these trees behind this left list, up to a byte
-pub record PutsWhat (w : Around) (c : Closing ℕ) (left : List (Entry ℕ)) (becomes : Becomes ℕ) (trees : Forest (Label ℕ)) (before : List (Entry ℕ)) (goes_on : ℕ) : Type 0 where
+pub record PutsWhat (w : Around) (c : Closing ℕ) (left : List (Entry ℕ)) (becomes : Becomes ℕ) (trees : Forest (Label ℕ))
+    (before : List (Entry ℕ)) (goes_on : ℕ) : Type 0 where
   pub left_is : (p : Progress ℕ) → p.left ≡ left → (put w c becomes p).left ≡ all_done trees before
   pub goes : (p : Progress ℕ) → (put w c becomes p).goes_on ≡ Some goes_on
 
 -- fewer items are left than from the `]` on
-fewer_past : (source : List ℕ) (tables tables' : Tables) (old new : List (Node Item)) (closer byte : ℕ) (next : Option ℕ) → CanResolve source tables old (Some closer)
-    → trees_from source tables' new next ≡ past_byte byte (trees_from source tables old (sibling_of old closer)) → items_from new next < items_from old (Some closer)
+fewer_past : (source : List ℕ) (tables tables' : Tables) (old new : List (Node Item)) (closer byte : ℕ) (next : Option ℕ)
+    → CanResolve source tables old (Some closer)
+    → trees_from source tables' new next ≡ past_byte byte (trees_from source tables old (sibling_of old closer))
+    → items_from new next < items_from old (Some closer)
 fewer_past source tables tables' old new closer byte next ready rest =
     let behind = trees_from source tables old (sibling_of old closer) in
-    let here : items_from old (Some closer) ≡ suc (length (roots (forest_at (links_of old) (sibling_of old closer)))) = ap (λ (f : Forest ℕ). length (roots f))
+    let here : items_from old (Some closer) ≡ suc (length (roots (forest_at (links_of old) (sibling_of old closer)))) =
+    ap (λ (f : Forest ℕ). length (roots f))
     (opens_numbered source tables old closer ready).forest in
     let many = as_many (label_at source tables' new) (forest_at (links_of new) next) in
     let many' = as_many (label_at source tables old) (forest_at (links_of old) (sibling_of old closer)) in
-    let read : length (roots (trees_from source tables' new next)) ≡ length (roots (past_byte byte behind)) = ap (λ (f : Forest Plain). length (roots f)) rest in
+    let read : length (roots (trees_from source tables' new next)) ≡ length (roots (past_byte byte behind)) =
+    ap (λ (f : Forest Plain). length (roots f)) rest in
     let few = few_past_byte byte behind in
     rw here (omega (arith, many, many', read, few))
 
 -- so it stands in the left list
-pub puts_closed : (source : List ℕ) (first closer : ℕ) (next : Option ℕ) (left : List (Entry ℕ)) (w : Around) (c : Closing ℕ) (becomes : Becomes ℕ) (o : Split ℕ) (old new : List (Node Item))
+pub puts_closed : (source : List ℕ) (first closer : ℕ) (next : Option ℕ) (left : List (Entry ℕ)) (w : Around) (c : Closing ℕ)
+    (becomes : Becomes ℕ) (o : Split ℕ) (old new : List (Node Item))
     (tables tables' : Tables) (before : List (Entry ℕ)) (trees : Enclosing) (what : Forest (Label ℕ)) (goes_on : ℕ) (standing : List ℕ)
-    → ClosesAt source tables old first closer left w c becomes → OpenerAt source tables old first closer o → StandsTo source tables old first (Some o.opener.tag) before
-    → PutsWhat w c left becomes what before goes_on → trees (label_at source tables old o.opener.tag) (without_numbers (inside o)) ≡ without_numbers what → IsQuiet what
+    → ClosesAt source tables old first closer left w c becomes → OpenerAt source tables old first closer o
+    → StandsTo source tables old first (Some o.opener.tag) before
+    → PutsWhat w c left becomes what before goes_on → trees (label_at source tables old o.opener.tag) (without_numbers (inside o))
+    ≡ without_numbers what → IsQuiet what
     → ((a : Plain) (i : Forest Plain) → length (roots (trees a i)) ≡ length standing)
     → PutsOver source o.opener.tag closer (inside_numbers o) trees goes_on standing next old new tables tables'
     → PutsClosed source first closer next left w c becomes old new tables tables'
-puts_closed source first closer next left w c becomes o old new tables tables' before trees what goes_on standing closes at stands puts reads quiet many over =
+puts_closed source first closer next left w c becomes o old new tables tables' before trees what goes_on standing closes at stands puts
+    reads quiet many over =
     let ix = o.opener.tag in
     let a = label_at source tables old ix in
     let after = trees_from source tables old (sibling_of old ix) in
     let rest = trees_from source tables old (sibling_of old closer) in
     let opened = opens_numbered source tables old ix at.ready in
     let is : trees a (first_trees (length (inside_numbers o)) after) ≡ without_numbers what = ap (trees a) at.around.inside_is ∙ reads in
-    let put_there = over_trees source ix closer (inside_numbers o) trees goes_on standing next old new tables tables' a (trees_from source tables old (child_of old ix)) after at.ready opened.trees
+    let put_there = over_trees source ix closer (inside_numbers o) trees goes_on standing next old new tables tables' a
+    (trees_from source tables old (child_of old ix)) after at.ready opened.trees
     (subst IsQuiet (sym is) (quiet_tagged (λ n. tt) what quiet)) over many in
     let so : PutsTrees source ix next (without_numbers what) (past_byte goes_on rest) old new tables tables' =
-    subst (λ (f : Forest Plain). PutsTrees source ix next (without_numbers what) (past_byte goes_on f) old new tables tables') at.around.behind_is
-    (subst (λ (f : Forest Plain). PutsTrees source ix next f (past_byte goes_on (trees_past (suc (length (inside_numbers o))) after)) old new tables tables') is put_there) in
+    subst (λ (f : Forest Plain). PutsTrees source ix next (without_numbers what) (past_byte goes_on f) old new tables tables')
+    at.around.behind_is
+    (subst (λ (f : Forest Plain). PutsTrees source ix next f (past_byte goes_on (trees_past (suc (length (inside_numbers o))) after)) old
+    new tables tables') is put_there) in
     let b = puts_behind source first ix next before (without_numbers what) (past_byte goes_on rest) old new tables tables' stands so in
     record {
       changes = b.changes;
       left_then = all_done b.standing before;
       stands = b.stands;
-      puts = λ p e. without_done b.standing before ∙ ap (λ (f : Forest Plain). all_done f (left_without_numbers before)) b.reads ∙ sym (without_done what before)
+      puts = λ p e. without_done b.standing before ∙ ap (λ (f : Forest Plain). all_done f (left_without_numbers before)) b.reads
+          ∙ sym (without_done what before)
           ∙ ap left_without_numbers (sym (puts.left_is p e));
       brackets = λ p e. brackets_done b.standing before ∙ sym (brackets_done what before) ∙ ap brackets_of (sym (puts.left_is p e));
       wikilinks = λ p e. wikilinks_done b.standing before ∙ sym (wikilinks_done what before) ∙ ap wikilinks_of (sym (puts.left_is p e));
       rest_is = λ p e. b.rest_is ∙ ap (λ (g : Option ℕ). past g rest) (sym (puts.goes p));
       fewer = fewer_past source tables tables' old new closer goes_on next at.ready_closer b.rest_is;
-      holds = λ kind learned. holds_past kind learned old new closer (Some goes_on) next (chain_at old closer (chain_leads source tables old (Some closer) at.ready_closer)).later over.leads;
+      holds = λ kind learned. holds_past kind learned old new closer (Some goes_on) next
+          (chain_at old closer (chain_leads source tables old (Some closer) at.ready_closer)).later over.leads;
     }

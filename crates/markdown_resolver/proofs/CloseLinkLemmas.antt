@@ -1,5 +1,6 @@
 -- A link or an image, put where its opener stands: what may be put there, and what it reads as.
-use Rattle.std.proofs.Common.{◌≡◌, ℕ, ◌<◌, ◌≤◌, Bool, true, false, List, [], ◌∷◌, Option, Some, None, refl, sym, ap, subst, arith, if◌then◌else◌}
+use Rattle.std.proofs.Common.{◌≡◌, ℕ, ◌<◌, ◌≤◌, Bool, true, false, List, [], ◌∷◌, Option, Some, None, refl, sym, ap, subst, arith}
+use Rattle.std.proofs.Common.{if◌then◌else◌}
 use Rattle.std.specs.Prelude.{IsCharBoundary}
 use Rattle.markdown_base.specs.BlockTree.{item_at}
 use Rattle.markdown_base.specs.Event.{LinkView, image, link}
@@ -18,6 +19,7 @@ use Rattle.markdown_brackets.specs.declared.look_up.Target.{Target}
 use Rattle.markdown_brackets.specs.declared.openers.Opener.{Opener}
 use Rattle.markdown_chains.specs.ChainRest.{start_of, end_of}
 use Rattle.markdown_chains.specs.Document.{Label, Plain, enclosed, label_of}
+use Rattle.markdown_chains.specs.Origins.{IsLinkFrom, Origin, destination_origin, made}
 use Rattle.markdown_chains.specs.Tables.{Named, Tables, link_at, number_of, size_for, some_alignments, some_link, some_text}
 use Rattle.markdown_chains.specs.Totals.{times_named}
 use Rattle.markdown_resolver.specs.ClosedOver.{CanClose, CanPutOver, PutsOver, over_inside}
@@ -36,7 +38,8 @@ pub record BecomesLink (becomes : Becomes ℕ) (opener : Opener) (view : LinkVie
   pub is : becomes ≡ a_link split view end next
   pub opener_is : opener ≡ opener_of split
 
-pub becomes_link : (w : Around) (becomes : Becomes ℕ) (opener : Opener) (found : Target) (end next : ℕ) → IsBecome w becomes (Link opener found end next)
+pub becomes_link : (w : Around) (becomes : Becomes ℕ) (opener : Opener) (found : Target) (end next : ℕ)
+    → IsBecome w becomes (Link opener found end next)
     → BecomesLink becomes opener (target_view found) end next
 becomes_link w a_text opener found end next h = absurd h
 becomes_link w (a_link o target e n) opener found end next h = record { split = o; is = rw (h.1, h.2, h.3) refl; opener_is = h.0 }
@@ -51,15 +54,21 @@ link_over is_image number start end = record { start = start; end = end; body = 
 abbrev pub link_from : List (Node Item) → Opener → LinkIndex → (end : ℕ) → Item
 link_from nodes opener number end = link_over opener.is_image number (item_at nodes opener.node).start end
 
+-- its destination may have been made, unless it is an autolink or a wikilink
+pub made_link : (source : List ℕ) (origin : Origin) (view : LinkView) → destination_origin view.kind ≡ made → IsLinkFrom source origin view
+made_link source origin view other slice = cc (other, slice)
+
 -- it may be put, where it lies in the text
-pub can_put_link : (source : List ℕ) (tables tables' : Tables) (is_image : Bool) (number : LinkIndex) (view : LinkView) (start end : ℕ) → PutsLink tables tables' number view
-    → start ≤ end → IsCharBoundary source start → IsCharBoundary source end → CanPut source tables tables' (link_over is_image number start end)
+pub can_put_link : (source : List ℕ) (tables tables' : Tables) (is_image : Bool) (number : LinkIndex) (view : LinkView) (start end : ℕ)
+    → PutsLink source tables tables' number view
+    → start ≤ end → IsCharBoundary source start → IsCharBoundary source end
+    → CanPut source tables tables' (link_over is_image number start end)
 can_put_link source tables tables' true number view start end put ordered from to = record {
   closed = refl;
   no_block = refl;
   lies = record { ordered = ordered; start = from; end = to };
   named = record { text = tt; link = put.within; alignments = tt; attributes = tt };
-  slices = tt;
+  slices = put.slices;
   new_names = by_image;
 }
   where
@@ -72,7 +81,7 @@ can_put_link source tables tables' false number view start end put ordered from 
   no_block = refl;
   lies = record { ordered = ordered; start = from; end = to };
   named = record { text = tt; link = put.within; alignments = tt; attributes = tt };
-  slices = tt;
+  slices = put.slices;
   new_names = by_link;
 }
   where
@@ -82,26 +91,40 @@ can_put_link source tables tables' false number view start end put ordered from 
     by_link (some_alignments n) h = refl
 
 -- and reads as its entry
-link_label : (source : List ℕ) (tables : Tables) (tag : ℕ) (is_image : Bool) (number : LinkIndex) (view : LinkView) (start start' end : ℕ) → start ≡ start' → link_at tables.links number.0 ≡ view
+link_label : (source : List ℕ) (tables : Tables) (tag : ℕ) (is_image : Bool) (number : LinkIndex) (view : LinkView) (start start' end : ℕ)
+    → start ≡ start' → link_at tables.links number.0 ≡ view
     → label_of source tables (link_over is_image number start end)
-    ≡ record { tag = tt; part = record { shape = enclosed (if is_image then image view else link view); range = record { start = start'; end = end }; block = None } }
+    ≡ record {
+      tag = tt;
+      part = record {
+        shape = enclosed (if is_image then image view else link view);
+        range =
+            record { start = start'; end = end };
+        block = None;
+      };
+    }
 link_label source tables tag true number view start start' end e found = rw (e, found) refl
 link_label source tables tag false number view start start' end e found = rw (e, found) refl
 
-pub linked_label : (source : List ℕ) (tables tables' : Tables) (nodes : List (Node Item)) (o : Split ℕ) (number : LinkIndex) (view : LinkView) (end : ℕ)
-    → o.opener ≡ numbered_label source tables nodes o.opener.tag → PutsLink tables tables' number view
+pub linked_label : (source : List ℕ) (tables tables' : Tables) (nodes : List (Node Item)) (o : Split ℕ) (number : LinkIndex)
+    (view : LinkView) (end : ℕ)
+    → o.opener ≡ numbered_label source tables nodes o.opener.tag → PutsLink source tables tables' number view
     → label_of source tables' (link_from nodes (opener_of o) number end) ≡ record { tag = tt; part = (linked o view end).part }
 linked_label source tables tables' nodes o number view end is put =
-    link_label source tables' o.opener.tag o.mark.is_image number view (item_at nodes o.opener.tag).start (start_of o.opener) end (sym (ap (λ (a : Label ℕ). start_of a) is)) put.found
+    link_label source tables' o.opener.tag o.mark.is_image number view (item_at nodes o.opener.tag).start (start_of o.opener) end
+    (sym (ap (λ (a : Label ℕ). start_of a) is)) put.found
 
 -- what may be put over an opener, up to a byte
-pub record CanLink (source : List ℕ) (tables tables' : Tables) (nodes : List (Node Item)) (closer : ℕ) (o : Split ℕ) (opener : Opener) (number : LinkIndex) (end byte : ℕ) : Type 0 where
+pub record CanLink (source : List ℕ) (tables tables' : Tables) (nodes : List (Node Item)) (closer : ℕ) (o : Split ℕ) (opener : Opener)
+    (number : LinkIndex) (end byte : ℕ) : Type 0 where
   pub close : CanClose source tables nodes opener.node closer (inside_numbers o) byte
   pub over : CanPutOver source tables tables' nodes opener.node (link_from nodes opener number end) byte
 
 -- a link that ends between characters, at the `]` or later
-pub link_over_opener : (source : List ℕ) (tables tables' : Tables) (nodes : List (Node Item)) (first closer : ℕ) (o : Split ℕ) (number : LinkIndex) (view : LinkView) (end byte : ℕ)
-    → OpenerAt source tables nodes first closer o → PutsLink tables tables' number view → IsCharBoundary source end → (item_at nodes closer).end ≤ end → end ≤ byte
+pub link_over_opener : (source : List ℕ) (tables tables' : Tables) (nodes : List (Node Item)) (first closer : ℕ) (o : Split ℕ)
+    (number : LinkIndex) (view : LinkView) (end byte : ℕ)
+    → OpenerAt source tables nodes first closer o → PutsLink source tables tables' number view → IsCharBoundary source end
+    → (item_at nodes closer).end ≤ end → end ≤ byte
     → CanPutOver source tables tables' nodes o.opener.tag (link_from nodes (opener_of o) number end) byte
 link_over_opener source tables tables' nodes first closer o number view end byte at put between behind le =
     let here = (opens_numbered source tables nodes o.opener.tag at.ready).placed.lies in
@@ -110,13 +133,16 @@ link_over_opener source tables tables' nodes first closer o number view end byte
     let ordered = here.ordered in
     let ordered' = last.ordered in
     record {
-      puts = can_put_link source tables tables' o.mark.is_image number view (item_at nodes o.opener.tag).start end put (omega arith) here.start between;
+      puts = can_put_link source tables tables' o.mark.is_image number view (item_at nodes o.opener.tag).start end put (omega arith)
+          here.start between;
       starts = refl;
       ends = le;
     }
 
-pub can_link : (source : List ℕ) (tables tables' : Tables) (nodes : List (Node Item)) (first closer : ℕ) (left : List (Entry ℕ)) (w : Around) (c : Closing ℕ) (o : Split ℕ) (opener : Opener)
-    (number : LinkIndex) (view : LinkView) (end byte : ℕ) → ClosesAt source tables nodes first closer left w c (a_link o view end byte) → opener ≡ opener_of o → PutsLink tables tables' number view
+pub can_link : (source : List ℕ) (tables tables' : Tables) (nodes : List (Node Item)) (first closer : ℕ) (left : List (Entry ℕ))
+    (w : Around) (c : Closing ℕ) (o : Split ℕ) (opener : Opener)
+    (number : LinkIndex) (view : LinkView) (end byte : ℕ) → ClosesAt source tables nodes first closer left w c (a_link o view end byte)
+    → opener ≡ opener_of o → PutsLink source tables tables' number view
     → CanLink source tables tables' nodes closer o opener number end byte
 can_link source tables tables' nodes first closer left w c o opener number view end byte closes is put =
     let at = opener_at source tables nodes first closer left o closes.stands closes.splits in
@@ -128,18 +154,24 @@ can_link source tables tables' nodes first closer left w c o opener number view 
     })
 
 -- so it stands in the left list
-pub link_closed : (source : List ℕ) (tables tables' : Tables) (old new : List (Node Item)) (first closer : ℕ) (next : Option ℕ) (left : List (Entry ℕ)) (w : Around) (c : Closing ℕ) (o : Split ℕ)
-    (opener : Opener) (number : LinkIndex) (view : LinkView) (end byte : ℕ) → ClosesAt source tables old first closer left w c (a_link o view end byte) → opener ≡ opener_of o
-    → PutsLink tables tables' number view
-    → PutsOver source opener.node closer (inside_numbers o) (over_inside source tables' (link_from old opener number end)) byte (opener.node ∷ []) next old new tables tables'
+pub link_closed : (source : List ℕ) (tables tables' : Tables) (old new : List (Node Item)) (first closer : ℕ) (next : Option ℕ)
+    (left : List (Entry ℕ)) (w : Around) (c : Closing ℕ) (o : Split ℕ)
+    (opener : Opener) (number : LinkIndex) (view : LinkView) (end byte : ℕ)
+    → ClosesAt source tables old first closer left w c (a_link o view end byte) → opener ≡ opener_of o
+    → PutsLink source tables tables' number view
+    → PutsOver source opener.node closer (inside_numbers o) (over_inside source tables' (link_from old opener number end)) byte
+    (opener.node ∷ []) next old new tables tables'
     → PutsClosed source first closer next left w c (a_link o view end byte) old new tables tables'
 link_closed source tables tables' old new first closer next left w c o opener number view end byte closes is put over =
     let at = opener_at source tables old first closer left o closes.stands closes.splits in
     let what : Forest (Label ℕ) = node (linked o view end) (inside o) nil in
-    let here = subst (λ (x : Opener). PutsOver source x.node closer (inside_numbers o) (over_inside source tables' (link_from old x number end)) byte (x.node ∷ []) next old new tables tables') is
+    let here = subst (λ (x : Opener). PutsOver source x.node closer (inside_numbers o)
+    (over_inside source tables' (link_from old x number end)) byte (x.node ∷ []) next old new tables tables') is
     over in
-    let reads = ap (λ (a : Plain). node a (without_numbers (inside o)) nil) (linked_label source tables tables' old o number view end at.around.label_is put) in
+    let reads = ap (λ (a : Plain). node a (without_numbers (inside o)) nil) (linked_label source tables tables' old o number view end
+    at.around.label_is put) in
     puts_closed source first closer next left w c (a_link o view end byte) o old new tables tables' (before_link o.mark.is_image o.before)
     (over_inside source tables' (link_from old (opener_of o) number end)) what
-    byte (o.opener.tag ∷ []) closes at (link_stands source tables old first (Some o.opener.tag) o.before at.stands o.mark.is_image) (record { left_is = λ p e. refl; goes = λ p. refl }) reads
+    byte (o.opener.tag ∷ []) closes at (link_stands source tables old first (Some o.opener.tag) o.before at.stands o.mark.is_image)
+    (record { left_is = λ p e. refl; goes = λ p. refl }) reads
     (refl, refl, quiet_inside left o closes.splits closes.stands.quiet, tt) (λ a i. refl) here

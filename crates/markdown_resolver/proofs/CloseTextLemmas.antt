@@ -36,15 +36,19 @@ becomes_text w (a_footnote o name) h = absurd h
 becomes_text w (a_wikilink o v end) h = absurd h
 
 -- a `]` is settled as a Text
-closer_settled : (source : List ℕ) (tables : Tables) (nodes : List (Node Item)) (closer : ℕ) (could_be : Bool) → (item_at nodes closer).body ≡ body.MaybeLinkClose could_be
-    → settled source (label_at source tables nodes closer) (trees_from source tables nodes (child_of nodes closer)) ≡ node (as_text source (label_at source tables nodes closer)) nil nil
+closer_settled : (source : List ℕ) (tables : Tables) (nodes : List (Node Item)) (closer : ℕ) (could_be : Bool)
+    → (item_at nodes closer).body ≡ body.MaybeLinkClose could_be
+    → settled source (label_at source tables nodes closer) (trees_from source tables nodes (child_of nodes closer))
+    ≡ node (as_text source (label_at source tables nodes closer)) nil nil
 closer_settled source tables nodes closer could_be is =
     let item = item_at nodes closer in
     let a = label_at source tables nodes closer in
-    let shape : a.part.shape ≡ unresolved (body.MaybeLinkClose could_be) = ap (λ (b : ItemBody). shape_of tables (slice_range source item.start item.end) b) is in
+    let shape : a.part.shape ≡ unresolved (body.MaybeLinkClose could_be) =
+    ap (λ (b : ItemBody). shape_of tables (slice_range source item.start item.end) b) is in
     ap (λ (s : Shape). text_unless (is_quiet s) source a (trees_from source tables nodes (child_of nodes closer))) shape
 
-pub text_closed : (source : List ℕ) (tables : Tables) (old new : List (Node Item)) (first closer : ℕ) (next : Option ℕ) (left : List (Entry ℕ)) (w : Around) (c : Closing ℕ)
+pub text_closed : (source : List ℕ) (tables : Tables) (old new : List (Node Item)) (first closer : ℕ) (next : Option ℕ)
+    (left : List (Entry ℕ)) (w : Around) (c : Closing ℕ)
     → ClosesAt source tables old first closer left w c a_text → Puts source closer (settled source) None next old new tables tables
     → PutsClosed source first closer next left w c a_text old new tables tables
 text_closed source tables old new first closer next left w c closes puts =
@@ -59,7 +63,8 @@ text_closed source tables old new first closer next left w c closes puts =
     let b = puts_behind source first closer next left (node (as_text source a) nil nil) rest old new tables tables closes.stands
     (subst (λ (f : Forest Plain). PutsTrees source closer next f rest old new tables tables) is p) in
     let reads : node (as_text source a) nil nil ≡ without_numbers what =
-    ap (λ (text : List ℕ). node (as_text text a) nil nil) (sym closes.text_is) ∙ ap (λ (l : Label ℕ). without_numbers (node (as_text w.setting.text l) nil nil)) (sym closes.label_is) in
+    ap (λ (text : List ℕ). node (as_text text a) nil nil) (sym closes.text_is)
+    ∙ ap (λ (l : Label ℕ). without_numbers (node (as_text w.setting.text l) nil nil)) (sym closes.label_is) in
     record {
       changes = b.changes;
       left_then = all_done b.standing left;

@@ -1,5 +1,6 @@
 -- A wikilink, put where its opener stands: over a Text, or over what stands inside from a byte on.
-use Rattle.std.proofs.Common.{◌≡◌, ℕ, zero, suc, ◌<◌, ◌≤◌, Bool, true, false, List, [], ◌∷◌, ◌++◌, length, max, Option, Some, Bor, refl, sym, ap, ◌∙◌, subst, arith, if◌then◌else◌, nat_le}
+use Rattle.std.proofs.Common.{◌≡◌, ℕ, zero, suc, ◌<◌, ◌≤◌, Bool, true, false, List, [], ◌∷◌, ◌++◌, length, max, Option, Some, Bor, refl}
+use Rattle.std.proofs.Common.{sym, ap, ◌∙◌, subst, arith, if◌then◌else◌, nat_le}
 use Rattle.std.proofs.lemmas.Bool.Decides.{nat_tests}
 use Rattle.std.specs.Prelude.{IsCharBoundary}
 use Rattle.markdown_base.specs.Arena.{sibling_of}
@@ -10,7 +11,8 @@ use Rattle.markdown_base.specs.declared.index.LinkIndex.{LinkIndex}
 use Rattle.markdown_base.specs.declared.item.Item.{Item}
 use Rattle.markdown_base.specs.declared.node.Node.{Node}
 use Rattle.markdown_base.specs.declared.tag.LinkType.TheVariants as kind
-use Rattle.markdown_brackets.specs.BracketDecision.{Around, Becomes, Closing, Wikilink, a_footnote, a_link, a_text, a_wikilink, past_second, text_from}
+use Rattle.markdown_brackets.specs.BracketDecision.{Around, Becomes, Closing, Wikilink, a_footnote, a_link, a_text, a_wikilink, past_second}
+use Rattle.markdown_brackets.specs.BracketDecision.{text_from}
 use Rattle.markdown_brackets.specs.ChainHeld.{link_to, numbers_of}
 use Rattle.markdown_brackets.specs.ClosingBracket.{linked, wikilink_target}
 use Rattle.markdown_brackets.specs.DecisionView.{IsBecome, first_shown, opener_of, shown_of}
@@ -21,6 +23,7 @@ use Rattle.markdown_brackets.specs.declared.wikilink_nodes.ShownNodes.{ShownNode
 use Rattle.markdown_brackets.specs.declared.wikilink_nodes.ShownNodes.TheVariants.{From, Over}
 use Rattle.markdown_chains.specs.ChainRest.{begun_at, cut_shape, end_of, past_byte, start_of}
 use Rattle.markdown_chains.specs.Document.{Label, Plain, Shape, backslash_break, enclosed, label_of, leaf, plain, unresolved}
+use Rattle.markdown_chains.specs.Origins.{IsLinkFrom, Origin, StandsIn, origin_of, sliced}
 use Rattle.markdown_chains.specs.Tables.{Tables, link_view, tables_of}
 use Rattle.markdown_chains.specs.Waiting.{is_quiet}
 use Rattle.markdown_spans.specs.Allocations.{Allocated, LinkParts, with_link}
@@ -38,7 +41,8 @@ use Rattle.markdown_resolver.proofs.SplitLemmas.{inside_numbers}
 use Rattle.markdown_resolver.proofs.StandsToLemmas.{numbers_are, wikilink_stands}
 
 -- what becomes a wikilink
-pub record IsWikilink (w : Around) (becomes : Becomes ℕ) (opener : Opener) (name : List ℕ) (has_pothole : Bool) (shown : ShownNodes) (end : ℕ) : Type 0 where
+pub record IsWikilink (w : Around) (becomes : Becomes ℕ) (opener : Opener) (name : List ℕ) (has_pothole : Bool) (shown : ShownNodes)
+    (end : ℕ) : Type 0 where
   pub split : Split ℕ
   pub found : Wikilink ℕ
   pub is : becomes ≡ a_wikilink split found end
@@ -48,7 +52,8 @@ pub record IsWikilink (w : Around) (becomes : Becomes ℕ) (opener : Opener) (na
   pub shown_is : shown_of w (past_second (inside split)) shown ≡ found.children
   pub first_is : link_to found.children ≡ Some (first_shown shown)
 
-pub wikilink_is : (w : Around) (becomes : Becomes ℕ) (opener : Opener) (name : Bor (List ℕ)) (has_pothole : Bool) (shown : ShownNodes) (end : ℕ)
+pub wikilink_is : (w : Around) (becomes : Becomes ℕ) (opener : Opener) (name : Bor (List ℕ)) (has_pothole : Bool) (shown : ShownNodes)
+    (end : ℕ)
     → IsBecome w becomes (Wikilinked opener name has_pothole shown end) → IsWikilink w becomes opener name.now has_pothole shown end
 wikilink_is w a_text opener name has_pothole shown end h = absurd h
 wikilink_is w (a_link o target e next) opener name has_pothole shown end h = absurd h
@@ -70,7 +75,8 @@ without_past i nil = refl
 without_past i (node a below after) = by (nat_le (end_of a) i) (without_past i after)
   where
     by : (b : Bool) → past_byte i (without_numbers after) ≡ without_numbers (past_byte i after)
-        → (if b then past_byte i (without_numbers after) else node (begun_at i (record { tag = tt; part = a.part })) (without_numbers below) (without_numbers after))
+        → (if b then past_byte i (without_numbers after) else node (begun_at i (record { tag = tt; part = a.part })) (without_numbers below)
+        (without_numbers after))
         ≡ without_numbers (if b then past_byte i after else node (begun_at i a) below after)
     by true e = e
     by false e = refl
@@ -100,13 +106,15 @@ pub record InsideNumbers (source : List ℕ) (tables : Tables) (nodes : List (No
   pub is : inside o ≡ relabelled (numbered_label source tables nodes) numbers
   pub listed : inside_numbers o ≡ roots numbers
 
-pub inside_is : (source : List ℕ) (tables : Tables) (nodes : List (Node Item)) (first closer : ℕ) (o : Split ℕ) → OpenerAt source tables nodes first closer o → InsideNumbers source tables nodes o
+pub inside_is : (source : List ℕ) (tables : Tables) (nodes : List (Node Item)) (first closer : ℕ) (o : Split ℕ)
+    → OpenerAt source tables nodes first closer o → InsideNumbers source tables nodes o
 inside_is source tables nodes first closer o at =
     let k = length (roots (inside o)) in
     let label = numbered_label source tables nodes in
     let all = forest_at (links_of nodes) (sibling_of nodes o.opener.tag) in
     let is : inside o ≡ relabelled label (first_trees k all) =
-    sym (first_joined (inside o) (numbered_from source tables nodes (Some closer))) ∙ ap (first_trees k) (sym at.around.numbered) ∙ sym (relabelled_first label k all) in
+    sym (first_joined (inside o) (numbered_from source tables nodes (Some closer))) ∙ ap (first_trees k) (sym at.around.numbered)
+    ∙ sym (relabelled_first label k all) in
     record {
       numbers = first_trees k all;
       is = is;
@@ -118,17 +126,21 @@ pub record ShownAt (source : List ℕ) (tables : Tables) (nodes : List (Node Ite
   pub skipped : List ℕ
   pub shown : List ℕ
   pub parts : roots g ≡ skipped ++ first ∷ shown
-  pub reads : past_byte at (trees_past (length skipped) (relabelled (numbered_label source tables nodes) g)) ≡ past_byte at (relabelled (numbered_label source tables nodes) g)
+  pub reads : past_byte at (trees_past (length skipped) (relabelled (numbered_label source tables nodes) g))
+      ≡ past_byte at (relabelled (numbered_label source tables nodes) g)
   pub below : Forest (Label ℕ)
   pub after : Forest (Label ℕ)
-  pub begins : past_byte at (relabelled (numbered_label source tables nodes) g) ≡ node (begun_at at (numbered_label source tables nodes first)) below after
+  pub begins : past_byte at (relabelled (numbered_label source tables nodes) g)
+      ≡ node (begun_at at (numbered_label source tables nodes first)) below after
   pub ends_past : at < (item_at nodes first).end
   pub first_is : first_past nodes at (roots g) ≡ Some first
 
-pub shown_at : (source : List ℕ) (tables : Tables) (nodes : List (Node Item)) (at first : ℕ) (g : Forest ℕ) → link_to (past_byte at (relabelled (numbered_label source tables nodes) g)) ≡ Some first
+pub shown_at : (source : List ℕ) (tables : Tables) (nodes : List (Node Item)) (at first : ℕ) (g : Forest ℕ)
+    → link_to (past_byte at (relabelled (numbered_label source tables nodes) g)) ≡ Some first
     → ShownAt source tables nodes at first g
 shown_at source tables nodes at first nil e = cc e
-shown_at source tables nodes at first (node n under g) e = by (nat_le (item_at nodes n).end at) refl (shown_at source tables nodes at first g)
+shown_at source tables nodes at first (node n under g) e = by (nat_le (item_at nodes n).end at) refl
+    (shown_at source tables nodes at first g)
   where
     by : (b : Bool) → nat_le (item_at nodes n).end at ≡ b
         → (link_to (past_byte at (relabelled (numbered_label source tables nodes) g)) ≡ Some first → ShownAt source tables nodes at first g)
@@ -162,13 +174,16 @@ shown_at source tables nodes at first (node n under g) e = by (nat_le (item_at n
         })
 
 -- what may be put over the opener of a wikilink
-pub record CanWikilink (source : List ℕ) (tables tables' : Tables) (nodes : List (Node Item)) (closer : ℕ) (o : Split ℕ) (opener : Opener) (number : LinkIndex) (end : ℕ) : Type 0 where
+pub record CanWikilink (source : List ℕ) (tables tables' : Tables) (nodes : List (Node Item)) (closer : ℕ) (o : Split ℕ) (opener : Opener)
+    (number : LinkIndex) (end : ℕ) : Type 0 where
   pub close : CanClose source tables nodes opener.node closer (inside_numbers o) end
   pub over : CanPutOver source tables tables' nodes opener.node (link_from nodes opener number end) end
 
-pub can_wikilink : (source : List ℕ) (tables tables' : Tables) (nodes : List (Node Item)) (first closer : ℕ) (left : List (Entry ℕ)) (w : Around) (c : Closing ℕ) (o : Split ℕ) (opener : Opener)
-    (number : LinkIndex) (v : Wikilink ℕ) (end : ℕ) → ClosesAt source tables nodes first closer left w c (a_wikilink o v end) → opener ≡ opener_of o
-    → PutsLink tables tables' number (wikilink_target v)
+pub can_wikilink : (source : List ℕ) (tables tables' : Tables) (nodes : List (Node Item)) (first closer : ℕ) (left : List (Entry ℕ))
+    (w : Around) (c : Closing ℕ) (o : Split ℕ) (opener : Opener)
+    (number : LinkIndex) (v : Wikilink ℕ) (end : ℕ) → ClosesAt source tables nodes first closer left w c (a_wikilink o v end)
+    → opener ≡ opener_of o
+    → PutsLink source tables tables' number (wikilink_target v)
     → CanWikilink source tables tables' nodes closer o opener number end
 can_wikilink source tables tables' nodes first closer left w c o opener number v end closes is put =
     let at = opener_at source tables nodes first closer left o closes.stands closes.splits in
@@ -176,15 +191,22 @@ can_wikilink source tables tables' nodes first closer left w c o opener number v
     let behind : (item_at nodes closer).end ≤ end = subst (λ (a : Label ℕ). end_of a ≤ end) closes.label_is goes.behind in
     rw is (record {
       close = can_close source tables nodes first closer left w c (a_wikilink o v end) o end closes at goes;
-      over = link_over_opener source tables tables' nodes first closer o number (wikilink_target v) end end at put goes.between behind (omega arith);
+      over = link_over_opener source tables tables' nodes first closer o number (wikilink_target v) end end at put goes.between behind
+          (omega arith);
     })
 
 target_is : (has_pothole : Bool) (name : List ℕ) (v : Wikilink ℕ) → has_pothole ≡ v.has_pothole → name ≡ v.name
     → record { kind = kind.WikiLink has_pothole; destination = name; title = []; label = [] } ≡ wikilink_target v
 target_is has_pothole name v e e' = rw (e, e') refl
 
+-- the entry of a wikilink leads to its name in the source
+name_from : (source : List ℕ) (origin : Origin) (v : Wikilink ℕ) → origin ≡ sliced → StandsIn source v.name
+    → IsLinkFrom source origin (wikilink_target v)
+name_from source origin v is stands e = record { destination = rw is stands; no_title = refl; no_label = refl }
+
 -- what becomes a wikilink may be put there, once its entry is held
-pub record ReadyWikilink (source : List ℕ) (tables tables' : Tables) (nodes : List (Node Item)) (first closer : ℕ) (left : List (Entry ℕ)) (w : Around) (c : Closing ℕ) (becomes : Becomes ℕ)
+pub record ReadyWikilink (source : List ℕ) (tables tables' : Tables) (nodes : List (Node Item)) (first closer : ℕ) (left : List (Entry ℕ))
+    (w : Around) (c : Closing ℕ) (becomes : Becomes ℕ)
     (opener : Opener)
     (shown : ShownNodes) (number : LinkIndex) (end : ℕ) : Type 0 where
   pub split : Split ℕ
@@ -192,21 +214,32 @@ pub record ReadyWikilink (source : List ℕ) (tables tables' : Tables) (nodes : 
   pub is : becomes ≡ a_wikilink split found end
   pub opener_is : opener ≡ opener_of split
   pub closes : ClosesAt source tables nodes first closer left w c (a_wikilink split found end)
-  pub put : PutsLink tables tables' number (wikilink_target found)
+  pub put : PutsLink source tables tables' number (wikilink_target found)
   pub can : CanWikilink source tables tables' nodes closer split opener number end
   pub shown_is : shown_of w (past_second (inside split)) shown ≡ found.children
   pub first_is : link_to found.children ≡ Some (first_shown shown)
 
-pub ready_wikilink : (source : List ℕ) (held held' : Allocated) (nodes : List (Node Item)) (first closer : ℕ) (left : List (Entry ℕ)) (w : Around) (c : Closing ℕ) (becomes : Becomes ℕ)
+pub ready_wikilink : (source : List ℕ) (held held' : Allocated) (nodes : List (Node Item)) (first closer : ℕ) (left : List (Entry ℕ))
+    (w : Around) (c : Closing ℕ) (becomes : Becomes ℕ)
     (opener : Opener)
-    (name : Bor (List ℕ)) (has_pothole : Bool) (shown : ShownNodes) (number : LinkIndex) (end : ℕ) (link : LinkParts) → ClosesAt source (tables_of held) nodes first closer left w c becomes
+    (name : Bor (List ℕ)) (has_pothole : Bool) (shown : ShownNodes) (number : LinkIndex) (end : ℕ) (link : LinkParts)
+    → ClosesAt source (tables_of held) nodes first closer left w c becomes
     → IsBecome w becomes (Wikilinked opener name has_pothole shown end) → held' ≡ with_link held link → number.0 ≡ length held.links
-    → link_view link ≡ record { kind = kind.WikiLink has_pothole; destination = name.now; title = []; label = [] }
+    → origin_of link.1 ≡ sliced → link_view link ≡ record {
+      kind = kind.WikiLink has_pothole;
+      destination = name.now;
+      title = [];
+      label =
+          [];
+    }
     → ReadyWikilink source (tables_of held) (tables_of held') nodes first closer left w c becomes opener shown number end
-ready_wikilink source held held' nodes first closer left w c becomes opener name has_pothole shown number end link closes h put last view =
+ready_wikilink source held held' nodes first closer left w c becomes opener name has_pothole shown number end link closes h put last origin
+    view =
     let i = wikilink_is w becomes opener name has_pothole shown end h in
     let so = subst (ClosesAt source (tables_of held) nodes first closer left w c) i.is closes in
-    let there = link_put held held' link number (wikilink_target i.found) put last (view ∙ target_is has_pothole name.now i.found i.pothole_is i.name_is) in
+    let there = link_put source held held' link number (wikilink_target i.found) put last (name_from source (origin_of link.1) i.found
+    origin so.ends.2)
+    (view ∙ target_is has_pothole name.now i.found i.pothole_is i.name_is) in
     record {
       split = i.split;
       found = i.found;
@@ -214,35 +247,46 @@ ready_wikilink source held held' nodes first closer left w c becomes opener name
       opener_is = i.opener_is;
       closes = so;
       put = there;
-      can = can_wikilink source (tables_of held) (tables_of held') nodes first closer left w c i.split opener number i.found end so i.opener_is there;
+      can = can_wikilink source (tables_of held) (tables_of held') nodes first closer left w c i.split opener number i.found end so
+          i.opener_is there;
       shown_is = i.shown_is;
       first_is = i.first_is;
     }
 
 -- its name, as a Text in the second node inside
-pub record CanName (source : List ℕ) (tables tables' : Tables) (w : Around) (o : Split ℕ) (v : Wikilink ℕ) (first start end : ℕ) : Type 0 where
-  pub skipped : List ℕ
-  pub shown : List ℕ
-  pub parts : inside_numbers o ≡ skipped ++ first ∷ shown
-  pub puts : CanPut source tables tables' (text_item_over start end)
-  pub label : Label ℕ
-  pub children_are : v.children ≡ node (text_from w label start end) nil nil
+pub record CanName (source : List ℕ) (tables tables' : Tables) (w : Around) (o : Split ℕ) (v : Wikilink ℕ) (first start end : ℕ) : Type 0
+  where
+    pub skipped : List ℕ
+    pub shown : List ℕ
+    pub parts : inside_numbers o ≡ skipped ++ first ∷ shown
+    pub puts : CanPut source tables tables' (text_item_over start end)
+    pub label : Label ℕ
+    pub children_are : v.children ≡ node (text_from w label start end) nil nil
 
-first_text : (w : Around) (body children : Forest (Label ℕ)) (first start end : ℕ) → shown_of w body (Over first start end) ≡ children → link_to children ≡ Some first
-    → (a : Label ℕ) × (below : Forest (Label ℕ)) × (after : Forest (Label ℕ)) × (body ≡ node a below after) × (a.tag ≡ first) × (children ≡ node (text_from w a start end) nil nil)
+first_text : (w : Around) (body children : Forest (Label ℕ)) (first start end : ℕ) → shown_of w body (Over first start end) ≡ children
+    → link_to children ≡ Some first
+    → (a : Label ℕ) × (below : Forest (Label ℕ)) × (after : Forest (Label ℕ)) × (body ≡ node a below after) × (a.tag ≡ first)
+    × (children ≡ node (text_from w a start end) nil nil)
 first_text w nil children first start end so e = cc (so, e)
 first_text w (node a below after) children first start end so e =
     let tag : Some a.tag ≡ Some first = ap link_to so ∙ e in
     (a, below, after, refl, (cc tag), sym so)
 
-second_numbers : (f : Forest (Label ℕ)) (a : Label ℕ) (below after : Forest (Label ℕ)) (first : ℕ) → past_second f ≡ node a below after → a.tag ≡ first
+second_numbers : (f : Forest (Label ℕ)) (a : Label ℕ) (below after : Forest (Label ℕ)) (first : ℕ) → past_second f ≡ node a below after
+    → a.tag ≡ first
     → (skipped : List ℕ) × (shown : List ℕ) × (roots (numbers_of f) ≡ skipped ++ first ∷ shown)
 second_numbers nil a below after first e tag = cc e
-second_numbers (node b under rest) a below after first e tag =
-    (b.tag ∷ [], roots (numbers_of after), ap (λ (f : Forest (Label ℕ)). b.tag ∷ roots (numbers_of f)) e ∙ ap (λ (n : ℕ). b.tag ∷ n ∷ roots (numbers_of after)) tag)
+second_numbers (node b under rest) a below after first e tag = (
+  b.tag ∷ [],
+  roots (numbers_of after),
+  ap (λ (f : Forest (Label ℕ)). b.tag ∷ roots (numbers_of f)) e
+      ∙ ap (λ (n : ℕ). b.tag ∷ n ∷ roots (numbers_of after)) tag,
+)
 
-pub can_name : (source : List ℕ) (tables tables' : Tables) (nodes : List (Node Item)) (first closer : ℕ) (left : List (Entry ℕ)) (w : Around) (c : Closing ℕ) (o : Split ℕ) (v : Wikilink ℕ)
-    (end n from to : ℕ) → ClosesAt source tables nodes first closer left w c (a_wikilink o v end) → shown_of w (past_second (inside o)) (Over n from to) ≡ v.children → link_to v.children ≡ Some n
+pub can_name : (source : List ℕ) (tables tables' : Tables) (nodes : List (Node Item)) (first closer : ℕ) (left : List (Entry ℕ))
+    (w : Around) (c : Closing ℕ) (o : Split ℕ) (v : Wikilink ℕ)
+    (end n from to : ℕ) → ClosesAt source tables nodes first closer left w c (a_wikilink o v end)
+    → shown_of w (past_second (inside o)) (Over n from to) ≡ v.children → link_to v.children ≡ Some n
     → CanName source tables tables' w o v n from to
 can_name source tables tables' nodes first closer left w c o v end n from to closes so e =
     let t = first_text w (past_second (inside o)) v.children n from to so e in
@@ -257,33 +301,44 @@ can_name source tables tables' nodes first closer left w c o v end n from to clo
       children_are = t.5;
     }
 
-pub named_over : (source : List ℕ) (tables tables' : Tables) (nodes : List (Node Item)) (first closer : ℕ) (left : List (Entry ℕ)) (w : Around) (c : Closing ℕ) (becomes : Becomes ℕ) (opener : Opener)
-    (shown : ShownNodes) (number : LinkIndex) (end n from to : ℕ) (r : ReadyWikilink source tables tables' nodes first closer left w c becomes opener shown number end) → shown ≡ Over n from to
+pub named_over : (source : List ℕ) (tables tables' : Tables) (nodes : List (Node Item)) (first closer : ℕ) (left : List (Entry ℕ))
+    (w : Around) (c : Closing ℕ) (becomes : Becomes ℕ) (opener : Opener)
+    (shown : ShownNodes) (number : LinkIndex) (end n from to : ℕ) (r : ReadyWikilink source tables tables' nodes first closer left w c
+    becomes opener shown number end) → shown ≡ Over n from to
     → CanName source tables tables' w r.split r.found n from to
 named_over source tables tables' nodes first closer left w c becomes opener shown number end n from to r is =
     can_name source tables tables' nodes first closer left w c r.split r.found end n from to r.closes
-    (subst (λ (s : ShownNodes). shown_of w (past_second (inside r.split)) s ≡ r.found.children) is r.shown_is) (r.first_is ∙ ap (λ (s : ShownNodes). Some (first_shown s)) is)
+    (subst (λ (s : ShownNodes). shown_of w (past_second (inside r.split)) s ≡ r.found.children) is r.shown_is) (r.first_is
+    ∙ ap (λ (s : ShownNodes). Some (first_shown s)) is)
 
 -- so the wikilink stands in the left list
-pub name_closed : (source : List ℕ) (tables tables' : Tables) (old new : List (Node Item)) (first closer : ℕ) (next : Option ℕ) (left : List (Entry ℕ)) (w : Around) (c : Closing ℕ) (o : Split ℕ)
-    (opener : Opener) (number : LinkIndex) (v : Wikilink ℕ) (end n from to : ℕ) → ClosesAt source tables old first closer left w c (a_wikilink o v end) → opener ≡ opener_of o
-    → PutsLink tables tables' number (wikilink_target v) → CanName source tables tables' w o v n from to
-    → PutsOver source opener.node closer (inside_numbers o) (over_text source tables' (link_from old opener number end) (text_item_over from to)) end (opener.node ∷ []) next old new tables tables'
+pub name_closed : (source : List ℕ) (tables tables' : Tables) (old new : List (Node Item)) (first closer : ℕ) (next : Option ℕ)
+    (left : List (Entry ℕ)) (w : Around) (c : Closing ℕ) (o : Split ℕ)
+    (opener : Opener) (number : LinkIndex) (v : Wikilink ℕ) (end n from to : ℕ)
+    → ClosesAt source tables old first closer left w c (a_wikilink o v end) → opener ≡ opener_of o
+    → PutsLink source tables tables' number (wikilink_target v) → CanName source tables tables' w o v n from to
+    → PutsOver source opener.node closer (inside_numbers o) (over_text source tables' (link_from old opener number end)
+    (text_item_over from to)) end (opener.node ∷ []) next old new tables tables'
     → PutsClosed source first closer next left w c (a_wikilink o v end) old new tables tables'
 name_closed source tables tables' old new first closer next left w c o opener number v end n from to closes is put can over =
     let at = opener_at source tables old first closer left o closes.stands closes.splits in
     let what : Forest (Label ℕ) = node (linked o (wikilink_target v) end) v.children nil in
     let shows : node (label_of source tables' (text_item_over from to)) nil nil ≡ without_numbers v.children =
-    ap (λ (a : Plain). node a nil nil) (text_label source tables' w can.label from from to to refl refl closes.text_is) ∙ ap without_numbers (sym can.children_are) in
-    let here = subst (λ (x : Opener). PutsOver source x.node closer (inside_numbers o) (over_text source tables' (link_from old x number end) (text_item_over from to)) end (x.node ∷ []) next old new
+    ap (λ (a : Plain). node a nil nil) (text_label source tables' w can.label from from to to refl refl closes.text_is)
+    ∙ ap without_numbers (sym can.children_are) in
+    let here = subst (λ (x : Opener). PutsOver source x.node closer (inside_numbers o)
+    (over_text source tables' (link_from old x number end) (text_item_over from to)) end (x.node ∷ []) next old new
     tables tables') is over in
-    let reads : node (label_of source tables' (link_from old (opener_of o) number end)) (node (label_of source tables' (text_item_over from to)) nil nil) nil ≡ without_numbers what =
-    ap (λ (a : Plain). node a (node (label_of source tables' (text_item_over from to)) nil nil) nil) (linked_label source tables tables' old o number (wikilink_target v) end at.around.label_is put)
+    let reads : node (label_of source tables' (link_from old (opener_of o) number end))
+    (node (label_of source tables' (text_item_over from to)) nil nil) nil ≡ without_numbers what =
+    ap (λ (a : Plain). node a (node (label_of source tables' (text_item_over from to)) nil nil) nil)
+    (linked_label source tables tables' old o number (wikilink_target v) end at.around.label_is put)
     ∙ ap (λ (f : Forest Plain). node (record { tag = tt; part = (linked o (wikilink_target v) end).part }) f nil) shows in
     let quiet : IsQuiet v.children = subst IsQuiet (sym can.children_are) (refl, refl, tt, tt) in
     puts_closed source first closer next left w c (a_wikilink o v end) o old new tables tables' (before_wikilink o.before)
     (over_text source tables' (link_from old (opener_of o) number end) (text_item_over from to)) what
-    end (o.opener.tag ∷ []) closes at (wikilink_stands source tables old first (Some o.opener.tag) o.before at.stands) (record { left_is = λ p e. refl; goes = λ p. refl }) reads
+    end (o.opener.tag ∷ []) closes at (wikilink_stands source tables old first (Some o.opener.tag) o.before at.stands)
+    (record { left_is = λ p e. refl; goes = λ p. refl }) reads
     (refl, refl, quiet, tt) (λ a i. refl) here
 
 -- what stands inside from a byte on
@@ -298,16 +353,20 @@ is_past w nil n at = refl
 is_past w (node a below after) n at = refl
 
 -- of what begins at a byte at the earliest that byte is between characters, where it begins there
-begins_there : (source : List ℕ) (at : ℕ) (a : Label ℕ) (below after : Forest (Label ℕ)) → FirstLies source (node (begun_at at a) below after) → start_of a < at → IsCharBoundary source at
+begins_there : (source : List ℕ) (at : ℕ) (a : Label ℕ) (below after : Forest (Label ℕ))
+    → FirstLies source (node (begun_at at a) below after) → start_of a < at → IsCharBoundary source at
 begins_there source at a below after lies before =
     let same : max (start_of a) at ≡ at = omega arith in
     subst (IsCharBoundary source) same lies.1
 
-second_shows : (source : List ℕ) (tables : Tables) (nodes : List (Node Item)) (n from : ℕ) (f children : Forest (Label ℕ)) (g : Forest ℕ) → f ≡ relabelled (numbered_label source tables nodes) g
-    → past_byte from (past_second f) ≡ children → link_to children ≡ Some n → FirstLies source children → NoneOpenAround from (past_second f)
+second_shows : (source : List ℕ) (tables : Tables) (nodes : List (Node Item)) (n from : ℕ) (f children : Forest (Label ℕ)) (g : Forest ℕ)
+    → f ≡ relabelled (numbered_label source tables nodes) g
+    → past_byte from (past_second f) ≡ children → link_to children ≡ Some n → FirstLies source children
+    → NoneOpenAround from (past_second f)
     → (skipped : List ℕ) × CanShow source nodes (roots g) skipped n from × (past_byte from (trees_past (length skipped) f) ≡ children)
 second_shows source tables nodes n from f children nil is so e lies none_open_there =
-    let none : link_to (past_byte from (past_second (relabelled (numbered_label source tables nodes) nil))) ≡ Some n = ap (λ (x : Forest (Label ℕ)). link_to (past_byte from (past_second x))) (sym is)
+    let none : link_to (past_byte from (past_second (relabelled (numbered_label source tables nodes) nil)))
+    ≡ Some n = ap (λ (x : Forest (Label ℕ)). link_to (past_byte from (past_second x))) (sym is)
     ∙ ap link_to so ∙ e in
     cc none
 second_shows source tables nodes n from f children (node b under g) is so e lies none_open_there =
@@ -315,7 +374,8 @@ second_shows source tables nodes n from f children (node b under g) is so e lies
     let rest : past_second f ≡ relabelled label g = ap past_second is in
     let left : past_byte from (relabelled label g) ≡ children = ap (past_byte from) (sym rest) ∙ so in
     let shown = shown_at source tables nodes from n g (ap link_to left ∙ e) in
-    let here : FirstLies source (node (begun_at from (label n)) shown.below shown.after) = subst (FirstLies source) (sym left ∙ shown.begins) lies in (
+    let here : FirstLies source (node (begun_at from (label n)) shown.below shown.after) = subst (FirstLies source) (sym left
+    ∙ shown.begins) lies in (
       b ∷ shown.skipped,
       record {
         shown = shown.shown;
@@ -333,8 +393,10 @@ without_trees zero f = refl
 without_trees (suc k) nil = refl
 without_trees (suc k) (node a below after) = without_trees k after
 
-pub shows_from_byte : (source : List ℕ) (tables : Tables) (nodes : List (Node Item)) (first closer : ℕ) (left : List (Entry ℕ)) (w : Around) (c : Closing ℕ) (o : Split ℕ) (v : Wikilink ℕ)
-    (end n from : ℕ) → ClosesAt source tables nodes first closer left w c (a_wikilink o v end) → shown_of w (past_second (inside o)) (From n from) ≡ v.children → link_to v.children ≡ Some n
+pub shows_from_byte : (source : List ℕ) (tables : Tables) (nodes : List (Node Item)) (first closer : ℕ) (left : List (Entry ℕ)) (w : Around)
+    (c : Closing ℕ) (o : Split ℕ) (v : Wikilink ℕ)
+    (end n from : ℕ) → ClosesAt source tables nodes first closer left w c (a_wikilink o v end)
+    → shown_of w (past_second (inside o)) (From n from) ≡ v.children → link_to v.children ≡ Some n
     → ShowsFrom source nodes o v n from
 shows_from_byte source tables nodes first closer left w c o v end n from closes so e =
     let at = opener_at source tables nodes first closer left o closes.stands closes.splits in
@@ -347,31 +409,41 @@ shows_from_byte source tables nodes first closer left w c o v end n from closes 
       skipped = s.0;
       can = subst (λ (l : List ℕ). CanShow source nodes l s.0 n from) (sym i.listed) s.1;
       reads = ap (past_byte from) (without_trees k (inside o)) ∙ without_past from (trees_past k (inside o)) ∙ ap without_numbers s.2;
-      quiet = subst IsQuiet is (quiet_left from (past_second (inside o)) (quiet_second (inside o) (quiet_inside left o closes.splits closes.stands.quiet)));
+      quiet = subst IsQuiet is (quiet_left from (past_second (inside o))
+          (quiet_second (inside o) (quiet_inside left o closes.splits closes.stands.quiet)));
     }
 
-pub shows_over : (source : List ℕ) (tables tables' : Tables) (nodes : List (Node Item)) (first closer : ℕ) (left : List (Entry ℕ)) (w : Around) (c : Closing ℕ) (becomes : Becomes ℕ) (opener : Opener)
-    (shown : ShownNodes) (number : LinkIndex) (end n from : ℕ) (r : ReadyWikilink source tables tables' nodes first closer left w c becomes opener shown number end) → shown ≡ From n from
+pub shows_over : (source : List ℕ) (tables tables' : Tables) (nodes : List (Node Item)) (first closer : ℕ) (left : List (Entry ℕ))
+    (w : Around) (c : Closing ℕ) (becomes : Becomes ℕ) (opener : Opener)
+    (shown : ShownNodes) (number : LinkIndex) (end n from : ℕ) (r : ReadyWikilink source tables tables' nodes first closer left w c becomes
+    opener shown number end) → shown ≡ From n from
     → ShowsFrom source nodes r.split r.found n from
 shows_over source tables tables' nodes first closer left w c becomes opener shown number end n from r is =
     shows_from_byte source tables nodes first closer left w c r.split r.found end n from r.closes
-    (subst (λ (s : ShownNodes). shown_of w (past_second (inside r.split)) s ≡ r.found.children) is r.shown_is) (r.first_is ∙ ap (λ (s : ShownNodes). Some (first_shown s)) is)
+    (subst (λ (s : ShownNodes). shown_of w (past_second (inside r.split)) s ≡ r.found.children) is r.shown_is) (r.first_is
+    ∙ ap (λ (s : ShownNodes). Some (first_shown s)) is)
 
-pub shown_closed : (source : List ℕ) (tables tables' : Tables) (old new : List (Node Item)) (first closer : ℕ) (next : Option ℕ) (left : List (Entry ℕ)) (w : Around) (c : Closing ℕ) (o : Split ℕ)
-    (opener : Opener) (number : LinkIndex) (v : Wikilink ℕ) (end n from : ℕ) → ClosesAt source tables old first closer left w c (a_wikilink o v end) → opener ≡ opener_of o
-    → PutsLink tables tables' number (wikilink_target v) → (s : ShowsFrom source old o v n from)
-    → PutsOver source opener.node closer (inside_numbers o) (over_shown source tables' (link_from old opener number end) (length s.skipped) from) end (opener.node ∷ []) next old new tables tables'
+pub shown_closed : (source : List ℕ) (tables tables' : Tables) (old new : List (Node Item)) (first closer : ℕ) (next : Option ℕ)
+    (left : List (Entry ℕ)) (w : Around) (c : Closing ℕ) (o : Split ℕ)
+    (opener : Opener) (number : LinkIndex) (v : Wikilink ℕ) (end n from : ℕ)
+    → ClosesAt source tables old first closer left w c (a_wikilink o v end) → opener ≡ opener_of o
+    → PutsLink source tables tables' number (wikilink_target v) → (s : ShowsFrom source old o v n from)
+    → PutsOver source opener.node closer (inside_numbers o) (over_shown source tables' (link_from old opener number end) (length s.skipped)
+    from) end (opener.node ∷ []) next old new tables tables'
     → PutsClosed source first closer next left w c (a_wikilink o v end) old new tables tables'
 shown_closed source tables tables' old new first closer next left w c o opener number v end n from closes is put s over =
     let at = opener_at source tables old first closer left o closes.stands closes.splits in
     let what : Forest (Label ℕ) = node (linked o (wikilink_target v) end) v.children nil in
-    let here = subst (λ (x : Opener). PutsOver source x.node closer (inside_numbers o) (over_shown source tables' (link_from old x number end) (length s.skipped) from) end (x.node ∷ []) next old new
+    let here = subst (λ (x : Opener). PutsOver source x.node closer (inside_numbers o)
+    (over_shown source tables' (link_from old x number end) (length s.skipped) from) end (x.node ∷ []) next old new
     tables tables') is over in
-    let reads : node (label_of source tables' (link_from old (opener_of o) number end)) (past_byte from (trees_past (length s.skipped) (without_numbers (inside o)))) nil ≡ without_numbers what =
+    let reads : node (label_of source tables' (link_from old (opener_of o) number end))
+    (past_byte from (trees_past (length s.skipped) (without_numbers (inside o)))) nil ≡ without_numbers what =
     ap (λ (a : Plain). node a (past_byte from (trees_past (length s.skipped) (without_numbers (inside o)))) nil)
     (linked_label source tables tables' old o number (wikilink_target v) end at.around.label_is put)
     ∙ ap (λ (f : Forest Plain). node (record { tag = tt; part = (linked o (wikilink_target v) end).part }) f nil) s.reads in
     puts_closed source first closer next left w c (a_wikilink o v end) o old new tables tables' (before_wikilink o.before)
     (over_shown source tables' (link_from old (opener_of o) number end) (length s.skipped) from) what
-    end (o.opener.tag ∷ []) closes at (wikilink_stands source tables old first (Some o.opener.tag) o.before at.stands) (record { left_is = λ p e. refl; goes = λ p. refl }) reads
+    end (o.opener.tag ∷ []) closes at (wikilink_stands source tables old first (Some o.opener.tag) o.before at.stands)
+    (record { left_is = λ p e. refl; goes = λ p. refl }) reads
     (refl, refl, s.quiet, tt) (λ a i. refl) here

@@ -48,24 +48,29 @@ closing_at source tables nodes spent could_be ix = record {
 }
 
 -- putting changes the left list alone, and where the chain goes on
-put_keeps : {A : Type 0} (w : Around) (c : Closing A) (becomes : Becomes A) (p : Progress A) → put w c becomes p ≡ record p { left = (put w c becomes p).left; goes_on = (put w c becomes p).goes_on }
+put_keeps : {A : Type 0} (w : Around) (c : Closing A) (becomes : Becomes A) (p : Progress A)
+    → put w c becomes p ≡ record p { left = (put w c becomes p).left; goes_on = (put w c becomes p).goes_on }
 put_keeps w c a_text p = refl
 put_keeps w c (a_link o target end next) p = refl
 put_keeps w c (a_footnote o name) p = refl
 put_keeps w c (a_wikilink o found end) p = refl
 
 -- two stacks hold the openers of the left list in which that was put
-pub record HoldsPut (w : Around) (c : Closing ℕ) (becomes : Becomes ℕ) (left : List (Entry ℕ)) (brackets wikilinks : List Waiting) : Type 0 where
-  pub holds : (p : Progress ℕ) → p.left ≡ left → (brackets ≡ brackets_of (put w c becomes p).left) × (wikilinks ≡ wikilinks_of (put w c becomes p).left)
+pub record HoldsPut (w : Around) (c : Closing ℕ) (becomes : Becomes ℕ) (left : List (Entry ℕ)) (brackets wikilinks : List Waiting) : Type 0
+  where
+    pub holds : (p : Progress ℕ) → p.left ≡ left → (brackets ≡ brackets_of (put w c becomes p).left)
+        × (wikilinks ≡ wikilinks_of (put w c becomes p).left)
 
-module _ {C : Type 0} (step : C → Question → Option Answer → C → Type 0) (s : Setting) (above : Above) (first ix : ℕ) (left : List (Entry ℕ)) (could_be : Bool) (old new : Stage C)
+module _ {C : Type 0} (step : C → Question → Option Answer → C → Type 0) (s : Setting) (above : Above) (first ix : ℕ)
+    (left : List (Entry ℕ)) (could_be : Bool) (old new : Stage C)
     (spent spent' : SpentEnds) (brackets wikilinks : List Waiting) (found : ClosedBracket) where
   abbrev the_closing : Closing ℕ
   the_closing = closing_at s.text old.tables old.nodes spent could_be ix
 
   -- it was decided what becomes of it
   abbrev pub IsDecided : Type 0
-  IsDecided = Decides step (around s above) the_closing left old.limit new.limit old.uses new.uses spent spent' old.callback new.callback brackets wikilinks found
+  IsDecided = Decides step (around s above) the_closing left old.limit new.limit old.uses new.uses spent spent' old.callback new.callback
+      brackets wikilinks found
 
   -- how far the chain was read by numbers, before that and after it
   abbrev numbered : (p : Progress (Unit {0})) → Answers → Progress ℕ
@@ -84,9 +89,11 @@ module _ {C : Type 0} (step : C → Question → Option Answer → C → Type 0)
   -- a `]` is closed as it was decided
   closed_is : (d : IsDecided)
       → (p : Progress (Unit {0})) (later : Answers)
-      → closed (around s above) the_closing (numbered p (d.answers ++ later)) ≡ put (around s above) the_closing d.becomes (after_decision d p later)
+      → closed (around s above) the_closing (numbered p (d.answers ++ later)) ≡ put (around s above) the_closing d.becomes
+      (after_decision d p later)
   unfolding closed
-  closed_is d p later = ap (λ (x : Decision ℕ). put_decided (around s above) the_closing x) (d.decides (numbered p (d.answers ++ later)) later)
+  closed_is d p later = ap (λ (x : Decision ℕ). put_decided (around s above) the_closing x) (d.decides (numbered p (d.answers ++ later))
+      later)
 
   -- so the chain from it on is read: from what was put on
   closer_reads : (d : IsDecided)
@@ -95,7 +102,14 @@ module _ {C : Type 0} (step : C → Question → Option Answer → C → Type 0)
       → all_read s above (chain_at s.text old (Some ix)) (at_left left old (d.answers ++ later) p)
       ≡ (let r : Progress ℕ = put (around s above) the_closing d.becomes (after_decision d p later) in
       all_read s above (past r.goes_on (trees_from s.text old.tables old.nodes (sibling_of old.nodes ix)))
-      (record p { left = left_without_numbers r.left; goes_on = None; spent = d.more ++ p.spent; asked = p.asked ++ d.questions; known = known_at new later }))
+      (record p {
+        left = left_without_numbers r.left;
+        goes_on = None;
+        spent = d.more ++ p.spent;
+        asked = p.asked
+            ++ d.questions;
+        known = known_at new later;
+      }))
   closer_reads d stands is p later are =
       let w = around s above in
       let c = the_closing in
@@ -106,22 +120,28 @@ module _ {C : Type 0} (step : C → Question → Option Answer → C → Type 0)
       let from : Progress (Unit {0}) = at_left left old (d.answers ++ later) p in
       let by_number : Progress ℕ = numbered p (d.answers ++ later) in
       let same : closing could_be c.label c.rest by_number ≡ c =
-      ap (λ (x : Bool). let k : Closing ℕ = record { label = c.label; could_be_reference = could_be && not x; rest = c.rest } in k) (sym (are (end_of c.label))) in
+      ap (λ (x : Bool). let k : Closing ℕ = record { label = c.label; could_be_reference = could_be && not x; rest = c.rest } in k)
+      (sym (are (end_of c.label))) in
       let closes : closed w (closing could_be a rest from) from ≡ retag_progress (λ n. tt) (put w c d.becomes (after_decision d p later)) =
-      ap (λ (f : Forest Plain). closed w (closing could_be a f from) from) (sym (trees_unnumbered s.text old.tables old.nodes (sibling_of old.nodes ix)))
+      ap (λ (f : Forest Plain). closed w (closing could_be a f from) from)
+      (sym (trees_unnumbered s.text old.tables old.nodes (sibling_of old.nodes ix)))
       ∙ closing_retag (λ n. tt) w could_be c.label c.rest by_number
       ∙ ap (λ (k : Closing ℕ). retag_progress (λ n. tt) (closed w k by_number)) same
       ∙ ap (λ (x : Progress ℕ). retag_progress (λ n. tt) x) (closed_is d p later) in
       ap (λ (f : Forest Plain). all_read s above f from) (opens_chain s.text old.tables old.nodes ix ready).trees
       ∙ reads_closer s plain_tags above could_be a below rest from refl (closer_is (item_at old.nodes ix).body is)
       ∙ ap (λ (x : Progress (Unit {0})). all_read s above (past x.goes_on rest) (record x { goes_on = None })) closes
-      ∙ ap (λ (x : Progress ℕ). all_read s above (past x.goes_on rest) (record (retag_progress (λ n. tt) x) { goes_on = None })) (put_keeps w c d.becomes (after_decision d p later))
+      ∙ ap (λ (x : Progress ℕ). all_read s above (past x.goes_on rest) (record (retag_progress (λ n. tt) x) { goes_on = None }))
+      (put_keeps w c d.becomes (after_decision d p later))
     where
       closer_is : (b : ItemBody) → b ≡ body.MaybeLinkClose could_be
-          → open_body (shape_of old.tables (slice_range s.text (item_at old.nodes ix).start (item_at old.nodes ix).end) b) ≡ body.MaybeLinkClose could_be
+          → open_body (shape_of old.tables (slice_range s.text (item_at old.nodes ix).start (item_at old.nodes ix).end) b)
+          ≡ body.MaybeLinkClose could_be
       closer_is b e =
-          ap (λ (b : ItemBody). open_body (shape_of old.tables (slice_range s.text (item_at old.nodes ix).start (item_at old.nodes ix).end) b)) e
-          ∙ ap open_body (shape-open old.tables (slice_range s.text (item_at old.nodes ix).start (item_at old.nodes ix).end) (body.MaybeLinkClose could_be) refl)
+          ap (λ (b : ItemBody). open_body (shape_of old.tables (slice_range s.text (item_at old.nodes ix).start (item_at old.nodes ix).end)
+          b)) e
+          ∙ ap open_body (shape-open old.tables (slice_range s.text (item_at old.nodes ix).start (item_at old.nodes ix).end)
+          (body.MaybeLinkClose could_be) refl)
 
   -- what it became was put
   pub reads_on_closer : (next : Option ℕ) (brackets' wikilinks' : List Waiting)
@@ -154,11 +174,21 @@ module _ {C : Type 0} (step : C → Question → Option Answer → C → Type 0)
             let r = put w c d.becomes q in
             let made : p.made ≡ p.made + 0 = omega arith in
             closer_reads d stands is p later are
-            ∙ ap (λ (f : Forest Plain). all_read s above f (record p { left = left_without_numbers r.left; goes_on = None; spent = d.more ++ p.spent; asked = p.asked ++ d.questions; known = known_at new later }))
+            ∙ ap (λ (f : Forest Plain). all_read s above f (record p {
+              left = left_without_numbers r.left;
+              goes_on = None;
+              spent = d.more
+                  ++ p.spent;
+              asked = p.asked ++ d.questions;
+              known = known_at new later;
+            }))
             (sym (puts.rest_is q refl))
             ∙ ap (λ (l : List (Entry (Unit {0}))). all_read s above (chain_at s.text new next)
-            (record p { left = l; goes_on = None; spent = d.more ++ p.spent; asked = p.asked ++ d.questions; known = known_at new later })) (sym (puts.puts q refl))
-            ∙ ap (λ (made : ℕ). all_read s above (chain_at s.text new next) (at_left puts.left_then new later (record p { spent = d.more ++ p.spent; asked = p.asked ++ d.questions; made = made }))) made;
+            (record p { left = l; goes_on = None; spent = d.more ++ p.spent; asked = p.asked ++ d.questions; known = known_at new later }))
+            (sym (puts.puts q refl))
+            ∙ ap (λ (made : ℕ). all_read s above (chain_at s.text new next)
+            (at_left puts.left_then new later (record p { spent = d.more ++ p.spent; asked = p.asked ++ d.questions; made = made })))
+            made;
       }
 
   -- memory was refused before it was put
@@ -172,6 +202,13 @@ module _ {C : Type 0} (step : C → Question → Option Answer → C → Type 0)
     begins = λ p later are.
         let r : Progress ℕ = put (around s above) the_closing d.becomes (after_decision d p later) in
         let then_asks = all_asks s above (past r.goes_on (trees_from s.text old.tables old.nodes (sibling_of old.nodes ix)))
-        (record p { left = left_without_numbers r.left; goes_on = None; spent = d.more ++ p.spent; asked = p.asked ++ d.questions; known = known_at new later }) in
+        (record p {
+          left = left_without_numbers r.left;
+          goes_on = None;
+          spent = d.more ++ p.spent;
+          asked = p.asked
+              ++ d.questions;
+          known = known_at new later;
+        }) in
         (then_asks.more, ap (λ (q : Progress (Unit {0})). q.asked) (closer_reads d stands is p later are) ∙ then_asks.asked);
   }

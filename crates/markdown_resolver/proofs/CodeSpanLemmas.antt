@@ -1,5 +1,6 @@
 -- A code span that a search finds in a chain is what pass one finds there, and may be put where its opener stands.
-use Rattle.std.proofs.Common.{◌≡◌, ℕ, zero, suc, ◌+◌, ◌-◌, ◌<◌, ◌≤◌, Bool, true, false, ◌==◌, List, [], ◌∷◌, ◌++◌, map, length, get_or, take, drop, Option, Some, None, refl, sym, ap, ◌∙◌, arith, subst}
+use Rattle.std.proofs.Common.{◌≡◌, ℕ, zero, suc, ◌+◌, ◌-◌, ◌<◌, ◌≤◌, Bool, true, false, ◌==◌, List, [], ◌∷◌, ◌++◌, map, length, get_or}
+use Rattle.std.proofs.Common.{take, drop, Option, Some, None, refl, sym, ap, ◌∙◌, arith, subst}
 use Rattle.std.specs.Prelude.{replicate, slice_range, IfSome}
 use Rattle.std.specs.Option.{option_map}
 use Rattle.std.specs.Str.{IsCharBoundary}
@@ -23,7 +24,8 @@ use Rattle.markdown_chains.specs.Above.{Above}
 use Rattle.markdown_chains.specs.ChainRest.{as_item}
 use Rattle.markdown_chains.specs.Places.{IsPlaced, label_at, trees_from}
 use Rattle.markdown_chains.specs.Setting.{Setting}
-use Rattle.markdown_chains.specs.Tables.{Tables, Named, some_text, some_link, some_alignments, HasGrown, text_at, number_of, size_for, tables_of}
+use Rattle.markdown_chains.specs.Tables.{Tables, Named, some_text, some_link, some_alignments, HasGrown, text_at, number_of, size_for}
+use Rattle.markdown_chains.specs.Tables.{tables_of}
 use Rattle.markdown_chains.specs.Totals.{same, times_named}
 use Rattle.markdown_code.specs.Closers.{closing_count, code_close, is_code_of}
 use Rattle.markdown_code.specs.Finds.{code_found, find_by, is_escaped, text_between, origin_between}
@@ -38,7 +40,8 @@ use Rattle.markdown_resolver.proofs.ReadsItemLemmas.{ReadsAs, opener_shape, open
 use Rattle.markdown_resolver.proofs.SpanFindLemmas.{StandsAmong, code_close_among, code_close_shown, label_alike, number_alike}
 
 -- the number of a numbered item that was found by its number
-number_back : (nodes : List (Node Item)) (found : Option ℕ) → option_map (λ (a : Numbered). a.number) (option_map (numbered nodes) found) ≡ found
+number_back : (nodes : List (Node Item)) (found : Option ℕ) → option_map (λ (a : Numbered). a.number) (option_map (numbered nodes) found)
+    ≡ found
 number_back nodes None = refl
 number_back nodes (Some x) = refl
 
@@ -50,14 +53,16 @@ closes_by_number source tables nodes ix count escaped found ready is closes =
     let o = opens_chain source tables nodes ix ready in
     let xs = followers nodes ix in
     sym (number_back nodes (code_close (item_at nodes) (body.MaybeCode count escaped) xs))
-    ∙ ap (option_map (λ (a : Numbered). a.number)) (sym (code_close_shown item_in (numbered nodes) nodes (number_alike nodes) count escaped xs))
+    ∙ ap (option_map (λ (a : Numbered). a.number)) (sym (code_close_shown item_in (numbered nodes) nodes (number_alike nodes) count escaped
+    xs))
     ∙ ap (λ (b : ItemBody). option_map (λ (a : Numbered). a.number) (code_close item_in b (map (numbered nodes) xs))) (sym is)
     ∙ closes (suc ix) (map (numbered nodes) xs) o.leads
 
 -- and so what pass one finds there
 code_read : (s : Setting) (above : Above) (tables : Tables) (nodes : List (Node Item)) (ix count : ℕ) (escaped : Bool) (found : Option ℕ)
     → CanResolve s.text tables nodes (Some ix) → (item_at nodes ix).body ≡ body.MaybeCode count escaped → ClosesCode nodes ix found
-    → find_by s above (body.MaybeCode count escaped) (label_at s.text tables nodes ix) (trees_from s.text tables nodes (sibling_of nodes ix))
+    → find_by s above (body.MaybeCode count escaped) (label_at s.text tables nodes ix)
+    (trees_from s.text tables nodes (sibling_of nodes ix))
     ≡ code_found s above (label_at s.text tables nodes ix) (option_map (label_at s.text tables nodes) found)
 code_read s above tables nodes ix count escaped found ready is closes =
     let o = opens_chain s.text tables nodes ix ready in
@@ -84,11 +89,13 @@ nothing_reads s above tables nodes ix count escaped ready is closes =
     }
 
 -- where something does, a code span, with the text between them
-pub code_reads : (s : Setting) (above : Above) (tables tables' : Tables) (nodes : List (Node Item)) (ix x count : ℕ) (escaped : Bool) (cow : CowIndex)
+pub code_reads : (s : Setting) (above : Above) (tables tables' : Tables) (nodes : List (Node Item)) (ix x count : ℕ) (escaped : Bool)
+    (cow : CowIndex)
     → CanResolve s.text tables nodes (Some ix) → (item_at nodes ix).body ≡ body.MaybeCode count escaped → ClosesCode nodes ix (Some x)
     → text_at tables'.cows cow.0 ≡ text_between s above Code (item_at nodes ix).end (item_at nodes x).start
     → origin_at tables'.cows cow.0 ≡ origin_between s above (item_at nodes ix).end (item_at nodes x).start
-    → ReadsAs s above tables nodes ix (code_standing s.text tables' (is_escaped (item_at nodes ix).body) (item_at nodes ix) (item_at nodes x) (body.Code cow)) (Some (item_at nodes x).end)
+    → ReadsAs s above tables nodes ix (code_standing s.text tables' (is_escaped (item_at nodes ix).body) (item_at nodes ix)
+    (item_at nodes x) (body.Code cow)) (Some (item_at nodes x).end)
 code_reads s above tables tables' nodes ix x count false cow ready is closes text origin =
     let e = read_opener s above tables nodes ix (body.MaybeCode count false) is refl refl in
     let found = code_read s above tables nodes ix count false (Some x) ready is closes in
@@ -101,14 +108,20 @@ code_reads s above tables tables' nodes ix x count true cow ready is closes text
     record { standing = rw (e, found, shape, is, text, origin) refl; ends = rw (e, found) refl }
 
 -- an item may begin after a backtick, where another one follows
-pub next_byte : (text : List ℕ) (start end count byte : ℕ) → slice_range text start end ≡ replicate count byte → 2 ≤ count → byte < 128 → start ≤ end → end ≤ length text
+pub next_byte : (text : List ℕ) (start end count byte : ℕ) → slice_range text start end ≡ replicate count byte → 2 ≤ count → byte < 128
+    → start ≤ end → end ≤ length text
     → (suc start ≤ end) × IsCharBoundary text (start + 1)
 next_byte text start end count byte is two low ordered within =
     let size : length (slice_range text start end) ≡ count = ap length is ∙ length-replicate count byte in
     let room : end ≡ start + count = omega (arith, size, length-take (end - start) (drop start text), length-drop start text) in
-    let read : get_or (take (end - start) (drop start text)) 1 0 ≡ byte = ap (λ (bytes : List ℕ). get_or bytes 1 0) is ∙ get_or-replicate count 1 byte 0 (omega (arith, two)) in
-    let same : get_or (take (end - start) (drop start text)) 1 0 ≡ get_or text (start + 1) 0 = get_or-take (end - start) (drop start text) 1 0 (omega (arith, room, two)) ∙ get_or-drop start text 1 0 in
-    (omega (arith, room, two), IsCharBoundary-before_ascii text (start + 1) (omega (arith, room, two, within)) (omega (arith, read, same, low)))
+    let read : get_or (take (end - start) (drop start text)) 1 0 ≡ byte = ap (λ (bytes : List ℕ). get_or bytes 1 0) is
+    ∙ get_or-replicate count 1 byte 0 (omega (arith, two)) in
+    let same : get_or (take (end - start) (drop start text)) 1 0 ≡ get_or text (start + 1) 0 = get_or-take (end - start) (drop start text) 1
+    0 (omega (arith, room, two)) ∙ get_or-drop start text 1 0 in (
+      omega (arith, room, two),
+      IsCharBoundary-before_ascii text (start + 1) (omega (arith, room, two, within))
+          (omega (arith, read, same, low)),
+    )
 
 -- nothing open stands around the end of an item of a chain
 pub found_at : (source : List ℕ) (tables : Tables) (nodes : List (Node Item)) (ix x : ℕ) → CanResolve source tables nodes (Some ix)
@@ -117,13 +130,15 @@ pub found_at : (source : List ℕ) (tables : Tables) (nodes : List (Node Item)) 
 found_at source tables nodes ix x ready opens no_run among =
     let o = opens_chain source tables nodes ix ready in
     let end = (item_at nodes x).end in
-    let ordered : InOrder nodes (item_at nodes ix).end (among.before ++ x ∷ among.after) = subst (InOrder nodes (item_at nodes ix).end) among.parts o.ordered in
+    let ordered : InOrder nodes (item_at nodes ix).end (among.before ++ x ∷ among.after) = subst (InOrder nodes (item_at nodes ix).end)
+    among.parts o.ordered in
     record {
       ready = ready;
       was_open = opens;
       no_run = no_run;
       between = λ next first around.
-          let later = nothing_around nodes (item_at nodes ix).end among.before x among.after next ordered (ap (first_past nodes end) (sym among.parts) ∙ first) in
+          let later = nothing_around nodes (item_at nodes ix).end among.before x among.after next ordered
+          (ap (first_past nodes end) (sym among.parts) ∙ first) in
           absurd (omega (arith, later, around));
     }
 
@@ -145,16 +160,19 @@ pub closed_code : (source : List ℕ) (tables : Tables) (nodes : List (Node Item
     → ((closing_count count escaped == 0) ≡ false) × ClosedCode source tables nodes ix x
 closed_code source tables nodes ix x count escaped ready is closes =
     let o = opens_chain source tables nodes ix ready in
-    let there = code_close_among nodes count escaped (followers nodes ix) x (closes_by_number source tables nodes ix count escaped (Some x) ready is closes) in
+    let there = code_close_among nodes count escaped (followers nodes ix) x (closes_by_number source tables nodes ix count escaped (Some x)
+    ready is closes) in
     let among = there.1.among in
     let kind = code_open (closing_count count escaped) (item_at nodes x).body there.1.is_code in
-    let around = order_around nodes (item_at nodes ix).end among.before x among.after (subst (InOrder nodes (item_at nodes ix).end) among.parts o.ordered) in (
+    let around = order_around nodes (item_at nodes ix).end among.before x among.after (subst (InOrder nodes (item_at nodes ix).end)
+    among.parts o.ordered) in (
       there.0,
       record {
         among = among;
         closer_open = kind.0;
         closer_no_run = kind.1;
-        lies = (each_root (IsPlaced source tables nodes) (forest_at (links_of nodes) (sibling_of nodes ix)) among.before x among.after o.all_placed among.parts).lies;
+        lies = (each_root (IsPlaced source tables nodes) (forest_at (links_of nodes) (sibling_of nodes ix)) among.before x among.after
+            o.all_placed among.parts).lies;
         behind = around.from;
         found = found_at source tables nodes ix x ready (ap is_open is) (ap run_character is) among;
       },
@@ -175,12 +193,18 @@ pub record PutsText (tables tables' : Tables) (cow : CowIndex) (text : List ℕ)
 abbrev with_links : (held : Allocated) (cow : CowStr) → List LinkParts → Tables
 with_links held cow links = record { cows = held.cows ++ cow ∷ []; links = links; alignments = held.alignments; headings = held.headings }
 
-pub text_put : (held held' : Allocated) (cow : CowStr) (ix : CowIndex) (text : List ℕ) → held' ≡ with_cow held cow → ix.0 ≡ length held.cows → text_of cow ≡ text
+pub text_put : (held held' : Allocated) (cow : CowStr) (ix : CowIndex) (text : List ℕ) → held' ≡ with_cow held cow → ix.0 ≡ length held.cows
+    → text_of cow ≡ text
     → PutsText (tables_of held) (tables_of held') ix text
 text_put held held' cow ix text put number same =
     let cows : held'.cows ≡ held.cows ++ cow ∷ [] = ap (λ (h : Allocated). h.cows) put in
     record {
-      grown = record { more_cows = cow ∷ []; more_links = []; grown = ap tables_of put ∙ ap (with_links held cow) (sym (append-nil held.links)) };
+      grown = record {
+        more_cows = cow ∷ [];
+        more_links = [];
+        grown = ap tables_of put
+            ∙ ap (with_links held cow) (sym (append-nil held.links));
+      };
       found = ap (λ (cows : List CowStr). text_at cows ix.0) cows ∙ text_pushed held.cows cow ix.0 number ∙ same;
       within = omega (arith, number, ap length cows, length-append held.cows (cow ∷ []));
       number = number;
@@ -192,7 +216,8 @@ origin_pushed [] cow n e = rw e refl
 origin_pushed (c ∷ cows) cow zero e = cc e
 origin_pushed (c ∷ cows) cow (suc n) e = origin_pushed cows cow n (omega (arith, e))
 
-pub origin_put : (held held' : Allocated) (cow : CowStr) (ix : CowIndex) → held' ≡ with_cow held cow → ix.0 ≡ length held.cows → origin_at (tables_of held').cows ix.0 ≡ origin_of cow
+pub origin_put : (held held' : Allocated) (cow : CowStr) (ix : CowIndex) → held' ≡ with_cow held cow → ix.0 ≡ length held.cows
+    → origin_at (tables_of held').cows ix.0 ≡ origin_of cow
 origin_put held held' cow ix put number =
     ap (λ (h : Allocated). origin_at h.cows ix.0) put ∙ origin_pushed held.cows cow ix.0 number
 
@@ -203,7 +228,8 @@ same_below (suc n) zero h = refl
 same_below (suc n) (suc m) h = same_below n m (omega (arith, h))
 
 -- so a body that names it alone names nothing that was there
-code_names : (tables : Tables) (cow : CowIndex) (n : Named) → cow.0 ≡ length tables.cows → number_of n < size_for tables n → times_named n (body.Code cow) ≡ 0
+code_names : (tables : Tables) (cow : CowIndex) (n : Named) → cow.0 ≡ length tables.cows → number_of n < size_for tables n
+    → times_named n (body.Code cow) ≡ 0
 code_names tables cow (some_text n) e h = same_below n cow.0 (omega (arith, h, e))
 code_names tables cow (some_link n) e h = refl
 code_names tables cow (some_alignments n) e h = refl
@@ -219,9 +245,12 @@ two_at_least zero h = cc h
 two_at_least (suc zero) h = cc h
 two_at_least (suc (suc n)) h = omega arith
 
-pub can_put_code : (source : List ℕ) (tables tables' : Tables) (nodes : List (Node Item)) (ix x count : ℕ) (escaped : Bool) (cow : CowIndex) (text : List ℕ)
-    → CanResolve source tables nodes (Some ix) → (item_at nodes ix).body ≡ body.MaybeCode count escaped → ClosesCode nodes ix (Some x) → x < length nodes
-    → PutsText tables tables' cow text → IsSlicedOf source (origin_at tables'.cows cow.0) (text_at tables'.cows cow.0) → CanPutCode source tables tables' nodes ix x (body.Code cow)
+pub can_put_code : (source : List ℕ) (tables tables' : Tables) (nodes : List (Node Item)) (ix x count : ℕ) (escaped : Bool) (cow : CowIndex)
+    (text : List ℕ)
+    → CanResolve source tables nodes (Some ix) → (item_at nodes ix).body ≡ body.MaybeCode count escaped → ClosesCode nodes ix (Some x)
+    → x < length nodes
+    → PutsText tables tables' cow text → IsSlicedOf source (origin_at tables'.cows cow.0) (text_at tables'.cows cow.0)
+    → CanPutCode source tables tables' nodes ix x (body.Code cow)
 can_put_code source tables tables' nodes ix x count escaped cow text ready is closes within puts slice =
     let o = opens_chain source tables nodes ix ready in
     let there = closed_code source tables nodes ix x count escaped ready is closes in
@@ -233,14 +262,20 @@ can_put_code source tables tables' nodes ix x count escaped cow text ready is cl
       span = subst (CanPutSpan source tables tables' nodes ix x (body.Code cow)) (sym (ap is_escaped is)) (by escaped is there.0);
     }
   where
-    by : (e : Bool) → (item_at nodes ix).body ≡ body.MaybeCode count e → (closing_count count e == 0) ≡ false → CanPutSpan source tables tables' nodes ix x (body.Code cow) e
+    by : (e : Bool) → (item_at nodes ix).body ≡ body.MaybeCode count e → (closing_count count e == 0) ≡ false
+        → CanPutSpan source tables tables' nodes ix x (body.Code cow) e
     by false e two =
         let o = opens_chain source tables nodes ix ready in
         let there = (closed_code source tables nodes ix x count escaped ready is closes).1 in
         record {
           closed = refl;
           no_block = refl;
-          lies = record { ordered = omega (arith, o.placed.lies.ordered, there.behind, there.lies.ordered); start = o.placed.lies.start; end = there.lies.end };
+          lies = record {
+            ordered = omega (arith, o.placed.lies.ordered, there.behind, there.lies.ordered);
+            start = o.placed.lies.start;
+            end
+                = there.lies.end;
+          };
           named = record { text = puts.within; link = tt; alignments = tt; attributes = tt };
           slices = slice;
           new_names = λ n old. code_names tables cow n puts.number old;
@@ -249,8 +284,10 @@ can_put_code source tables tables' nodes ix x count escaped cow text ready is cl
         let o = opens_chain source tables nodes ix ready in
         let there = (closed_code source tables nodes ix x count escaped ready is closes).1 in
         let item = item_at nodes ix in
-        let markup : StandsOverMarkup (slice_range source item.start item.end) (body.MaybeCode count true) = subst (StandsOverMarkup (slice_range source item.start item.end)) e o.placed.keeps.markup_is_there in
-        let byte = next_byte source item.start item.end count 96 markup.0 (two_at_least count two) (omega arith) o.placed.lies.ordered o.placed.lies.end.0 in
+        let markup : StandsOverMarkup (slice_range source item.start item.end) (body.MaybeCode count true) =
+        subst (StandsOverMarkup (slice_range source item.start item.end)) e o.placed.keeps.markup_is_there in
+        let byte = next_byte source item.start item.end count 96 markup.0 (two_at_least count two) (omega arith) o.placed.lies.ordered
+        o.placed.lies.end.0 in
         record {
           puts_first = record {
             closed = refl;
@@ -285,8 +322,10 @@ pub record CanCut (source : List ℕ) (start end : ℕ) : Type 0 where
   pub from : IsCharBoundary source start
   pub to : IsCharBoundary source end
 
-pub code_cut : (source : List ℕ) (tables : Tables) (nodes : List (Node Item)) (ix x count : ℕ) (escaped : Bool) (opener closer : Item) (found : Option ℕ)
-    → CanResolve source tables nodes (Some ix) → (item_at nodes ix).body ≡ body.MaybeCode count escaped → ClosesCode nodes ix found → found ≡ Some x
+pub code_cut : (source : List ℕ) (tables : Tables) (nodes : List (Node Item)) (ix x count : ℕ) (escaped : Bool) (opener closer : Item)
+    (found : Option ℕ)
+    → CanResolve source tables nodes (Some ix) → (item_at nodes ix).body ≡ body.MaybeCode count escaped → ClosesCode nodes ix found
+    → found ≡ Some x
     → opener ≡ item_at nodes ix → closer ≡ item_at nodes x → CanCut source opener.end closer.start
 code_cut source tables nodes ix x count escaped opener closer found ready is closes here opens ends =
     let o = opens_chain source tables nodes ix ready in
@@ -294,16 +333,20 @@ code_cut source tables nodes ix x count escaped opener closer found ready is clo
     rw (opens, ends) (record { ordered = there.behind; from = o.placed.lies.end; to = there.lies.start })
 
 -- all of it, once the text is in its table
-pub record FoundCode (source : List ℕ) (tables tables' : Tables) (nodes : List (Node Item)) (ix x : ℕ) (cow : CowIndex) (text : List ℕ) (origin : Origin) : Type 0 where
+pub record FoundCode (source : List ℕ) (tables tables' : Tables) (nodes : List (Node Item)) (ix x : ℕ) (cow : CowIndex) (text : List ℕ)
+    (origin : Origin) : Type 0 where
   pub closes : ClosesCode nodes ix (Some x)
   pub stored : PutsText tables tables' cow text
   pub origin_is : origin_at tables'.cows cow.0 ≡ origin
   pub can : CanPutCode source tables tables' nodes ix x (body.Code cow)
 
-pub found_code : (source : List ℕ) (held held' : Allocated) (nodes : List (Node Item)) (ix x count : ℕ) (escaped : Bool) (text : CowStr) (cow : CowIndex) (found : Option ℕ)
+pub found_code : (source : List ℕ) (held held' : Allocated) (nodes : List (Node Item)) (ix x count : ℕ) (escaped : Bool) (text : CowStr)
+    (cow : CowIndex) (found : Option ℕ)
     → CanResolve source (tables_of held) nodes (Some ix) → (item_at nodes ix).body ≡ body.MaybeCode count escaped
-    → ClosesCode nodes ix found → found ≡ Some x → IfSome found (λ x. x < length nodes) → held' ≡ with_cow held text → cow.0 ≡ length held.cows
-    → IsSlicedOf source (origin_of text) (text_of text) → FoundCode source (tables_of held) (tables_of held') nodes ix x cow (text_of text) (origin_of text)
+    → ClosesCode nodes ix found → found ≡ Some x → IfSome found (λ x. x < length nodes) → held' ≡ with_cow held text
+    → cow.0 ≡ length held.cows
+    → IsSlicedOf source (origin_of text) (text_of text) → FoundCode source (tables_of held) (tables_of held') nodes ix x cow (text_of text)
+    (origin_of text)
 found_code source held held' nodes ix x count escaped text cow found ready is closes here within put number slice =
     let there : ClosesCode nodes ix (Some x) = subst (ClosesCode nodes ix) here closes in
     let stored = text_put held held' text cow (text_of text) put number refl in
@@ -312,5 +355,6 @@ found_code source held held' nodes ix x count escaped text cow found ready is cl
       closes = there;
       stored = stored;
       origin_is = origin;
-      can = can_put_code source (tables_of held) (tables_of held') nodes ix x count escaped cow (text_of text) ready is there (rw here at within) stored (rw (origin, stored.found) slice);
+      can = can_put_code source (tables_of held) (tables_of held') nodes ix x count escaped cow (text_of text) ready is there
+          (rw here at within) stored (rw (origin, stored.found) slice);
     }

@@ -7,10 +7,15 @@ use Rattle.markdown_base.specs.Forest.{Forest, nil, node}
 use Rattle.markdown_base.specs.declared.item.Item.{Item}
 use Rattle.markdown_base.specs.declared.node.Node.{Node}
 use Rattle.markdown_base.specs.declared.tag.LinkType.{LinkType}
-use Rattle.markdown_brackets.specs.BracketDecision.{Around, Becomes, Closing, Decision, Progress, Wikilink, Written, a_footnote, a_text, after_look_up, decided, decided_before, footnote_label, footnote_tried, footnote_used, inline_link, link_label, look_up_tried, no_link, one_decided, opener_tried, past_second, question_at, spent_by, target_tried, to_be, tried, wikilink_in, wikilink_opener, wikilink_or_one, wikilink_tried, written}
+use Rattle.markdown_brackets.specs.BracketDecision.{Around, Becomes, Closing, Decision, Progress, Wikilink, Written, a_footnote, a_text}
+use Rattle.markdown_brackets.specs.BracketDecision.{after_look_up, decided, decided_before, footnote_label, footnote_tried, footnote_used}
+use Rattle.markdown_brackets.specs.BracketDecision.{inline_link, link_label, look_up_tried, no_link, one_decided, opener_tried, past_second}
+use Rattle.markdown_brackets.specs.BracketDecision.{question_at, spent_by, target_tried, to_be, tried, wikilink_in, wikilink_opener}
+use Rattle.markdown_brackets.specs.BracketDecision.{wikilink_or_one, wikilink_tried, written}
 use Rattle.markdown_brackets.specs.BracketOptions.{footnote_style, wikilinks_on}
 use Rattle.markdown_brackets.specs.FootnoteUse.{is_reference}
-use Rattle.markdown_brackets.specs.LeftList.{Entry, Split, bracket_taken, inside, is_live, nearest, opens_bracket, opens_wikilink, wikilink_taken, without_bracket, without_wikilink}
+use Rattle.markdown_brackets.specs.LeftList.{Entry, Split, bracket_taken, inside, is_live, nearest, opens_bracket, opens_wikilink}
+use Rattle.markdown_brackets.specs.LeftList.{wikilink_taken, without_bracket, without_wikilink}
 use Rattle.markdown_brackets.specs.Lookup.{LookedUp, look_up}
 use Rattle.markdown_brackets.specs.Reference.{is_closer}
 use Rattle.markdown_chains.specs.ChainRest.{end_of, open_body, start_of}
@@ -35,23 +40,28 @@ module _ {A : Type 0} (w : Around) (c : Closing A) (p : List (Entry A) → Type 
   footnote_left : (o : Split A) (name : List ℕ) (q : Progress A) → p q.left → left_of (footnote_tried w o name q)
   footnote_left o name q h = by (is_reference (footnote_style w.setting.rules.options) (w.setting.rules.is_footnote name))
     where
-      by : (b : Bool) → left_of (if b then to_be (a_footnote o name) (footnote_used (w.setting.rules.is_footnote name) name q) else to_be a_text q)
+      by : (b : Bool) → left_of (if b then to_be (a_footnote o name) (footnote_used (w.setting.rules.is_footnote name) name q)
+          else to_be a_text q)
       by true = used_left (w.setting.rules.is_footnote name) name q h
       by false = h
 
-  target_left : (o : Split A) (end next : ℕ) (target : Option LinkView) (q : Progress A) → p q.left → left_of (target_tried o end next target q)
+  target_left : (o : Split A) (end next : ℕ) (target : Option LinkView) (q : Progress A) → p q.left
+      → left_of (target_tried o end next target q)
   target_left o end next None q h = h
   target_left o end next (Some target) q h = h
 
-  look_up_left : (o : Split A) (link_type : LinkType) (label : List ℕ) (end next : ℕ) (q : Progress A) → p q.left → left_of (look_up_tried w o link_type label end next q)
+  look_up_left : (o : Split A) (link_type : LinkType) (label : List ℕ) (end next : ℕ) (q : Progress A) → p q.left
+      → left_of (look_up_tried w o link_type label end next q)
   look_up_left o link_type label end next q h =
-      let found : LookedUp = look_up w.setting.rules.definitions w.setting.rules.asks q.known.limit q.known.answers (question_at o link_type label end) in
+      let found : LookedUp = look_up w.setting.rules.definitions w.setting.rules.asks q.known.limit q.known.answers
+      (question_at o link_type label end) in
       target_left o end next found.target (after_look_up found q) h
 
   tried_left : (o : Split A) (x : Written) (q : Progress A) → p q.left → left_of (tried w o x q)
   tried_left o no_link q h = h
   tried_left o (inline_link t) q h = h
-  tried_left o (link_label link_type label end next) q h = look_up_left o link_type label end next (record q { spent = spent_by link_type end q.spent }) h
+  tried_left o (link_label link_type label end next) q h = look_up_left o link_type label end next
+      (record q { spent = spent_by link_type end q.spent }) h
   tried_left o (footnote_label name) q h = footnote_left o name q h
 
   opener_left : (o : Option (Split A)) (q : Progress A) → p q.left → left_of (opener_tried w c o q)
@@ -71,7 +81,8 @@ module _ {A : Type 0} (w : Around) (c : Closing A) (p : List (Entry A) → Type 
 
   two_left : (end : ℕ) (o : Option (Split A)) (q : Progress A) → p q.left → left_of (wikilink_tried w c end o q)
   two_left end None q h = one_left q h
-  two_left end (Some o) q h = or_one_left end o (if is_live o.mark.wikilink then wikilink_in w (past_second (inside o)) (start_of c.label) else None) q h
+  two_left end (Some o) q h = or_one_left end o (if is_live o.mark.wikilink then wikilink_in w (past_second (inside o)) (start_of c.label)
+      else None) q h
 
   before_left : (rest : Forest (Label A)) (q : Progress A) → p q.left → left_of (decided_before w c rest q)
   before_left nil q h = one_left q h
@@ -86,7 +97,8 @@ module _ {A : Type 0} (w : Around) (c : Closing A) (p : List (Entry A) → Type 
   decided_left q h = before_left c.rest q h
 
 -- so the left list still stands where it stood
-pub decided_stands : (source : List ℕ) (tables : Tables) (nodes : List (Node Item)) (first : ℕ) (at : Option ℕ) (left left_then : List (Entry ℕ)) (w : Around) (c : Closing ℕ) (becomes : Becomes ℕ)
+pub decided_stands : (source : List ℕ) (tables : Tables) (nodes : List (Node Item)) (first : ℕ) (at : Option ℕ)
+    (left left_then : List (Entry ℕ)) (w : Around) (c : Closing ℕ) (becomes : Becomes ℕ)
     (p q : Progress ℕ) → p.left ≡ left → q.left ≡ left_then → decided w c p ≡ record { becomes = becomes; progress = q }
     → StandsTo source tables nodes first at left → StandsTo source tables nodes first at left_then
 decided_stands source tables nodes first at left left_then w c becomes p q is is_then decides h =
@@ -95,4 +107,5 @@ decided_stands source tables nodes first at left left_then w c becomes p q is is
       bracket = λ l k. taken_stands source tables nodes first at l k opens_bracket without_bracket;
       wikilink = λ l k. taken_stands source tables nodes first at l k opens_wikilink without_wikilink;
     } in
-    subst stands is_then (subst (λ (d : Decision ℕ). stands d.progress.left) decides (decided_left w c stands stays p (subst stands (sym is) h)))
+    subst stands is_then (subst (λ (d : Decision ℕ). stands d.progress.left) decides
+    (decided_left w c stands stays p (subst stands (sym is) h)))

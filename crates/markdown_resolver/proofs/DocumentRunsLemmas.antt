@@ -5,7 +5,8 @@ use Rattle.std.specs.Prelude.{IfSome}
 use Rattle.std.specs.Option.{option_map}
 use Rattle.markdown_base.specs.BlockTree.{Numbered, tree_of}
 use Rattle.markdown_base.specs.Forest.{Forest, nil, node, relabelled, first_root}
-use Rattle.markdown_base.specs.WellFormed.{AllKeepRules, IsWellFormed, PartCounts, RunCharacter, run_character, EndsRun, RunGoesOn, StandsInRun, RunsAreWhole, byte_of, counts_of}
+use Rattle.markdown_base.specs.WellFormed.{AllKeepRules, IsWellFormed, PartCounts, RunCharacter, run_character, EndsRun, RunGoesOn}
+use Rattle.markdown_base.specs.WellFormed.{StandsInRun, RunsAreWhole, byte_of, counts_of}
 use Rattle.markdown_base.specs.declared.block_parts.BlockParts.{BlockParts}
 use Rattle.markdown_base.specs.declared.item.Item.{Item}
 use Rattle.markdown_base.specs.declared.item.ItemBody.{ItemBody}
@@ -37,20 +38,34 @@ module _ (source : List ℕ) (tables : Tables) where
   ends : (a b : Numbered) → EndsRun source a (Some b) → EndsRun source (placed a) (Some (placed b))
   ends a b h = subst (λ o. IfSome o (λ c. (byte_of source b.item == byte_of source a.item) ≡ false)) (sym (run_placed b)) h
 
-  goes_on : (a : Numbered) (next : Option Numbered) (count : ℕ) (opens closes : Bool) → a.item.end ≡ suc a.item.start → RunGoesOn source a count opens closes next
+  goes_on : (a : Numbered) (next : Option Numbered) (count : ℕ) (opens closes : Bool) → a.item.end ≡ suc a.item.start
+      → RunGoesOn source a count opens closes next
       → RunGoesOn source (placed a) count opens closes (option_map placed next)
   goes_on a next zero opens closes one h = h
   goes_on a None (suc zero) opens closes one h = tt
   goes_on a (Some b) (suc zero) opens closes one h = ends a b h
   goes_on a None (suc (suc count)) opens closes one h = h
-  goes_on a (Some b) (suc (suc count)) opens closes one h = record { body = run_placed b ∙ h.body; same = h.same; touches = h.touches; number = h.touches ∙ one }
+  goes_on a (Some b) (suc (suc count)) opens closes one h = record {
+    body = run_placed b ∙ h.body;
+    same = h.same;
+    touches = h.touches;
+    number = h.touches ∙ one;
+  }
 
-  run_if : (a : Numbered) (next : Option Numbered) (o : Option RunCharacter) → IfSome o (StandsInRun source a next) → IfSome o (StandsInRun source (placed a) (option_map placed next))
+  run_if : (a : Numbered) (next : Option Numbered) (o : Option RunCharacter) → IfSome o (StandsInRun source a next)
+      → IfSome o (StandsInRun source (placed a) (option_map placed next))
   run_if a next None h = tt
-  run_if a next (Some c) h = record { one_byte = h.one_byte; delimiter = h.delimiter; goes_on = goes_on a next c.count c.can_open c.can_close h.one_byte h.goes_on }
+  run_if a next (Some c) h = record {
+    one_byte = h.one_byte;
+    delimiter = h.delimiter;
+    goes_on = goes_on a next c.count c.can_open
+        c.can_close h.one_byte h.goes_on;
+  }
 
-  whole_placed : (a : Numbered) (next : Option Numbered) → RunsAreWhole source a next → RunsAreWhole source (placed a) (option_map placed next)
-  whole_placed a next h = subst (λ o. IfSome o (StandsInRun source (placed a) (option_map placed next))) (sym (run_placed a)) (run_if a next (run_character a.item.body) h)
+  whole_placed : (a : Numbered) (next : Option Numbered) → RunsAreWhole source a next
+      → RunsAreWhole source (placed a) (option_map placed next)
+  whole_placed a next h = subst (λ o. IfSome o (StandsInRun source (placed a) (option_map placed next))) (sym (run_placed a))
+      (run_if a next (run_character a.item.body) h)
 
   -- what follows a label is the label of what follows
   first_placed : (f : Forest Numbered) → option_map placed (first_root f) ≡ option_map by_place (first_root (relabelled seen f))

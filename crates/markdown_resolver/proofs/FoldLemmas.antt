@@ -1,6 +1,7 @@
 -- What stood inside went below the opener's node in some form, and the closer follows that: the chain as it is then. No more
 -- may stand below it than stood inside.
-use Rattle.std.proofs.Common.{◌≡◌, ℕ, zero, suc, ◌+◌, ◌<◌, ◌≤◌, true, false, List, [], ◌∷◌, ◌++◌, length, Some, refl, sym, ap, ◌∙◌, arith, nat_le}
+use Rattle.std.proofs.Common.{◌≡◌, ℕ, zero, suc, ◌+◌, ◌<◌, ◌≤◌, true, false, List, [], ◌∷◌, ◌++◌, length, Some, refl, sym, ap, ◌∙◌, arith}
+use Rattle.std.proofs.Common.{nat_le}
 use Rattle.std.proofs.lemmas.Bool.Decides.{nat_tests}
 use Rattle.markdown_base.specs.Arena.{child_of, sibling_of}
 use Rattle.markdown_base.specs.ArenaForest.{Spells, forest_at, links_of}
@@ -23,7 +24,8 @@ use Rattle.markdown_resolver.specs.ClosedOver.{first_trees, trees_past, last_ins
 use Rattle.markdown_resolver.specs.Rewritten.{first_past}
 use Rattle.markdown_resolver.proofs.ChainOrderLemmas.{AllPast, StandsPast, rest_past}
 use Rattle.markdown_resolver.proofs.ComposeLemmas.{Stands, Moves}
-use Rattle.markdown_resolver.proofs.EncloseLemmas.{OpensAt, opens_at, enclosed_moves, inside_forest, read_past, rest_kept, spelled_past, total_equal, total_parts}
+use Rattle.markdown_resolver.proofs.EncloseLemmas.{OpensAt, opens_at, enclosed_moves, inside_forest, read_past, rest_kept, spelled_past}
+use Rattle.markdown_resolver.proofs.EncloseLemmas.{total_equal, total_parts}
 use Rattle.markdown_resolver.proofs.PutLemmas.{first_kept, first_there, no_run_here}
 use Rattle.markdown_resolver.proofs.PutPairLemmas.{past_at}
 
@@ -34,9 +36,12 @@ pub record IsFolded (source : List ℕ) (tables : Tables) (old new : List (Node 
   pub next_is : sibling_of new opener ≡ Some closer
   -- what is below it then
   pub below : Stands source tables new (child_of new opener)
-  pub below_of : (n : ℕ) → times_in new (child_of new opener) n ≤ total (same n) (first_trees k (forest_at (links_of old) (sibling_of old opener)))
-  pub below_named : (n : Named) → named_in new (child_of new opener) n ≤ total (naming old n) (first_trees k (forest_at (links_of old) (sibling_of old opener)))
-  pub below_weight : weight_in new (child_of new opener) ≤ total (weight_at old) (first_trees k (forest_at (links_of old) (sibling_of old opener)))
+  pub below_of : (n : ℕ) → times_in new (child_of new opener) n ≤ total (same n)
+      (first_trees k (forest_at (links_of old) (sibling_of old opener)))
+  pub below_named : (n : Named) → named_in new (child_of new opener) n ≤ total (naming old n)
+      (first_trees k (forest_at (links_of old) (sibling_of old opener)))
+  pub below_weight : weight_in new (child_of new opener) ≤ total (weight_at old)
+      (first_trees k (forest_at (links_of old) (sibling_of old opener)))
   -- from the closer on all is as it was, and so is what is not of the chain
   pub behind : (n : ℕ) → 0 < total (same n) (trees_past k (forest_at (links_of old) (sibling_of old opener))) → IsSameAt old new n
   pub outside : (n : ℕ) → n < length old → times_in old (Some opener) n ≡ 0 → IsSameAt old new n
@@ -64,11 +69,13 @@ counted_among count n (x ∷ before) after nil e = cc e
 counted_among count n (x ∷ before) after (node m below rest) e = omega (arith, counted_among count n before after rest (cc e))
 
 -- of numbers past a number those behind others; those whose items stay
-past_behind : (nodes : List (Node Item)) (low byte : ℕ) (before after : List ℕ) → AllPast nodes low byte (before ++ after) → AllPast nodes low byte after
+past_behind : (nodes : List (Node Item)) (low byte : ℕ) (before after : List ℕ) → AllPast nodes low byte (before ++ after)
+    → AllPast nodes low byte after
 past_behind nodes low byte [] after h = h
 past_behind nodes low byte (n ∷ before) after h = past_behind nodes low byte before after h.1
 
-past_kept : (old new : List (Node Item)) (low byte : ℕ) (f : Forest ℕ) → ((n : ℕ) → 0 < total (same n) f → item_at new n ≡ item_at old n) → AllPast old low byte (roots f)
+past_kept : (old new : List (Node Item)) (low byte : ℕ) (f : Forest ℕ) → ((n : ℕ) → 0 < total (same n) f → item_at new n ≡ item_at old n)
+    → AllPast old low byte (roots f)
     → AllPast new low byte (roots f)
 past_kept old new low byte nil kept all = tt
 past_kept old new low byte (node n below after) kept all =
@@ -78,7 +85,8 @@ past_kept old new low byte (node n below after) kept all =
     )
 
 -- the chain before that
-module _ (source : List ℕ) (tables : Tables) (old : List (Node Item)) (opener closer : ℕ) (inside : List ℕ) (byte : ℕ) (can : CanClose source tables old opener closer inside byte) where
+module _ (source : List ℕ) (tables : Tables) (old : List (Node Item)) (opener closer : ℕ) (inside : List ℕ) (byte : ℕ)
+    (can : CanClose source tables old opener closer inside byte) where
   abbrev f : Forest ℕ
   f = forest_at (links_of old) (sibling_of old opener)
 
@@ -89,7 +97,8 @@ module _ (source : List ℕ) (tables : Tables) (old : List (Node Item)) (opener 
   opened = opens (links_of old) (IsPlaced source tables old) opener can.ready.reaches
 
   pub whole_childless : forest_at (links_of old) (Some opener) ≡ node opener nil f
-  whole_childless = opened.here ∙ ap (λ l. node opener (forest_at (links_of old) l) f) can.childless ∙ ap (λ g. node opener g f) (forest_at-none (links_of old))
+  whole_childless = opened.here ∙ ap (λ l. node opener (forest_at (links_of old) l) f) can.childless
+      ∙ ap (λ g. node opener g f) (forest_at-none (links_of old))
 
   pub stands_once : (n : ℕ) → same n opener + total (same n) f ≤ 1
   stands_once n = let x = rw whole_childless at (can.ready.once n) in omega arith
@@ -101,35 +110,45 @@ module _ (source : List ℕ) (tables : Tables) (old : List (Node Item)) (opener 
   closer_old = spelled_past old inside can.after closer (sibling_of old opener) f can.follows opened.after.spelled
 
   pub closer_forest : forest_at (links_of old) (Some closer) ≡ trees_past k f
-  closer_forest = found (links_of old) (Some closer) (trees_past k f) closer_old (λ n. let z = stands_once n in let parts = total_parts (same n) k f in omega arith)
+  closer_forest = found (links_of old) (Some closer) (trees_past k f) closer_old (λ n. let z = stands_once n
+      in let parts = total_parts (same n) k f in omega arith)
 
   pub closer_reaches : Reaches (links_of old) (IsPlaced source tables old) (Some closer)
-  closer_reaches = record { spelled = rw closer_forest closer_old; each = rw closer_forest (each_past (IsPlaced source tables old) k f opened.after.each) }
+  closer_reaches = record {
+    spelled = rw closer_forest closer_old;
+    each = rw closer_forest (each_past (IsPlaced source tables old) k f
+        opened.after.each);
+  }
 
   pub closer_stands_there : 0 < total (same closer) (trees_past k f)
   closer_stands_there =
-      let one : total (same closer) (trees_past k f) ≡ same closer closer + (total (same closer) closer_opens.below + total (same closer) (trees_past (suc k) f)) =
+      let one : total (same closer) (trees_past k f) ≡ same closer closer + (total (same closer) closer_opens.below
+      + total (same closer) (trees_past (suc k) f)) =
       ap (λ (g : Forest ℕ). total (same closer) g) closer_opens.is in
       omega (arith, one, same-refl closer)
 
   pub closer_past : StandsPast old opener (item_at old opener).end closer
-  closer_past = past_at old opener (item_at old opener).end closer inside can.after (rw can.follows at (rest_past source tables old opener can.ready))
+  closer_past = past_at old opener (item_at old opener).end closer inside can.after
+      (rw can.follows at (rest_past source tables old opener can.ready))
 
   closer_roots : roots (trees_past k f) ≡ closer ∷ can.after
   closer_roots = ap (λ (g : Forest ℕ). roots g) closer_opens.is ∙ ap (λ (ns : List ℕ). closer ∷ ns) closer_opens.follow
 
   -- where all from the closer on stays, it reads as it did
-  module _ (new : List (Node Item)) (size : length new ≡ length old) (behind : (n : ℕ) → 0 < total (same n) (trees_past k f) → IsSameAt old new n) where
+  module _ (new : List (Node Item)) (size : length new ≡ length old) (behind : (n : ℕ) → 0 < total (same n) (trees_past k f)
+      → IsSameAt old new n) where
     pub behind_framed : Framed source tables tables old new (Some closer)
     behind_framed =
-        framed source tables tables old new (Some closer) (omega (arith, size)) (grown-longer tables tables (grown-nothing tables)) closer_reaches
+        framed source tables tables old new (Some closer) (omega (arith, size)) (grown-longer tables tables (grown-nothing tables))
+        closer_reaches
         (rw closer_forest (stay_throughout tables tables old new (trees_past k f) refl behind (λ n l. same_entry-refl tables n)))
 
     pub behind_forest : forest_at (links_of new) (Some closer) ≡ trees_past k f
     behind_forest = behind_framed.forest ∙ closer_forest
 
     pub behind_reads : trees_from source tables new (Some closer) ≡ trees_past k (trees_from source tables old (sibling_of old opener))
-    behind_reads = behind_framed.trees ∙ ap (λ (g : Forest ℕ). relabelled (label_at source tables old) g) closer_forest ∙ read_past (label_at source tables old) k f
+    behind_reads = behind_framed.trees ∙ ap (λ (g : Forest ℕ). relabelled (label_at source tables old) g) closer_forest
+        ∙ read_past (label_at source tables old) k f
 
     -- the first past a byte behind the closer is the same
     pub first_behind : first_past new byte (roots (forest_at (links_of new) (Some closer))) ≡ first_past old byte can.after
@@ -137,19 +156,23 @@ module _ (source : List ℕ) (tables : Tables) (old : List (Node Item)) (opener 
         let ends = can.closer_ends in
         let test : nat_le (item_at old closer).end byte ≡ true = grind (arith, nat_tests, ends) in
         let skip : first_past old byte (closer ∷ can.after) ≡ first_past old byte can.after = rw test refl in
-        ap (λ (g : Forest ℕ). first_past new byte (roots g)) behind_forest ∙ first_kept old new byte (trees_past k f) (λ n l. (behind n l).item)
+        ap (λ (g : Forest ℕ). first_past new byte (roots g)) behind_forest ∙ first_kept old new byte (trees_past k f)
+        (λ n l. (behind n l).item)
         ∙ ap (λ (ns : List ℕ). first_past old byte ns) closer_roots ∙ skip
 
     -- it stands past the opener
     pub behind_past : AllPast new opener (item_at old opener).end (roots (forest_at (links_of new) (Some closer)))
     behind_past =
-        let all : AllPast old opener (item_at old opener).end (inside ++ closer ∷ can.after) = rw can.follows at (rest_past source tables old opener can.ready) in
-        let some : AllPast old opener (item_at old opener).end (roots (trees_past k f)) = rw closer_roots (past_behind old opener (item_at old opener).end inside (closer ∷ can.after) all) in
+        let all : AllPast old opener (item_at old opener).end (inside ++ closer ∷ can.after) = rw can.follows at
+        (rest_past source tables old opener can.ready) in
+        let some : AllPast old opener (item_at old opener).end (roots (trees_past k f)) = rw closer_roots
+        (past_behind old opener (item_at old opener).end inside (closer ∷ can.after) all) in
         rw behind_forest (past_kept old new opener (item_at old opener).end (trees_past k f) (λ n l. (behind n l).item) some)
 
     pub item_behind : (n : ℕ) → first_past old byte can.after ≡ Some n → item_at new n ≡ item_at old n
     item_behind n e =
-        let there : first_past new byte (roots (trees_past k f)) ≡ Some n = ap (λ (g : Forest ℕ). first_past new byte (roots g)) (sym behind_forest) ∙ first_behind ∙ e in
+        let there : first_past new byte (roots (trees_past k f)) ≡ Some n = ap (λ (g : Forest ℕ). first_past new byte (roots g))
+        (sym behind_forest) ∙ first_behind ∙ e in
         (behind n (first_there new byte n (trees_past k f) there)).item
 
   -- folded, it is changed where it stands
@@ -161,13 +184,15 @@ module _ (source : List ℕ) (tables : Tables) (old : List (Node Item)) (opener 
     now = node opener (forest_at (links_of new) (child_of new opener)) (forest_at (links_of new) (Some closer))
 
     now_spelled : Spells (links_of new) (Some opener) now
-    now_spelled = let size = v.size in let within = opened.within in (refl, omega (arith, size, within), v.below.reaches.spelled, rw v.next_is rest.reaches.spelled)
+    now_spelled = let size = v.size in let within = opened.within
+        in (refl, omega (arith, size, within), v.below.reaches.spelled, rw v.next_is rest.reaches.spelled)
 
     now_times : (n : ℕ) → total (same n) now ≤ total (same n) (node opener nil f)
     now_times n =
         let below = v.below_of n in
         let parts = total_parts (same n) k f in
-        let behind : times_in new (Some closer) n ≡ total (same n) (trees_past k f) = ap (λ (g : Forest ℕ). total (same n) g) (behind_forest new v.size v.behind) in
+        let behind : times_in new (Some closer) n ≡ total (same n) (trees_past k f) = ap (λ (g : Forest ℕ). total (same n) g)
+        (behind_forest new v.size v.behind) in
         omega (arith, below, parts, behind)
 
     now_here : forest_at (links_of new) (Some opener) ≡ now
@@ -177,14 +202,16 @@ module _ (source : List ℕ) (tables : Tables) (old : List (Node Item)) (opener 
     now_named n =
         let below = v.below_named n in
         let parts = total_parts (naming old n) k f in
-        let behind : named_in new (Some closer) n ≡ total (naming old n) (trees_past k f) = rest.naming n ∙ ap (λ (g : Forest ℕ). total (naming old n) g) closer_forest in
+        let behind : named_in new (Some closer) n ≡ total (naming old n) (trees_past k f) = rest.naming n
+        ∙ ap (λ (g : Forest ℕ). total (naming old n) g) closer_forest in
         rw v.item_is (omega (arith, below, parts, behind))
 
     now_weight : total (weight_at new) now ≤ total (weight_at old) (node opener nil f)
     now_weight =
         let below = v.below_weight in
         let parts = total_parts (weight_at old) k f in
-        let behind : weight_in new (Some closer) ≡ total (weight_at old) (trees_past k f) = rest.weight ∙ ap (λ (g : Forest ℕ). total (weight_at old) g) closer_forest in
+        let behind : weight_in new (Some closer) ≡ total (weight_at old) (trees_past k f) = rest.weight
+        ∙ ap (λ (g : Forest ℕ). total (weight_at old) g) closer_forest in
         rw v.item_is (omega (arith, below, parts, behind))
 
     opener_placed : IsPlaced source tables new opener
@@ -208,9 +235,14 @@ module _ (source : List ℕ) (tables : Tables) (old : List (Node Item)) (opener 
         let size = v.size in
         record {
           stands = record {
-            reaches = record { spelled = rw now_here now_spelled; each = rw now_here (opener_placed, v.below.reaches.each, rest.reaches.each) };
+            reaches = record {
+              spelled = rw now_here now_spelled;
+              each = rw now_here
+                  (opener_placed, v.below.reaches.each, rest.reaches.each);
+            };
             once = λ n. rw now_here (let z = stands_once n in let t = now_times n in omega arith);
-            named_once = λ n. rw now_here (let z = rw whole_childless at (can.ready.named_once n) in let t = now_named n in omega (arith, z, t));
+            named_once = λ n. rw now_here (let z = rw whole_childless at (can.ready.named_once n) in let t = now_named n
+                in omega (arith, z, t));
           };
           of_chain = λ n l. rw (now_here, whole_childless) (now_times n);
           more_nodes = omega (arith, size);
@@ -221,8 +253,10 @@ module _ (source : List ℕ) (tables : Tables) (old : List (Node Item)) (opener 
         }
 
 -- what is enclosed is folded
-pub enclosed_folds : (source : List ℕ) (tables : Tables) (old new : List (Node Item)) (opener last closer : ℕ) (inside : List ℕ) (byte : ℕ) → CanClose source tables old opener closer inside byte
-    → last_inside opener inside ≡ last → IsEnclosed old new opener last closer → IsFolded source tables old new opener closer (length inside)
+pub enclosed_folds : (source : List ℕ) (tables : Tables) (old new : List (Node Item)) (opener last closer : ℕ) (inside : List ℕ) (byte : ℕ)
+    → CanClose source tables old opener closer inside byte
+    → last_inside opener inside ≡ last → IsEnclosed old new opener last closer
+    → IsFolded source tables old new opener closer (length inside)
 enclosed_folds source tables old new opener last closer inside byte can is v =
     let m = enclosed_moves source tables old new opener last closer inside byte can is v in
     let o = opens (links_of new) (IsPlaced source tables new) opener m.stands.reaches in
@@ -238,8 +272,10 @@ enclosed_folds source tables old new opener last closer inside byte can is v =
         named_once = λ n. let x = rw o.here at (m.stands.named_once n) in omega arith;
       };
       below_of = λ n. rw here (omega arith);
-      below_named = λ n. rw here (let e = total_equal (naming old n) (naming new n) g (λ m. ap (λ (x : Item). times_named n x.body) (v.items m)) in omega (arith, e));
-      below_weight = rw here (let e = total_equal (weight_at old) (weight_at new) g (λ m. ap (λ (x : Item). weight_if (is_open x.body)) (v.items m)) in omega (arith, e));
+      below_named = λ n. rw here (let e = total_equal (naming old n) (naming new n) g (λ m. ap (λ (x : Item). times_named n x.body)
+          (v.items m)) in omega (arith, e));
+      below_weight = rw here (let e = total_equal (weight_at old) (weight_at new) g (λ m. ap (λ (x : Item). weight_if (is_open x.body))
+          (v.items m)) in omega (arith, e));
       behind = rest_kept source tables old new opener last closer inside byte can is v;
       outside = m.outside;
     }

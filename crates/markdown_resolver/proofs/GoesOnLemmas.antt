@@ -1,7 +1,8 @@
 -- The bytes at which the chain after a `]` may go on, as its items stand in an arena: behind the `]` itself, where a later
 -- item ends, and behind a `)`. Each is between characters, and no open item stands around it: items stand one after the
 -- other, and what is open stands over its markup, in which no `)` is.
-use Rattle.std.proofs.Common.{◌≡◌, ℕ, ◌+◌, ◌-◌, ◌<◌, ◌≤◌, Bool, true, false, ◌==◌, ◌&&◌, List, [], ◌∷◌, ◌++◌, Option, Some, None, IsUtf8, length, drop, get_or, refl, sym, ap, ◌∙◌, subst, arith}
+use Rattle.std.proofs.Common.{◌≡◌, ℕ, ◌+◌, ◌-◌, ◌<◌, ◌≤◌, Bool, true, false, ◌==◌, ◌&&◌, List, [], ◌∷◌, ◌++◌, Option, Some, None, IsUtf8}
+use Rattle.std.proofs.Common.{length, drop, get_or, refl, sym, ap, ◌∙◌, subst, arith}
 use Rattle.std.specs.Prelude.{IfSome, if◌then◌else◌, nat_le, nat_lt, slice_range}
 use Rattle.std.specs.Str.{IsCharBoundary}
 use Rattle.std.proofs.lemmas.Bool.{eqb-true}
@@ -50,7 +51,8 @@ none_open bytes k body.MaybeImage within closed markup run =
 none_open bytes k other within closed markup run = refl
 
 -- a run's character is one byte long
-pub one_byte : (source : List ℕ) (a : Numbered) (next : Option Numbered) (c : Option RunCharacter) (bytes : List ℕ) → length bytes ≡ a.item.end - a.item.start
+pub one_byte : (source : List ℕ) (a : Numbered) (next : Option Numbered) (c : Option RunCharacter) (bytes : List ℕ)
+    → length bytes ≡ a.item.end - a.item.start
     → IfSome c (StandsInRun source a next) → IfSome c (λ x. length bytes ≡ 1)
 one_byte source a next None bytes e h = tt
 one_byte source a next (Some c) bytes e h = omega (arith, e, h.one_byte)
@@ -70,12 +72,14 @@ none_cut source tables nodes n i placed closed starts ends =
     let place : item.start + k ≡ i - 1 = omega (arith, starts) in
     let below : k < item.end - item.start = omega (arith, starts, ends) in
     let byte : get_or bytes k 0 ≡ 41 =
-    get_or-take (item.end - item.start) (drop item.start source) k 0 below ∙ (get_or-drop item.start source k 0 ∙ (ap (λ j. get_or source j 0) place ∙ closed)) in
+    get_or-take (item.end - item.start) (drop item.start source) k 0 below
+    ∙ (get_or-drop item.start source k 0 ∙ (ap (λ j. get_or source j 0) place ∙ closed)) in
     none_open bytes k item.body (omega (arith, size, starts, ends)) byte placed.keeps.markup_is_there
     (one_byte source (numbered nodes n) (next_at nodes n) (run_character item.body) bytes size placed.keeps.runs_are_whole)
 
 -- the first that ends past a byte behind which all stand starts there or later
-first_starts : (nodes : List (Node Item)) (i j n : ℕ) (xs : List ℕ) → i ≤ j → InOrder nodes j xs → first_past nodes i xs ≡ Some n → i ≤ (item_at nodes n).start
+first_starts : (nodes : List (Node Item)) (i j n : ℕ) (xs : List ℕ) → i ≤ j → InOrder nodes j xs → first_past nodes i xs ≡ Some n
+    → i ≤ (item_at nodes n).start
 first_starts nodes i j n [] le h first = cc first
 first_starts nodes i j n (x ∷ after) le h first =
     by (nat_le (item_at nodes x).end i) first (first_starts nodes i (item_at nodes x).end n after (omega (arith, le, h.0, h.1)) h.2)
@@ -83,13 +87,16 @@ first_starts nodes i j n (x ∷ after) le h first =
     by : (ended : Bool) → (if ended then first_past nodes i after else Some x) ≡ Some n
         → (first_past nodes i after ≡ Some n → i ≤ (item_at nodes n).start) → i ≤ (item_at nodes n).start
     by true found later = later found
-    by false found later = let same : x ≡ n = cc found in let here : i ≤ (item_at nodes x).start = omega (arith, le, h.0) in subst (λ m. i ≤ (item_at nodes m).start) same here
+    by false found later = let same : x ≡ n = cc found in let here : i ≤ (item_at nodes x).start = omega (arith, le, h.0)
+        in subst (λ m. i ≤ (item_at nodes m).start) same here
 
 -- and it is one of them
-first_placed : (source : List ℕ) (tables : Tables) (nodes : List (Node Item)) (i n : ℕ) (f : Forest ℕ) → Each (IsPlaced source tables nodes) f
+first_placed : (source : List ℕ) (tables : Tables) (nodes : List (Node Item)) (i n : ℕ) (f : Forest ℕ)
+    → Each (IsPlaced source tables nodes) f
     → first_past nodes i (roots f) ≡ Some n → IsPlaced source tables nodes n × (i < (item_at nodes n).end)
 first_placed source tables nodes i n nil p e = cc e
-first_placed source tables nodes i n (node ix below after) p e = by (nat_le (item_at nodes ix).end i) refl e (first_placed source tables nodes i n after p.2)
+first_placed source tables nodes i n (node ix below after) p e = by (nat_le (item_at nodes ix).end i) refl e
+    (first_placed source tables nodes i n after p.2)
   where
     by : (ended : Bool) → nat_le (item_at nodes ix).end i ≡ ended → (if ended then first_past nodes i (roots after) else Some ix) ≡ Some n
         → (first_past nodes i (roots after) ≡ Some n → IsPlaced source tables nodes n × (i < (item_at nodes n).end))
@@ -116,7 +123,8 @@ shows_open plain h = cc h
 shows_open backslash_break h = cc h
 shows_open (unresolved b) h = refl
 
-shows_closer : (tables : Tables) (bytes : List ℕ) (b : ItemBody) → is_closer (open_body (shape_of tables bytes b)) ≡ true → is_closer b ≡ true
+shows_closer : (tables : Tables) (bytes : List ℕ) (b : ItemBody) → is_closer (open_body (shape_of tables bytes b)) ≡ true
+    → is_closer b ≡ true
 shows_closer tables bytes b h =
     let opens = open-unresolved tables bytes b (shows_open (shape_of tables bytes b) h) in
     subst (λ (shape : Shape). is_closer (open_body shape) ≡ true) (shape-open tables bytes b opens) h
@@ -143,43 +151,66 @@ pub record EndsThere (nodes : List (Node Item)) (i : ℕ) (f : Forest ℕ) : Typ
 
 module _ (source : List ℕ) (tables : Tables) (nodes : List (Node Item)) where
   -- what is asked of labels, by numbers
-  pub none_open_around : (i : ℕ) (f : Forest ℕ) → ((n : ℕ) → first_past nodes i (roots f) ≡ Some n → (item_at nodes n).start < i → is_open (item_at nodes n).body ≡ false)
+  pub none_open_around : (i : ℕ) (f : Forest ℕ) → ((n : ℕ) → first_past nodes i (roots f) ≡ Some n → (item_at nodes n).start < i
+      → is_open (item_at nodes n).body ≡ false)
       → NoneOpenAround i (relabelled (numbered_label source tables nodes) f)
   none_open_around i nil h = tt
   none_open_around i (node ix below after) h = by (nat_le (item_at nodes ix).end i) h (none_open_around i after)
     where
-      by : (ended : Bool) → ((n : ℕ) → (if ended then first_past nodes i (roots after) else Some ix) ≡ Some n → (item_at nodes n).start < i → is_open (item_at nodes n).body ≡ false)
+      by : (ended : Bool) → ((n : ℕ) → (if ended then first_past nodes i (roots after) else Some ix) ≡ Some n → (item_at nodes n).start < i
+          → is_open (item_at nodes n).body ≡ false)
           → (((n : ℕ) → first_past nodes i (roots after) ≡ Some n → (item_at nodes n).start < i → is_open (item_at nodes n).body ≡ false)
           → NoneOpenAround i (relabelled (numbered_label source tables nodes) after))
-          → IsNotCut ended i (numbered_label source tables nodes ix) (NoneOpenAround i (relabelled (numbered_label source tables nodes) after))
+          → IsNotCut ended i (numbered_label source tables nodes ix)
+          (NoneOpenAround i (relabelled (numbered_label source tables nodes) after))
       by true h later = later h
-      by false h later = λ starts. closed_shape tables (slice_range source (item_at nodes ix).start (item_at nodes ix).end) (item_at nodes ix).body (h ix refl starts)
+      by false h later = λ starts. closed_shape tables (slice_range source (item_at nodes ix).start (item_at nodes ix).end)
+          (item_at nodes ix).body (h ix refl starts)
 
   -- a `]` that ends there, by labels
-  pub ends_there : (i : ℕ) (f : Forest ℕ) → closer_ends_at i (relabelled (numbered_label source tables nodes) f) ≡ true → EndsThere nodes i f
+  pub ends_there : (i : ℕ) (f : Forest ℕ) → closer_ends_at i (relabelled (numbered_label source tables nodes) f) ≡ true
+      → EndsThere nodes i f
   ends_there i nil h = cc h
   ends_there i (node ix below after) h =
-      by (nat_lt (item_at nodes ix).end i) (is_closer (open_body (numbered_label source tables nodes ix).part.shape)) ((item_at nodes ix).end == i) refl h (ends_there i after)
+      by (nat_lt (item_at nodes ix).end i) (is_closer (open_body (numbered_label source tables nodes ix).part.shape))
+      ((item_at nodes ix).end == i) refl h (ends_there i after)
     where
       by : (before closes here : Bool) → ((item_at nodes ix).end == i) ≡ here
           → (if before then closer_ends_at i (relabelled (numbered_label source tables nodes) after) else closes && here) ≡ true
-          → (closer_ends_at i (relabelled (numbered_label source tables nodes) after) ≡ true → EndsThere nodes i after) → EndsThere nodes i (node ix below after)
+          → (closer_ends_at i (relabelled (numbered_label source tables nodes) after) ≡ true → EndsThere nodes i after)
+          → EndsThere nodes i (node ix below after)
       by true closes here same h later =
           let r = later h in
-          record { before = ix ∷ r.before; item = r.item; after = r.after; follows = ap (λ (xs : List ℕ). ix ∷ xs) r.follows; ends = r.ends }
-      by false true true same h later = record { before = []; item = ix; after = roots after; follows = refl; ends = eqb-true (item_at nodes ix).end i same }
+          record {
+            before = ix ∷ r.before;
+            item = r.item;
+            after = r.after;
+            follows = ap (λ (xs : List ℕ). ix ∷ xs) r.follows;
+            ends =
+                r.ends;
+          }
+      by false true true same h later = record {
+        before = [];
+        item = ix;
+        after = roots after;
+        follows = refl;
+        ends =
+            eqb-true (item_at nodes ix).end i same;
+      }
       by false true false same h later = cc h
       by false false here same h later = cc h
 
   -- the second item, where it is a `]` that starts at a byte
-  pub second_ends : (p : ℕ) (f : Forest ℕ) → stands_at p is_closer (second_item (relabelled (numbered_label source tables nodes) f)) ≡ true → Each (IsPlaced source tables nodes) f
+  pub second_ends : (p : ℕ) (f : Forest ℕ) → stands_at p is_closer (second_item (relabelled (numbered_label source tables nodes) f)) ≡ true
+      → Each (IsPlaced source tables nodes) f
       → EndsThere nodes (p + 1) f
   second_ends p nil h placed = cc h
   second_ends p (node ix below nil) h placed = cc h
   second_ends p (node ix below (node n inner after)) h placed =
       by ((item_at nodes n).start == p) (is_closer (open_body (numbered_label source tables nodes n).part.shape)) refl refl h
     where
-      by : (starts closes : Bool) → ((item_at nodes n).start == p) ≡ starts → is_closer (open_body (numbered_label source tables nodes n).part.shape) ≡ closes → (starts && closes) ≡ true
+      by : (starts closes : Bool) → ((item_at nodes n).start == p) ≡ starts
+          → is_closer (open_body (numbered_label source tables nodes n).part.shape) ≡ closes → (starts && closes) ≡ true
           → EndsThere nodes (p + 1) (node ix below (node n inner after))
       by true true s t h =
           let item = item_at nodes n in
@@ -194,7 +225,8 @@ module _ (source : List ℕ) (tables : Tables) (nodes : List (Node Item)) where
 
   module _ (c : Closing ℕ) (f : Forest ℕ) (k : StandsBehind source tables nodes c f) where
     -- what holds of the numbers holds of the labels
-    around_here : (i : ℕ) → ((n : ℕ) → first_past nodes i (roots f) ≡ Some n → (item_at nodes n).start < i → is_open (item_at nodes n).body ≡ false) → NoneOpenAround i c.rest
+    around_here : (i : ℕ) → ((n : ℕ) → first_past nodes i (roots f) ≡ Some n → (item_at nodes n).start < i
+        → is_open (item_at nodes n).body ≡ false) → NoneOpenAround i c.rest
     around_here i h = subst (NoneOpenAround i) (sym k.rest_is) (none_open_around i f h)
 
     -- behind the `]`
@@ -210,7 +242,8 @@ module _ (source : List ℕ) (tables : Tables) (nodes : List (Node Item)) where
     -- where a later item ends
     pub goes_on_there : (i : ℕ) → EndsThere nodes i f → CanGoOn source c i
     goes_on_there i there =
-        let order : InOrder nodes (end_of c.label) (there.before ++ there.item ∷ there.after) = subst (InOrder nodes (end_of c.label)) there.follows k.ordered in
+        let order : InOrder nodes (end_of c.label) (there.before ++ there.item ∷ there.after) = subst (InOrder nodes (end_of c.label))
+        there.follows k.ordered in
         let o = order_around nodes (end_of c.label) there.before there.item there.after order in
         let placed = each_root (IsPlaced source tables nodes) f there.before there.item there.after k.placed there.follows in
         record {
@@ -218,13 +251,15 @@ module _ (source : List ℕ) (tables : Tables) (nodes : List (Node Item)) where
           between = subst (IsCharBoundary source) there.ends placed.lies.end;
           none_around = around_here i (λ n first starts.
               let e : first_past nodes (item_at nodes there.item).end (there.before ++ there.item ∷ there.after) ≡ Some n =
-              ap (λ (j : ℕ). first_past nodes j (there.before ++ there.item ∷ there.after)) there.ends ∙ ap (first_past nodes i) (sym there.follows) ∙ first in
+              ap (λ (j : ℕ). first_past nodes j (there.before ++ there.item ∷ there.after)) there.ends
+              ∙ ap (first_past nodes i) (sym there.follows) ∙ first in
               let from = nothing_around nodes (end_of c.label) there.before there.item there.after n order e in
               absurd (omega (arith, from, starts, there.ends)));
         }
 
     -- behind a `)`
-    pub goes_on_closed : (i : ℕ) → IsUtf8 source → end_of c.label < i → i ≤ length source → get_or source (i - 1) 0 ≡ 41 → CanGoOn source c i
+    pub goes_on_closed : (i : ℕ) → IsUtf8 source → end_of c.label < i → i ≤ length source → get_or source (i - 1) 0 ≡ 41
+        → CanGoOn source c i
     goes_on_closed i utf8 after within closed =
         let place : i - 1 + 1 ≡ i = omega (arith, after) in
         let inside_text : i - 1 < length source = omega (arith, after, within) in

@@ -38,7 +38,8 @@ shape_no_bracket tables source b h = by_open (is_open b) refl
     by_open false e = closed_no_bracket (shape_of tables source b) (closed_shape tables source b e)
 
 -- trees that are done, without their numbers, and with no openers
-pub done_unnumbered : (trees : Forest (Label ℕ)) (left : List (Entry ℕ)) → left_without_numbers (all_done trees left) ≡ all_done (without_numbers trees) (left_without_numbers left)
+pub done_unnumbered : (trees : Forest (Label ℕ)) (left : List (Entry ℕ)) → left_without_numbers (all_done trees left)
+    ≡ all_done (without_numbers trees) (left_without_numbers left)
 done_unnumbered nil left = refl
 done_unnumbered (node a below after) left = done_unnumbered after (done a below ∷ left)
 
@@ -50,17 +51,20 @@ done_wikilinks : (trees : Forest (Label ℕ)) (left : List (Entry ℕ)) → wiki
 done_wikilinks nil left = refl
 done_wikilinks (node a below after) left = done_wikilinks after (done a below ∷ left)
 
-pub held_done : (trees : Forest (Label ℕ)) (left : List (Entry ℕ)) (brackets wikilinks : List Waiting) → AreHeld brackets wikilinks left → AreHeld brackets wikilinks (all_done trees left)
+pub held_done : (trees : Forest (Label ℕ)) (left : List (Entry ℕ)) (brackets wikilinks : List Waiting) → AreHeld brackets wikilinks left
+    → AreHeld brackets wikilinks (all_done trees left)
 held_done trees left brackets wikilinks held = record {
   brackets_are = held.brackets_are ∙ sym (done_brackets trees left);
   wikilinks_are = held.wikilinks_are ∙ sym (done_wikilinks trees left);
 }
 
 -- an item that is no bracket was read
-pub reads_on_item : {C : Type 0} (step : C → Question → Option Answer → C → Type 0) (s : Setting) (above : Above) (first ix : ℕ) (next : Option ℕ) (left : List (Entry ℕ)) (old new : Stage C)
+pub reads_on_item : {C : Type 0} (step : C → Question → Option Answer → C → Type 0) (s : Setting) (above : Above) (first ix : ℕ)
+    (next : Option ℕ) (left : List (Entry ℕ)) (old new : Stage C)
     (spent : SpentEnds) (brackets wikilinks : List Waiting) → new ≡ record old { nodes = new.nodes; tables = new.tables }
     → StandsTo s.text old.tables old.nodes first (Some ix) left → AreHeld brackets wikilinks left → NoBracket (item_at old.nodes ix).body
-    → ReadsItem s above ix next old.nodes new.nodes old.tables new.tables → ReadsOn step s above first (Some ix) next left old new spent spent brackets wikilinks
+    → ReadsItem s above ix next old.nodes new.nodes old.tables new.tables
+    → ReadsOn step s above first (Some ix) next left old new spent spent brackets wikilinks
 reads_on_item {C} step s above first ix next left old new spent brackets wikilinks same stands held other reads =
     let ready = stands_rest s.text old.tables old.nodes first (Some ix) left stands in
     let o = opens_chain s.text old.tables old.nodes ix ready in
@@ -87,9 +91,19 @@ reads_on_item {C} step s above first ix next left old new spent brackets wikilin
       reads = λ p later are.
           let k : known_at old later ≡ known_at new later = ap (λ (t : Stage C). known_at t later) (sym same) in
           ap (λ (f : Forest Plain). all_read s above f (at_left left old later p)) o.trees
-          ∙ reads_other s above a below rest (at_left left old later p) refl (shape_no_bracket old.tables _ (item_at old.nodes ix).body other)
-          ∙ ap (λ (f : Forest Plain). all_read s above f (record p { left = all_done r.trees (left_without_numbers left); goes_on = None; known = known_at old later; made = p.made + r.made })) (sym b.rest_is)
-          ∙ ap (λ (l : List (Entry (Unit {0}))). all_read s above (chain_at s.text new next) (record p { left = l; goes_on = None; known = known_at old later; made = p.made + r.made })) lefts
-          ∙ ap (λ (known : Known). all_read s above (chain_at s.text new next) (record p { left = left_without_numbers then; goes_on = None; known = known; made = p.made + r.made })) k
-          ∙ ap (λ (asked : List Question). all_read s above (chain_at s.text new next) (at_left then new later (record p { asked = asked; made = p.made + r.made }))) (sym (append-nil p.asked));
+          ∙ reads_other s above a below rest (at_left left old later p) refl (shape_no_bracket old.tables _ (item_at old.nodes ix).body
+          other)
+          ∙ ap (λ (f : Forest Plain). all_read s above f (record p {
+            left = all_done r.trees (left_without_numbers left);
+            goes_on =
+                None;
+            known = known_at old later;
+            made = p.made + r.made;
+          })) (sym b.rest_is)
+          ∙ ap (λ (l : List (Entry (Unit {0}))). all_read s above (chain_at s.text new next)
+          (record p { left = l; goes_on = None; known = known_at old later; made = p.made + r.made })) lefts
+          ∙ ap (λ (known : Known). all_read s above (chain_at s.text new next)
+          (record p { left = left_without_numbers then; goes_on = None; known = known; made = p.made + r.made })) k
+          ∙ ap (λ (asked : List Question). all_read s above (chain_at s.text new next) (at_left
+          then new later (record p { asked = asked; made = p.made + r.made }))) (sym (append-nil p.asked));
     }

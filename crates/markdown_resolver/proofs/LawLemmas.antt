@@ -20,7 +20,8 @@ none_left : (l : Answers) → length l ≡ 0 → (later : Answers) → l ++ late
 none_left [] e later = refl
 none_left (a ∷ l) e later = absurd (omega (arith, e))
 
-pub answers_handed_on : {A : Type 0} (s : Setting) (tags : Tags A) (above : Above) (chain : Forest (Label A)) (known : Known) (answers later : Answers)
+pub answers_handed_on : {A : Type 0} (s : Setting) (tags : Tags A) (above : Above) (chain : Forest (Label A)) (known : Known)
+    (answers later : Answers)
     → length (resolved s tags above chain (with_answers answers known)).questions ≡ length answers
     → resolved s tags above chain (with_answers (answers ++ later) known) ≡ record {
       questions = (resolved s tags above chain (with_answers answers known)).questions;
@@ -37,7 +38,8 @@ answers_handed_on {A} s tags above chain known answers later e =
     ∙ ap (λ l. then_paired s (outcome (record q { known = record q.known { answers = l } }))) (none_left q.known.answers none later)
 
 -- neither pass makes a chain heavier
-pub no_heavier : {A : Type 0} (s : Setting) (tags : Tags A) (above : Above) (chain : Forest (Label A)) (known : Known) → weight (resolved s tags above chain known).forest ≤ weight chain
+pub no_heavier : {A : Type 0} (s : Setting) (tags : Tags A) (above : Above) (chain : Forest (Label A)) (known : Known)
+    → weight (resolved s tags above chain known).forest ≤ weight chain
 unfolding resolved
 no_heavier s tags above chain known =
     let read = pass_one-weight s tags above chain known in
@@ -45,11 +47,17 @@ no_heavier s tags above chain known =
     omega arith
 
 -- neither looks at a tag
-pub same_tags : {A B : Type 0} (f : A → B) (s : Setting) (tags : Tags A) (tags' : Tags B) → Follows f tags tags' → (above : Above) (chain : Forest (Label A)) (known : Known)
+pub same_tags : {A B : Type 0} (f : A → B) (s : Setting) (tags : Tags A) (tags' : Tags B) → Follows f tags tags'
+    → (above : Above) (chain : Forest (Label A)) (known : Known)
     → resolved s tags' above (retagged f chain) known
-    ≡ record { questions = (resolved s tags above chain known).questions; forest = retagged f (resolved s tags above chain known).forest; known = (resolved s tags above chain known).known }
+    ≡ record {
+      questions = (resolved s tags above chain known).questions;
+      forest = retagged f (resolved s tags above chain known).forest;
+      known = (resolved s tags above chain known).known;
+    }
 unfolding resolved
 same_tags {B = B} f s tags tags' follows above chain known =
     let r = pass_one s tags above chain known in
     ap (then_paired s) (pass_one-retag f s tags tags' follows above chain known)
-    ∙ ap (λ (g : Forest (Label B)). let o : Outcome B = record { questions = r.questions; forest = g; known = r.known } in o) (tag-law f s r.forest)
+    ∙ ap (λ (g : Forest (Label B)). let o : Outcome B = record { questions = r.questions; forest = g; known = r.known } in o)
+    (tag-law f s r.forest)

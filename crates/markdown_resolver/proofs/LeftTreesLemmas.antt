@@ -5,7 +5,8 @@ use Rattle.markdown_base.specs.Forest.{Forest, nil, node, relabelled, roots}
 use Rattle.markdown_brackets.specs.ChainHeld.{numbers_of, times_of}
 use Rattle.markdown_brackets.specs.Decides.{EachOpener}
 use Rattle.markdown_brackets.specs.Finish.{AreBehind, AreRising}
-use Rattle.markdown_brackets.specs.LeftList.{Flag, live, disabled, gone, Mark, Entry, done, waits, brackets_of, wikilinks_of, held_as, on_marks, second_folded, trees_onto}
+use Rattle.markdown_brackets.specs.LeftList.{Flag, live, disabled, gone, Mark, Entry, done, waits, brackets_of, wikilinks_of, held_as}
+use Rattle.markdown_brackets.specs.LeftList.{on_marks, second_folded, trees_onto}
 use Rattle.markdown_brackets.specs.Openers.{Waiting}
 use Rattle.markdown_brackets.specs.QuietItems.{all_done}
 use Rattle.markdown_brackets.proofs.OpenerHeldLemmas.{onto_joined}
@@ -31,13 +32,16 @@ pub onto_split : (left : List (Entry ℕ)) (later : Forest (Label ℕ)) → tree
 onto_split left later = onto_joined left nil later
 
 pub times_joined : (n : ℕ) (f g : Forest (Label ℕ)) → times_of n (joined f g) ≡ times_of n f + times_of n g
-times_joined n f g = ap (λ (h : Forest ℕ). total (same n) h) (relabelled_joined (λ a. a.tag) f g) ∙ total_joined (same n) (numbers_of f) (numbers_of g)
+times_joined n f g = ap (λ (h : Forest ℕ). total (same n) h) (relabelled_joined (λ a. a.tag) f g)
+    ∙ total_joined (same n) (numbers_of f) (numbers_of g)
 
-pub times_onto : (n : ℕ) (left : List (Entry ℕ)) (later : Forest (Label ℕ)) → times_of n (trees_onto left later) ≡ times_of n (trees_onto left nil) + times_of n later
+pub times_onto : (n : ℕ) (left : List (Entry ℕ)) (later : Forest (Label ℕ)) → times_of n (trees_onto left later)
+    ≡ times_of n (trees_onto left nil) + times_of n later
 times_onto n left later = ap (λ (h : Forest (Label ℕ)). times_of n h) (onto_split left later) ∙ times_joined n (trees_onto left nil) later
 
 -- trees that are done are put before what is put onto them
-pub done_onto : (trees : Forest (Label ℕ)) (left : List (Entry ℕ)) (later : Forest (Label ℕ)) → trees_onto (all_done trees left) later ≡ trees_onto left (joined trees later)
+pub done_onto : (trees : Forest (Label ℕ)) (left : List (Entry ℕ)) (later : Forest (Label ℕ)) → trees_onto (all_done trees left) later
+    ≡ trees_onto left (joined trees later)
 done_onto nil left later = refl
 done_onto (node a below after) left later = done_onto after (done a below ∷ left) later
 
@@ -85,16 +89,19 @@ waits_done p nil left h = h
 waits_done p (node a below after) left h = waits_done p after (done a below ∷ left) h
 
 -- what holds of each opener, and of what stands in the left list follows from that
-pub waits_mapped : (p q : ℕ → Type 0) (left : List (Entry ℕ)) → ((n : ℕ) → 0 < times_of n (trees_onto left nil) → p n → q n) → EachWaits p left → EachWaits q left
+pub waits_mapped : (p q : ℕ → Type 0) (left : List (Entry ℕ)) → ((n : ℕ) → 0 < times_of n (trees_onto left nil) → p n → q n)
+    → EachWaits p left → EachWaits q left
 waits_mapped p q [] h w = tt
-waits_mapped p q (done a below ∷ left) h w = waits_mapped p q left (λ n l. h n (let e = times_onto n left (node a below nil) in omega (arith, e, l))) w
+waits_mapped p q (done a below ∷ left) h w = waits_mapped p q left (λ n l. h n (let e = times_onto n left (node a below nil)
+    in omega (arith, e, l))) w
 waits_mapped p q (waits m a ∷ left) h w = (
   h a.tag (let e = times_onto a.tag left (node a nil nil) in let one = same-refl a.tag in omega (arith, e, one)) w.0,
   waits_mapped p q left (λ n l. h n (let e = times_onto n left (node a nil nil) in omega (arith, e, l))) w.1,
 )
 
 -- an opener, and those before it
-pub waits_here : (p : ℕ → Type 0) (after before : List (Entry ℕ)) (m : Mark) (a : Label ℕ) → EachWaits p (after ++ waits m a ∷ before) → p a.tag × EachWaits p before
+pub waits_here : (p : ℕ → Type 0) (after before : List (Entry ℕ)) (m : Mark) (a : Label ℕ) → EachWaits p (after ++ waits m a ∷ before)
+    → p a.tag × EachWaits p before
 waits_here p [] before m a h = h
 waits_here p (done b below ∷ after) before m a h = waits_here p after before m a h
 waits_here p (waits k b ∷ after) before m a h = waits_here p after before m a h.1
@@ -106,7 +113,8 @@ onto_appended (done b below ∷ after) before m a later = onto_appended after be
 onto_appended (waits k b ∷ after) before m a later = onto_appended after before m a (node b nil later)
 
 -- other marks: the same trees, and the same openers
-pub marked_trees : (f : Mark → Mark) (left : List (Entry ℕ)) (later : Forest (Label ℕ)) → trees_onto (on_marks f left) later ≡ trees_onto left later
+pub marked_trees : (f : Mark → Mark) (left : List (Entry ℕ)) (later : Forest (Label ℕ)) → trees_onto (on_marks f left) later
+    ≡ trees_onto left later
 marked_trees f [] later = refl
 marked_trees f (done a below ∷ left) later = marked_trees f left (node a below later)
 marked_trees f (waits m a ∷ left) later = marked_trees f left (node a nil later)
@@ -127,7 +135,8 @@ folded_waits p (done a below ∷ left) h = h
 folded_waits p (waits m a ∷ left) h = h
 
 -- stacks hold no other openers than those that wait
-held_where : (p : ℕ → Type 0) (number : ℕ) (is_image : Bool) (flag : Flag) (held : List Waiting) → p number → EachOpener p held → EachOpener p (held_as number is_image flag held)
+held_where : (p : ℕ → Type 0) (number : ℕ) (is_image : Bool) (flag : Flag) (held : List Waiting) → p number → EachOpener p held
+    → EachOpener p (held_as number is_image flag held)
 held_where p number is_image live held h k = (h, k)
 held_where p number is_image disabled held h k = (h, k)
 held_where p number is_image gone held h k = k

@@ -20,6 +20,7 @@ pub mod ResolvingLemmas
 pub mod ResolvingExamples
 pub mod LawLemmas
 pub mod WholeLemmas
+pub mod ChainQuestionsLemmas
 pub mod DocumentRunsLemmas
 pub mod NodeChangeLemmas
 pub mod ComposeLemmas

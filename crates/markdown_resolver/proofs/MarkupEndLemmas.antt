@@ -1,11 +1,13 @@
 -- What is found from a `<` on ends with `>`, and so between two characters; nothing open stands around its end.
 use Rattle.markdown_base.specs.declared.item.ItemBody.TheVariants as body
-use Rattle.std.proofs.Common.{◌≡◌, ℕ, zero, suc, ◌+◌, ◌-◌, ◌<◌, ◌≤◌, Bool, true, false, ◌==◌, ◌&&◌, ◌⊎◌, inl, inr, List, [], ◌∷◌, Option, Some, None, length, take, drop, get_or, refl, sym, ap, ◌∙◌, subst, arith}
+use Rattle.std.proofs.Common.{◌≡◌, ℕ, zero, suc, ◌+◌, ◌-◌, ◌<◌, ◌≤◌, Bool, true, false, ◌==◌, ◌&&◌, ◌⊎◌, inl, inr, List, [], ◌∷◌, Option}
+use Rattle.std.proofs.Common.{Some, None, length, take, drop, get_or, refl, sym, ap, ◌∙◌, subst, arith}
 use Rattle.std.specs.Prelude.{IfSome, if◌then◌else◌, slice_index, slice_range, nat_le}
 use Rattle.std.specs.Option.{option_map, option_map_or, option_or}
 use Rattle.std.proofs.lemmas.Bool.{cases_lt, eqb-true}
 use Rattle.std.proofs.lemmas.Bool.Decides.{nat_tests}
-use Rattle.std.proofs.lemmas.List.{drop-drop, drop_all, get_or-drop, get_or-replicate, get_or-take, get_or_past, length-drop, length-replicate, length-take}
+use Rattle.std.proofs.lemmas.List.{drop-drop, drop_all, get_or-drop, get_or-replicate, get_or-take, get_or_past, length-drop}
+use Rattle.std.proofs.lemmas.List.{length-replicate, length-take}
 use Rattle.std.proofs.lemmas.Option.{same_Some}
 use Rattle.markdown_base.specs.Arena.{sibling_of}
 use Rattle.markdown_base.specs.ArenaForest.{links_of, forest_at}
@@ -18,17 +20,20 @@ use Rattle.markdown_base.specs.declared.item.Item.{Item}
 use Rattle.markdown_base.specs.declared.item.ItemBody.{ItemBody}
 use Rattle.markdown_base.specs.declared.node.Node.{Node}
 use Rattle.markdown_base.proofs.ArenaForestLemmas.{opens}
+use Rattle.markdown_chains.specs.Origins.{StandsIn}
 use Rattle.markdown_chains.specs.Places.{IsPlaced}
 use Rattle.markdown_chains.specs.Tables.{Tables}
 use Rattle.markdown_code.specs.AfterLess.{Markup, autolink, html, declared_end, html_at, markup_at, unbroken}
-use Rattle.markdown_code.specs.Autolink.{begins_scheme, uri_length, web_autolink}
+use Rattle.markdown_code.specs.Autolink.{begins_scheme, closed_uri, uri_length, uri_autolink}
 use Rattle.markdown_code.specs.Finds.{end_of_markup}
+use Rattle.markdown_code.proofs.SliceLemmas.{stands_between}
 use Rattle.markdown_raw_html.specs.HtmlTag.{html_tag}
 use Rattle.markdown_raw_html.specs.LinePrefix.{prefix_after}
 use Rattle.markdown_raw_html.specs.RawHtml.{cdata_section, comment, declaration, end_from, processing_instruction}
 use Rattle.markdown_raw_html.specs.TagSource.{tag_at, tag_lengths, tag_of}
 use Rattle.markdown_raw_html.specs.TagText.{source_after, source_after_byte, text_in}
-use Rattle.markdown_raw_html.proofs.RawHtmlLemmas.{EndsWith, comment-ends, cdata_section-ends, declaration-ends, processing_instruction-ends}
+use Rattle.markdown_raw_html.proofs.RawHtmlLemmas.{EndsWith, comment-ends, cdata_section-ends, declaration-ends}
+use Rattle.markdown_raw_html.proofs.RawHtmlLemmas.{processing_instruction-ends}
 use Rattle.markdown_raw_html.proofs.TagSourceLemmas.{Closes-html_tag}
 use Rattle.markdown_raw_html.proofs.TagTextLemmas.{source_after-more, source_after-nil, text_in-cons, text_in-source_after}
 use Rattle.markdown_resolver.specs.Chains.{CanResolve}
@@ -50,13 +55,15 @@ is_end skipped zero source = (0, refl)
 is_end skipped (suc n) [] = (0, refl)
 is_end skipped (suc n) (b ∷ source) = later (prefix_after skipped b source) (is_end skipped n (source_after_byte skipped b source))
   where
-    later : (o : Option ℕ) → IsEnd (option_map_or (λ n. drop n source) o []) (source_after skipped n (option_map_or (λ n. drop n source) o []))
+    later : (o : Option ℕ) → IsEnd (option_map_or (λ n. drop n source) o [])
+        (source_after skipped n (option_map_or (λ n. drop n source) o []))
         → IsEnd (b ∷ source) (source_after skipped n (option_map_or (λ n. drop n source) o []))
     later None h = (length (b ∷ source), source_after-nil skipped n ∙ sym (drop_all (length (b ∷ source)) (b ∷ source) (omega arith)))
     later (Some k) h = (suc (k + h.0), h.1 ∙ drop-drop h.0 k source)
 
 -- where a text goes on with `>`, so does its source
-closes_here : (skipped : List ℕ → Option ℕ) (source : List ℕ) → 1 ≤ length (text_in skipped source) → get_or (text_in skipped source) 0 0 ≡ 62
+closes_here : (skipped : List ℕ → Option ℕ) (source : List ℕ) → 1 ≤ length (text_in skipped source) → get_or (text_in skipped source) 0 0
+    ≡ 62
     → source ≡ 62 ∷ source_after skipped 1 source
 closes_here skipped [] some is = absurd (omega (arith, some))
 closes_here skipped (b ∷ source) some is =
@@ -64,7 +71,8 @@ closes_here skipped (b ∷ source) some is =
     rw byte refl
 
 -- a tag ends with `>` in its source
-tag_closed : (skipped : List ℕ → Option ℕ) (text : List ℕ) (place n : ℕ) → place ≤ length text → html_tag (text_in skipped (drop place text)) ≡ Some n
+tag_closed : (skipped : List ℕ → Option ℕ) (text : List ℕ) (place n : ℕ) → place ≤ length text
+    → html_tag (text_in skipped (drop place text)) ≡ Some n
     → EndsClosed text place (place + (length (drop place text) - length (source_after skipped n (drop place text))))
 unfolding IsEnd
 tag_closed skipped text place n within is =
@@ -79,7 +87,8 @@ tag_closed skipped text place n within is =
     let zero_more : n - 1 + 0 ≡ n - 1 = omega arith in
     let last : get_or (text_in skipped mid) 0 0 ≡ 62 =
     ap (λ bytes. get_or bytes 0 0) of_mid ∙ (get_or-drop (n - 1) read 0 0 ∙ (ap (λ i. get_or read i 0) zero_more ∙ closes.last)) in
-    let after : source_after skipped 1 mid ≡ rest = source_after-more skipped (n - 1) 1 source ∙ ap (λ k. source_after skipped k source) sum in
+    let after : source_after skipped 1 mid ≡ rest = source_after-more skipped (n - 1) 1 source ∙ ap (λ k. source_after skipped k source) sum
+    in
     let split : mid ≡ 62 ∷ rest = closes_here skipped mid some last ∙ ap (λ bytes. 62 ∷ bytes) after in
     let end = is_end skipped (n - 1) source in
     let at_end : drop (place + end.0) text ≡ 62 ∷ rest = sym (drop-drop end.0 place text) ∙ (sym end.1 ∙ split) in
@@ -106,11 +115,13 @@ tag_ends skipped text place within = cases (html_tag (text_in skipped (drop plac
     cases None e = tt
     cases (Some n) e = tag_closed skipped text place n within e
 
-scanned_ends : (scan : List ℕ → Option ℕ) (text : List ℕ) (start from : ℕ) → ((bytes : List ℕ) → IfSome (scan bytes) (EndsWith 62 bytes)) → start < from → from ≤ length text
+scanned_ends : (scan : List ℕ → Option ℕ) (text : List ℕ) (start from : ℕ) → ((bytes : List ℕ) → IfSome (scan bytes) (EndsWith 62 bytes))
+    → start < from → from ≤ length text
     → EndsAt text start (unbroken (end_from scan text from))
 scanned_ends scan text start from ends later within = cases (scan (drop from text)) (ends (drop from text))
   where
-    cases : (found : Option ℕ) → IfSome found (EndsWith 62 (drop from text)) → EndsAt text start (unbroken (option_map (λ n. from + n) found))
+    cases : (found : Option ℕ) → IfSome found (EndsWith 62 (drop from text))
+        → EndsAt text start (unbroken (option_map (λ n. from + n) found))
     cases None h = tt
     cases (Some n) h =
         let place : from + (n - 1) ≡ from + n - 1 = omega (arith, h.some) in
@@ -120,7 +131,8 @@ scanned_ends scan text start from ends later within = cases (scan (drop from tex
           closed = ap (λ i. get_or text i 0) (sym place) ∙ sym (get_or-drop from text (n - 1) 0) ∙ h.last;
         }
 
-first_ends : (text : List ℕ) (start : ℕ) (first other : Option ℕ) → EndsAt text start (unbroken first) → EndsAt text start (unbroken other) → EndsAt text start (unbroken (option_or first other))
+first_ends : (text : List ℕ) (start : ℕ) (first other : Option ℕ) → EndsAt text start (unbroken first) → EndsAt text start (unbroken other)
+    → EndsAt text start (unbroken (option_or first other))
 first_ends text start None other h k = k
 first_ends text start (Some n) other h k = h
 
@@ -133,7 +145,8 @@ byte_there text at n e = cases (cases_lt at (length text))
     cases (inr h) = absurd (omega (arith, get_or_past text at 0 h, eqb-true (get_or text at 0) (suc n) e))
 
 -- raw HTML
-html_ends : (skipped : List ℕ → Option ℕ) (text : List ℕ) (start at : ℕ) → start < at → at ≤ length text → EndsAt text start (html_at skipped text start at)
+html_ends : (skipped : List ℕ → Option ℕ) (text : List ℕ) (start at : ℕ) → start < at → at ≤ length text
+    → EndsAt text start (html_at skipped text start at)
 html_ends skipped text start at later within = by_byte (slice_index text at == 33) (slice_index text at == 63) refl refl
   where
     after_byte : start < at + 1
@@ -141,14 +154,16 @@ html_ends skipped text start at later within = by_byte (slice_index text at == 3
 
     declared : (at + 1 ≤ length text) → EndsAt text start (unbroken (declared_end text (at + 1)))
     declared h =
-        first_ends text start (end_from comment text (at + 1)) (option_or (end_from cdata_section text (at + 1)) (end_from declaration text (at + 1)))
+        first_ends text start (end_from comment text (at + 1)) (option_or (end_from cdata_section text (at + 1))
+        (end_from declaration text (at + 1)))
         (scanned_ends comment text start (at + 1) comment-ends after_byte h)
         (first_ends text start (end_from cdata_section text (at + 1)) (end_from declaration text (at + 1))
         (scanned_ends cdata_section text start (at + 1) cdata_section-ends after_byte h)
         (scanned_ends declaration text start (at + 1) declaration-ends after_byte h))
 
     by_byte : (is_declared is_instruction : Bool) → (slice_index text at == 33) ≡ is_declared → (slice_index text at == 63) ≡ is_instruction
-        → EndsAt text start (if is_declared then unbroken (declared_end text (at + 1)) else if is_instruction then unbroken (end_from processing_instruction text (at + 1)) else tag_at skipped text start)
+        → EndsAt text start (if is_declared then unbroken (declared_end text (at + 1)) else if is_instruction
+        then unbroken (end_from processing_instruction text (at + 1)) else tag_at skipped text start)
     by_byte true is_instruction e f = declared (omega (arith, byte_there text at 32 e))
     by_byte false true e f =
         let inside : at + 1 ≤ length text = omega (arith, byte_there text at 62 f) in
@@ -156,11 +171,12 @@ html_ends skipped text start at later within = by_byte (slice_index text at == 3
     by_byte false false e f = tag_ends skipped text start (omega (arith, later, within))
 
 -- an autolink
-uri_ends : (text : List ℕ) (at : ℕ) → IfSome (web_autolink text at) (λ found. EndsClosed text at found.0)
+uri_ends : (text : List ℕ) (at : ℕ) → IfSome (uri_autolink text at) (λ found. EndsClosed text at found.0)
 uri_ends text at = by_byte (begins_scheme (drop at text)) (slice_index (drop at text) (uri_length (drop at text)) == 62) refl
   where
     by_byte : (begins closes : Bool) → (slice_index (drop at text) (uri_length (drop at text)) == 62) ≡ closes
-        → IfSome {T = ℕ × List ℕ} (option_map (λ n. (at + n + 1, take n (drop at text))) (if begins && closes then Some (uri_length (drop at text)) else None)) (λ found. EndsClosed text at found.0)
+        → IfSome {T = ℕ × List ℕ} (option_map (λ n. (at + n + 1, take n (drop at text))) (if begins && closes
+        then Some (uri_length (drop at text)) else None)) (λ found. EndsClosed text at found.0)
     by_byte false closes e = tt
     by_byte true false e = tt
     by_byte true true e =
@@ -172,28 +188,44 @@ uri_ends text at = by_byte (begins_scheme (drop at text)) (slice_index (drop at 
           closed = ap (λ i. get_or text i 0) (sym place) ∙ (sym (get_or-drop at text n 0) ∙ eqb-true (slice_index (drop at text) n) 62 e);
         }
 
--- an autolink has bytes after its `<`
-abbrev pub EndsPast : ℕ → Markup → Type 0
-EndsPast at (autolink end uri) = at < end
-EndsPast at (html end bytes) = Unit {0}
+-- of which the URI stands in the text
+uri_stands : (text : List ℕ) (at : ℕ) → IfSome (uri_autolink text at) (λ found. StandsIn text found.1)
+uri_stands text at = by (closed_uri (drop at text))
+  where
+    by : (size : Option ℕ) → IfSome {T = ℕ × List ℕ} (option_map (λ n. (at + n + 1, take n (drop at text))) size)
+        (λ found. StandsIn text found.1)
+    by None = tt
+    by (Some n) =
+        let size : n ≡ at + n - at = omega arith in
+        stands_between text at (at + n) (take n (drop at text)) (ap (λ k. take k (drop at text)) size)
+
+-- an autolink has bytes after its `<`, and its URI stands in the text
+abbrev pub EndsPast : List ℕ → ℕ → Markup → Type 0
+EndsPast text at (autolink end uri) = (at < end) × StandsIn text uri
+EndsPast text at (html end bytes) = Unit {0}
 
 pub record MarkupEnds (text : List ℕ) (start at : ℕ) (m : Markup) : Type 0 where
   pub ends : EndsClosed text start (end_of_markup m)
-  pub address : EndsPast at m
+  pub address : EndsPast text at m
 
 -- what is found from a `<` on ends so
 pub markup_ends : (skipped : List ℕ → Option ℕ) (text : List ℕ) (start at : ℕ) (m : Markup) → start < at → at ≤ length text
     → markup_at skipped text start at ≡ Some m → MarkupEnds text start at m
 unfolding markup_at
 markup_ends skipped text start at m later within e =
-    subst (λ (o : Option Markup). IfSome o (MarkupEnds text start at)) e (first_of (web_autolink text at) (html_at skipped text start at) (uri_ends text at) (html_ends skipped text start at later within))
+    subst (λ (o : Option Markup). IfSome o (MarkupEnds text start at)) e (first_of (uri_autolink text at) (html_at skipped text start at)
+    (uri_ends text at) (uri_stands text at)
+    (html_ends skipped text start at later within))
   where
-    first_of : (uri : Option (ℕ × List ℕ)) (tag : Option (ℕ × Option (List ℕ))) → IfSome uri (λ found. EndsClosed text at found.0) → EndsAt text start tag
-        → IfSome (option_or (option_map (λ found. autolink found.0 found.1) uri) (option_map (λ found. html found.0 found.1) tag)) (MarkupEnds text start at)
-    first_of (Some found) tag h k =
-        record { ends = record { after = omega (arith, h.after, later); within = h.within; closed = h.closed }; address = h.after }
-    first_of None (Some found) h k = record { ends = k; address = tt }
-    first_of None None h k = tt
+    first_of : (uri : Option (ℕ × List ℕ)) (tag : Option (ℕ × Option (List ℕ))) → IfSome uri (λ found. EndsClosed text at found.0)
+        → IfSome uri (λ found. StandsIn text found.1)
+        → EndsAt text start tag
+        → IfSome (option_or (option_map (λ found. autolink found.0 found.1) uri) (option_map (λ found. html found.0 found.1) tag))
+        (MarkupEnds text start at)
+    first_of (Some found) tag h u k =
+        record { ends = record { after = omega (arith, h.after, later); within = h.within; closed = h.closed }; address = (h.after, u) }
+    first_of None (Some found) h u k = record { ends = k; address = tt }
+    first_of None None h u k = tt
 
 -- an open item over these bytes has none of them before its last one that is `>`
 none_open : (bytes : List ℕ) (k : ℕ) (b : ItemBody) → k + 1 < length bytes → get_or bytes k 0 ≡ 62 → StandsOverMarkup bytes b
@@ -215,35 +247,45 @@ none_open bytes k body.MaybeImage within closed markup run =
     absurd (omega (arith, closed, mark, ap (λ i. get_or bytes i 0) first))
 none_open bytes k other within closed markup run = refl
 
-one_byte : (source : List ℕ) (a : Numbered) (next : Option Numbered) (c : Option RunCharacter) (bytes : List ℕ) → length bytes ≡ a.item.end - a.item.start
+one_byte : (source : List ℕ) (a : Numbered) (next : Option Numbered) (c : Option RunCharacter) (bytes : List ℕ)
+    → length bytes ≡ a.item.end - a.item.start
     → IfSome c (StandsInRun source a next) → IfSome c (λ x. length bytes ≡ 1)
 one_byte source a next None bytes e h = tt
 one_byte source a next (Some c) bytes e h = omega (arith, e, h.one_byte)
 
 -- so nothing open stands around a byte before which a `>` stands
 pub none_around : (source : List ℕ) (tables : Tables) (nodes : List (Node Item)) (next end : ℕ) → IsPlaced source tables nodes next
-    → get_or source (end - 1) 0 ≡ 62 → (item_at nodes next).start < end → end < (item_at nodes next).end → is_open (item_at nodes next).body ≡ false
+    → get_or source (end - 1) 0 ≡ 62 → (item_at nodes next).start < end → end < (item_at nodes next).end → is_open (item_at nodes next).body
+    ≡ false
 none_around source tables nodes next end placed closed starts ends =
     let item = item_at nodes next in
     let bytes = slice_range source item.start item.end in
     let k = end - 1 - item.start in
     let inside : item.end ≤ length source = placed.lies.end.0 in
-    let size : length bytes ≡ item.end - item.start = omega (arith, length-take (item.end - item.start) (drop item.start source), length-drop item.start source, inside) in
+    let size : length bytes ≡ item.end - item.start = omega (
+      arith,
+      length-take (item.end - item.start) (drop item.start source),
+      length-drop item.start source,
+      inside,
+    ) in
     let place : item.start + k ≡ end - 1 = omega (arith, starts) in
     let below : k < item.end - item.start = omega (arith, starts, ends) in
     let byte : get_or bytes k 0 ≡ 62 =
-    get_or-take (item.end - item.start) (drop item.start source) k 0 below ∙ (get_or-drop item.start source k 0 ∙ (ap (λ i. get_or source i 0) place ∙ closed)) in
+    get_or-take (item.end - item.start) (drop item.start source) k 0 below
+    ∙ (get_or-drop item.start source k 0 ∙ (ap (λ i. get_or source i 0) place ∙ closed)) in
     none_open bytes k item.body (omega (arith, size, starts, ends)) byte placed.keeps.markup_is_there
     (one_byte source (numbered nodes next) (next_at nodes next) (run_character item.body) bytes size placed.keeps.runs_are_whole)
 
 -- the first item that ends past a byte is one of the chain
-first_is : (source : List ℕ) (tables : Tables) (nodes : List (Node Item)) (end next : ℕ) (f : Forest ℕ) → Each (IsPlaced source tables nodes) f
+first_is : (source : List ℕ) (tables : Tables) (nodes : List (Node Item)) (end next : ℕ) (f : Forest ℕ)
+    → Each (IsPlaced source tables nodes) f
     → first_past nodes end (roots f) ≡ Some next → IsPlaced source tables nodes next × (end < (item_at nodes next).end)
 first_is source tables nodes end next nil p e = cc
 first_is source tables nodes end next (node ix below after) p e =
     by_end (nat_le (item_at nodes ix).end end) refl e (λ later. first_is source tables nodes end next after p.2 later)
   where
-    by_end : (ended : Bool) → nat_le (item_at nodes ix).end end ≡ ended → (if ended then first_past nodes end (roots after) else Some ix) ≡ Some next
+    by_end : (ended : Bool) → nat_le (item_at nodes ix).end end ≡ ended → (if ended then first_past nodes end (roots after) else Some ix)
+        ≡ Some next
         → (first_past nodes end (roots after) ≡ Some next → IsPlaced source tables nodes next × (end < (item_at nodes next).end))
         → IsPlaced source tables nodes next × (end < (item_at nodes next).end)
     by_end true t e later = later e

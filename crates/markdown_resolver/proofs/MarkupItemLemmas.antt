@@ -1,6 +1,7 @@
 -- The items that are put where markup was found may be put there, and read as the trees that stand for it.
 use Rattle.markdown_base.specs.declared.item.ItemBody.TheVariants as body
-use Rattle.std.proofs.Common.{◌≡◌, ℕ, zero, suc, ◌+◌, ◌-◌, ◌<◌, ◌≤◌, ◌⊎◌, inl, inr, false, List, [], ◌∷◌, ◌++◌, Option, Some, None, length, take, drop, get_or, refl, sym, ap, ◌∙◌, arith, append-nil, length-append}
+use Rattle.std.proofs.Common.{◌≡◌, ℕ, zero, suc, ◌+◌, ◌-◌, ◌<◌, ◌≤◌, ◌⊎◌, inl, inr, false, List, [], ◌∷◌, ◌++◌, Option, Some, None, length}
+use Rattle.std.proofs.Common.{take, drop, get_or, refl, sym, ap, ◌∙◌, subst, arith, append-nil, length-append}
 use Rattle.std.specs.Prelude.{IfSome, codes, slice_index, slice_range}
 use Rattle.std.specs.Option.{option_map}
 use Rattle.std.specs.Str.{IsCharBoundary}
@@ -20,9 +21,11 @@ use Rattle.markdown_base.specs.declared.node.Node.{Node}
 use Rattle.markdown_base.proofs.ArenaForestLemmas.{opens}
 use Rattle.markdown_chains.specs.ChainRest.{joined, past}
 use Rattle.markdown_chains.specs.Document.{Plain}
-use Rattle.markdown_chains.specs.Places.{IsPlaced, label_at, trees_from}
+use Rattle.markdown_chains.specs.Origins.{IsLinkFrom, StandsIn, origin_of, sliced}
+use Rattle.markdown_chains.specs.Places.{HasSliceLink, IsPlaced, label_at, trees_from}
 use Rattle.markdown_chains.specs.Setting.{Rules, setting_of}
-use Rattle.markdown_chains.specs.Tables.{HasGrown, Named, Tables, link_at, link_view, number_of, size_for, some_alignments, some_link, some_text, tables_of}
+use Rattle.markdown_chains.specs.Tables.{HasGrown, Named, Tables, link_at, link_origin_at, link_view, number_of, size_for, some_alignments}
+use Rattle.markdown_chains.specs.Tables.{some_link, some_text, tables_of}
 use Rattle.markdown_chains.specs.Totals.{times_named}
 use Rattle.markdown_code.specs.AfterLess.{Markup, autolink, html, markup_at}
 use Rattle.markdown_code.specs.Finds.{address, markup_trees}
@@ -65,32 +68,44 @@ boundary_after text end i last at = cases (cases_lt i end)
         rw same last
 
 -- a `<` is one byte
-pub one_byte_long : (source : List ℕ) (tables : Tables) (nodes : List (Node Item)) (ix : ℕ) → CanResolve source tables nodes (Some ix) → (item_at nodes ix).body ≡ body.MaybeHtml
+pub one_byte_long : (source : List ℕ) (tables : Tables) (nodes : List (Node Item)) (ix : ℕ) → CanResolve source tables nodes (Some ix)
+    → (item_at nodes ix).body ≡ body.MaybeHtml
     → (item_at nodes ix).end ≡ (item_at nodes ix).start + 1
 one_byte_long source tables nodes ix ready is =
     let placed = (opens (links_of nodes) (IsPlaced source tables nodes) ix ready.reaches).holds in
     let item = item_at nodes ix in
     let bytes : slice_range source item.start item.end ≡ codes "<" = rw is at placed.keeps.markup_is_there in
     let size : length (slice_range source item.start item.end) ≡ 1 = ap length bytes in
-    omega (arith, size, length-take (item.end - item.start) (drop item.start source), length-drop item.start source, placed.lies.end.0, placed.lies.ordered)
+    omega (
+      arith,
+      size,
+      length-take (item.end - item.start) (drop item.start source),
+      length-drop item.start source,
+      placed.lies.end.0,
+      placed.lies.ordered,
+    )
 
 -- the item of a node that may be read lies in the text
-pub lies_at : (source : List ℕ) (tables : Tables) (nodes : List (Node Item)) (ix : ℕ) → CanResolve source tables nodes (Some ix) → LiesIn source (item_at nodes ix)
+pub lies_at : (source : List ℕ) (tables : Tables) (nodes : List (Node Item)) (ix : ℕ) → CanResolve source tables nodes (Some ix)
+    → LiesIn source (item_at nodes ix)
 lies_at source tables nodes ix ready = (opens (links_of nodes) (IsPlaced source tables nodes) ix ready.reaches).holds.lies
 
 -- the node is there, and so is the one after it
-pub within_at : (source : List ℕ) (tables : Tables) (nodes : List (Node Item)) (ix : ℕ) → CanResolve source tables nodes (Some ix) → ix < length nodes
+pub within_at : (source : List ℕ) (tables : Tables) (nodes : List (Node Item)) (ix : ℕ) → CanResolve source tables nodes (Some ix)
+    → ix < length nodes
 within_at source tables nodes ix ready = (opens (links_of nodes) (IsPlaced source tables nodes) ix ready.reaches).within
 
 -- past the end of a text nothing is found
 no_tag : (skipped : List ℕ → Option ℕ) (text : List ℕ) (start : ℕ) → length text ≤ start → tag_at skipped text start ≡ None
 no_tag skipped text start past = rw (drop_all start text past) (cases (html_tag []) (Closes-html_tag.is []))
   where
-    cases : (found : Option ℕ) → IfSome found (EndsWith 62 []) → option_map (λ n. tag_of skipped start [] (tag_lengths skipped [] n)) found ≡ None
+    cases : (found : Option ℕ) → IfSome found (EndsWith 62 []) → option_map (λ n. tag_of skipped start [] (tag_lengths skipped [] n)) found
+        ≡ None
     cases None h = refl
     cases (Some n) h = absurd (omega (arith, h.some, h.within))
 
-pub none_past_end : (skipped : List ℕ → Option ℕ) (text : List ℕ) (start at : ℕ) → length text ≤ start → start < at → markup_at skipped text start at ≡ None
+pub none_past_end : (skipped : List ℕ → Option ℕ) (text : List ℕ) (start at : ℕ) → length text ≤ start → start < at
+    → markup_at skipped text start at ≡ None
 unfolding markup_at
 none_past_end skipped text start at past later =
     let beyond : length text ≤ at = omega (arith, past, later) in
@@ -104,23 +119,39 @@ link_pushed [] link n e = rw e refl
 link_pushed (c ∷ links) link zero e = cc e
 link_pushed (c ∷ links) link (suc n) e = link_pushed links link n (omega (arith, e))
 
-pub record PutsLink (tables tables' : Tables) (ix : LinkIndex) (link : LinkView) : Type 0 where
+-- and comes from where it came from
+from_pushed : (source : List ℕ) (links : List LinkParts) (link : LinkParts) (n : ℕ) (view : LinkView) → n ≡ length links
+    → link_view link ≡ view
+    → IsLinkFrom source (origin_of link.1) view → IsLinkFrom source (link_origin_at (links ++ link ∷ []) n) (link_at (links ++ link ∷ []) n)
+from_pushed source [] link n view e same h = rw e (subst (λ (v : LinkView). IsLinkFrom source (origin_of link.1) v) (sym same) h)
+from_pushed source (c ∷ links) link zero view e same h = cc e
+from_pushed source (c ∷ links) link (suc n) view e same h = from_pushed source links link n view (omega (arith, e)) same h
+
+pub record PutsLink (source : List ℕ) (tables tables' : Tables) (ix : LinkIndex) (link : LinkView) : Type 0 where
   pub grown : HasGrown tables tables'
   pub found : link_at tables'.links ix.0 ≡ link
   pub within : ix.0 < length tables'.links
   pub number : ix.0 ≡ length tables.links
+  pub slices : HasSliceLink source tables' ix.0
 
-pub link_put : (held held' : Allocated) (link : LinkParts) (number : LinkIndex) (view : LinkView) → held' ≡ with_link held link → number.0 ≡ length held.links → link_view link ≡ view
-    → PutsLink (tables_of held) (tables_of held') number view
-link_put held held' link number view put last same = rw put (record {
+pub link_put : (source : List ℕ) (held held' : Allocated) (link : LinkParts) (number : LinkIndex) (view : LinkView)
+    → held' ≡ with_link held link → number.0 ≡ length held.links
+    → IsLinkFrom source (origin_of link.1) view → link_view link ≡ view → PutsLink source (tables_of held) (tables_of held') number view
+link_put source held held' link number view put last from same = rw put (record {
   grown = record { more_cows = []; more_links = link ∷ []; grown = rw (append-nil held.cows) refl };
   found = link_pushed held.links link number.0 last ∙ same;
   within = omega (arith, last, length-append held.links (link ∷ []));
   number = last;
+  slices = from_pushed source held.links link number.0 view last same from;
 })
 
+-- the entry of an autolink leads to its URI in the source
+pub address_from : (source : List ℕ) (uri : List ℕ) → StandsIn source uri → IsLinkFrom source sliced (address uri)
+address_from source uri stands e = record { destination = stands; no_title = refl; no_label = refl }
+
 -- raw HTML as it stands
-pub can_put_html : (source : List ℕ) (tables : Tables) (nodes : List (Node Item)) (ix end : ℕ) → LiesIn source (item_to nodes ix end (body.Text false))
+pub can_put_html : (source : List ℕ) (tables : Tables) (nodes : List (Node Item)) (ix end : ℕ)
+    → LiesIn source (item_to nodes ix end (body.Text false))
     → CanPut source tables tables (item_to nodes ix end body.InlineHtml)
 can_put_html source tables nodes ix end lies = record {
   closed = refl;
@@ -137,8 +168,10 @@ can_put_html source tables nodes ix end lies = record {
     none (some_alignments n) h = refl
 
 -- and without the prefixes of lines
-pub can_put_owned : (source : List ℕ) (tables tables' : Tables) (number : CowIndex) (bytes : List ℕ) (nodes : List (Node Item)) (ix end : ℕ) → PutsText tables tables' number bytes
-    → LiesIn source (item_to nodes ix end (body.Text false)) → CanPut source tables tables' (item_to nodes ix end (body.OwnedInlineHtml number))
+pub can_put_owned : (source : List ℕ) (tables tables' : Tables) (number : CowIndex) (bytes : List ℕ) (nodes : List (Node Item)) (ix end : ℕ)
+    → PutsText tables tables' number bytes
+    → LiesIn source (item_to nodes ix end (body.Text false))
+    → CanPut source tables tables' (item_to nodes ix end (body.OwnedInlineHtml number))
 can_put_owned source tables tables' number bytes nodes ix end put lies = record {
   closed = refl;
   no_block = refl;
@@ -154,22 +187,23 @@ can_put_owned source tables tables' number bytes nodes ix end put lies = record 
     none (some_alignments n) h = refl
 
 -- an autolink, with its text below it
-pub can_put_autolink : (source : List ℕ) (tables tables' : Tables) (number : LinkIndex) (view : LinkView) (nodes : List (Node Item)) (ix end : ℕ) → PutsLink tables tables' number view
-    → LiesIn source (item_to nodes ix end (body.Text false)) → IsAddress source nodes ix end
+pub can_put_autolink : (source : List ℕ) (tables tables' : Tables) (number : LinkIndex) (uri : List ℕ) (nodes : List (Node Item))
+    (ix end : ℕ) → PutsLink source tables tables' number (address uri)
+    → LiesIn source (item_to nodes ix end (body.Text false)) → IsAddress source nodes ix end uri
     → CanPutParent source tables tables' nodes ix (item_to nodes ix end (body.Link number)) (address_to nodes ix end)
-can_put_autolink source tables tables' number view nodes ix end put lies address = record {
+can_put_autolink source tables tables' number uri nodes ix end put lies there = record {
   puts = record {
     closed = refl;
     no_block = refl;
     lies = record { ordered = lies.ordered; start = lies.start; end = lies.end };
     named = record { text = tt; link = put.within; alignments = tt; attributes = tt };
-    slices = tt;
+    slices = put.slices;
     new_names = by_link;
   };
   puts_inside = record {
     closed = refl;
     no_block = refl;
-    lies = address.lies;
+    lies = there.lies;
     named = record { text = tt; link = tt; alignments = tt; attributes = tt };
     slices = tt;
     new_names = λ n h. none n;
@@ -198,25 +232,32 @@ pub html_trees : (source : List ℕ) (rules : Rules) (tables tables' : Tables) (
     → ReadsFor source rules tables nodes ix (one source tables' (item_to nodes ix end body.InlineHtml)) (html end None)
 html_trees source rules tables tables' nodes ix end = refl
 
-pub owned_trees : (source : List ℕ) (rules : Rules) (tables tables' : Tables) (number : CowIndex) (bytes : List ℕ) (nodes : List (Node Item)) (ix end : ℕ) → PutsText tables tables' number bytes
-    → ReadsFor source rules tables nodes ix (one source tables' (item_to nodes ix end (body.OwnedInlineHtml number))) (html end (Some bytes))
+pub owned_trees : (source : List ℕ) (rules : Rules) (tables tables' : Tables) (number : CowIndex) (bytes : List ℕ)
+    (nodes : List (Node Item)) (ix end : ℕ) → PutsText tables tables' number bytes
+    → ReadsFor source rules tables nodes ix (one source tables' (item_to nodes ix end (body.OwnedInlineHtml number)))
+    (html end (Some bytes))
 owned_trees source rules tables tables' number bytes nodes ix end put =
     ap (λ (xs : List ℕ). markup_trees (setting_of source rules) tt (label_at source tables nodes ix) (html end (Some xs))) put.found
 
-pub autolink_trees : (source : List ℕ) (rules : Rules) (tables tables' : Tables) (number : LinkIndex) (uri : List ℕ) (nodes : List (Node Item)) (ix end : ℕ) → PutsLink tables tables' number (address uri)
-    → ReadsFor source rules tables nodes ix (parent source tables' (item_to nodes ix end (body.Link number)) (address_to nodes ix end)) (autolink end uri)
+pub autolink_trees : (source : List ℕ) (rules : Rules) (tables tables' : Tables) (number : LinkIndex) (uri : List ℕ)
+    (nodes : List (Node Item)) (ix end : ℕ) → PutsLink source tables tables' number (address uri)
+    → ReadsFor source rules tables nodes ix (parent source tables' (item_to nodes ix end (body.Link number)) (address_to nodes ix end))
+    (autolink end uri)
 autolink_trees source rules tables tables' number uri nodes ix end put = rw put.found refl
 
 -- one tree stands for it
-one_markup : (source : List ℕ) (rules : Rules) (m : Markup) (a : Plain) (below : Forest Plain) → length (roots (standing_for source rules m a below)) ≡ 1
+one_markup : (source : List ℕ) (rules : Rules) (m : Markup) (a : Plain) (below : Forest Plain)
+    → length (roots (standing_for source rules m a below)) ≡ 1
 one_markup source rules (autolink end uri) a below = refl
 one_markup source rules (html end None) a below = refl
 one_markup source rules (html end (Some bytes)) a below = refl
 
 -- so what was put stands for it
-pub puts_standing : (source : List ℕ) (rules : Rules) (m : Markup) (ix : ℕ) (trees : Standing) (goes_on next : Option ℕ) (old new : List (Node Item)) (tables tables' : Tables)
+pub puts_standing : (source : List ℕ) (rules : Rules) (m : Markup) (ix : ℕ) (trees : Standing) (goes_on next : Option ℕ)
+    (old new : List (Node Item)) (tables tables' : Tables)
     → CanResolve source tables old (Some ix) → ReadsFor source rules tables old ix trees m
-    → Puts source ix trees goes_on next old new tables tables' → Puts source ix (standing_for source rules m) goes_on next old new tables tables'
+    → Puts source ix trees goes_on next old new tables tables'
+    → Puts source ix (standing_for source rules m) goes_on next old new tables tables'
 puts_standing source rules m ix trees goes_on next old new tables tables' ready same p = record {
   whole = λ rule nodes later r.
       let w = p.whole rule nodes later r in
@@ -226,32 +267,43 @@ puts_standing source rules m ix trees goes_on next old new tables tables' ready 
   standing = p.standing;
   numbers = p.numbers;
   as_many = λ a below.
-      one_markup source rules m a below ∙ sym (one_markup source rules m (label_at source tables old ix) (trees_from source tables old (child_of old ix)))
-      ∙ ap (λ (f : Forest Plain). length (roots f)) (sym same) ∙ p.as_many (label_at source tables old ix) (trees_from source tables old (child_of old ix));
+      one_markup source rules m a below ∙ sym (one_markup source rules m (label_at source tables old ix)
+      (trees_from source tables old (child_of old ix)))
+      ∙ ap (λ (f : Forest Plain). length (roots f)) (sym same) ∙ p.as_many (label_at source tables old ix)
+      (trees_from source tables old (child_of old ix));
 }
   where
-    alike : (rule : Forest Plain → Forest Plain) → replaced trees goes_on rule (trees_from source tables old (Some ix)) ≡ replaced (standing_for source rules m) goes_on rule (trees_from source tables old (Some ix))
+    alike : (rule : Forest Plain → Forest Plain) → replaced trees goes_on rule (trees_from source tables old (Some ix))
+        ≡ replaced (standing_for source rules m) goes_on rule (trees_from source tables old (Some ix))
     alike rule =
         let after = trees_from source tables old (sibling_of old ix) in
         let first = (opens_chain source tables old ix ready).trees in
-        ap (replaced trees goes_on rule) first ∙ ap (λ (f : Forest Plain). joined f (rule (past goes_on after))) same ∙ ap (replaced (standing_for source rules m) goes_on rule) (sym first)
+        ap (replaced trees goes_on rule) first ∙ ap (λ (f : Forest Plain). joined f (rule (past goes_on after))) same
+        ∙ ap (replaced (standing_for source rules m) goes_on rule) (sym first)
 
 -- what was found lies in the text
-pub lies_to : (source : List ℕ) (tables : Tables) (nodes : List (Node Item)) (ix last end : ℕ) → CanResolve source tables nodes (Some ix) → IsCharBoundary source last
+pub lies_to : (source : List ℕ) (tables : Tables) (nodes : List (Node Item)) (ix last end : ℕ) → CanResolve source tables nodes (Some ix)
+    → IsCharBoundary source last
     → (item_at nodes ix).start < end → IsCharBoundary (take last source) end → LiesIn source (item_to nodes ix end (body.Text false))
 lies_to source tables nodes ix last end ready boundary after at =
     let lies = lies_at source tables nodes ix ready in
     record { ordered = omega (arith, after); start = lies.start; end = boundary_after source last end boundary at }
 
 -- the text of an autolink too
-pub address_lies : (source : List ℕ) (tables : Tables) (nodes : List (Node Item)) (ix last end : ℕ) → CanResolve source tables nodes (Some ix)
+pub address_lies : (source : List ℕ) (tables : Tables) (nodes : List (Node Item)) (ix last end : ℕ)
+    → CanResolve source tables nodes (Some ix)
     → EndsClosed (take last source) (item_at nodes ix).end end → LiesIn source (address_to nodes ix end)
 address_lies source tables nodes ix last end ready ends =
     let lies = lies_at source tables nodes ix ready in
     let inside : end - 1 < last = omega (arith, ends.within, ends.after, length-take last source) in
     let within : end - 1 < length source = omega (arith, ends.within, ends.after, length-take last source) in
     let byte : get_or source (end - 1) 0 ≡ 62 = sym (get_or-take last source (end - 1) 0 inside) ∙ ends.closed in
-    record { ordered = omega (arith, ends.after); start = lies.end; end = IsCharBoundary-before_ascii source (end - 1) within (omega (arith, byte)) }
+    record {
+      ordered = omega (arith, ends.after);
+      start = lies.end;
+      end = IsCharBoundary-before_ascii source (end - 1) within
+          (omega (arith, byte));
+    }
 
 -- the byte before its end is `>` in the whole text
 pub closed_in : (source : List ℕ) (last start end : ℕ) → EndsClosed (take last source) start end → get_or source (end - 1) 0 ≡ 62

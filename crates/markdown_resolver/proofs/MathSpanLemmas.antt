@@ -1,5 +1,6 @@
 -- A math span that a search finds in a chain is what pass one finds there, and may be put where its opener stands.
-use Rattle.std.proofs.Common.{◌≡◌, ℕ, suc, ◌<◌, ◌≤◌, Bool, true, false, not, ◌&&◌, ◌==◌, List, [], ◌∷◌, ◌++◌, map, length, drop, Option, Some, None, refl, sym, ap, ◌∙◌, arith, subst, append_assoc}
+use Rattle.std.proofs.Common.{◌≡◌, ℕ, suc, ◌<◌, ◌≤◌, Bool, true, false, not, ◌&&◌, ◌==◌, List, [], ◌∷◌, ◌++◌, map, length, drop, Option}
+use Rattle.std.proofs.Common.{Some, None, refl, sym, ap, ◌∙◌, arith, subst, append_assoc}
 use Rattle.std.specs.Prelude.{if◌then◌else◌}
 use Rattle.std.specs.Option.{option_map, option_map_or}
 use Rattle.std.specs.Str.{IsCharBoundary}
@@ -25,7 +26,8 @@ use Rattle.markdown_chains.specs.Setting.{Setting}
 use Rattle.markdown_chains.specs.Tables.{Named, Tables, number_of, size_for, some_alignments, some_link, some_text, tables_of, text_at}
 use Rattle.markdown_chains.specs.Totals.{times_named}
 use Rattle.markdown_code.specs.ChainInArena.{LeadsThrough}
-use Rattle.markdown_code.specs.Closers.{Dollar, MathClose, can_close, can_open, closed_by, context_of, display_close, dollar_next, first_dollar, inline_close, is_dollar, is_dollar_of, math_close, math_close_from, searched_for_math}
+use Rattle.markdown_code.specs.Closers.{Dollar, MathClose, can_close, can_open, closed_by, context_of, display_close, dollar_next}
+use Rattle.markdown_code.specs.Closers.{first_dollar, inline_close, is_dollar, is_dollar_of, math_close, math_close_from, searched_for_math}
 use Rattle.markdown_code.specs.Finds.{find_by, math_found, math_text_start, text_between, origin_between}
 use Rattle.markdown_code.specs.MathOpening.{dollar_at}
 use Rattle.markdown_code.specs.SpanClosers.{ClosesMath, found_math, item_in}
@@ -54,58 +56,71 @@ dollar_body other h = cc h
 abbrev pub close_of : FoundMath → MathClose ℕ
 close_of m = record { display = m.display; closer = m.closer; last = m.last }
 
-close_back : (nodes : List (Node Item)) (found : Option (MathClose ℕ)) → option_map close_of (option_map found_math (option_map (shown_close (numbered nodes)) found)) ≡ found
+close_back : (nodes : List (Node Item)) (found : Option (MathClose ℕ))
+    → option_map close_of (option_map found_math (option_map (shown_close (numbered nodes)) found)) ≡ found
 close_back nodes None = refl
 close_back nodes (Some m) = refl
 
 -- what closes math among the nodes that follow its opener
-pub math_by_number : (source : List ℕ) (tables : Tables) (nodes : List (Node Item)) (ix : ℕ) (found : Option FoundMath) → CanResolve source tables nodes (Some ix) → ClosesMath nodes ix found
+pub math_by_number : (source : List ℕ) (tables : Tables) (nodes : List (Node Item)) (ix : ℕ) (found : Option FoundMath)
+    → CanResolve source tables nodes (Some ix) → ClosesMath nodes ix found
     → math_close_from (item_at nodes) (item_at nodes ix) (followers nodes ix) ≡ option_map close_of found
 math_by_number source tables nodes ix found ready closes =
     let o = opens_chain source tables nodes ix ready in
     let xs = followers nodes ix in
     sym (close_back nodes (math_close_from (item_at nodes) (item_at nodes ix) xs))
-    ∙ ap (λ (o : Option (MathClose Numbered)). option_map close_of (option_map found_math o)) (sym (math_from_shown item_in (numbered nodes) nodes (number_alike nodes) (item_at nodes ix) xs))
+    ∙ ap (λ (o : Option (MathClose Numbered)). option_map close_of (option_map found_math o))
+    (sym (math_from_shown item_in (numbered nodes) nodes (number_alike nodes) (item_at nodes ix) xs))
     ∙ ap (option_map close_of) (closes (suc ix) (map (numbered nodes) xs) o.leads)
 
 -- where the text of math starts
 abbrev pub text_start : List (Node Item) → ℕ → ℕ
-text_start nodes ix = option_map_or (λ second. (item_at nodes second).end) (dollar_next (item_at nodes) (followers nodes ix)) (item_at nodes ix).end
+text_start nodes ix = option_map_or (λ second. (item_at nodes second).end) (dollar_next (item_at nodes) (followers nodes ix))
+    (item_at nodes ix).end
 
 start_shown : (source : List ℕ) (tables : Tables) (nodes : List (Node Item)) (ix : ℕ) (xs : List ℕ)
     → math_text_start (label_at source tables nodes ix) (map (label_at source tables nodes) xs)
     ≡ option_map_or (λ second. (item_at nodes second).end) (dollar_next (item_at nodes) xs) (item_at nodes ix).end
 start_shown source tables nodes ix xs =
     let show = label_at source tables nodes in
-    ap (λ (o : Option Plain). option_map_or end_of o (end_of (show ix))) (dollar_next_shown as_item show nodes (label_alike source tables nodes) xs)
+    ap (λ (o : Option Plain). option_map_or end_of o (end_of (show ix)))
+    (dollar_next_shown as_item show nodes (label_alike source tables nodes) xs)
     ∙ by (dollar_next (item_at nodes) xs)
   where
-    by : (o : Option ℕ) → option_map_or end_of (option_map (label_at source tables nodes) o) (item_at nodes ix).end ≡ option_map_or (λ second. (item_at nodes second).end) o (item_at nodes ix).end
+    by : (o : Option ℕ) → option_map_or end_of (option_map (label_at source tables nodes) o) (item_at nodes ix).end
+        ≡ option_map_or (λ second. (item_at nodes second).end) o (item_at nodes ix).end
     by None = refl
     by (Some second) = refl
 
 -- which is read off the next link
-pub start_linked : (nodes : List (Node Item)) (low : ℕ) (l : Option ℕ) (xs : List ℕ) → LeadsThrough nodes low l (map (numbered nodes) xs) → dollar_at nodes l ≡ dollar_next (item_at nodes) xs
+pub start_linked : (nodes : List (Node Item)) (low : ℕ) (l : Option ℕ) (xs : List ℕ) → LeadsThrough nodes low l (map (numbered nodes) xs)
+    → dollar_at nodes l ≡ dollar_next (item_at nodes) xs
 start_linked nodes low l [] h = rw h refl
 start_linked nodes low l (x ∷ xs) h = rw h.0 refl
 
 -- so this is what pass one finds there
-opener_item : (s : Setting) (tables : Tables) (nodes : List (Node Item)) (ix : ℕ) (b : ItemBody) → (item_at nodes ix).body ≡ b → is_open b ≡ true → as_item (label_at s.text tables nodes ix) ≡ item_at nodes ix
+opener_item : (s : Setting) (tables : Tables) (nodes : List (Node Item)) (ix : ℕ) (b : ItemBody) → (item_at nodes ix).body ≡ b
+    → is_open b ≡ true → as_item (label_at s.text tables nodes ix) ≡ item_at nodes ix
 opener_item s tables nodes ix b is opens =
     let item = item_at nodes ix in
-    ap (λ (b : ItemBody). let i : Item = record { start = item.start; end = item.end; body = b } in i) (ap open_body (opener_shape s tables nodes ix b is opens) ∙ sym is)
+    ap (λ (b : ItemBody). let i : Item = record { start = item.start; end = item.end; body = b } in i)
+    (ap open_body (opener_shape s tables nodes ix b is opens) ∙ sym is)
 
-math_read : (s : Setting) (above : Above) (tables : Tables) (nodes : List (Node Item)) (ix : ℕ) (opens closes : Bool) (context : ℕ) (found : Option FoundMath)
+math_read : (s : Setting) (above : Above) (tables : Tables) (nodes : List (Node Item)) (ix : ℕ) (opens closes : Bool) (context : ℕ)
+    (found : Option FoundMath)
     → CanResolve s.text tables nodes (Some ix) → (item_at nodes ix).body ≡ body.MaybeMath opens closes context → ClosesMath nodes ix found
-    → find_by s above (body.MaybeMath opens closes context) (label_at s.text tables nodes ix) (trees_from s.text tables nodes (sibling_of nodes ix))
-    ≡ math_found s above (label_at s.text tables nodes ix) (map (label_at s.text tables nodes) (followers nodes ix)) (option_map (shown_close (label_at s.text tables nodes)) (option_map close_of found))
+    → find_by s above (body.MaybeMath opens closes context) (label_at s.text tables nodes ix)
+    (trees_from s.text tables nodes (sibling_of nodes ix))
+    ≡ math_found s above (label_at s.text tables nodes ix) (map (label_at s.text tables nodes) (followers nodes ix))
+    (option_map (shown_close (label_at s.text tables nodes)) (option_map close_of found))
 math_read s above tables nodes ix opens closes context found ready is closed =
     let o = opens_chain s.text tables nodes ix ready in
     let show = label_at s.text tables nodes in
     let xs = followers nodes ix in
     ap (λ (l : List Plain). math_found s above (show ix) l (math_close_from as_item (as_item (show ix)) l)) o.labels
     ∙ ap (math_found s above (show ix) (map show xs))
-    (ap (λ (i : Item). math_close_from as_item i (map show xs)) (opener_item s tables nodes ix (body.MaybeMath opens closes context) is refl)
+    (ap (λ (i : Item). math_close_from as_item i (map show xs)) (opener_item s tables nodes ix (body.MaybeMath opens closes context) is
+    refl)
     ∙ math_from_shown as_item show nodes (label_alike s.text tables nodes) (item_at nodes ix) xs
     ∙ ap (option_map (shown_close show)) (math_by_number s.text tables nodes ix found ready closed))
 
@@ -124,8 +139,10 @@ no_math_reads s above tables nodes ix opens closes context ready is closed =
 abbrev pub math_item : List (Node Item) → ℕ → FoundMath → CowIndex → Item
 math_item nodes ix m cow = record { start = (item_at nodes ix).start; end = (item_at nodes m.last).end; body = body.Math cow m.display }
 
-pub math_reads : (s : Setting) (above : Above) (tables tables' : Tables) (nodes : List (Node Item)) (ix : ℕ) (m : FoundMath) (opens closes : Bool) (context : ℕ) (cow : CowIndex)
-    → CanResolve s.text tables nodes (Some ix) → (item_at nodes ix).body ≡ body.MaybeMath opens closes context → ClosesMath nodes ix (Some m)
+pub math_reads : (s : Setting) (above : Above) (tables tables' : Tables) (nodes : List (Node Item)) (ix : ℕ) (m : FoundMath)
+    (opens closes : Bool) (context : ℕ) (cow : CowIndex)
+    → CanResolve s.text tables nodes (Some ix) → (item_at nodes ix).body ≡ body.MaybeMath opens closes context
+    → ClosesMath nodes ix (Some m)
     → text_at tables'.cows cow.0 ≡ text_between s above Math (text_start nodes ix) (item_at nodes m.closer).start
     → origin_at tables'.cows cow.0 ≡ origin_between s above (text_start nodes ix) (item_at nodes m.closer).start
     → ReadsAs s above tables nodes ix (one s.text tables' (math_item nodes ix m cow)) (Some (item_at nodes m.last).end)
@@ -141,11 +158,14 @@ pub record FirstDollar (nodes : List (Node Item)) (context : ℕ) (xs : List ℕ
   pub parts : xs ≡ before ++ d.dollar ∷ d.after
   pub is : is_dollar_of context (item_at nodes d.dollar).body ≡ true
 
-first_dollar_among : (nodes : List (Node Item)) (context : ℕ) (xs : List ℕ) (d : Dollar ℕ) → first_dollar (item_at nodes) context xs ≡ Some d → FirstDollar nodes context xs d
+first_dollar_among : (nodes : List (Node Item)) (context : ℕ) (xs : List ℕ) (d : Dollar ℕ) → first_dollar (item_at nodes) context xs
+    ≡ Some d → FirstDollar nodes context xs d
 first_dollar_among nodes context [] d e = cc e
-first_dollar_among nodes context (x ∷ xs) d e = by (is_dollar_of context (item_at nodes x).body) refl (first_dollar_among nodes context xs d)
+first_dollar_among nodes context (x ∷ xs) d e = by (is_dollar_of context (item_at nodes x).body) refl
+    (first_dollar_among nodes context xs d)
   where
-    by : (b : Bool) → is_dollar_of context (item_at nodes x).body ≡ b → (first_dollar (item_at nodes) context xs ≡ Some d → FirstDollar nodes context xs d) → FirstDollar nodes context (x ∷ xs) d
+    by : (b : Bool) → is_dollar_of context (item_at nodes x).body ≡ b → (first_dollar (item_at nodes) context xs ≡ Some d
+        → FirstDollar nodes context xs d) → FirstDollar nodes context (x ∷ xs) d
     by true is later =
         let here : Dollar ℕ = record { dollar = x; after = xs } in
         let same : here ≡ d = let found = rw is at e in cc in
@@ -159,16 +179,19 @@ pub record MathStands (nodes : List (Node Item)) (i context : ℕ) (xs : List �
   pub before : List ℕ
   pub after : List ℕ
   pub parts : xs ≡ before ++ m.closer ∷ after
-  pub first : first_dollar (item_at nodes) context (searched_for_math (item_at nodes) xs) ≡ Some (record { dollar = m.closer; after = after })
+  pub first : first_dollar (item_at nodes) context (searched_for_math (item_at nodes) xs)
+      ≡ Some (record { dollar = m.closer; after = after })
   pub last : StandsAmong xs m.last
   pub to_last : (item_at nodes m.closer).end ≤ (item_at nodes m.last).end
   pub from : option_map_or (λ second. (item_at nodes second).end) (dollar_next (item_at nodes) xs) i ≤ (item_at nodes m.closer).start
 
-inline_stands : (nodes : List (Node Item)) (i context : ℕ) (xs : List ℕ) (m : FoundMath) → InOrder nodes i xs → dollar_next (item_at nodes) xs ≡ None
+inline_stands : (nodes : List (Node Item)) (i context : ℕ) (xs : List ℕ) (m : FoundMath) → InOrder nodes i xs
+    → dollar_next (item_at nodes) xs ≡ None
     → inline_close (item_at nodes) i (first_dollar (item_at nodes) context xs) ≡ Some (close_of m) → MathStands nodes i context xs m
 inline_stands nodes i context xs m ordered none closes = by (first_dollar (item_at nodes) context xs) refl closes
   where
-    here : (d : Dollar ℕ) → first_dollar (item_at nodes) context xs ≡ Some d → d.dollar ≡ m.closer → d.dollar ≡ m.last → MathStands nodes i context xs m
+    here : (d : Dollar ℕ) → first_dollar (item_at nodes) context xs ≡ Some d → d.dollar ≡ m.closer → d.dollar ≡ m.last
+        → MathStands nodes i context xs m
     here d first closer last =
         let f = first_dollar_among nodes context xs d first in
         let parts : xs ≡ f.before ++ m.closer ∷ d.after = f.parts ∙ ap (λ x. f.before ++ x ∷ d.after) closer in
@@ -185,14 +208,16 @@ inline_stands nodes i context xs m ordered none closes = by (first_dollar (item_
         }
 
     closed : (d : Dollar ℕ) → first_dollar (item_at nodes) context xs ≡ Some d → (b : Bool)
-        → (if b then Some (record { display = false; closer = d.dollar; last = d.dollar }) else None) ≡ Some (close_of m) → MathStands nodes i context xs m
+        → (if b then Some (record { display = false; closer = d.dollar; last = d.dollar }) else None) ≡ Some (close_of m)
+        → MathStands nodes i context xs m
     closed d first true e =
         let made : MathClose ℕ = record { display = false; closer = d.dollar; last = d.dollar } in
         let same : made ≡ close_of m = cc e in
         here d first (ap (λ (c : MathClose ℕ). c.closer) same) (ap (λ (c : MathClose ℕ). c.last) same)
     closed d first false e = cc e
 
-    by : (o : Option (Dollar ℕ)) → first_dollar (item_at nodes) context xs ≡ o → inline_close (item_at nodes) i o ≡ Some (close_of m) → MathStands nodes i context xs m
+    by : (o : Option (Dollar ℕ)) → first_dollar (item_at nodes) context xs ≡ o → inline_close (item_at nodes) i o ≡ Some (close_of m)
+        → MathStands nodes i context xs m
     by None first e = cc e
     by (Some d) first e = closed d first (can_close (item_at nodes d.dollar).body && not (i == (item_at nodes d.dollar).start)) e
 
@@ -204,15 +229,18 @@ next_is nodes x xs last e = by (is_dollar (item_at nodes x).body) e
     by true e = cc e
     by false e = cc e
 
-display_last : (nodes : List (Node Item)) (second context : ℕ) (i : ℕ) (ys : List ℕ) (m : FoundMath) (d : Dollar ℕ) → InOrder nodes i (second ∷ ys) → dollar_next (item_at nodes) (second ∷ ys) ≡ Some second
-    → first_dollar (item_at nodes) context ys ≡ Some d → d.dollar ≡ m.closer → (zs : List ℕ) → d.after ≡ m.last ∷ zs → MathStands nodes i context (second ∷ ys) m
+display_last : (nodes : List (Node Item)) (second context : ℕ) (i : ℕ) (ys : List ℕ) (m : FoundMath) (d : Dollar ℕ)
+    → InOrder nodes i (second ∷ ys) → dollar_next (item_at nodes) (second ∷ ys) ≡ Some second
+    → first_dollar (item_at nodes) context ys ≡ Some d → d.dollar ≡ m.closer → (zs : List ℕ) → d.after ≡ m.last ∷ zs
+    → MathStands nodes i context (second ∷ ys) m
 display_last nodes second context i ys m d ordered next first closer zs after =
     let f = first_dollar_among nodes context ys d first in
     let parts : ys ≡ f.before ++ m.closer ∷ d.after = f.parts ∙ ap (λ x. f.before ++ x ∷ d.after) closer in
     let all : ys ≡ f.before ++ m.closer ∷ m.last ∷ zs = parts ∙ ap (λ later. f.before ++ m.closer ∷ later) after in
     let end = (item_at nodes second).end in
     let around = order_around nodes end f.before m.closer d.after (subst (InOrder nodes end) parts ordered.2) in
-    let later : InOrder nodes (item_at nodes m.closer).end (m.last ∷ zs) = subst (InOrder nodes (item_at nodes m.closer).end) after around.later in
+    let later : InOrder nodes (item_at nodes m.closer).end (m.last ∷ zs) = subst (InOrder nodes (item_at nodes m.closer).end) after
+    around.later in
     record {
       before = second ∷ f.before;
       after = d.after;
@@ -227,7 +255,8 @@ display_last nodes second context i ys m d ordered next first closer zs after =
       from = rw next around.from;
     }
 
-display_stands : (nodes : List (Node Item)) (i context second : ℕ) (xs : List ℕ) (m : FoundMath) → InOrder nodes i xs → dollar_next (item_at nodes) xs ≡ Some second
+display_stands : (nodes : List (Node Item)) (i context second : ℕ) (xs : List ℕ) (m : FoundMath) → InOrder nodes i xs
+    → dollar_next (item_at nodes) xs ≡ Some second
     → display_close (item_at nodes) (first_dollar (item_at nodes) context (drop 1 xs)) ≡ Some (close_of m) → MathStands nodes i context xs m
 display_stands nodes i context second [] m ordered next closes = cc next
 display_stands nodes i context second (x ∷ ys) m ordered next closes = by (first_dollar (item_at nodes) context ys) refl closes
@@ -235,7 +264,8 @@ display_stands nodes i context second (x ∷ ys) m ordered next closes = by (fir
     is : x ≡ second
     is = next_is nodes x ys second next
 
-    here : (d : Dollar ℕ) → first_dollar (item_at nodes) context ys ≡ Some d → (after : List ℕ) → d.after ≡ after → (last : Option ℕ) → dollar_next (item_at nodes) after ≡ last
+    here : (d : Dollar ℕ) → first_dollar (item_at nodes) context ys ≡ Some d → (after : List ℕ) → d.after ≡ after → (last : Option ℕ)
+        → dollar_next (item_at nodes) after ≡ last
         → closed_by d.dollar last ≡ Some (close_of m) → MathStands nodes i context (x ∷ ys) m
     here d first after a None l e = cc e
     here d first [] a (Some last) l e = cc l
@@ -243,13 +273,16 @@ display_stands nodes i context second (x ∷ ys) m ordered next closes = by (fir
         let made : MathClose ℕ = record { display = true; closer = d.dollar; last = last } in
         let same : made ≡ close_of m = cc e in
         let ends : z ≡ m.last = next_is nodes z zs last l ∙ ap (λ (c : MathClose ℕ). c.last) same in
-        display_last nodes x context i ys m d ordered (next ∙ ap (λ n. Some n) (sym is)) first (ap (λ (c : MathClose ℕ). c.closer) same) zs (a ∙ ap (λ z. z ∷ zs) ends)
+        display_last nodes x context i ys m d ordered (next ∙ ap (λ n. Some n) (sym is)) first (ap (λ (c : MathClose ℕ). c.closer) same) zs
+        (a ∙ ap (λ z. z ∷ zs) ends)
 
-    by : (o : Option (Dollar ℕ)) → first_dollar (item_at nodes) context ys ≡ o → display_close (item_at nodes) o ≡ Some (close_of m) → MathStands nodes i context (x ∷ ys) m
+    by : (o : Option (Dollar ℕ)) → first_dollar (item_at nodes) context ys ≡ o → display_close (item_at nodes) o ≡ Some (close_of m)
+        → MathStands nodes i context (x ∷ ys) m
     by None first e = cc e
     by (Some d) first e = here d first d.after refl (dollar_next (item_at nodes) d.after) refl e
 
-pub math_stands : (nodes : List (Node Item)) (opener : Item) (xs : List ℕ) (m : FoundMath) → InOrder nodes opener.end xs → math_close_from (item_at nodes) opener xs ≡ Some (close_of m)
+pub math_stands : (nodes : List (Node Item)) (opener : Item) (xs : List ℕ) (m : FoundMath) → InOrder nodes opener.end xs
+    → math_close_from (item_at nodes) opener xs ≡ Some (close_of m)
     → MathStands nodes opener.end (context_of opener.body) xs m
 math_stands nodes opener xs m ordered closes = by (can_open opener.body) closes
   where
@@ -260,49 +293,59 @@ math_stands nodes opener xs m ordered closes = by (can_open opener.body) closes
     by_next None next e = inline_stands nodes opener.end (context_of opener.body) xs m ordered next e
     by_next (Some second) next e = display_stands nodes opener.end (context_of opener.body) second xs m ordered next e
 
-    by : (b : Bool) → (if b then math_close (item_at nodes) opener.end (context_of opener.body) xs else None) ≡ Some (close_of m) → MathStands nodes opener.end (context_of opener.body) xs m
+    by : (b : Bool) → (if b then math_close (item_at nodes) opener.end (context_of opener.body) xs else None) ≡ Some (close_of m)
+        → MathStands nodes opener.end (context_of opener.body) xs m
     by true e = by_next (dollar_next (item_at nodes) xs) refl e
     by false e = cc e
 
 -- a byte at which an item ends may begin a text
-start_boundary : (source : List ℕ) (tables : Tables) (nodes : List (Node Item)) (ix : ℕ) → CanResolve source tables nodes (Some ix) → IsCharBoundary source (text_start nodes ix)
+start_boundary : (source : List ℕ) (tables : Tables) (nodes : List (Node Item)) (ix : ℕ) → CanResolve source tables nodes (Some ix)
+    → IsCharBoundary source (text_start nodes ix)
 start_boundary source tables nodes ix ready = by (forest_at (links_of nodes) (sibling_of nodes ix)) o.all_placed
   where
     o : OpenedChain source tables nodes ix
     o = opens_chain source tables nodes ix ready
 
     by : (f : Forest ℕ) → Each (IsPlaced source tables nodes) f
-        → IsCharBoundary source (option_map_or (λ second. (item_at nodes second).end) (dollar_next (item_at nodes) (roots f)) (item_at nodes ix).end)
+        → IsCharBoundary source (option_map_or (λ second. (item_at nodes second).end) (dollar_next (item_at nodes) (roots f))
+        (item_at nodes ix).end)
     by nil h = o.placed.lies.end
     by (node x below after) h = either (is_dollar (item_at nodes x).body)
       where
-        either : (b : Bool) → IsCharBoundary source (option_map_or (λ second. (item_at nodes second).end) (if b then Some x else None) (item_at nodes ix).end)
+        either : (b : Bool) → IsCharBoundary source (option_map_or (λ second. (item_at nodes second).end) (if b then Some x else None)
+            (item_at nodes ix).end)
         either true = h.0.lies.end
         either false = o.placed.lies.end
 
 -- where what closes the math span of an opener stands
-pub stands_of : (source : List ℕ) (tables : Tables) (nodes : List (Node Item)) (ix : ℕ) (m : FoundMath) → CanResolve source tables nodes (Some ix) → ClosesMath nodes ix (Some m)
+pub stands_of : (source : List ℕ) (tables : Tables) (nodes : List (Node Item)) (ix : ℕ) (m : FoundMath)
+    → CanResolve source tables nodes (Some ix) → ClosesMath nodes ix (Some m)
     → MathStands nodes (item_at nodes ix).end (context_of (item_at nodes ix).body) (followers nodes ix) m
 stands_of source tables nodes ix m ready closes =
-    math_stands nodes (item_at nodes ix) (followers nodes ix) m (opens_chain source tables nodes ix ready).ordered (math_by_number source tables nodes ix (Some m) ready closes)
+    math_stands nodes (item_at nodes ix) (followers nodes ix) m (opens_chain source tables nodes ix ready).ordered
+    (math_by_number source tables nodes ix (Some m) ready closes)
 
 -- the math span may be put where its opener stands
-math_names : (tables : Tables) (cow : CowIndex) (display : Bool) (n : Named) → cow.0 ≡ length tables.cows → number_of n < size_for tables n → times_named n (body.Math cow display) ≡ 0
+math_names : (tables : Tables) (cow : CowIndex) (display : Bool) (n : Named) → cow.0 ≡ length tables.cows → number_of n < size_for tables n
+    → times_named n (body.Math cow display) ≡ 0
 math_names tables cow display (some_text n) e h = same_below n cow.0 (omega (arith, h, e))
 math_names tables cow display (some_link n) e h = refl
 math_names tables cow display (some_alignments n) e h = refl
 
-pub record FoundSpan (source : List ℕ) (tables tables' : Tables) (nodes : List (Node Item)) (ix : ℕ) (m : FoundMath) (cow : CowIndex) (text : List ℕ) (origin : Origin) : Type 0 where
+pub record FoundSpan (source : List ℕ) (tables tables' : Tables) (nodes : List (Node Item)) (ix : ℕ) (m : FoundMath) (cow : CowIndex)
+    (text : List ℕ) (origin : Origin) : Type 0 where
   pub closes : ClosesMath nodes ix (Some m)
   pub stored : PutsText tables tables' cow text
   pub origin_is : origin_at tables'.cows cow.0 ≡ origin
   pub found : IsFoundAt source tables nodes ix (item_at nodes m.last).end
   pub can : CanPut source tables tables' (math_item nodes ix m cow)
 
-pub found_span : (source : List ℕ) (held held' : Allocated) (nodes : List (Node Item)) (ix : ℕ) (m : FoundMath) (opens closes : Bool) (context : ℕ) (text : CowStr) (cow : CowIndex) (found : Option FoundMath)
+pub found_span : (source : List ℕ) (held held' : Allocated) (nodes : List (Node Item)) (ix : ℕ) (m : FoundMath) (opens closes : Bool)
+    (context : ℕ) (text : CowStr) (cow : CowIndex) (found : Option FoundMath)
     → CanResolve source (tables_of held) nodes (Some ix) → (item_at nodes ix).body ≡ body.MaybeMath opens closes context
     → ClosesMath nodes ix found → found ≡ Some m → held' ≡ with_cow held text → cow.0 ≡ length held.cows
-    → IsSlicedOf source (origin_of text) (text_of text) → FoundSpan source (tables_of held) (tables_of held') nodes ix m cow (text_of text) (origin_of text)
+    → IsSlicedOf source (origin_of text) (text_of text) → FoundSpan source (tables_of held) (tables_of held') nodes ix m cow (text_of text)
+    (origin_of text)
 found_span source held held' nodes ix m opens closes context text cow found ready is closed here put number slice =
     let tables = tables_of held in
     let o = opens_chain source tables nodes ix ready in
@@ -313,7 +356,8 @@ found_span source held held' nodes ix m opens closes context text cow found read
     let rest = forest_at (links_of nodes) (sibling_of nodes ix) in
     let last = each_root (IsPlaced source tables nodes) rest there.last.before m.last there.last.after o.all_placed there.last.parts in
     let closer = each_root (IsPlaced source tables nodes) rest there.before m.closer there.after o.all_placed there.parts in
-    let around = order_around nodes (item_at nodes ix).end there.before m.closer there.after (subst (InOrder nodes (item_at nodes ix).end) there.parts o.ordered) in
+    let around = order_around nodes (item_at nodes ix).end there.before m.closer there.after (subst (InOrder nodes (item_at nodes ix).end)
+    there.parts o.ordered) in
     record {
       closes = ends;
       stored = stored;
@@ -337,7 +381,8 @@ found_span source held held' nodes ix m opens closes context text cow found read
 abbrev pub span_of : (opener last : Item) → FoundMath → CowIndex → Item
 span_of opener last m cow = record { start = opener.start; end = last.end; body = body.Math cow m.display }
 
-pub record PutsMath (source : List ℕ) (tables tables' : Tables) (nodes : List (Node Item)) (ix : ℕ) (m : FoundMath) (cow : CowIndex) (text : List ℕ) (origin : Origin) (item : Item) : Type 0 where
+pub record PutsMath (source : List ℕ) (tables tables' : Tables) (nodes : List (Node Item)) (ix : ℕ) (m : FoundMath) (cow : CowIndex)
+    (text : List ℕ) (origin : Origin) (item : Item) : Type 0 where
   pub is : item ≡ math_item nodes ix m cow
   pub closes : ClosesMath nodes ix (Some m)
   pub stored : PutsText tables tables' cow text
@@ -345,15 +390,18 @@ pub record PutsMath (source : List ℕ) (tables tables' : Tables) (nodes : List 
   pub found : IsFoundAt source tables nodes ix item.end
   pub can : CanPut source tables tables' item
 
-pub puts_math : (source : List ℕ) (held held' : Allocated) (nodes : List (Node Item)) (ix : ℕ) (m : FoundMath) (opener last : Item) (text : CowStr) (cow : CowIndex) (found : Option FoundMath)
-    → CanResolve source (tables_of held) nodes (Some ix) → is_dollar (item_at nodes ix).body ≡ true → ClosesMath nodes ix found → found ≡ Some m
+pub puts_math : (source : List ℕ) (held held' : Allocated) (nodes : List (Node Item)) (ix : ℕ) (m : FoundMath) (opener last : Item)
+    (text : CowStr) (cow : CowIndex) (found : Option FoundMath)
+    → CanResolve source (tables_of held) nodes (Some ix) → is_dollar (item_at nodes ix).body ≡ true → ClosesMath nodes ix found
+    → found ≡ Some m
     → held' ≡ with_cow held text → cow.0 ≡ length held.cows → opener ≡ item_at nodes ix → last ≡ item_at nodes m.last
     → IsSlicedOf source (origin_of text) (text_of text)
     → PutsMath source (tables_of held) (tables_of held') nodes ix m cow (text_of text) (origin_of text) (span_of opener last m cow)
 puts_math source held held' nodes ix m opener last text cow found ready dollar closed here put number opens ends slice =
     let d = dollar_body (item_at nodes ix).body dollar in
     let f = found_span source held held' nodes ix m d.opens d.closes d.context text cow found ready d.is closed here put number slice in
-    let same : span_of opener last m cow ≡ math_item nodes ix m cow = ap (λ (i : Item). span_of i last m cow) opens ∙ ap (λ (i : Item). span_of (item_at nodes ix) i m cow) ends in
+    let same : span_of opener last m cow ≡ math_item nodes ix m cow = ap (λ (i : Item). span_of i last m cow) opens
+    ∙ ap (λ (i : Item). span_of (item_at nodes ix) i m cow) ends in
     record {
       is = same;
       closes = f.closes;
@@ -365,18 +413,23 @@ puts_math source held held' nodes ix m opener last text cow found ready dollar c
 
 -- where its text starts
 pub start_is : (source : List ℕ) (tables : Tables) (nodes : List (Node Item)) (ix start : ℕ) → CanResolve source tables nodes (Some ix)
-    → start ≡ option_map_or (λ second. (item_at nodes second).end) (dollar_at nodes (sibling_of nodes ix)) (item_at nodes ix).end → start ≡ text_start nodes ix
+    → start ≡ option_map_or (λ second. (item_at nodes second).end) (dollar_at nodes (sibling_of nodes ix)) (item_at nodes ix).end
+    → start ≡ text_start nodes ix
 start_is source tables nodes ix start ready e =
     e ∙ ap (λ (o : Option ℕ). option_map_or (λ second. (item_at nodes second).end) o (item_at nodes ix).end)
     (start_linked nodes (suc ix) (sibling_of nodes ix) (followers nodes ix) (opens_chain source tables nodes ix ready).leads)
 
 -- the bytes between the delimiters may be cut out
-pub math_cut : (source : List ℕ) (tables : Tables) (nodes : List (Node Item)) (ix : ℕ) (m : FoundMath) (start : ℕ) (closer : Item) (found : Option FoundMath)
+pub math_cut : (source : List ℕ) (tables : Tables) (nodes : List (Node Item)) (ix : ℕ) (m : FoundMath) (start : ℕ) (closer : Item)
+    (found : Option FoundMath)
     → CanResolve source tables nodes (Some ix) → ClosesMath nodes ix found → found ≡ Some m
-    → start ≡ option_map_or (λ second. (item_at nodes second).end) (dollar_at nodes (sibling_of nodes ix)) (item_at nodes ix).end → closer ≡ item_at nodes m.closer
+    → start ≡ option_map_or (λ second. (item_at nodes second).end) (dollar_at nodes (sibling_of nodes ix)) (item_at nodes ix).end
+    → closer ≡ item_at nodes m.closer
     → CanCut source start closer.start
 math_cut source tables nodes ix m start closer found ready closes here starts ends =
     let o = opens_chain source tables nodes ix ready in
     let there = stands_of source tables nodes ix m ready (subst (ClosesMath nodes ix) here closes) in
-    let placed = each_root (IsPlaced source tables nodes) (forest_at (links_of nodes) (sibling_of nodes ix)) there.before m.closer there.after o.all_placed there.parts in
-    rw (start_is source tables nodes ix start ready starts, ends) (record { ordered = there.from; from = start_boundary source tables nodes ix ready; to = placed.lies.start })
+    let placed = each_root (IsPlaced source tables nodes) (forest_at (links_of nodes) (sibling_of nodes ix)) there.before m.closer
+    there.after o.all_placed there.parts in
+    rw (start_is source tables nodes ix start ready starts, ends)
+    (record { ordered = there.from; from = start_boundary source tables nodes ix ready; to = placed.lies.start })

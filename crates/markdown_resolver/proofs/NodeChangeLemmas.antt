@@ -9,7 +9,8 @@ use Rattle.markdown_chains.specs.Places.{IsSameAt}
 use Rattle.markdown_resolver.specs.Settling.{IsWritten}
 
 -- the others stay
-pub changed_other : (nodes : List (Node Item)) (ix : ℕ) (change : Node Item → Node Item) (n : ℕ) → (n ≡ ix → ⊥) → IsSameAt nodes (changed_at ix change nodes) n
+pub changed_other : (nodes : List (Node Item)) (ix : ℕ) (change : Node Item → Node Item) (n : ℕ) → (n ≡ ix → ⊥)
+    → IsSameAt nodes (changed_at ix change nodes) n
 changed_other [] ix change n h = record { child = refl; next = refl; item = refl }
 changed_other (m ∷ nodes) zero change zero h = absurd (h refl)
 changed_other (m ∷ nodes) zero change (suc n) h = record { child = refl; next = refl; item = refl }
@@ -60,7 +61,8 @@ written_nodes nodes ix item next l =
           record { child = b.child ∙ a.child; next = b.next ∙ a.next; item = b.item ∙ a.item };
     }
 
-pub written_tree : (s t u : Arena Item) (ix : ℕ) (item : Item) (next : Option ℕ) → ix < length s.nodes → t ≡ record s { nodes = changed_at ix (λ n. record n { item = item }) s.nodes }
+pub written_tree : (s t u : Arena Item) (ix : ℕ) (item : Item) (next : Option ℕ) → ix < length s.nodes
+    → t ≡ record s { nodes = changed_at ix (λ n. record n { item = item }) s.nodes }
     → u ≡ record t { nodes = changed_at ix (λ n. record n { next = next }) t.nodes } → IsWritten s.nodes u.nodes ix item next
 written_tree s t u ix item next l e f =
     let nodes : t.nodes ≡ changed_at ix (λ n. record n { item = item }) s.nodes = ap (λ (a : Arena Item). a.nodes) e in
@@ -68,5 +70,6 @@ written_tree s t u ix item next l e f =
     ap (λ (a : Arena Item). a.nodes) f ∙ ap (λ (ns : List (Node Item)). changed_at ix (λ n. record n { next = next }) ns) nodes in
     rw nodes' (written_nodes s.nodes ix item next l)
 
-pub size_written : (s t : Arena Item) (ix : ℕ) (item : Item) → t ≡ record s { nodes = changed_at ix (λ n. record n { item = item }) s.nodes } → length t.nodes ≡ length s.nodes
+pub size_written : (s t : Arena Item) (ix : ℕ) (item : Item)
+    → t ≡ record s { nodes = changed_at ix (λ n. record n { item = item }) s.nodes } → length t.nodes ≡ length s.nodes
 size_written s t ix item e = ap (λ (a : Arena Item). length a.nodes) e ∙ length-changed_at ix (λ n. record n { item = item }) s.nodes

@@ -1,7 +1,8 @@
 -- From what was put for an opener to how far the chain was read: it is a Text that waits, the nearest of the left list, and
 -- the stacks hold it.
 use Rattle.markdown_base.specs.declared.item.ItemBody.TheVariants as body
-use Rattle.std.proofs.Common.{◌≡◌, ℕ, zero, suc, ◌+◌, ◌-◌, ◌<◌, ◌≤◌, Bool, true, false, ◌&&◌, List, [], ◌∷◌, ◌++◌, Option, Some, None, length, drop, get_or, refl, sym, ap, ◌∙◌, subst, append-nil, arith}
+use Rattle.std.proofs.Common.{◌≡◌, ℕ, zero, suc, ◌+◌, ◌-◌, ◌<◌, ◌≤◌, Bool, true, false, ◌&&◌, List, [], ◌∷◌, ◌++◌, Option, Some, None}
+use Rattle.std.proofs.Common.{length, drop, get_or, refl, sym, ap, ◌∙◌, subst, append-nil, arith}
 use Rattle.std.specs.Prelude.{if◌then◌else◌, is_some, slice_range}
 use Rattle.std.specs.Option.{option_map_or}
 use Rattle.std.specs.Str.{IsCharBoundary}
@@ -40,7 +41,8 @@ use Rattle.markdown_delims.proofs.PairingLemmas.{closed_shape}
 use Rattle.markdown_resolver.specs.Chains.{CanResolve, ChangesChain}
 use Rattle.markdown_resolver.specs.Kept.{IsQuiet, IsQuietBelow}
 use Rattle.markdown_resolver.specs.PutsTrees.{PutsTrees, numbered_from, numbered_label, without_numbers}
-use Rattle.markdown_resolver.specs.ReadOn.{AreHeld, EachWaits, IsOpener, PutsBehind, ReadsOn, StandsTo, all_read, at_left, left_without_numbers}
+use Rattle.markdown_resolver.specs.ReadOn.{AreHeld, EachWaits, IsOpener, PutsBehind, ReadsOn, StandsTo, all_read, at_left}
+use Rattle.markdown_resolver.specs.ReadOn.{left_without_numbers}
 use Rattle.markdown_resolver.specs.Rewritten.{Puts, settled, text_unless}
 use Rattle.markdown_resolver.proofs.BehindLemmas.{behind, puts_behind}
 use Rattle.markdown_resolver.proofs.ComposeLemmas.{Stands}
@@ -62,13 +64,21 @@ byte_at : (source : List ℕ) (start end k : ℕ) → k < end - start → get_or
 byte_at source start end k l = get_or-take (end - start) (drop start source) k 0 l ∙ get_or-drop start source k 0
 
 size_of : (source : List ℕ) (item : Item) → LiesIn source item → length (slice_range source item.start item.end) ≡ item.end - item.start
-size_of source item lies = omega (arith, length-take (item.end - item.start) (drop item.start source), length-drop item.start source, lies.end.0, lies.ordered)
+size_of source item lies = omega (
+  arith,
+  length-take (item.end - item.start) (drop item.start source),
+  length-drop item.start source,
+  lies.end.0,
+  lies.ordered,
+)
 
 -- where the last byte of one or two is `[`
-with_bracket : (source : List ℕ) (item : Item) (k : ℕ) → LiesIn source item → item.end ≡ item.start + k + 1 → k ≤ 1 → get_or (slice_range source item.start item.end) k 0 ≡ 91 → EndsWithBracket source item
+with_bracket : (source : List ℕ) (item : Item) (k : ℕ) → LiesIn source item → item.end ≡ item.start + k + 1 → k ≤ 1
+    → get_or (slice_range source item.start item.end) k 0 ≡ 91 → EndsWithBracket source item
 with_bracket source item k lies size one last =
     let byte : get_or source (item.start + k) 0 ≡ 91 = sym (byte_at source item.start item.end k (omega (arith, size))) ∙ last in
-    let before : IsCharBoundary source (item.start + k) = IsCharBoundary-before_ascii source (item.start + k) (omega (arith, lies.end.0, size)) (omega (arith, byte)) in
+    let before : IsCharBoundary source (item.start + k) = IsCharBoundary-before_ascii source (item.start + k)
+    (omega (arith, lies.end.0, size)) (omega (arith, byte)) in
     let place : item.start + k ≡ item.end - 1 = omega (arith, size) in
     record {
       opens = omega (arith, size);
@@ -84,15 +94,20 @@ with_bracket source item k lies size one last =
         let place : item.start + suc k ≡ item.start + 1 = omega (arith, one) in
         subst (λ (n : ℕ). IsCharBoundary source n) place before
 
-pub ends_with_bracket : (source : List ℕ) (item : Item) (is_image : Bool) → LiesIn source item → MarkupIsThere source item → item.body ≡ opener_body is_image → EndsWithBracket source item
+pub ends_with_bracket : (source : List ℕ) (item : Item) (is_image : Bool) → LiesIn source item → MarkupIsThere source item
+    → item.body ≡ opener_body is_image → EndsWithBracket source item
 ends_with_bracket source item true lies markup is =
-    let over : StandsOverMarkup (slice_range source item.start item.end) body.MaybeImage = subst (StandsOverMarkup (slice_range source item.start item.end)) is markup in
+    let over : StandsOverMarkup (slice_range source item.start item.end) body.MaybeImage =
+    subst (StandsOverMarkup (slice_range source item.start item.end)) is markup in
     let size : length (slice_range source item.start item.end) ≡ 2 = ap length over in
-    with_bracket source item 1 lies (omega (arith, size, size_of source item lies, lies.ordered)) (omega arith) (ap (λ (bytes : List ℕ). get_or bytes 1 0) over)
+    with_bracket source item 1 lies (omega (arith, size, size_of source item lies, lies.ordered)) (omega arith)
+    (ap (λ (bytes : List ℕ). get_or bytes 1 0) over)
 ends_with_bracket source item false lies markup is =
-    let over : StandsOverMarkup (slice_range source item.start item.end) body.MaybeLinkOpen = subst (StandsOverMarkup (slice_range source item.start item.end)) is markup in
+    let over : StandsOverMarkup (slice_range source item.start item.end) body.MaybeLinkOpen =
+    subst (StandsOverMarkup (slice_range source item.start item.end)) is markup in
     let size : length (slice_range source item.start item.end) ≡ 1 = ap length over in
-    with_bracket source item 0 lies (omega (arith, size, size_of source item lies, lies.ordered)) (omega arith) (ap (λ (bytes : List ℕ). get_or bytes 0 0) over)
+    with_bracket source item 0 lies (omega (arith, size, size_of source item lies, lies.ordered)) (omega arith)
+    (ap (λ (bytes : List ℕ). get_or bytes 0 0) over)
 
 -- one tree stands there
 record OneTree (f : Forest (Label ℕ)) (t : Plain) : Type 0 where
@@ -103,8 +118,10 @@ record OneTree (f : Forest (Label ℕ)) (t : Plain) : Type 0 where
 one_tree : (f : Forest (Label ℕ)) (t : Plain) → without_numbers f ≡ node t nil nil → OneTree f t
 one_tree nil t e = cc e
 one_tree (node b nil nil) t e = record { label = b; is = refl; reads = cc e }
-one_tree (node b (node c below after) rest) t e = let no : node (retag (λ n. tt) c) (without_numbers below) (without_numbers after) ≡ nil = cc e in cc no
-one_tree (node b nil (node c below after)) t e = let no : node (retag (λ n. tt) c) (without_numbers below) (without_numbers after) ≡ nil = cc e in cc no
+one_tree (node b (node c below after) rest) t e = let no : node (retag (λ n. tt) c) (without_numbers below) (without_numbers after)
+    ≡ nil = cc e in cc no
+one_tree (node b nil (node c below after)) t e = let no : node (retag (λ n. tt) c) (without_numbers below) (without_numbers after)
+    ≡ nil = cc e in cc no
 
 -- what is not open is no opener
 closed_opener : (shape : Shape) → is_unresolved shape ≡ false → is_opener (open_body shape) ≡ false
@@ -130,16 +147,19 @@ opener_next source tables nodes None ready = ap (λ (f : Forest Plain). is_next 
     no_trees : (source : List ℕ) (tables : Tables) (nodes : List (Node Item)) → trees_from source tables nodes None ≡ nil
     no_trees source tables nodes = rw (forest_at-none (links_of nodes)) refl
 opener_next source tables nodes (Some n) ready =
-    ap (λ (f : Forest Plain). is_next is_opener f) (opens_chain source tables nodes n ready).trees ∙ opener_shape tables (slice_range source (item_at nodes n).start (item_at nodes n).end) (item_at nodes n).body
+    ap (λ (f : Forest Plain). is_next is_opener f) (opens_chain source tables nodes n ready).trees
+    ∙ opener_shape tables (slice_range source (item_at nodes n).start (item_at nodes n).end) (item_at nodes n).body
 
 -- a stack holds an opener that is live
 held_if : (b : Bool) (ix : ℕ) (is_image : Bool) (held : List Waiting)
-    → (if b then waiting.live (record { node = ix; is_image = is_image }) ∷ held else held) ≡ held_as ix is_image (if b then live else gone) held
+    → (if b then waiting.live (record { node = ix; is_image = is_image }) ∷ held else held) ≡ held_as ix is_image (if b then live else gone)
+    held
 held_if true ix is_image held = refl
 held_if false ix is_image held = refl
 
 -- an opener is open, and waits for no pairing
-opener_settled : (source : List ℕ) (a : Plain) (below : Forest Plain) (is_image : Bool) → a.part.shape ≡ unresolved (opener_body is_image) → settled source a below ≡ node (as_text source a) nil nil
+opener_settled : (source : List ℕ) (a : Plain) (below : Forest Plain) (is_image : Bool) → a.part.shape ≡ unresolved (opener_body is_image)
+    → settled source a below ≡ node (as_text source a) nil nil
 opener_settled source a below true e = ap (λ (shape : Shape). text_unless (is_quiet shape) source a below) e
 opener_settled source a below false e = ap (λ (shape : Shape). text_unless (is_quiet shape) source a below) e
 
@@ -156,14 +176,18 @@ text_closed tables source bytes b e = by_open (is_open b) refl
     by_open false o = o
 
 -- the node of an opener after it was settled
-record IsSettledAt (source : List ℕ) (tables : Tables) (old new : List (Node Item)) (first ix : ℕ) (next : Option ℕ) (left : List (Entry ℕ)) : Type 0 where
+record IsSettledAt (source : List ℕ) (tables : Tables) (old new : List (Node Item)) (first ix : ℕ) (next : Option ℕ) (left : List (Entry ℕ))
+    : Type 0 where
   reads : retag (λ n. tt) (numbered_label source tables new ix) ≡ as_text source (label_at source tables old ix)
-  behind_is : PutsBehind source first next left (node (as_text source (label_at source tables old ix)) nil nil) (trees_from source tables old (sibling_of old ix)) old new tables tables
-  stands : numbered_from source tables new (Some first) ≡ trees_onto left (node (numbered_label source tables new ix) nil (numbered_from source tables new next))
+  behind_is : PutsBehind source first next left (node (as_text source (label_at source tables old ix)) nil nil)
+      (trees_from source tables old (sibling_of old ix)) old new tables tables
+  stands : numbered_from source tables new (Some first)
+      ≡ trees_onto left (node (numbered_label source tables new ix) nil (numbered_from source tables new next))
   childless : child_of new ix ≡ None
   within : ix < length new
 
-settled_at : (source : List ℕ) (tables : Tables) (old new : List (Node Item)) (first ix : ℕ) (next : Option ℕ) (left : List (Entry ℕ)) (is_image : Bool)
+settled_at : (source : List ℕ) (tables : Tables) (old new : List (Node Item)) (first ix : ℕ) (next : Option ℕ) (left : List (Entry ℕ))
+    (is_image : Bool)
     → StandsTo source tables old first (Some ix) left → (item_at old ix).body ≡ opener_body is_image
     → Puts source ix (settled source) None next old new tables tables → IsSettledAt source tables old new first ix next left
 settled_at source tables old new first ix next left is_image h is puts =
@@ -174,20 +198,31 @@ settled_at source tables old new first ix next left is_image h is puts =
     let t = as_text source a in
     let item = item_at old ix in
     let was_open : is_open item.body ≡ true = ap is_open is ∙ opener_open is_image in
-    let shape : a.part.shape ≡ unresolved (opener_body is_image) = shape-open tables (slice_range source item.start item.end) item.body was_open ∙ ap unresolved is in
+    let shape : a.part.shape ≡ unresolved (opener_body is_image) = shape-open tables (slice_range source item.start item.end) item.body
+    was_open ∙ ap unresolved is in
     let text : settled source a below ≡ node t nil nil = opener_settled source a below is_image shape in
     let o = opens_chain source tables old ix ready in
     let block : is_some a.part.block ≡ false = (subst (λ (f : Forest Plain). IsQuietBelow f) o.trees ready.quiet_below).0 in
     let quiet : IsQuiet (node t nil nil) = (refl, block, tt, tt) in
-    let p0 = put_trees source ix (settled source) None next old new tables tables ready puts (subst (λ (f : Forest Plain). IsQuiet f) (sym text) quiet) in
-    let p : PutsTrees source ix next (node t nil nil) rest old new tables tables = subst (λ (f : Forest Plain). PutsTrees source ix next f rest old new tables tables) text p0 in
+    let p0 = put_trees source ix (settled source) None next old new tables tables ready puts (subst (λ (f : Forest Plain). IsQuiet f)
+    (sym text) quiet) in
+    let p : PutsTrees source ix next (node t nil nil) rest old new tables tables = subst (λ (f : Forest Plain). PutsTrees source ix next f
+    rest old new tables tables) text p0 in
     let some = some_nodes source tables old first (Some ix) left h in
-    let b = behind source old new tables tables ix (trees_onto left nil) (Some first) some p.changes p.runs (stands_from source tables old first (Some ix) left h) (rest_of source tables old first (Some ix) left h).whole in
+    let b = behind source old new tables tables ix (trees_onto left nil) (Some first) some p.changes p.runs
+    (stands_from source tables old first (Some ix) left h) (rest_of source tables old first (Some ix) left h).whole in
     let one = one_tree p.standing t p.reads in
-    let s : Stands source tables new (Some ix) = record { reaches = p.changes.reaches; once = p.changes.once; named_once = p.changes.named_once } in
+    let s : Stands source tables new (Some ix) = record {
+      reaches = p.changes.reaches;
+      once = p.changes.once;
+      named_once =
+          p.changes.named_once;
+    } in
     let next_trees = numbered_from source tables new next in
-    let here : numbered_from source tables new (Some ix) ≡ node one.label nil next_trees = p.stands ∙ ap (λ (f : Forest (Label ℕ)). joined f next_trees) one.is in
-    let opened : node (numbered_label source tables new ix) (numbered_from source tables new (child_of new ix)) (numbered_from source tables new (sibling_of new ix)) ≡ node one.label nil next_trees =
+    let here : numbered_from source tables new (Some ix) ≡ node one.label nil next_trees = p.stands
+    ∙ ap (λ (f : Forest (Label ℕ)). joined f next_trees) one.is in
+    let opened : node (numbered_label source tables new ix) (numbered_from source tables new (child_of new ix))
+    (numbered_from source tables new (sibling_of new ix)) ≡ node one.label nil next_trees =
     sym (numbered_opens source tables new ix s) ∙ here in
     let label : one.label ≡ numbered_label source tables new ix = cc opened in
     let child : numbered_from source tables new (child_of new ix) ≡ nil = cc opened in
@@ -197,20 +232,25 @@ settled_at source tables old new first ix next left is_image h is puts =
       stands =
           b.trees ∙ ap (λ (f : Forest (Label ℕ)). joined (trees_onto left nil) f) (here ∙ ap (λ (c : Label ℕ). node c nil next_trees) label)
           ∙ sym (onto_split left (node (numbered_label source tables new ix) nil next_trees));
-      childless = same_link source tables new (child_of new ix) None (omega (arith, some, p.changes.more_nodes)) (child ∙ sym (numbered_none source tables new));
+      childless = same_link source tables new (child_of new ix) None (omega (arith, some, p.changes.more_nodes)) (child
+          ∙ sym (numbered_none source tables new));
       within = omega (arith, o.within, p.changes.more_nodes);
     }
 
 -- an opener was read
-pub reads_on_opener : {C : Type 0} (step : C → Question → Option Answer → C → Type 0) (s : Setting) (above : Above) (first ix : ℕ) (next : Option ℕ) (left : List (Entry ℕ)) (is_image : Bool) (old new : Stage C)
+pub reads_on_opener : {C : Type 0} (step : C → Question → Option Answer → C → Type 0) (s : Setting) (above : Above) (first ix : ℕ)
+    (next : Option ℕ) (left : List (Entry ℕ)) (is_image : Bool) (old new : Stage C)
     (spent : SpentEnds) (brackets wikilinks brackets' wikilinks' : List Waiting) → new ≡ record old { nodes = new.nodes }
-    → StandsTo s.text old.tables old.nodes first (Some ix) left → AreHeld brackets wikilinks left → (item_at old.nodes ix).body ≡ opener_body is_image
+    → StandsTo s.text old.tables old.nodes first (Some ix) left → AreHeld brackets wikilinks left
+    → (item_at old.nodes ix).body ≡ opener_body is_image
     → Puts s.text ix (settled s.text) None next old.nodes new.nodes old.tables old.tables
     → brackets' ≡ waiting.live (record { node = ix; is_image = is_image }) ∷ brackets
-    → wikilinks' ≡ (if wikilinks_on s.rules.options && option_map_or (λ n. is_opener (item_at old.nodes n).body) (sibling_of old.nodes ix) false
+    → wikilinks' ≡ (if wikilinks_on s.rules.options && option_map_or (λ n. is_opener (item_at old.nodes n).body) (sibling_of old.nodes ix)
+    false
     then waiting.live (record { node = ix; is_image = is_image }) ∷ wikilinks else wikilinks)
     → ReadsOn step s above first (Some ix) next left old new spent spent brackets' wikilinks'
-reads_on_opener {C} step s above first ix next left is_image old new spent brackets wikilinks brackets' wikilinks' same stands held is puts brackets_are wikilinks_are =
+reads_on_opener {C} step s above first ix next left is_image old new spent brackets wikilinks brackets' wikilinks' same stands held is puts
+    brackets_are wikilinks_are =
     let ready = stands_rest s.text old.tables old.nodes first (Some ix) left stands in
     let o = opens_chain s.text old.tables old.nodes ix ready in
     let item = item_at old.nodes ix in
@@ -218,7 +258,8 @@ reads_on_opener {C} step s above first ix next left is_image old new spent brack
     let below = trees_from s.text old.tables old.nodes (child_of old.nodes ix) in
     let rest = trees_from s.text old.tables old.nodes (sibling_of old.nodes ix) in
     let tables : new.tables ≡ old.tables = ap (λ (t : Stage C). t.tables) same in
-    let at : IsSettledAt s.text old.tables old.nodes new.nodes first ix next left = settled_at s.text old.tables old.nodes new.nodes first ix next left is_image stands is puts in
+    let at : IsSettledAt s.text old.tables old.nodes new.nodes first ix next left = settled_at s.text old.tables old.nodes new.nodes first
+    ix next left is_image stands is puts in
     let text = as_text s.text a in
     let b = numbered_label s.text old.tables new.nodes ix in
     let follows = wikilinks_on s.rules.options && is_next is_opener rest in
@@ -237,30 +278,47 @@ reads_on_opener {C} step s above first ix next left is_image old new spent brack
       opens = rw new_end ends.opens;
       bracket = rw new_end ends.bracket;
       mark = rw new_start ends.mark;
-      closed = text_closed old.tables (slice_range s.text (item_at new.nodes ix).start (item_at new.nodes ix).end) (slice_range s.text item.start item.end) (item_at new.nodes ix).body
+      closed = text_closed old.tables (slice_range s.text (item_at new.nodes ix).start (item_at new.nodes ix).end)
+          (slice_range s.text item.start item.end) (item_at new.nodes ix).body
           (ap (λ (c : Part). c.shape) part);
       childless = at.childless;
     } in
     let head_quiet = (rest_of s.text old.tables old.nodes first (Some ix) left stands).quiet_below in
-    let node_quiet : IsQuiet (node text nil nil) = (refl, (subst (λ (f : Forest Plain). IsQuietBelow f) o.trees ready.quiet_below).0, tt, tt) in
-    let label_quiet : IsQuiet (node b nil nil) = (ap (λ (c : Part). is_quiet c.shape) part ∙ node_quiet.0, ap (λ (c : Part). is_some c.block) part ∙ node_quiet.1, tt, tt) in
+    let node_quiet : IsQuiet (node text nil nil) = (
+      refl,
+      (subst (λ (f : Forest Plain). IsQuietBelow f) o.trees ready.quiet_below).0,
+      tt,
+      tt,
+    ) in
+    let label_quiet : IsQuiet (node b nil nil) = (
+      ap (λ (c : Part). is_quiet c.shape) part
+          ∙ node_quiet.0,
+      ap (λ (c : Part). is_some c.block) part ∙ node_quiet.1,
+      tt,
+      tt,
+    ) in
     let stands_then : StandsTo s.text old.tables new.nodes first next left_then = record {
       ready = behind_is.stands.ready;
       stands = at.stands;
-      quiet = subst (λ (f : Forest (Label ℕ)). IsQuiet f) (sym (onto_split left (node b nil nil))) (quiet_joined (trees_onto left nil) (node b nil nil) stands.quiet label_quiet);
+      quiet = subst (λ (f : Forest (Label ℕ)). IsQuiet f) (sym (onto_split left (node b nil nil)))
+          (quiet_joined (trees_onto left nil) (node b nil nil) stands.quiet label_quiet);
       waiting = (opener, waiting_then);
     } in
-    let is_next_opener = opener_next s.text old.tables old.nodes (sibling_of old.nodes ix) (ready_next s.text old.tables old.nodes ix ready) in
+    let is_next_opener = opener_next s.text old.tables old.nodes (sibling_of old.nodes ix) (ready_next s.text old.tables old.nodes ix ready)
+    in
     record {
       changes = subst (λ (t : Tables). ChangesChain s.text (Some first) old.nodes new.nodes old.tables t) (sym tables) behind_is.changes;
       left_then = left_then;
       stands = subst (λ (t : Tables). StandsTo s.text t new.nodes first next left_then) (sym tables) stands_then;
       held = record {
-        brackets_are = brackets_are ∙ ap (λ (held : List Waiting). waiting.live (record { node = ix; is_image = is_image }) ∷ held) held.brackets_are;
+        brackets_are = brackets_are ∙ ap (λ (held : List Waiting). waiting.live (record { node = ix; is_image = is_image }) ∷ held)
+            held.brackets_are;
         wikilinks_are =
             wikilinks_are
-            ∙ ap (λ (b : Bool). if wikilinks_on s.rules.options && b then waiting.live (record { node = ix; is_image = is_image }) ∷ wikilinks else wikilinks) (sym is_next_opener)
-            ∙ ap (λ (held : List Waiting). if follows then waiting.live (record { node = ix; is_image = is_image }) ∷ held else held) held.wikilinks_are
+            ∙ ap (λ (b : Bool). if wikilinks_on s.rules.options && b then waiting.live (record { node = ix; is_image = is_image })
+            ∷ wikilinks else wikilinks) (sym is_next_opener)
+            ∙ ap (λ (held : List Waiting). if follows then waiting.live (record { node = ix; is_image = is_image }) ∷ held else held)
+            held.wikilinks_are
             ∙ held_if follows ix is_image (wikilinks_of left);
       };
       answers = [];
@@ -271,19 +329,34 @@ reads_on_opener {C} step s above first ix next left is_image old new spent brack
       made = 0;
       reads = λ p later are.
           let k : known_at old later ≡ known_at new later = ap (λ (t : Stage C). known_at t later) (sym same) in
-          let left_is : waits mark text ∷ left_without_numbers left ≡ left_without_numbers left_then = ap (λ (c : Plain). waits mark c ∷ left_without_numbers left) (sym at.reads) in
-          let rest_is : rest ≡ chain_at s.text new next = sym behind_is.rest_is ∙ ap (λ (t : Tables). trees_from s.text t new.nodes next) (sym tables) in
+          let left_is : waits mark text ∷ left_without_numbers left ≡ left_without_numbers left_then =
+          ap (λ (c : Plain). waits mark c ∷ left_without_numbers left) (sym at.reads) in
+          let rest_is : rest ≡ chain_at s.text new next = sym behind_is.rest_is ∙ ap (λ (t : Tables). trees_from s.text t new.nodes next)
+          (sym tables) in
           let made : p.made ≡ p.made + 0 = omega arith in
           ap (λ (f : Forest Plain). all_read s above f (at_left left old later p)) o.trees
           ∙ reads_opener s plain_tags above is_image a below rest (at_left left old later p) refl (opener_is is_image item.body is)
-          ∙ ap (λ (f : Forest Plain). all_read s above f (record p { left = waits mark text ∷ left_without_numbers left; goes_on = None; known = known_at old later })) rest_is
-          ∙ ap (λ (l : List (Entry (Unit {0}))). all_read s above (chain_at s.text new next) (record p { left = l; goes_on = None; known = known_at old later })) left_is
-          ∙ ap (λ (known : Known). all_read s above (chain_at s.text new next) (record p { left = left_without_numbers left_then; goes_on = None; known = known })) k
-          ∙ ap (λ (asked : List Question). all_read s above (chain_at s.text new next) (at_left left_then new later (record p { asked = asked }))) (sym (append-nil p.asked))
-          ∙ ap (λ (made : ℕ). all_read s above (chain_at s.text new next) (at_left left_then new later (record p { asked = p.asked ++ []; made = made }))) made;
+          ∙ ap (λ (f : Forest Plain). all_read s above f (record p {
+            left = waits mark text ∷ left_without_numbers left;
+            goes_on =
+                None;
+            known = known_at old later;
+          })) rest_is
+          ∙ ap (λ (l : List (Entry (Unit {0}))). all_read s above (chain_at s.text new next)
+          (record p { left = l; goes_on = None; known = known_at old later })) left_is
+          ∙ ap (λ (known : Known). all_read s above (chain_at s.text new next)
+          (record p { left = left_without_numbers left_then; goes_on = None; known = known })) k
+          ∙ ap (λ (asked : List Question). all_read s above (chain_at s.text new next)
+          (at_left left_then new later (record p { asked = asked }))) (sym (append-nil p.asked))
+          ∙ ap (λ (made : ℕ). all_read s above (chain_at s.text new next)
+          (at_left left_then new later (record p { asked = p.asked ++ []; made = made }))) made;
     }
   where
-    opener_is : (is_image : Bool) (b : ItemBody) → b ≡ opener_body is_image → open_body (shape_of old.tables (slice_range s.text (item_at old.nodes ix).start (item_at old.nodes ix).end) b) ≡ opener_body is_image
+    opener_is : (is_image : Bool) (b : ItemBody) → b ≡ opener_body is_image
+        → open_body (shape_of old.tables (slice_range s.text (item_at old.nodes ix).start (item_at old.nodes ix).end) b)
+        ≡ opener_body is_image
     opener_is is_image b e =
-        ap (λ (b : ItemBody). open_body (shape_of old.tables (slice_range s.text (item_at old.nodes ix).start (item_at old.nodes ix).end) b)) e
-        ∙ ap open_body (shape-open old.tables (slice_range s.text (item_at old.nodes ix).start (item_at old.nodes ix).end) (opener_body is_image) (opener_open is_image))
+        ap (λ (b : ItemBody). open_body (shape_of old.tables (slice_range s.text (item_at old.nodes ix).start (item_at old.nodes ix).end)
+        b)) e
+        ∙ ap open_body (shape-open old.tables (slice_range s.text (item_at old.nodes ix).start (item_at old.nodes ix).end)
+        (opener_body is_image) (opener_open is_image))

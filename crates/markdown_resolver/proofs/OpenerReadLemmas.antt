@@ -41,14 +41,16 @@ opener_same a b e = cc e
 pub opener_kind : (is_image : Bool) (b : ItemBody) → kind_of b ≡ Some (Opener is_image) → b ≡ opener_body is_image
 opener_kind is_image body.MaybeLinkOpen e = let same : false ≡ is_image = opener_same false is_image e in rw (← same) refl
 opener_kind is_image body.MaybeImage e = let same : true ≡ is_image = opener_same true is_image e in rw (← same) refl
-opener_kind is_image (body.MaybeLinkClose could_be) e = let no : ◌≡◌ {A = Option BracketKind} (Some (Closer could_be)) (Some (Opener is_image)) = e in cc no
+opener_kind is_image (body.MaybeLinkClose could_be) e = let no : ◌≡◌ {A = Option BracketKind} (Some (Closer could_be))
+    (Some (Opener is_image)) = e in cc no
 opener_kind is_image other e = let no : ◌≡◌ {A = Option BracketKind} None (Some (Opener is_image)) = e in cc no
 
 closer_same : (a b : Bool) → ◌≡◌ {A = Option BracketKind} (Some (Closer a)) (Some (Closer b)) → a ≡ b
 closer_same a b e = cc e
 
 pub closer_kind : (could_be : Bool) (b : ItemBody) → kind_of b ≡ Some (Closer could_be) → b ≡ body.MaybeLinkClose could_be
-closer_kind could_be body.MaybeLinkOpen e = let no : ◌≡◌ {A = Option BracketKind} (Some (Opener false)) (Some (Closer could_be)) = e in cc no
+closer_kind could_be body.MaybeLinkOpen e = let no : ◌≡◌ {A = Option BracketKind} (Some (Opener false)) (Some (Closer could_be)) = e
+    in cc no
 closer_kind could_be body.MaybeImage e = let no : ◌≡◌ {A = Option BracketKind} (Some (Opener true)) (Some (Closer could_be)) = e in cc no
 closer_kind could_be (body.MaybeLinkClose x) e = let same : x ≡ could_be = closer_same x could_be e in rw same refl
 closer_kind could_be other e = let no : ◌≡◌ {A = Option BracketKind} None (Some (Closer could_be)) = e in cc no
@@ -64,38 +66,50 @@ pub if_err : {X E : Type 0} {P : Type 0} (r : Result X E) → P → IfErr r (λ 
 if_err (Ok x) p = tt
 if_err (Err fault) p = p
 
-pub ready_here : {place : ChainPlace} {tree : Arena Item} {held : Allocated} {brackets wikilinks : List Waiting} {first ix : ℕ} {left : List (Entry ℕ)}
+pub ready_here : {place : ChainPlace} {tree : Arena Item} {held : Allocated} {brackets wikilinks : List Waiting} {first ix : ℕ}
+    {left : List (Entry ℕ)}
     → CanReadOn place tree held brackets wikilinks first ix left → CanResolve place.text.now (tables_of held) tree.nodes (Some ix)
-ready_here {place} {tree} {held} {brackets} {wikilinks} {first} {ix} {left} can = stands_rest place.text.now (tables_of held) tree.nodes first (Some ix) left can.so_far
+ready_here {place} {tree} {held} {brackets} {wikilinks} {first} {ix} {left} can = stands_rest place.text.now (tables_of held) tree.nodes
+    first (Some ix) left can.so_far
 
 -- what was put for an opener, whatever the text and its tables are
 abbrev pub IsOpened : Arena Item → Arena Item → ℕ → Option ℕ → Type 0
-IsOpened old new ix next = (source : List ℕ) (tables : Tables) → CanResolve source tables old.nodes (Some ix) → Puts source ix (settled source) None next old.nodes new.nodes tables tables
+IsOpened old new ix next = (source : List ℕ) (tables : Tables) → CanResolve source tables old.nodes (Some ix)
+    → Puts source ix (settled source) None next old.nodes new.nodes tables tables
 
 module _ {E : Type 0} (place : ChainPlace) (old new : Arena Item) (held : Allocated) (ix : ℕ) where
-  pub ok_fewer : (r : Result (Option ℕ) E) → CanResolve place.text.now (tables_of held) old.nodes (Some ix) → IfOk r (λ next. IsOpened old new ix next)
+  pub ok_fewer : (r : Result (Option ℕ) E) → CanResolve place.text.now (tables_of held) old.nodes (Some ix)
+      → IfOk r (λ next. IsOpened old new ix next)
       → IfOk r (λ next. items_from new.nodes next < items_from old.nodes (Some ix))
   ok_fewer (Ok next) ready puts = (puts place.text.now (tables_of held) ready).leaves.fewer
   ok_fewer (Err fault) ready puts = tt
 
-  pub ok_holds : (r : Result (Option ℕ) E) → CanResolve place.text.now (tables_of held) old.nodes (Some ix) → IfOk r (λ next. IsOpened old new ix next)
-      → IfOk r (λ next. (kind : SpanKind) (learned : Learned) → HoldsFrom kind learned old.nodes (sibling_of old.nodes ix) → HoldsFrom kind learned new.nodes next)
+  pub ok_holds : (r : Result (Option ℕ) E) → CanResolve place.text.now (tables_of held) old.nodes (Some ix)
+      → IfOk r (λ next. IsOpened old new ix next)
+      → IfOk r (λ next. (kind : SpanKind) (learned : Learned) → HoldsFrom kind learned old.nodes (sibling_of old.nodes ix)
+      → HoldsFrom kind learned new.nodes next)
   ok_holds (Ok next) ready puts = λ kind learned h.
-      holds_put kind learned place.text.now ix (settled place.text.now) None next old.nodes new.nodes (tables_of held) (tables_of held) ready (puts place.text.now (tables_of held) ready) h
+      holds_put kind learned place.text.now ix (settled place.text.now) None next old.nodes new.nodes (tables_of held) (tables_of held)
+      ready (puts place.text.now (tables_of held) ready) h
   ok_holds (Err fault) ready puts = tt
 
-  module _ {C : Type 0} (step : C → Question → Option Answer → C → Type 0) (source : List ℕ) (rules : Rules) (limit : ℕ) (callback : Option C) (spent : SpentEnds) (is_image : Bool)
-      (brackets wikilinks brackets' wikilinks' : List Waiting) (same : place.text.now ≡ source) (kind : kind_of (item_at old.nodes ix).body ≡ Some (Opener is_image)) where
+  module _ {C : Type 0} (step : C → Question → Option Answer → C → Type 0) (source : List ℕ) (rules : Rules) (limit : ℕ)
+      (callback : Option C) (spent : SpentEnds) (is_image : Bool)
+      (brackets wikilinks brackets' wikilinks' : List Waiting) (same : place.text.now ≡ source) (kind : kind_of (item_at old.nodes ix).body
+      ≡ Some (Opener is_image)) where
     pub ok_reads : (r : Result (Option ℕ) E) → IfOk r (λ next. IsOpened old new ix next)
         → OnOk r (brackets' ≡ waiting.live (record { node = ix; is_image = is_image }) ∷ brackets)
-        → OnOk r (wikilinks' ≡ (if wikilinks_on rules.options && option_map_or (λ n. is_opener (item_at old.nodes n).body) (sibling_of old.nodes ix) false
+        → OnOk r (wikilinks' ≡ (if wikilinks_on rules.options && option_map_or (λ n. is_opener (item_at old.nodes n).body)
+        (sibling_of old.nodes ix) false
         then waiting.live (record { node = ix; is_image = is_image }) ∷ wikilinks else wikilinks))
         → IfOk r (λ next. (first : ℕ) (left : List (Entry ℕ)) → CanReadOn place old held brackets wikilinks first ix left
-        → ReadsOn step (setting_of source rules) (above_cursor source old) first (Some ix) next left (stage old held limit callback) (stage new held limit callback) spent spent brackets' wikilinks')
+        → ReadsOn step (setting_of source rules) (above_cursor source old) first (Some ix) next left (stage old held limit callback)
+        (stage new held limit callback) spent spent brackets' wikilinks')
     ok_reads (Ok next) puts brackets_are wikilinks_are = λ first left can.
         let so_far : StandsTo source (tables_of held) old.nodes first (Some ix) left = rw (← same) can.so_far in
         let ready = stands_rest source (tables_of held) old.nodes first (Some ix) left so_far in
-        reads_on_opener step (setting_of source rules) (above_cursor source old) first ix next left is_image (stage old held limit callback) (stage new held limit callback) spent
+        reads_on_opener step (setting_of source rules) (above_cursor source old) first ix next left is_image (stage old held limit callback)
+        (stage new held limit callback) spent
         brackets wikilinks brackets' wikilinks' refl so_far can.openers (opener_kind is_image (item_at old.nodes ix).body kind)
         (puts source (tables_of held) ready) brackets_are wikilinks_are
     ok_reads (Err fault) puts brackets_are wikilinks_are = tt

@@ -1,5 +1,6 @@
 -- A chain that pass one has read may be paired where it stands, and then it is resolved.
-use Rattle.std.proofs.Common.{◌≡◌, ℕ, suc, ◌≤◌, Bool, true, false, List, [], ◌++◌, Option, Some, None, refl, sym, ap, ◌∙◌, subst, arith, append-nil}
+use Rattle.std.proofs.Common.{◌≡◌, ℕ, suc, ◌≤◌, Bool, true, false, List, [], ◌++◌, Option, Some, None, refl, sym, ap, ◌∙◌, subst, arith}
+use Rattle.std.proofs.Common.{append-nil}
 use Rattle.std.specs.Prelude.{IfSome, is_some, if◌then◌else◌, slice_range}
 use Rattle.std.specs.Option.{option_map}
 use Rattle.markdown_base.specs.Arena.{child_of, sibling_of}
@@ -14,7 +15,8 @@ use Rattle.markdown_base.specs.declared.item.ItemBody.{ItemBody}
 use Rattle.markdown_base.specs.declared.item.ItemBody.TheVariants as body
 use Rattle.markdown_base.specs.declared.node.Node.{Node}
 use Rattle.markdown_chains.specs.Above.{Above}
-use Rattle.markdown_chains.specs.Document.{plain_tags, Plain, Shape, leaf, enclosed, plain, backslash_break, unresolved, is_unresolved, shape_of, block_of}
+use Rattle.markdown_chains.specs.Document.{plain_tags, Plain, Shape, leaf, enclosed, plain, backslash_break, unresolved, is_unresolved}
+use Rattle.markdown_chains.specs.Document.{shape_of, block_of}
 use Rattle.markdown_chains.specs.ItemRules.{StandsBefore}
 use Rattle.markdown_chains.specs.Labels.{counts_delimiter, counts_shape, delimiters_in}
 use Rattle.markdown_chains.specs.Places.{IsPlaced, label_at, trees_from}
@@ -44,39 +46,50 @@ no_block b h = by_block (is_block b) h
     by_block true h = cc h
     by_block false h = refl
 
-blocks_none : (source : List ℕ) (tables : Tables) (nodes : List (Node Item)) (f : Forest ℕ) → IsQuiet (relabelled (label_at source tables nodes) f) → HasNoBlock (relabelled (numbered nodes) f)
+blocks_none : (source : List ℕ) (tables : Tables) (nodes : List (Node Item)) (f : Forest ℕ)
+    → IsQuiet (relabelled (label_at source tables nodes) f) → HasNoBlock (relabelled (numbered nodes) f)
 blocks_none source tables nodes nil q = tt
 blocks_none source tables nodes (node ix below after) q = (no_block (item_at nodes ix).body q.1, blocks_none source tables nodes after q.3)
 
-waits_open : (tables : Tables) (source : List ℕ) (b : ItemBody) → is_quiet (shape_of tables source b) ≡ true → is_open b ≡ true → waits_for_pairing b ≡ true
+waits_open : (tables : Tables) (source : List ℕ) (b : ItemBody) → is_quiet (shape_of tables source b) ≡ true → is_open b ≡ true
+    → waits_for_pairing b ≡ true
 waits_open tables source b q e = rw (shape-open tables source b e) at q
 
-all_wait : (source : List ℕ) (tables : Tables) (nodes : List (Node Item)) (f : Forest ℕ) → IsQuiet (relabelled (label_at source tables nodes) f) → WaitsForPairing (relabelled (numbered nodes) f)
+all_wait : (source : List ℕ) (tables : Tables) (nodes : List (Node Item)) (f : Forest ℕ)
+    → IsQuiet (relabelled (label_at source tables nodes) f) → WaitsForPairing (relabelled (numbered nodes) f)
 all_wait source tables nodes nil q = tt
-all_wait source tables nodes (node ix below after) q =
-    (waits_open tables (slice_range source (item_at nodes ix).start (item_at nodes ix).end) (item_at nodes ix).body q.0, all_wait source tables nodes after q.3)
+all_wait source tables nodes (node ix below after) q = (
+  waits_open tables (slice_range source (item_at nodes ix).start (item_at nodes ix).end) (item_at nodes ix).body q.0,
+  all_wait source
+      tables nodes after q.3,
+)
 
 -- the item that a link leads to is the first of its forest
-first_is : (nodes : List (Node Item)) (l : Option ℕ) (f : Forest ℕ) → Spells (links_of nodes) l f → option_map (numbered nodes) l ≡ first_root (relabelled (numbered nodes) f)
+first_is : (nodes : List (Node Item)) (l : Option ℕ) (f : Forest ℕ) → Spells (links_of nodes) l f
+    → option_map (numbered nodes) l ≡ first_root (relabelled (numbered nodes) f)
 first_is nodes l nil s = rw s refl
 first_is nodes l (node ix below after) s = rw s.0 refl
 
-nothing_below : (nodes : List (Node Item)) (l : Option ℕ) (f : Forest ℕ) → Spells (links_of nodes) l f → l ≡ None → relabelled (numbered nodes) f ≡ nil
+nothing_below : (nodes : List (Node Item)) (l : Option ℕ) (f : Forest ℕ) → Spells (links_of nodes) l f → l ≡ None
+    → relabelled (numbered nodes) f ≡ nil
 nothing_below nodes l nil s e = refl
 nothing_below nodes l (node ix below after) s e = cc (s.0, e)
 
 -- the numbers of a chain rise, since each item stands before the next one
-rises_next : (nodes : List (Node Item)) (ix : ℕ) (l : Option ℕ) (f : Forest ℕ) → Spells (links_of nodes) l f → is_block (item_at nodes ix).body ≡ false → HasNoBlock (relabelled (numbered nodes) f)
+rises_next : (nodes : List (Node Item)) (ix : ℕ) (l : Option ℕ) (f : Forest ℕ) → Spells (links_of nodes) l f
+    → is_block (item_at nodes ix).body ≡ false → HasNoBlock (relabelled (numbered nodes) f)
     → StandsBefore (numbered nodes ix) (option_map (numbered nodes) l) → IfSome l (λ n. suc ix ≤ n)
 rises_next nodes ix l nil s b h stands = rw s tt
 rises_next nodes ix l (node j below after) s b h stands = rw s.0 (let p = (rw s.0 at stands) b h.0 in omega (arith, p.numbers))
 
-rises : (source : List ℕ) (tables : Tables) (nodes : List (Node Item)) (lo : ℕ) (l : Option ℕ) (f : Forest ℕ) → Spells (links_of nodes) l f → Each (IsPlaced source tables nodes) f → HasNoBlock (relabelled (numbered nodes) f)
+rises : (source : List ℕ) (tables : Tables) (nodes : List (Node Item)) (lo : ℕ) (l : Option ℕ) (f : Forest ℕ) → Spells (links_of nodes) l f
+    → Each (IsPlaced source tables nodes) f → HasNoBlock (relabelled (numbered nodes) f)
     → IfSome l (λ n. lo ≤ n) → RisesFrom lo (roots f)
 rises source tables nodes lo l nil s p h from = tt
 rises source tables nodes lo l (node ix below after) s p h from = (
   rw s.0 at from,
-  rises source tables nodes (suc ix) (sibling_of nodes ix) after s.3 p.2 h.1 (rises_next nodes ix (sibling_of nodes ix) after s.3 h.0 h.1 p.0.keeps.in_order),
+  rises source tables nodes (suc ix) (sibling_of nodes ix) after s.3 p.2 h.1 (rises_next nodes ix (sibling_of nodes ix) after s.3 h.0 h.1
+      p.0.keeps.in_order),
 )
 
 -- its runs are whole
@@ -84,30 +97,35 @@ run_open : (b : ItemBody) (c : RunCharacter) → run_character b ≡ Some c → 
 run_open (body.MaybeEmphasis n opens closes) c h = refl
 run_open other c h = cc
 
-whole_if : (source : List ℕ) (a : Numbered) (below after : Forest Numbered) (next : Option Numbered) (o : Option RunCharacter) → next ≡ first_root after → IfSome o (StandsInRun source a next)
+whole_if : (source : List ℕ) (a : Numbered) (below after : Forest Numbered) (next : Option Numbered) (o : Option RunCharacter)
+    → next ≡ first_root after → IfSome o (StandsInRun source a next)
     → ((c : RunCharacter) → o ≡ Some c → below ≡ nil) → IfSome o (StandsWhole source a below after)
 whole_if source a below after next None e h none = tt
 whole_if source a below after next (Some c) e h none = record { stands = rw (← e) h; childless = none c refl }
 
-all_whole : (source : List ℕ) (tables : Tables) (nodes : List (Node Item)) (l : Option ℕ) (f : Forest ℕ) → Spells (links_of nodes) l f → Each (IsPlaced source tables nodes) f → IsWhole source (relabelled (numbered nodes) f)
+all_whole : (source : List ℕ) (tables : Tables) (nodes : List (Node Item)) (l : Option ℕ) (f : Forest ℕ) → Spells (links_of nodes) l f
+    → Each (IsPlaced source tables nodes) f → IsWhole source (relabelled (numbered nodes) f)
 all_whole source tables nodes l nil s p = tt
 all_whole source tables nodes l (node ix below after) s p =
     let keeps = p.0.keeps in (
-      whole_if source (numbered nodes ix) (relabelled (numbered nodes) below) (relabelled (numbered nodes) after) (option_map (numbered nodes) (sibling_of nodes ix)) (run_character (item_at nodes ix).body)
+      whole_if source (numbered nodes ix) (relabelled (numbered nodes) below) (relabelled (numbered nodes) after)
+          (option_map (numbered nodes) (sibling_of nodes ix)) (run_character (item_at nodes ix).body)
           (first_is nodes (sibling_of nodes ix) after s.3) keeps.runs_are_whole
           (λ c e. nothing_below nodes (child_of nodes ix) below s.2 (keeps.childless (run_open (item_at nodes ix).body c e))),
       all_whole source tables nodes (sibling_of nodes ix) after s.3 p.2,
     )
 
 -- what pass one leaves of a chain is quiet
-pub read_quiet : {C : Type 0} (step : C → Question → Option Answer → C → Type 0) (s : Setting) (above : Above) (first : ℕ) (old mid : Stage C) → IsQuietBelow (chain_at s.text old (Some first))
+pub read_quiet : {C : Type 0} (step : C → Question → Option Answer → C → Type 0) (s : Setting) (above : Above) (first : ℕ)
+    (old mid : Stage C) → IsQuietBelow (chain_at s.text old (Some first))
     → ResolvesFrom step s.text (pass_one s plain_tags above) (Some first) old mid → IsQuiet (chain_at s.text mid (Some first))
 read_quiet step s above first old mid quiet r =
     subst IsQuiet (ap (λ (o : Outcome (Unit {0})). o.forest) (r.resolves []))
     (pass_one-quiet s plain_tags above (chain_at s.text old (Some first)) (known_at old (r.answers ++ [])) quiet)
 
 -- so it may be paired
-pub read_can_pair : {C : Type 0} (step : C → Question → Option Answer → C → Type 0) (s : Setting) (above : Above) (first : ℕ) (old mid : Stage C) → IsQuietBelow (chain_at s.text old (Some first))
+pub read_can_pair : {C : Type 0} (step : C → Question → Option Answer → C → Type 0) (s : Setting) (above : Above) (first : ℕ)
+    (old mid : Stage C) → IsQuietBelow (chain_at s.text old (Some first))
     → ResolvesFrom step s.text (pass_one s plain_tags above) (Some first) old mid → CanPair s.text mid.nodes first
 read_can_pair step s above first old mid quiet r =
     let f = forest_at (links_of mid.nodes) (Some first) in
@@ -115,13 +133,15 @@ read_can_pair step s above first old mid quiet r =
     record {
       spelled = r.changes.reaches.spelled;
       once = r.changes.once;
-      rising = rises s.text mid.tables mid.nodes 0 (Some first) f r.changes.reaches.spelled r.changes.reaches.each (blocks_none s.text mid.tables mid.nodes f q) (omega arith);
+      rising = rises s.text mid.tables mid.nodes 0 (Some first) f r.changes.reaches.spelled r.changes.reaches.each
+          (blocks_none s.text mid.tables mid.nodes f q) (omega arith);
       whole = all_whole s.text mid.tables mid.nodes (Some first) f r.changes.reaches.spelled r.changes.reaches.each;
       waits = all_wait s.text mid.tables mid.nodes f q;
     }
 
 -- what was changed by reading, and then by pairing, was changed
-pub pair_changes : {C : Type 0} (step : C → Question → Option Answer → C → Type 0) (s : Setting) (above : Above) (first : ℕ) (old mid : Stage C) (nodes : List (Node Item)) → IsQuietBelow (chain_at s.text old (Some first))
+pub pair_changes : {C : Type 0} (step : C → Question → Option Answer → C → Type 0) (s : Setting) (above : Above) (first : ℕ)
+    (old mid : Stage C) (nodes : List (Node Item)) → IsQuietBelow (chain_at s.text old (Some first))
     → ResolvesFrom step s.text (pass_one s plain_tags above) (Some first) old mid → PairsChain s first mid.nodes nodes
     → ChangesChain s.text (Some first) old.nodes nodes old.tables mid.tables
 pair_changes step s above first old mid nodes quiet r p =
@@ -142,18 +162,22 @@ pair_changes step s above first old mid nodes quiet r p =
     }
 
 -- a chain that was read and then paired is resolved
-pub pair_resolves : {C : Type 0} (step : C → Question → Option Answer → C → Type 0) (s : Setting) (above : Above) (first : ℕ) (old mid : Stage C) (nodes : List (Node Item))
+pub pair_resolves : {C : Type 0} (step : C → Question → Option Answer → C → Type 0) (s : Setting) (above : Above) (first : ℕ)
+    (old mid : Stage C) (nodes : List (Node Item))
     → (r : ResolvesFrom step s.text (pass_one s plain_tags above) (Some first) old mid) → PairsChain s first mid.nodes nodes
     → (later : Answers) → resolved s plain_tags above (chain_at s.text old (Some first)) (known_at old (r.answers ++ later))
     ≡ record { questions = r.questions; forest = trees_from s.text mid.tables nodes (Some first); known = known_at mid later }
 unfolding resolved
 pair_resolves step s above first old mid nodes r p later =
     ap (then_paired s) (r.resolves later)
-    ∙ ap (λ (g : Forest Plain). let o : Outcome (Unit {0}) = record { questions = r.questions; forest = g; known = known_at mid later } in o) (sym (p.pairs mid.tables))
+    ∙ ap (λ (g : Forest Plain). let o : Outcome (Unit {0}) = record { questions = r.questions; forest = g; known = known_at mid later }
+    in o) (sym (p.pairs mid.tables))
 
-abbrev pub then_pairs : {C : Type 0} (step : C → Question → Option Answer → C → Type 0) (s : Setting) (above : Above) (first : ℕ) (old mid : Stage C) (nodes : List (Node Item)) → IsQuietBelow (chain_at s.text old (Some first))
+abbrev pub then_pairs : {C : Type 0} (step : C → Question → Option Answer → C → Type 0) (s : Setting) (above : Above) (first : ℕ)
+    (old mid : Stage C) (nodes : List (Node Item)) → IsQuietBelow (chain_at s.text old (Some first))
     → ResolvesFrom step s.text (pass_one s plain_tags above) (Some first) old mid → PairsChain s first mid.nodes nodes
-    → ResolvesFrom step s.text (resolved s plain_tags above) (Some first) old (record { nodes = nodes; tables = mid.tables; limit = mid.limit; uses = mid.uses; callback = mid.callback })
+    → ResolvesFrom step s.text (resolved s plain_tags above) (Some first) old
+    (record { nodes = nodes; tables = mid.tables; limit = mid.limit; uses = mid.uses; callback = mid.callback })
 then_pairs step s above first old mid nodes quiet r p = record {
   changes = pair_changes step s above first old mid nodes quiet r p;
   answers = r.answers;
@@ -163,7 +187,8 @@ then_pairs step s above first old mid nodes quiet r p = record {
 }
 
 -- where memory is refused to pass one, the questions asked are the first of the chain
-pub stops_resolving : {C : Type 0} (step : C → Question → Option Answer → C → Type 0) (s : Setting) (above : Above) (first : ℕ) (old : Stage C) (callback : Option C)
+pub stops_resolving : {C : Type 0} (step : C → Question → Option Answer → C → Type 0) (s : Setting) (above : Above) (first : ℕ)
+    (old : Stage C) (callback : Option C)
     → StopsInPassOne step s above first old callback → StopsIn step s above first old callback
 unfolding resolved
 stops_resolving step s above first old callback p =
@@ -203,15 +228,22 @@ counts_open tables source b = by_open (is_open b) refl
     by_open true e = rw (shape-open tables source b e) (same_count b)
     by_open false e = closed_none b e ∙ sym (shape_none (shape_of tables source b) (closed_shape tables source b e))
 
-delimiters_seen : (source : List ℕ) (tables : Tables) (nodes : List (Node Item)) (f : Forest ℕ) → delimiters_of (relabelled (numbered nodes) f) ≡ delimiters_in (relabelled (label_at source tables nodes) f)
+delimiters_seen : (source : List ℕ) (tables : Tables) (nodes : List (Node Item)) (f : Forest ℕ)
+    → delimiters_of (relabelled (numbered nodes) f) ≡ delimiters_in (relabelled (label_at source tables nodes) f)
 delimiters_seen source tables nodes nil = refl
 delimiters_seen source tables nodes (node ix below after) =
-    rw (counts_open tables (slice_range source (item_at nodes ix).start (item_at nodes ix).end) (item_at nodes ix).body, delimiters_seen source tables nodes after) refl
+    rw (
+      counts_open tables (slice_range source (item_at nodes ix).start (item_at nodes ix).end) (item_at nodes ix).body,
+      delimiters_seen
+          source tables nodes after,
+    ) refl
 
 -- and of those of a chain are counted that pass one leaves
-pub delimiters_left : {C : Type 0} (step : C → Question → Option Answer → C → Type 0) (s : Setting) (above : Above) (first : ℕ) (old mid : Stage C)
+pub delimiters_left : {C : Type 0} (step : C → Question → Option Answer → C → Type 0) (s : Setting) (above : Above) (first : ℕ)
+    (old mid : Stage C)
     → (r : ResolvesFrom step s.text (pass_one s plain_tags above) (Some first) old mid) → (later : Answers)
-    → delimiters_of (trees_at mid.nodes (Some first)) ≡ (chain_counts s plain_tags above (chain_at s.text old (Some first)) (known_at old (r.answers ++ later))).delimiters
+    → delimiters_of (trees_at mid.nodes (Some first))
+    ≡ (chain_counts s plain_tags above (chain_at s.text old (Some first)) (known_at old (r.answers ++ later))).delimiters
 delimiters_left step s above first old mid r later =
     delimiters_seen s.text mid.tables mid.nodes (forest_at (links_of mid.nodes) (Some first))
     ∙ ap (λ (o : Outcome (Unit {0})). delimiters_in o.forest) (sym (r.resolves later))

@@ -1,7 +1,8 @@
 -- What pass one makes of a chain: it is read from its first tree on, and past a find what is left is read. A quiet chain
 -- stays, what is left of any is no heavier, it begins with what its first open item became, later answers are handed on,
 -- and tags say nothing: each by the law of brackets, where the rule for what is no bracket keeps that law.
-use Rattle.std.proofs.Common.{◌≡◌, ℕ, ◌+◌, ◌≤◌, Bool, true, false, not, List, [], ◌∷◌, Option, Some, None, refl, sym, ap, ◌∙◌, subst, nat_le, arith}
+use Rattle.std.proofs.Common.{◌≡◌, ℕ, ◌+◌, ◌≤◌, Bool, true, false, not, List, [], ◌∷◌, Option, Some, None, refl, sym, ap, ◌∙◌, subst}
+use Rattle.std.proofs.Common.{nat_le, arith}
 use Rattle.std.specs.Prelude.{if◌then◌else◌}
 use Rattle.markdown_base.specs.Forest.{Forest, nil, node}
 use Rattle.markdown_base.specs.declared.item.ItemBody.{ItemBody}
@@ -22,7 +23,8 @@ use Rattle.markdown_brackets.proofs.ChainBeginsLemmas.{begins_law, begins_onto}
 use Rattle.markdown_brackets.proofs.QuietItemsLemmas.{all_done_trees, quiet_items_law}
 use Rattle.markdown_chains.specs.Above.{Above}
 use Rattle.markdown_chains.specs.ChainRest.{begun_at, end_of, open_body, past, past_byte}
-use Rattle.markdown_chains.specs.Document.{Tags, Shape, leaf, enclosed, plain, backslash_break, unresolved, Label, Plain, plain_tags, is_unresolved}
+use Rattle.markdown_chains.specs.Document.{Tags, Shape, leaf, enclosed, plain, backslash_break, unresolved, Label, Plain, plain_tags}
+use Rattle.markdown_chains.specs.Document.{is_unresolved}
 use Rattle.markdown_chains.specs.Labels.{Begins, GivesFirst, is_plain, weight, retagged}
 use Rattle.markdown_chains.specs.Setting.{Setting, Known}
 use Rattle.markdown_chains.specs.Waiting.{is_quiet, waits_for_pairing}
@@ -71,7 +73,8 @@ quiet_no_bracket backslash_break h = refl
 quiet_no_bracket (unresolved b) h = waits_no_bracket b h
 
 -- it is read by the rule for what is no bracket
-pub read_elsewhere : {A : Type 0} (w : Around) (others : Reader A) (b : ItemBody) (a : Label A) (below rest : Forest (Label A)) (p : Progress A) → NoBracket b
+pub read_elsewhere : {A : Type 0} (w : Around) (others : Reader A) (b : ItemBody) (a : Label A) (below rest : Forest (Label A))
+    (p : Progress A) → NoBracket b
     → read_as w others b a below rest p ≡ others a below rest p
 read_elsewhere w others body.MaybeLinkOpen a below rest p h = cc h
 read_elsewhere w others body.MaybeImage a below rest p h = cc h
@@ -91,7 +94,8 @@ module _ {A : Type 0} (s : Setting) (tags : Tags A) (above : Above) where
 
   past_if : (ends : Bool) (i : ℕ) (a : Label A) (below rest : Forest (Label A)) (p : Progress A)
       → whole_read rest (record p { goes_on = Some i }) ≡ whole_read (past_byte i rest) (record p { goes_on = None })
-      → whole_read rest (read_if ends i a below rest p) ≡ whole_read (if ends then past_byte i rest else node (begun_at i a) below rest) (record p { goes_on = None })
+      → whole_read rest (read_if ends i a below rest p) ≡ whole_read (if ends then past_byte i rest else node (begun_at i a) below rest)
+      (record p { goes_on = None })
   unfolding read_chain
   past_if true i a below rest p e = e
   past_if false i a below rest p e = refl
@@ -110,37 +114,50 @@ module _ {A : Type 0} (s : Setting) (tags : Tags A) (above : Above) where
 
   -- where no find goes on, the first tree is read as it is
   reads_first : (a : Label A) (below rest : Forest (Label A)) (p : Progress A) → p.goes_on ≡ None
-      → read_on s tags above (node a below rest) p ≡ read_on s tags above rest (read (around s above) (read_other s tags above) a below rest p)
+      → read_on s tags above (node a below rest) p ≡ read_on s tags above rest (read (around s above) (read_other s tags above) a below rest
+      p)
   unfolding read_chain
-  reads_first a below rest p none = ap (λ goes_on. read_on s tags above rest (read_past (around s above) (read_other s tags above) goes_on a below rest p)) none
+  reads_first a below rest p none = ap (λ goes_on. read_on s tags above rest (read_past (around s above) (read_other s tags above) goes_on a
+      below rest p)) none
 
   reads_as : (b : ItemBody) (a : Label A) (below rest : Forest (Label A)) (p : Progress A) → p.goes_on ≡ None → open_body a.part.shape ≡ b
-      → read_on s tags above (node a below rest) p ≡ read_on s tags above rest (read_as (around s above) (read_other s tags above) b a below rest p)
+      → read_on s tags above (node a below rest) p ≡ read_on s tags above rest (read_as (around s above) (read_other s tags above) b a below
+      rest p)
   reads_as b a below rest p none e =
-      reads_first a below rest p none ∙ ap (λ b. read_on s tags above rest (read_as (around s above) (read_other s tags above) b a below rest p)) e
+      reads_first a below rest p none ∙ ap (λ b. read_on s tags above rest (read_as (around s above) (read_other s tags above) b a below
+      rest p)) e
 
   -- an opener is put into the left list
-  pub reads_opener : (is_image : Bool) (a : Label A) (below rest : Forest (Label A)) (p : Progress A) → p.goes_on ≡ None → open_body a.part.shape ≡ opener_body is_image
+  pub reads_opener : (is_image : Bool) (a : Label A) (below rest : Forest (Label A)) (p : Progress A) → p.goes_on ≡ None
+      → open_body a.part.shape ≡ opener_body is_image
       → whole_read (node a below rest) p ≡ whole_read rest (opened (around s above) is_image a rest p)
-  reads_opener true a below rest p none e = ap (λ (q : Progress A). record q { goes_on = None }) (reads_as body.MaybeImage a below rest p none e)
-  reads_opener false a below rest p none e = ap (λ (q : Progress A). record q { goes_on = None }) (reads_as body.MaybeLinkOpen a below rest p none e)
+  reads_opener true a below rest p none e = ap (λ (q : Progress A). record q { goes_on = None }) (reads_as body.MaybeImage a below rest p
+      none e)
+  reads_opener false a below rest p none e = ap (λ (q : Progress A). record q { goes_on = None }) (reads_as body.MaybeLinkOpen a below rest
+      p none e)
 
   -- a `]` is closed, and the chain goes on where what it became ends
-  pub reads_closer : (could_be : Bool) (a : Label A) (below rest : Forest (Label A)) (p : Progress A) → p.goes_on ≡ None → open_body a.part.shape ≡ body.MaybeLinkClose could_be
+  pub reads_closer : (could_be : Bool) (a : Label A) (below rest : Forest (Label A)) (p : Progress A) → p.goes_on ≡ None
+      → open_body a.part.shape ≡ body.MaybeLinkClose could_be
       → whole_read (node a below rest) p
-      ≡ (let q : Progress A = closed (around s above) (closing could_be a rest p) p in whole_read (past q.goes_on rest) (record q { goes_on = None }))
+      ≡ (let q : Progress A = closed (around s above) (closing could_be a rest p) p
+      in whole_read (past q.goes_on rest) (record q { goes_on = None }))
   reads_closer could_be a below rest p none e =
       let q : Progress A = closed (around s above) (closing could_be a rest p) p in
-      ap (λ (q : Progress A). record q { goes_on = None }) (reads_as (body.MaybeLinkClose could_be) a below rest p none e) ∙ reads_past_all q.goes_on rest q
+      ap (λ (q : Progress A). record q { goes_on = None }) (reads_as (body.MaybeLinkClose could_be) a below rest p none e)
+      ∙ reads_past_all q.goes_on rest q
 
   -- what is no bracket is read, and the chain goes on where what was found ends
-  pub reads_elsewhere : (a : Label A) (below rest : Forest (Label A)) (p : Progress A) → p.goes_on ≡ None → NoBracket (open_body a.part.shape)
+  pub reads_elsewhere : (a : Label A) (below rest : Forest (Label A)) (p : Progress A) → p.goes_on ≡ None
+      → NoBracket (open_body a.part.shape)
       → whole_read (node a below rest) p
-      ≡ (let r : Passed A = read_tree s tags above p.made a below rest in whole_read (past r.goes_on rest) (record p { left = all_done r.trees p.left; goes_on = None; made = r.made }))
+      ≡ (let r : Passed A = read_tree s tags above p.made a below rest
+      in whole_read (past r.goes_on rest) (record p { left = all_done r.trees p.left; goes_on = None; made = r.made }))
   reads_elsewhere a below rest p none other =
       let r : Passed A = read_tree s tags above p.made a below rest in
       ap (λ (q : Progress A). record q { goes_on = None })
-      (reads_first a below rest p none ∙ ap (read_on s tags above rest) (read_elsewhere (around s above) (read_other s tags above) (open_body a.part.shape) a below rest p other))
+      (reads_first a below rest p none ∙ ap (read_on s tags above rest) (read_elsewhere (around s above) (read_other s tags above)
+      (open_body a.part.shape) a below rest p other))
       ∙ reads_past_all r.goes_on rest (put_passed r p)
 
 -- where all tags are one, it says nothing to the trees how many were made
@@ -149,7 +166,8 @@ from_made n r = record { trees = r.trees; goes_on = r.goes_on; made = n + r.made
 
 unless_made : (s : Setting) (above : Above) (n : ℕ) (a : Plain) (below rest : Forest Plain) (quiet : Bool)
     → read_unless quiet s plain_tags above n a below rest ≡ from_made n (read_unless quiet s plain_tags above 0 a below rest)
-unless_made s above n a below rest true = ap (λ m. let r : Passed (Unit {0}) = record { trees = node a below nil; goes_on = None; made = m } in r) (omega arith)
+unless_made s above n a below rest true = ap (λ m. let r : Passed (Unit {0}) = record { trees = node a below nil; goes_on = None; made = m }
+    in r) (omega arith)
 unless_made s above n a below rest false =
     let found = find s above a rest in
     let r : Passed (Unit {0}) = passed s plain_tags n a found in
@@ -161,13 +179,15 @@ unfolding read_tree
 tree_made s above n a below rest = unless_made s above n a below rest (is_quiet a.part.shape)
 
 -- so what is no bracket is read the same wherever it stands
-pub reads_other : (s : Setting) (above : Above) (a : Plain) (below rest : Forest Plain) (p : Progress (Unit {0})) → p.goes_on ≡ None → NoBracket (open_body a.part.shape)
+pub reads_other : (s : Setting) (above : Above) (a : Plain) (below rest : Forest Plain) (p : Progress (Unit {0})) → p.goes_on ≡ None
+    → NoBracket (open_body a.part.shape)
     → all_read s above (node a below rest) p
     ≡ (let r : Passed (Unit {0}) = read_tree s plain_tags above 0 a below rest in
     all_read s above (past r.goes_on rest) (record p { left = all_done r.trees p.left; goes_on = None; made = p.made + r.made }))
 reads_other s above a below rest p none other =
     reads_elsewhere s plain_tags above a below rest p none other
-    ∙ ap (λ (r : Passed (Unit {0})). all_read s above (past r.goes_on rest) (record p { left = all_done r.trees p.left; goes_on = None; made = r.made })) (tree_made s above p.made a below rest)
+    ∙ ap (λ (r : Passed (Unit {0})). all_read s above (past r.goes_on rest)
+    (record p { left = all_done r.trees p.left; goes_on = None; made = r.made })) (tree_made s above p.made a below rest)
 
 -- what is open does not read as what is below it alone
 open_not_plain : (shape : Shape) → is_unresolved shape ≡ true → not (is_plain shape) ≡ true
@@ -208,7 +228,8 @@ module _ {A : Type 0} where
   begins_as nil h = absurd h
   begins_as (node a below after) h = first_not_plain a.part.shape h
 
-  begun_by : (P : Forest (Label A) → Type 0) (f : Forest (Label A)) → ((a : Label A) (below after : Forest (Label A)) → is_plain a.part.shape ≡ false → P (node a below after))
+  begun_by : (P : Forest (Label A) → Type 0) (f : Forest (Label A)) → ((a : Label A) (below after : Forest (Label A))
+      → is_plain a.part.shape ≡ false → P (node a below after))
       → BeginsWith is_not_plain f → P f
   begun_by P nil holds h = absurd h
   begun_by P (node a below after) holds h = holds a below after (shows_more (is_plain a.part.shape) h)
@@ -224,11 +245,13 @@ module _ {A : Type 0} where
         ap (λ (r : Passed A). put_passed r p) (quiet_tree p.made a below rest q)
         ∙ ap (λ goes_on. record p { left = done a below ∷ p.left; goes_on = goes_on }) (sym none)
 
-    pub pass_one-stays : (chain : Forest (Label A)) (known : Known) → IsQuiet chain → pass_one s tags above chain known ≡ record { questions = []; forest = chain; known = known }
+    pub pass_one-stays : (chain : Forest (Label A)) (known : Known) → IsQuiet chain → pass_one s tags above chain known
+        ≡ record { questions = []; forest = chain; known = known }
     unfolding pass_one
     pass_one-stays chain known q =
         let alone = quiet_items_law (around s above) (read_other s tags above) leaves_quiet chain known (waits_at_most chain q) in
-        ap outcome alone.reads ∙ ap (λ (f : Forest (Label A)). let o : Outcome A = record { questions = []; forest = f; known = known } in o) alone.trees
+        ap outcome alone.reads ∙ ap (λ (f : Forest (Label A)). let o : Outcome A = record { questions = []; forest = f; known = known }
+        in o) alone.trees
 
     -- what is left of a chain is no heavier
     other_weight : (a : Label A) (below rest : Forest (Label A)) (p : Progress A)
@@ -262,7 +285,8 @@ module _ {A : Type 0} where
           subst (BeginsWith is_not_plain) (sym (all_done_trees r.trees [])) (tree_begins 0 a below rest h);
       keeps = λ a below rest p h.
           let r : Passed A = read_tree s tags above p.made a below rest in
-          subst (BeginsWith is_not_plain) (sym (all_done_trees r.trees p.left)) (begins_onto is_not_plain p.left nil r.trees (λ none. absurd none) h);
+          subst (BeginsWith is_not_plain) (sym (all_done_trees r.trees p.left)) (begins_onto is_not_plain p.left nil r.trees
+          (λ none. absurd none) h);
     }
 
     pub pass_one-first : (P : Forest (Label A) → Type 0) (a : Label A) (below after : Forest (Label A)) (known : Known)
@@ -271,7 +295,8 @@ module _ {A : Type 0} where
     unfolding pass_one
     pass_one-first P a below after known holds h =
         begun_by P (trees_onto (read_on s tags above (node a below after) (begun known)).left nil) holds
-        (begins_law (around s above) (read_other s tags above) is_not_plain (λ e origins. refl) (λ tag. refl) other_begins a below after known h)
+        (begins_law (around s above) (read_other s tags above) is_not_plain (λ e origins. refl) (λ tag. refl) other_begins a below after
+        known h)
 
     -- what is no bracket asks nothing, and brackets hand later answers on
     other_hands_on : (a : Label A) (below rest : Forest (Label A)) (p : Progress A) → HandsOn (read_other s tags above a below rest) p
@@ -282,7 +307,8 @@ module _ {A : Type 0} where
 
 -- tags say nothing
 module _ {A B : Type 0} (f : A → B) where
-  all_done_retag : (trees : Forest (Label A)) (left : List (Entry A)) → all_done (retagged f trees) (retag_left f left) ≡ retag_left f (all_done trees left)
+  all_done_retag : (trees : Forest (Label A)) (left : List (Entry A)) → all_done (retagged f trees) (retag_left f left)
+      ≡ retag_left f (all_done trees left)
   all_done_retag nil left = refl
   all_done_retag (node a below after) left = all_done_retag after (done a below ∷ left)
 
@@ -290,17 +316,26 @@ module _ {A B : Type 0} (f : A → B) where
     pub other_retag : RetagsTo f (read_other s tags above) (read_other s tags' above)
     other_retag a below rest p =
         let r : Passed A = read_tree s tags above p.made a below rest in
-        ap (λ (r : Passed B). put_passed r (retag_progress f p)) (read_retag f s tags tags' above p.made (follows.makes p.made) a below rest)
-        ∙ ap (λ (left : List (Entry B)). record (retag_progress f p) { left = left; goes_on = r.goes_on; made = r.made }) (all_done_retag r.trees p.left)
+        ap (λ (r : Passed B). put_passed r (retag_progress f p)) (read_retag f s tags tags' above p.made (follows.makes p.made) a below
+        rest)
+        ∙ ap (λ (left : List (Entry B)). record (retag_progress f p) { left = left; goes_on = r.goes_on; made = r.made })
+        (all_done_retag r.trees p.left)
 
-    pub read_on_retag : (chain : Forest (Label A)) (p : Progress A) → read_on s tags' above (retagged f chain) (retag_progress f p) ≡ retag_progress f (read_on s tags above chain p)
+    pub read_on_retag : (chain : Forest (Label A)) (p : Progress A) → read_on s tags' above (retagged f chain) (retag_progress f p)
+        ≡ retag_progress f (read_on s tags above chain p)
     read_on_retag chain p = read_chain_retag f (around s above) (read_other s tags above) (read_other s tags' above) other_retag chain p
 
     pub pass_one-retag : (chain : Forest (Label A)) (known : Known)
         → pass_one s tags' above (retagged f chain) known
-        ≡ (let r : Outcome A = pass_one s tags above chain known in record { questions = r.questions; forest = retagged f r.forest; known = r.known })
+        ≡ (let r : Outcome A = pass_one s tags above chain known in record {
+          questions = r.questions;
+          forest = retagged f r.forest;
+          known =
+              r.known;
+        })
     unfolding pass_one
     pass_one-retag chain known =
         let q : Progress A = read_on s tags above chain (begun known) in
         ap outcome (read_on_retag chain (begun known))
-        ∙ ap (λ (g : Forest (Label B)). let o : Outcome B = record { questions = q.asked; forest = g; known = q.known } in o) (onto_retag f q.left nil)
+        ∙ ap (λ (g : Forest (Label B)). let o : Outcome B = record { questions = q.asked; forest = g; known = q.known } in o)
+        (onto_retag f q.left nil)

@@ -8,7 +8,9 @@ use Rattle.markdown_base.specs.declared.item.ItemBody.{ItemBody}
 use Rattle.markdown_base.specs.declared.item.ItemBody.TheVariants as body
 use Rattle.markdown_brackets.specs.BracketDecision.{Around, Closing, Progress, past_second, wikilink_in}
 use Rattle.markdown_brackets.specs.ClosingBracket.{footnote_onto}
-use Rattle.markdown_brackets.specs.LeftList.{Entry, Mark, Split, before_footnote, before_link, behind, change_nearest, disabled_mark, done, inside, nearest, on_marks, opens_bracket, opens_wikilink, second_folded, trees_onto, waits, without_bracket, without_wikilink}
+use Rattle.markdown_brackets.specs.LeftList.{Entry, Mark, Split, before_footnote, before_link, behind, change_nearest, disabled_mark, done}
+use Rattle.markdown_brackets.specs.LeftList.{inside, nearest, on_marks, opens_bracket, opens_wikilink, second_folded, trees_onto, waits}
+use Rattle.markdown_brackets.specs.LeftList.{without_bracket, without_wikilink}
 use Rattle.markdown_brackets.specs.QuietItems.{all_done}
 use Rattle.markdown_brackets.specs.ReadChain.{begun, closing, read, read_as, read_chain, read_past}
 use Rattle.markdown_brackets.proofs.ClosingBracketLemmas.{Cases, in_each_case, some_of}
@@ -84,7 +86,8 @@ module _ {A : Type 0} where
   quiet_change opens f (done a below ∷ left) h = (h.0, h.1, quiet_change opens f left h.2)
   quiet_change opens f (waits m a ∷ left) h = by (opens m) (quiet_change opens f left h.1)
     where
-      by : (b : Bool) → QuietLeft (change_nearest opens f left) → QuietLeft (if b then waits (f m) a ∷ left else waits m a ∷ change_nearest opens f left)
+      by : (b : Bool) → QuietLeft (change_nearest opens f left)
+          → QuietLeft (if b then waits (f m) a ∷ left else waits m a ∷ change_nearest opens f left)
       by true k = h
       by false k = (h.0, k)
 
@@ -97,17 +100,20 @@ module _ {A : Type 0} where
     after : QuietLeft o.after
     before : QuietLeft o.before
 
-  quiet_behind : (e : Entry A) (o : Option (Split A)) → ((more : List (Entry A)) → QuietLeft more → QuietLeft (e ∷ more)) → IfSome o QuietAt → IfSome (option_map (behind e) o) QuietAt
+  quiet_behind : (e : Entry A) (o : Option (Split A)) → ((more : List (Entry A)) → QuietLeft more → QuietLeft (e ∷ more)) → IfSome o QuietAt
+      → IfSome (option_map (behind e) o) QuietAt
   quiet_behind e None r h = tt
   quiet_behind e (Some o) r h = record { after = r o.after h.after; before = h.before }
 
   quiet_nearest : (opens : Mark → Bool) (left : List (Entry A)) → QuietLeft left → IfSome (nearest opens left) QuietAt
   quiet_nearest opens [] h = tt
-  quiet_nearest opens (done a below ∷ left) h = quiet_behind (done a below) (nearest opens left) (λ more k. (h.0, h.1, k)) (quiet_nearest opens left h.2)
+  quiet_nearest opens (done a below ∷ left) h = quiet_behind (done a below) (nearest opens left) (λ more k. (h.0, h.1, k))
+      (quiet_nearest opens left h.2)
   quiet_nearest opens (waits m a ∷ left) h = by (opens m) (quiet_nearest opens left h.1)
     where
       by : (b : Bool) → IfSome (nearest opens left) QuietAt
-          → IfSome (if b then Some (record { mark = m; opener = a; after = []; before = left }) else option_map (behind (waits m a)) (nearest opens left)) QuietAt
+          → IfSome (if b then Some (record { mark = m; opener = a; after = []; before = left })
+          else option_map (behind (waits m a)) (nearest opens left)) QuietAt
       by true k = record { after = tt; before = h.1 }
       by false k = quiet_behind (waits m a) (nearest opens left) (λ more k. (h.0, k)) k
 
@@ -125,7 +131,8 @@ module _ {A : Type 0} where
   quiet_past (node a below after) h = h.2
 
   module _ (w : Around) (c : Closing A) where
-    quiet_footnote : (is_image : Bool) (a : Label A) (name : List ℕ) (before : List (Entry A)) → QuietLeft before → QuietLeft (footnote_onto w c is_image a name before)
+    quiet_footnote : (is_image : Bool) (a : Label A) (name : List ℕ) (before : List (Entry A)) → QuietLeft before
+        → QuietLeft (footnote_onto w c is_image a name before)
     quiet_footnote true a name before h = ((refl, refl), tt, ((refl, refl), tt, h))
     quiet_footnote false a name before h = ((refl, refl), tt, h)
 
@@ -140,41 +147,53 @@ module _ {A : Type 0} where
           ((refl, refl), quiet_onto o.after nil at.after tt, quiet_before_link o.mark.is_image o.before at.before);
       footnote = λ left o name h found live.
           let at : QuietAt o = some_of (nearest opens_bracket left) o QuietAt found (quiet_nearest opens_bracket left h) in
-          quiet_footnote o.mark.is_image o.opener name (before_footnote o.before) (quiet_marks without_bracket (second_folded o.before) (quiet_second o.before at.before));
+          quiet_footnote o.mark.is_image o.opener name (before_footnote o.before) (quiet_marks without_bracket (second_folded o.before)
+          (quiet_second o.before at.before));
       wikilink = λ left o v end h found live is.
           let at : QuietAt o = some_of (nearest opens_wikilink left) o QuietAt found (quiet_nearest opens_wikilink left h) in
           let shown = some_of (wikilink_in w (past_second (inside o)) (start_of c.label)) v (λ v. All v.children) is
-          (wikilink_keeps w All (λ a x y. ((refl, refl), tt, tt)) quiet_from (past_second (inside o)) (start_of c.label) (quiet_past (inside o) (quiet_onto o.after nil at.after tt))) in
-          ((refl, refl), shown, quiet_marks without_wikilink (on_marks disabled_mark o.before) (quiet_marks disabled_mark o.before at.before));
+          (wikilink_keeps w All (λ a x y. ((refl, refl), tt, tt)) quiet_from (past_second (inside o)) (start_of c.label)
+          (quiet_past (inside o) (quiet_onto o.after nil at.after tt))) in (
+            (refl, refl),
+            shown,
+            quiet_marks without_wikilink (on_marks disabled_mark o.before)
+                (quiet_marks disabled_mark o.before at.before),
+          );
     }
 
   module _ (s : Setting) (tags : Tags A) (above : Above) where
-    quiet_as : (b : ItemBody) (a : Label A) (below rest : Forest (Label A)) (p : Progress A) → is_some a.part.block ≡ false → All below → QuietLeft p.left
+    quiet_as : (b : ItemBody) (a : Label A) (below rest : Forest (Label A)) (p : Progress A) → is_some a.part.block ≡ false → All below
+        → QuietLeft p.left
         → QuietLeft (read_as (around s above) (read_other s tags above) b a below rest p).left
     quiet_as body.MaybeLinkOpen a below rest p no_block inner h = ((refl, no_block), h)
     quiet_as body.MaybeImage a below rest p no_block inner h = ((refl, no_block), h)
     quiet_as (body.MaybeLinkClose could) a below rest p no_block inner h =
-        in_each_case (around s above) (closing could a rest p) QuietLeft QuietLeft (quiet_cases (around s above) (closing could a rest p) no_block) p h
+        in_each_case (around s above) (closing could a rest p) QuietLeft QuietLeft (quiet_cases (around s above) (closing could a rest p)
+        no_block) p h
     quiet_as other a below rest p no_block inner h =
         quiet_done (read_tree s tags above p.made a below rest).trees p.left (read_quiet s tags above p.made a below rest no_block inner) h
 
-    quiet_read_past : (goes_on : Option ℕ) (a : Label A) (below rest : Forest (Label A)) (p : Progress A) → is_some a.part.block ≡ false → All below → QuietLeft p.left
+    quiet_read_past : (goes_on : Option ℕ) (a : Label A) (below rest : Forest (Label A)) (p : Progress A) → is_some a.part.block ≡ false
+        → All below → QuietLeft p.left
         → QuietLeft (read_past (around s above) (read_other s tags above) goes_on a below rest p).left
     quiet_read_past None a below rest p no_block inner h = quiet_as (open_body a.part.shape) a below rest p no_block inner h
     quiet_read_past (Some i) a below rest p no_block inner h = by (nat_le (end_of a) i)
       where
-        by : (b : Bool) → QuietLeft (if b then p else read (around s above) (read_other s tags above) (begun_at i a) below rest (record p { goes_on = None })).left
+        by : (b : Bool) → QuietLeft (if b then p else read (around s above) (read_other s tags above) (begun_at i a) below rest
+            (record p { goes_on = None })).left
         by true = h
         by false = quiet_as (open_body (begun_at i a).part.shape) (begun_at i a) below rest (record p { goes_on = None }) no_block inner h
 
-    pub quiet_chain : (chain : Forest (Label A)) (p : Progress A) → IsQuietBelow chain → QuietLeft p.left → QuietLeft (read_on s tags above chain p).left
+    pub quiet_chain : (chain : Forest (Label A)) (p : Progress A) → IsQuietBelow chain → QuietLeft p.left
+        → QuietLeft (read_on s tags above chain p).left
     unfolding read_chain
     quiet_chain nil p q h = h
     quiet_chain (node a below rest) p q h =
         quiet_chain rest (read_past (around s above) (read_other s tags above) p.goes_on a below rest p) q.2
         (quiet_read_past p.goes_on a below rest p q.0 (each_quiet below q.1) h)
 
-    pub pass_one-quiet : (chain : Forest (Label A)) (known : Known) → IsQuietBelow chain → IsQuiet (pass_one s tags above chain known).forest
+    pub pass_one-quiet : (chain : Forest (Label A)) (known : Known) → IsQuietBelow chain
+        → IsQuiet (pass_one s tags above chain known).forest
     unfolding pass_one
     pass_one-quiet chain known q =
         let left = (read_on s tags above chain (begun known)).left in

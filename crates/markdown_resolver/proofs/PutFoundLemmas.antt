@@ -1,5 +1,6 @@
 -- An item that was found is put into the node of its opener, with what is below it.
-use Rattle.std.proofs.Common.{◌≡◌, ℕ, zero, suc, ◌<◌, ◌≤◌, true, false, List, [], ◌∷◌, ◌++◌, length, Option, Some, None, refl, sym, ap, ◌∙◌, arith}
+use Rattle.std.proofs.Common.{◌≡◌, ℕ, zero, suc, ◌<◌, ◌≤◌, true, false, List, [], ◌∷◌, ◌++◌, length, Option, Some, None, refl, sym, ap, ◌∙◌}
+use Rattle.std.proofs.Common.{arith}
 use Rattle.std.specs.Option.{option_map}
 use Rattle.markdown_base.specs.Arena.{Arena, child_of, sibling_of, changed_at, single}
 use Rattle.markdown_base.specs.ArenaForest.{Spells, forest_at, links_of}
@@ -27,17 +28,20 @@ use Rattle.markdown_resolver.specs.Chains.{CanResolve}
 use Rattle.markdown_resolver.specs.Rewritten.{Standing, Rewrites, replaced, first_past, one, parent, IsFoundAt, CanPut, CanPutParent, Puts}
 use Rattle.markdown_resolver.specs.Settling.{IsWritten, begun_from}
 use Rattle.markdown_resolver.proofs.ChainOrderLemmas.{rest_past}
-use Rattle.markdown_resolver.proofs.ComposeLemmas.{same_trans, Stands, stands_ready, Moves, changes_move, moves_twice, HeadWritten, head_moves, after_head, Below, below_kept}
+use Rattle.markdown_resolver.proofs.ComposeLemmas.{same_trans, Stands, stands_ready, Moves, changes_move, moves_twice, HeadWritten}
+use Rattle.markdown_resolver.proofs.ComposeLemmas.{head_moves, after_head, Below, below_kept}
 use Rattle.markdown_resolver.proofs.NodeChangeLemmas.{changed_other, changed_here}
 use Rattle.markdown_resolver.proofs.PastByteLemmas.{tree_same}
-use Rattle.markdown_resolver.proofs.PutLemmas.{leaves_rest, whole_put, ClosesAt, before_closed, runs_closed, no_run_here, rest_past_is, rewrites_none, next_from, over_numbers}
+use Rattle.markdown_resolver.proofs.PutLemmas.{leaves_rest, whole_put, ClosesAt, before_closed, runs_closed, no_run_here, rest_past_is}
+use Rattle.markdown_resolver.proofs.PutLemmas.{rewrites_none, next_from, over_numbers}
 
 -- no markup is asked of what is not open
 pub no_markup : (source : List ℕ) (item : Item) → is_open item.body ≡ false → MarkupIsThere source item
 no_markup source item closed = (keeps-closed source (record { number = 0; item = item }) None None closed tt).markup_is_there
 
 -- a node into which an item was written that is not open
-pub closed_head : (source : List ℕ) (ix : ℕ) (item : Item) (old mid : List (Node Item)) (tables t : Tables) → HasGrown tables t → is_open item.body ≡ false → LiesIn source item → NamesEntries t item.body → HasSlices source t item.body
+pub closed_head : (source : List ℕ) (ix : ℕ) (item : Item) (old mid : List (Node Item)) (tables t : Tables) → HasGrown tables t
+    → is_open item.body ≡ false → LiesIn source item → NamesEntries t item.body → HasSlices source t item.body
     → ((n : Named) → number_of n < size_for tables n → times_named n item.body ≡ 0) → item_at mid ix ≡ item → length old ≤ length mid
     → ((n : ℕ) → n < length old → (n ≡ ix → ⊥) → IsSameAt old mid n) → HeadWritten source ix old mid tables t
 closed_head source ix item old mid tables t grown closed lies entries slices names is more others = record {
@@ -60,36 +64,49 @@ pub record BelowReads (source : List ℕ) (ix : ℕ) (old mid new : List (Node I
 -- nothing was below an open item
 pub none_below : (source : List ℕ) (ix : ℕ) (old mid new : List (Node Item)) (tables t later : Tables) (next : Option ℕ)
     → Stands source tables old (Some ix) → HeadWritten source ix old mid tables t → Moves source (sibling_of old ix) next mid new t later
-    → is_open (item_at old ix).body ≡ true → is_open (item_at mid ix).body ≡ false → child_of mid ix ≡ child_of old ix → BelowReads source ix old mid new later nil
+    → is_open (item_at old ix).body ≡ true → is_open (item_at mid ix).body ≡ false → child_of mid ix ≡ child_of old ix
+    → BelowReads source ix old mid new later nil
 none_below source ix old mid new tables t later next s h m was_open closed child =
     let o = opens (links_of old) (IsPlaced source tables old) ix s.reaches in
     let kept = below_kept source ix old mid new tables t later next s h m child (rw (was_open, closed) (omega arith)) in
     record { below = kept.below; reads = kept.trees ∙ rw (o.holds.keeps.childless was_open, forest_at-none (links_of old)) refl }
 
 -- what is written: the item into the node of its opener, and what is below it, which may be new
-pub record Written (source : List ℕ) (ix : ℕ) (item : Item) (next : Option ℕ) (old mid : List (Node Item)) (tables t : Tables) (inside : Forest Plain) : Type 0 where
+pub record Written (source : List ℕ) (ix : ℕ) (item : Item) (next : Option ℕ) (old mid : List (Node Item)) (tables t : Tables)
+    (inside : Forest Plain) : Type 0 where
   pub item_is : item_at mid ix ≡ item
   pub next_is : sibling_of mid ix ≡ next
   pub head : HeadWritten source ix old mid tables t
-  pub below : (new : List (Node Item)) (later : Tables) → Moves source (sibling_of old ix) next mid new t later → BelowReads source ix old mid new later inside
+  pub below : (new : List (Node Item)) (later : Tables) → Moves source (sibling_of old ix) next mid new t later
+      → BelowReads source ix old mid new later inside
 
 -- so the trees of what was put stand for what was found, and the chain goes on past it
-pub put_written : (source : List ℕ) (ix : ℕ) (item : Item) (next : Option ℕ) (old mid : List (Node Item)) (tables t : Tables) (inside : Forest Plain) (trees : Standing)
+pub put_written : (source : List ℕ) (ix : ℕ) (item : Item) (next : Option ℕ) (old mid : List (Node Item)) (tables t : Tables)
+    (inside : Forest Plain) (trees : Standing)
     → IsFoundAt source tables old ix item.end → CanPut source tables t item → item.start ≡ (item_at old ix).start
-    → next ≡ first_past old item.end (roots (forest_at (links_of old) (sibling_of old ix))) → Written source ix item next old mid tables t inside
+    → next ≡ first_past old item.end (roots (forest_at (links_of old) (sibling_of old ix)))
+    → Written source ix item next old mid tables t inside
     → ((a : Plain) (below : Forest Plain) → trees a below ≡ node (label_of source t item) inside nil)
     → Puts source ix trees (Some item.end) next old (begun_from next item.end mid) tables t
 put_written source ix item next old mid tables t inside trees finds puts starts link w stand =
     let s = stands_ready source tables old (Some ix) finds.ready in
     let a = after_head source ix old mid tables t s w.head in
     let closed : is_open (item_at mid ix).body ≡ false = rw w.item_is puts.closed in
-    let closes : ClosesAt ix old mid = record { was_open = finds.was_open; was_no_run = finds.no_run; closed = closed; starts = rw w.item_is starts } in
-    let p = rest_past_is source ix item.end old mid tables t next (item_at old ix).end s w.head link (rest_past source tables old ix finds.ready)
+    let closes : ClosesAt ix old mid = record {
+      was_open = finds.was_open;
+      was_no_run = finds.no_run;
+      closed = closed;
+      starts = rw w.item_is
+          starts;
+    } in
+    let p = rest_past_is source ix item.end old mid tables t next (item_at old ix).end s w.head link
+    (rest_past source tables old ix finds.ready)
     (λ n e. finds.between n (sym link ∙ e)) puts.lies.end in
     let place = begun_from next item.end mid in
     let whole : (rule : Forest Plain → Forest Plain) (new : List (Node Item)) (later : Tables) → Rewrites source rule next place new t later
     → Rewrites source (replaced trees (Some item.end) rule) (Some ix) old new tables later = λ rule new later r.
-    let m = moves_twice source (sibling_of old ix) next next mid place new t t later p.moves (changes_move source next place new t later r.changes) in
+    let m = moves_twice source (sibling_of old ix) next next mid place new t t later p.moves (changes_move source next place new t later
+    r.changes) in
     let b = w.below new later m in
     let ends : (item_at mid ix).end ≤ item.end = rw w.item_is (omega arith) in
     let follows = r.changes.before (numbered mid ix) (p.follows (numbered mid ix) refl ends) in
@@ -98,9 +115,11 @@ put_written source ix item next old mid tables t inside trees finds puts starts 
     let rest = past_byte item.end (trees_from source tables old (sibling_of old ix)) in
     let after : trees_from source later new (sibling_of mid ix) ≡ rule rest =
     ap (λ (l : Option ℕ). trees_from source later new l) w.next_is ∙ r.rewritten ∙ ap rule p.reads in
-    whole_put source ix old mid new tables t later trees (Some item.end) rule finds.ready w.head hm (λ x stands. before_closed ix old mid x closes stands) (runs_closed source ix old mid closes)
+    whole_put source ix old mid new tables t later trees (Some item.end) rule finds.ready w.head hm
+    (λ x stands. before_closed ix old mid x closes stands) (runs_closed source ix old mid closes)
     (tree_same _ _ _ _ _ _ (ap (λ x. label_of source t x) w.item_is) b.reads after
-    ∙ ap (λ (f : Forest Plain). joined f (rule rest)) (sym (stand (label_at source tables old ix) (trees_from source tables old (child_of old ix))))) in
+    ∙ ap (λ (f : Forest Plain). joined f (rule rest))
+    (sym (stand (label_at source tables old ix) (trees_from source tables old (child_of old ix))))) in
     let all = whole (λ f. f) place t (rewrites_none source next place t p.moves.stands) in
     record {
       whole = whole;
@@ -112,20 +131,23 @@ put_written source ix item next old mid tables t inside trees finds puts starts 
     }
 
 -- nothing is put below it
-pub found_puts : (source : List ℕ) (ix : ℕ) (item : Item) (next : Option ℕ) (old mid : List (Node Item)) (tables t : Tables) → HasGrown tables t
+pub found_puts : (source : List ℕ) (ix : ℕ) (item : Item) (next : Option ℕ) (old mid : List (Node Item)) (tables t : Tables)
+    → HasGrown tables t
     → IsFoundAt source tables old ix item.end → CanPut source tables t item → item.start ≡ (item_at old ix).start
     → next ≡ first_past old item.end (roots (forest_at (links_of old) (sibling_of old ix))) → IsWritten old mid ix item next
     → Puts source ix (one source t item) (Some item.end) next old (begun_from next item.end mid) tables t
 found_puts source ix item next old mid tables t grown finds puts starts link w =
     let s = stands_ready source tables old (Some ix) finds.ready in
     let size = w.size in
-    let h = closed_head source ix item old mid tables t grown puts.closed puts.lies puts.named puts.slices puts.new_names w.item_is (omega (arith, size)) (λ n l d. w.others n d) in
+    let h = closed_head source ix item old mid tables t grown puts.closed puts.lies puts.named puts.slices puts.new_names w.item_is
+    (omega (arith, size)) (λ n l d. w.others n d) in
     put_written source ix item next old mid tables t nil (one source t item) finds puts starts link
     (record {
       item_is = w.item_is;
       next_is = w.next_is;
       head = h;
-      below = λ new later m. none_below source ix old mid new tables t later next s h m finds.was_open (rw w.item_is puts.closed) w.child_is;
+      below = λ new later m. none_below source ix old mid new tables t later next s h m finds.was_open (rw w.item_is puts.closed)
+          w.child_is;
     })
     (λ a below. refl)
 
@@ -153,20 +175,23 @@ pub record NewBelow (ix : ℕ) (inside : Item) (old mid : List (Node Item)) : Ty
 pub leaf_below : (source : List ℕ) (ix : ℕ) (inside : Item) (old mid new : List (Node Item)) (tables t later : Tables) (next : Option ℕ)
     → Stands source tables old (Some ix) → HeadWritten source ix old mid tables t → Moves source (sibling_of old ix) next mid new t later
     → NewBelow ix inside old mid → CanPut source tables t inside → ((n : Named) → times_named n inside.body ≡ 0)
-    → is_open (item_at old ix).body ≡ true → is_open (item_at mid ix).body ≡ false → BelowReads source ix old mid new later (node (label_of source t inside) nil nil)
+    → is_open (item_at old ix).body ≡ true → is_open (item_at mid ix).body ≡ false
+    → BelowReads source ix old mid new later (node (label_of source t inside) nil nil)
 leaf_below source ix inside old mid new tables t later next s h m b puts names was_open closed =
     let a = after_head source ix old mid tables t s h in
     let k = length old in
     let size = b.size in
     let more : length mid ≤ length new = m.more_nodes in
     let none : times_in mid (sibling_of old ix) k ≡ 0 =
-    rw a.rest.forest (times-past (links_of old) (sibling_of old ix) (forest_at (links_of old) (sibling_of old ix)) k a.after.spelled (omega arith)) in
+    rw a.rest.forest (times-past (links_of old) (sibling_of old ix) (forest_at (links_of old) (sibling_of old ix)) k a.after.spelled
+    (omega arith)) in
     let at : IsSameAt mid new k = m.outside k (omega (arith, size)) none in
     let child : child_of new k ≡ None = at.child ∙ b.child_is in
     let follows : sibling_of new k ≡ None = at.next ∙ b.next_is in
     let item : item_at new k ≡ inside = at.item ∙ b.item_is in
     let spelled : Spells (links_of new) (Some k) (node k nil nil) = (refl, omega (arith, size, more), child, follows) in
-    let here : forest_at (links_of new) (Some k) ≡ node k nil nil = found (links_of new) (Some k) (node k nil nil) spelled (λ n. let x = same_small n k in omega arith) in
+    let here : forest_at (links_of new) (Some k) ≡ node k nil nil = found (links_of new) (Some k) (node k nil nil) spelled
+    (λ n. let x = same_small n k in omega arith) in
     let longer = grown-longer t later m.grown in
     let placed : IsPlaced source later new k = record {
       lies = rw item puts.lies;
@@ -192,22 +217,27 @@ leaf_below source ix inside old mid new tables t later next s h m b puts names w
     }
 
 -- an item with one child is put there
-pub parent_puts : (source : List ℕ) (ix : ℕ) (item inside : Item) (next : Option ℕ) (old mid : List (Node Item)) (tables t : Tables) → HasGrown tables t
+pub parent_puts : (source : List ℕ) (ix : ℕ) (item inside : Item) (next : Option ℕ) (old mid : List (Node Item)) (tables t : Tables)
+    → HasGrown tables t
     → IsFoundAt source tables old ix item.end → CanPutParent source tables t old ix item inside
-    → next ≡ first_past old item.end (roots (forest_at (links_of old) (sibling_of old ix))) → item_at mid ix ≡ item → sibling_of mid ix ≡ next
+    → next ≡ first_past old item.end (roots (forest_at (links_of old) (sibling_of old ix))) → item_at mid ix ≡ item
+    → sibling_of mid ix ≡ next
     → ((n : ℕ) → n < length old → (n ≡ ix → ⊥) → IsSameAt old mid n) → NewBelow ix inside old mid
     → Puts source ix (parent source t item inside) (Some item.end) next old (begun_from next item.end mid) tables t
 parent_puts source ix item inside next old mid tables t grown finds can link item_is next_is others b =
     let s = stands_ready source tables old (Some ix) finds.ready in
     let puts = can.puts in
     let size = b.size in
-    let h = closed_head source ix item old mid tables t grown puts.closed puts.lies puts.named puts.slices puts.new_names item_is (omega (arith, size)) others in
-    put_written source ix item next old mid tables t (node (label_of source t inside) nil nil) (parent source t item inside) finds puts can.starts link
+    let h = closed_head source ix item old mid tables t grown puts.closed puts.lies puts.named puts.slices puts.new_names item_is
+    (omega (arith, size)) others in
+    put_written source ix item next old mid tables t (node (label_of source t inside) nil nil) (parent source t item inside) finds puts
+    can.starts link
     (record {
       item_is = item_is;
       next_is = next_is;
       head = h;
-      below = λ new later m. leaf_below source ix inside old mid new tables t later next s h m b can.puts_inside can.names_nothing finds.was_open (rw item_is puts.closed);
+      below = λ new later m. leaf_below source ix inside old mid new tables t later next s h m b can.puts_inside can.names_nothing
+          finds.was_open (rw item_is puts.closed);
     })
     (λ a below. refl)
 
@@ -245,18 +275,22 @@ pub record IsHung (s t : Arena Item) (ix child : ℕ) (inside : Item) : Type 0 w
   pub number : child ≡ length s.nodes
   pub nodes : t.nodes ≡ changed_at ix (λ n. record n { child = Some child }) (s.nodes ++ single inside ∷ [])
 
-pub is_hung : (s t u : Arena Item) (ix child : ℕ) (inside : Item) → child ≡ length s.nodes → t ≡ record s { nodes = s.nodes ++ single inside ∷ [] }
+pub is_hung : (s t u : Arena Item) (ix child : ℕ) (inside : Item) → child ≡ length s.nodes
+    → t ≡ record s { nodes = s.nodes ++ single inside ∷ [] }
     → u ≡ record t { nodes = changed_at ix (λ n. record n { child = Some child }) t.nodes } → IsHung s u ix child inside
 is_hung s t u ix child inside number made hung = record {
   number = number;
-  nodes = ap (λ (a : Arena Item). a.nodes) hung ∙ ap (λ (a : Arena Item). changed_at ix (λ n. record n { child = Some child }) a.nodes) made;
+  nodes = ap (λ (a : Arena Item). a.nodes) hung ∙ ap (λ (a : Arena Item). changed_at ix (λ n. record n { child = Some child }) a.nodes)
+      made;
 }
 
 pub hung_size : (s t : Arena Item) (ix child : ℕ) (inside : Item) → IsHung s t ix child inside → length t.nodes ≡ suc (length s.nodes)
 hung_size s t ix child inside h =
-    ap (λ (ns : List (Node Item)). length ns) h.nodes ∙ length-changed_at ix (λ n. record n { child = Some child }) (s.nodes ++ single inside ∷ []) ∙ (added_new s.nodes (single inside)).size
+    ap (λ (ns : List (Node Item)). length ns) h.nodes ∙ length-changed_at ix (λ n. record n { child = Some child }) (s.nodes
+    ++ single inside ∷ []) ∙ (added_new s.nodes (single inside)).size
 
-pub hung_below : (s t : Arena Item) (mid : List (Node Item)) (ix child : ℕ) (item inside : Item) (next : Option ℕ) → ix < length s.nodes → IsHung s t ix child inside → IsWritten t.nodes mid ix item next
+pub hung_below : (s t : Arena Item) (mid : List (Node Item)) (ix child : ℕ) (item inside : Item) (next : Option ℕ) → ix < length s.nodes
+    → IsHung s t ix child inside → IsWritten t.nodes mid ix item next
     → HungBelow ix item inside next s.nodes mid
 hung_below s t mid ix child item inside next within h w =
     let old = s.nodes in
@@ -273,7 +307,8 @@ hung_below s t mid ix child item inside next within h w =
     record {
       item_is = w.item_is;
       next_is = w.next_is;
-      others = λ n l d. same_trans old t.nodes mid n (same_trans old more t.nodes n (added_same old (single inside) n l) (hung n d)) (w.others n d);
+      others = λ n l d. same_trans old t.nodes mid n (same_trans old more t.nodes n (added_same old (single inside) n l) (hung n d))
+          (w.others n d);
       new_below = record {
         size = w.size ∙ hung_size s t ix child inside h;
         link = w.child_is ∙ child_is;

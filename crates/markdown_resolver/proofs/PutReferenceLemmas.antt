@@ -26,7 +26,8 @@ use Rattle.markdown_resolver.proofs.ComposeLemmas.{Stands, stands_ready, Moves, 
 use Rattle.markdown_resolver.proofs.EncloseLemmas.{opens_at, read_past, spelled_past, total_parts}
 use Rattle.markdown_resolver.proofs.PastByteLemmas.{tree_same}
 use Rattle.markdown_resolver.proofs.PutLemmas.{rewrites_none, next_from, over_numbers}
-use Rattle.markdown_resolver.proofs.PutLinkLemmas.{HeadPut, head_put, head_stands, first_no_block, before_text, runs_text, over_leaves, behind_leads}
+use Rattle.markdown_resolver.proofs.PutLinkLemmas.{HeadPut, head_put, head_stands, first_no_block, before_text, runs_text, over_leaves}
+use Rattle.markdown_resolver.proofs.PutLinkLemmas.{behind_leads}
 use Rattle.markdown_resolver.proofs.PutPairLemmas.{Skips, skips, ready_next}
 
 -- the chain behind a closer, where it stands
@@ -37,7 +38,8 @@ pub record Behind (nodes : List (Node Item)) (closer : ℕ) (after : List ℕ) (
   pub listed : roots g ≡ after
 
 -- what stands inside, and the closer, are not left past the closer's end
-module _ (source : List ℕ) (tables : Tables) (old : List (Node Item)) (opener closer byte : ℕ) (inside : List ℕ) (can : CanClose source tables old opener closer inside byte)
+module _ (source : List ℕ) (tables : Tables) (old : List (Node Item)) (opener closer byte : ℕ) (inside : List ℕ)
+    (can : CanClose source tables old opener closer inside byte)
     (ends : byte ≡ (item_at old closer).end) where
   abbrev many : ℕ
   many = length inside
@@ -52,7 +54,8 @@ module _ (source : List ℕ) (tables : Tables) (old : List (Node Item)) (opener 
   opened = opens (links_of old) (IsPlaced source tables old) opener can.ready.reaches
 
   pub whole_old : forest_at (links_of old) (Some opener) ≡ node opener nil numbers
-  whole_old = opened.here ∙ ap (λ l. node opener (forest_at (links_of old) l) numbers) can.childless ∙ ap (λ g. node opener g numbers) (forest_at-none (links_of old))
+  whole_old = opened.here ∙ ap (λ l. node opener (forest_at (links_of old) l) numbers) can.childless
+      ∙ ap (λ g. node opener g numbers) (forest_at-none (links_of old))
 
   pub whole_once : (n : ℕ) → same n opener + total (same n) numbers ≤ 1
   whole_once n = let x = rw whole_old at (can.ready.once n) in omega arith
@@ -64,7 +67,8 @@ module _ (source : List ℕ) (tables : Tables) (old : List (Node Item)) (opener 
       rw o.is at (spelled_past old inside can.after closer (sibling_of old opener) numbers can.follows opened.after.spelled) in
       record {
         within = at.1;
-        forest = found (links_of old) (sibling_of old closer) (trees_past (suc many) numbers) at.3 (λ n. let z = whole_once n in let parts = total_parts (same n) (suc many) numbers in omega arith);
+        forest = found (links_of old) (sibling_of old closer) (trees_past (suc many) numbers) at.3 (λ n. let z = whole_once n
+            in let parts = total_parts (same n) (suc many) numbers in omega arith);
         spelled = at.3;
         listed = o.follow;
       }
@@ -73,7 +77,8 @@ module _ (source : List ℕ) (tables : Tables) (old : List (Node Item)) (opener 
   behind_spelled = rw behind.forest behind.spelled
 
   skipped_there : Skips source tables old byte (sibling_of old opener) closer
-  skipped_there = skips source tables old byte closer inside can.after (sibling_of old opener) (ready_next source tables old opener can.ready) can.follows ends
+  skipped_there = skips source tables old byte closer inside can.after (sibling_of old opener)
+      (ready_next source tables old opener can.ready) can.follows ends
 
   pub past_inside : past_byte byte trees ≡ past_byte byte (trees_past (suc many) trees)
   past_inside =
@@ -87,8 +92,10 @@ module _ (source : List ℕ) (tables : Tables) (old : List (Node Item)) (opener 
   first_behind = skipped_there.first ∙ ap (λ (ns : List ℕ). first_past old byte ns) behind_listed
 
 -- an opener is written over what stands inside
-module _ (source : List ℕ) (opener closer : ℕ) (item : Item) (inside : List ℕ) (old : List (Node Item)) (tables t : Tables) (grown : HasGrown tables t)
-    (can : CanClose source tables old opener closer inside item.end) (over : CanPutOver source tables t old opener item item.end) (ends : item.end ≡ (item_at old closer).end) where
+module _ (source : List ℕ) (opener closer : ℕ) (item : Item) (inside : List ℕ) (old : List (Node Item)) (tables t : Tables)
+    (grown : HasGrown tables t)
+    (can : CanClose source tables old opener closer inside item.end) (over : CanPutOver source tables t old opener item item.end)
+    (ends : item.end ≡ (item_at old closer).end) where
   abbrev k : ℕ
   k = length inside
 
@@ -107,54 +114,66 @@ module _ (source : List ℕ) (opener closer : ℕ) (item : Item) (inside : List 
   behind_reads : past_byte item.end chain ≡ past_byte item.end (trees_past (suc k) chain)
   behind_reads = past_inside source tables old opener closer item.end inside can ends
 
-  module _ (next : Option ℕ) (mid : List (Node Item)) (link : next ≡ first_past old item.end (roots (forest_at (links_of old) (sibling_of old closer)))) (w : IsWritten old mid opener item next) where
+  module _ (next : Option ℕ) (mid : List (Node Item)) (link : next
+      ≡ first_past old item.end (roots (forest_at (links_of old) (sibling_of old closer)))) (w : IsWritten old mid opener item next) where
     abbrev place : List (Node Item)
     place = begun_from next item.end mid
 
     next_first : first_past old item.end can.after ≡ next
-    next_first = ap (λ (ns : List ℕ). first_past old item.end ns) (sym (behind_listed source tables old opener closer item.end inside can ends)) ∙ sym link
+    next_first = ap (λ (ns : List ℕ). first_past old item.end ns)
+        (sym (behind_listed source tables old opener closer item.end inside can ends)) ∙ sym link
 
     puts : HeadPut source opener item.end item next old mid tables t
     puts =
-        head_put source opener item.end item next old mid tables t grown stands over.puts over.ends w (item_at old opener).end (rest_past source tables old opener can.ready)
-        (sym (first_behind source tables old opener closer item.end inside can ends ∙ next_first)) (λ n e. can.between n (next_first ∙ e)) can.boundary
+        head_put source opener item.end item next old mid tables t grown stands over.puts over.ends w (item_at old opener).end
+        (rest_past source tables old opener can.ready)
+        (sym (first_behind source tables old opener closer item.end inside can ends ∙ next_first)) (λ n e. can.between n (next_first ∙ e))
+        can.boundary
 
     none_inside : trees_from source tables old (child_of old opener) ≡ nil
     none_inside = rw (can.childless, forest_at-none (links_of old)) refl
 
-    reference_whole : (rule : Forest Plain → Forest Plain) (new : List (Node Item)) (later : Tables) → Rewrites source rule next place new t later
+    reference_whole : (rule : Forest Plain → Forest Plain) (new : List (Node Item)) (later : Tables)
+        → Rewrites source rule next place new t later
         → Rewrites source (closed_over k (in_place_of source t item) item.end rule) (Some opener) old new tables later
     reference_whole rule new later r =
         let h = head_stands source opener item.end item next old mid tables t stands w.child_is puts rule new later r in
         let item_is : item_at new opener ≡ item = h.moved.item ∙ puts.item_is in
         record {
           changes = moves_change source (Some opener) old new tables later h.moved.moves
-              (λ a before. before_text opener old new a (first_no_block source tables old opener can.ready) (rw item_is over.starts) before);
+              (λ a before. before_text opener old new a (first_no_block source tables old opener can.ready) (rw item_is over.starts)
+              before);
           runs = runs_text source opener old new can.opener_closed (rw item_is puts.closed);
           rewritten = h.reads ∙ tree_same _ _ _ _ _ _ refl none_inside (ap rule behind_reads) ∙ rw whole refl;
         }
 
     left_moves : Moves source (Some opener) next old place tables t
-    left_moves = moves_twice source (Some opener) (sibling_of old opener) next old mid place tables t t (head_leaves source opener old mid tables t stands puts.head) puts.rest.moves
+    left_moves = moves_twice source (Some opener) (sibling_of old opener) next old mid place tables t t
+        (head_leaves source opener old mid tables t stands puts.head) puts.rest.moves
 
     reference_leaves : LeavesRest source opener next old place t
     reference_leaves =
         let a = after_head source opener old mid tables t stands puts.head in
         let two : 2 ≤ weight_at old opener = some_weight (is_open (item_at old opener).body) in
-        let all : weight_in old (Some opener) ≡ weight_at old opener + (0 + weight_in old (sibling_of old opener)) = ap (λ (g : Forest ℕ). total (weight_at old) g) whole in
+        let all : weight_in old (Some opener) ≡ weight_at old opener + (0 + weight_in old (sibling_of old opener)) =
+        ap (λ (g : Forest ℕ). total (weight_at old) g) whole in
         let rest : weight_in place next ≤ weight_in old (sibling_of old opener) = rw (← a.rest.weight) puts.rest.moves.no_heavier in
-        over_leaves source opener (suc k) item.end next old place tables t f can.ready whole left_moves (omega (arith, two, all, rest)) (puts.rest.reads ∙ behind_reads)
+        over_leaves source opener (suc k) item.end next old place tables t f can.ready whole left_moves (omega (arith, two, all, rest))
+        (puts.rest.reads ∙ behind_reads)
 
     behind_same : (n : ℕ) → 0 < total (same n) (trees_past (suc k) f) → IsSameAt old mid n
     behind_same n l =
         let parts = total_parts (same n) (suc k) f in
         let once = whole_once source tables old opener closer item.end inside can ends n in
-        w.others n (λ q. let self : same n opener ≡ 1 = subst (λ (m : ℕ). same n m ≡ 1) q (same-refl n) in absurd (omega (arith, once, self, parts, l)))
+        w.others n (λ q. let self : same n opener ≡ 1 = subst (λ (m : ℕ). same n m ≡ 1) q (same-refl n)
+        in absurd (omega (arith, once, self, parts, l)))
 
-    reference_leads : (low : ℕ) (after : List Numbered) → LeadsThrough old low (sibling_of old closer) after → LeadsThrough place low next (numbered_past_byte item.end after)
+    reference_leads : (low : ℕ) (after : List Numbered) → LeadsThrough old low (sibling_of old closer) after
+        → LeadsThrough place low next (numbered_past_byte item.end after)
     reference_leads =
         let size = w.size in
-        behind_leads old mid opener closer item.end inside can.after next f can.follows (opens (links_of old) (IsPlaced source tables old) opener can.ready.reaches).after.spelled
+        behind_leads old mid opener closer item.end inside can.after next f can.follows (opens (links_of old) (IsPlaced source tables old)
+        opener can.ready.reaches).after.spelled
         (omega (arith, size)) behind_same next_first
 
     reference_numbers : roots (forest_at (links_of place) (Some opener)) ≡ opener ∷ roots (forest_at (links_of place) next)

@@ -57,7 +57,8 @@ relabelled_joined h (node a below after) g = ap (λ t. node (h a) (relabelled h 
 plain_labels : (source : List ℕ) (tables : Tables) (nodes : List (Node Item)) (f : Forest ℕ)
     → without_numbers (relabelled (numbered_label source tables nodes) f) ≡ relabelled (label_at source tables nodes) f
 plain_labels source tables nodes nil = refl
-plain_labels source tables nodes (node ix below after) = rw (plain_labels source tables nodes below, plain_labels source tables nodes after) refl
+plain_labels source tables nodes (node ix below after) = rw (plain_labels source tables nodes below, plain_labels source tables nodes after)
+    refl
 
 pub plain_from : (source : List ℕ) (tables : Tables) (nodes : List (Node Item)) (l : Option ℕ)
     → without_numbers (numbered_from source tables nodes l) ≡ trees_from source tables nodes l
@@ -74,7 +75,8 @@ past_is_next : (nodes : List (Node Item)) (standing : List ℕ) (l next : Option
     → Spells (links_of nodes) l f → Spells (links_of nodes) next g → trees_past (length standing) f ≡ g
 past_is_next nodes standing l next f nil e s t = roots_none standing f e
 past_is_next nodes standing l next f (node c below after) e s t =
-    Spells-same (links_of nodes) next (trees_past (length standing) f) (node c below after) (rw t.0 (spelled_past nodes standing (roots after) c l f e s)) t
+    Spells-same (links_of nodes) next (trees_past (length standing) f) (node c below after)
+    (rw t.0 (spelled_past nodes standing (roots after) c l f e s)) t
 
 -- so a chain is the nodes that stand there first, and what the link leads to
 pub past_chain : (source : List ℕ) (tables : Tables) (nodes : List (Node Item)) (l next : Option ℕ) (standing : List ℕ)
@@ -94,10 +96,12 @@ pub split_chain : (source : List ℕ) (tables : Tables) (nodes : List (Node Item
     ≡ joined (first_trees (length standing) (numbered_from source tables nodes l)) (numbered_from source tables nodes next)
 split_chain source tables nodes l next standing s t e =
     let all = numbered_from source tables nodes l in
-    first_and_past (length standing) all ∙ ap (λ (h : Forest (Label ℕ)). joined (first_trees (length standing) all) h) (past_chain source tables nodes l next standing s t e)
+    first_and_past (length standing) all ∙ ap (λ (h : Forest (Label ℕ)). joined (first_trees (length standing) all) h)
+    (past_chain source tables nodes l next standing s t e)
 
 -- trees stand where a node stands, one for each of these nodes, and the chain goes on with what is left
-pub puts_trees : (source : List ℕ) (ix : ℕ) (next : Option ℕ) (trees rest : Forest Plain) (standing : List ℕ) (old new : List (Node Item)) (tables tables' : Tables)
+pub puts_trees : (source : List ℕ) (ix : ℕ) (next : Option ℕ) (trees rest : Forest Plain) (standing : List ℕ) (old new : List (Node Item))
+    (tables tables' : Tables)
     → ChangesChain source (Some ix) old new tables tables' → RunsGoOn source old new (Some ix)
     → trees_from source tables' new (Some ix) ≡ joined trees rest
     → roots (forest_at (links_of new) (Some ix)) ≡ standing ++ roots (forest_at (links_of new) next)
@@ -118,7 +122,8 @@ puts_trees source ix next trees rest standing old new tables tables' changes run
           relabelled_first (retag (λ n. tt)) k all ∙ ap (λ (h : Forest Plain). first_trees k h) whole
           ∙ ap (λ n. first_trees n (joined trees rest)) (sym many) ∙ first_joined trees rest;
       rest_is =
-          sym (plain_from source tables' new next) ∙ ap (λ (h : Forest (Label ℕ)). without_numbers h) (sym (past_chain source tables' new (Some ix) next standing s t numbers))
+          sym (plain_from source tables' new next) ∙ ap (λ (h : Forest (Label ℕ)). without_numbers h)
+          (sym (past_chain source tables' new (Some ix) next standing s t numbers))
           ∙ relabelled_past (retag (λ n. tt)) k all ∙ ap (λ (h : Forest Plain). trees_past k h) whole
           ∙ ap (λ n. trees_past n (joined trees rest)) (sym many) ∙ past_joined trees rest;
       quiet = quiet;
@@ -126,7 +131,8 @@ puts_trees source ix next trees rest standing old new tables tables' changes run
     }
 
 -- so it is with what was put for the first item of a chain
-pub put_trees : (source : List ℕ) (ix : ℕ) (trees : Standing) (goes_on next : Option ℕ) (old new : List (Node Item)) (tables tables' : Tables)
+pub put_trees : (source : List ℕ) (ix : ℕ) (trees : Standing) (goes_on next : Option ℕ) (old new : List (Node Item))
+    (tables tables' : Tables)
     → CanResolve source tables old (Some ix) → Puts source ix trees goes_on next old new tables tables'
     → IsQuiet (trees (label_at source tables old ix) (trees_from source tables old (child_of old ix)))
     → PutsTrees source ix next (trees (label_at source tables old ix) (trees_from source tables old (child_of old ix)))
@@ -136,12 +142,14 @@ put_trees source ix trees goes_on next old new tables tables' ready puts quiet =
     let a = label_at source tables old ix in
     let below = trees_from source tables old (child_of old ix) in
     let after = trees_from source tables old (sibling_of old ix) in
-    let w = puts.whole (λ f. f) new tables' (rewrites_none source next new tables' (stands_ready source tables' new next puts.leaves.ready)) in
+    let w = puts.whole (λ f. f) new tables' (rewrites_none source next new tables' (stands_ready source tables' new next puts.leaves.ready))
+    in
     puts_trees source ix next (trees a below) (past goes_on after) puts.standing old new tables tables' w.changes w.runs
     (w.rewritten ∙ ap (replaced trees goes_on (λ f. f)) o.trees) puts.numbers (puts.as_many a below) quiet puts.leaves.ready
 
 -- an item that was settled is quiet, and so is what stands there then
-quiet_text : (quiet : Bool) (source : List ℕ) (a : Plain) (below after : Forest Plain) → is_quiet a.part.shape ≡ quiet → IsQuietBelow (node a below after) → IsQuiet (text_unless quiet source a below)
+quiet_text : (quiet : Bool) (source : List ℕ) (a : Plain) (below after : Forest Plain) → is_quiet a.part.shape ≡ quiet
+    → IsQuietBelow (node a below after) → IsQuiet (text_unless quiet source a below)
 quiet_text true source a below after e q = (e, q.0, q.1, tt)
 quiet_text false source a below after e q = (refl, q.0, tt, tt)
 
@@ -153,4 +161,5 @@ settled_trees source ix next old new tables tables' ready puts =
     let o = opens_chain source tables old ix ready in
     let a = label_at source tables old ix in
     put_trees source ix (settled source) None next old new tables tables' ready puts
-    (quiet_text (is_quiet a.part.shape) source a (trees_from source tables old (child_of old ix)) (trees_from source tables old (sibling_of old ix)) refl (rw o.trees at ready.quiet_below))
+    (quiet_text (is_quiet a.part.shape) source a (trees_from source tables old (child_of old ix))
+    (trees_from source tables old (sibling_of old ix)) refl (rw o.trees at ready.quiet_below))

@@ -1,5 +1,6 @@
 -- A chain is read where it stands, item by item: what is so of the items that are left.
-use Rattle.std.proofs.Common.{◌≡◌, ℕ, zero, suc, ◌+◌, ◌-◌, ◌^◌, ◌<◌, ◌≤◌, min, Bool, true, false, ◌⊎◌, inr, ⊎_elim, List, [], ◌∷◌, length, take, rules, Option, Some, None, refl, sym, ap, ◌∙◌, subst, arith}
+use Rattle.std.proofs.Common.{◌≡◌, ℕ, zero, suc, ◌+◌, ◌-◌, ◌^◌, ◌<◌, ◌≤◌, min, Bool, true, false, ◌⊎◌, inr, ⊎_elim, List, [], ◌∷◌, length}
+use Rattle.std.proofs.Common.{take, rules, Option, Some, None, refl, sym, ap, ◌∙◌, subst, arith}
 use Rattle.std.specs.Prelude.{Result, Ok, Err, IfOk, slice_range}
 use Rattle.markdown_base.specs.Arena.{Arena, sibling_of, child_of}
 use Rattle.markdown_base.specs.ArenaForest.{links_of}
@@ -14,7 +15,8 @@ use Rattle.markdown_base.proofs.ArenaForestLemmas.{opens, forest_at-none}
 use Rattle.markdown_chains.specs.Above.{Above, above_cursor, inside_all, inside_item}
 use Rattle.markdown_chains.specs.ChainRest.{open_body}
 use Rattle.markdown_chains.specs.Counts.{risen}
-use Rattle.markdown_chains.specs.Document.{Plain, plain_tags, Shape, leaf, enclosed, plain, backslash_break, unresolved, is_unresolved, shape_of}
+use Rattle.markdown_chains.specs.Document.{Plain, plain_tags, Shape, leaf, enclosed, plain, backslash_break, unresolved, is_unresolved}
+use Rattle.markdown_chains.specs.Document.{shape_of}
 use Rattle.markdown_chains.specs.Places.{IsPlaced, label_at, trees_from}
 use Rattle.markdown_chains.specs.Setting.{Rules, Setting, setting_of}
 use Rattle.markdown_chains.specs.Stages.{items_from}
@@ -109,7 +111,8 @@ finds_nothing body.MaybeHtml code math html = absurd (html refl)
 finds_nothing other code math html = record { finds = λ s above a after. refl }
 
 -- nor is anything found from a label on that has the shape of such a body
-finds_in_shape : (s : Setting) (above : Above) (a : Plain) (after : Forest Plain) (tables : Tables) (source : List ℕ) (b : ItemBody) → FindsNothing b
+finds_in_shape : (s : Setting) (above : Above) (a : Plain) (after : Forest Plain) (tables : Tables) (source : List ℕ) (b : ItemBody)
+    → FindsNothing b
     → find_by s above (open_body (shape_of tables source b)) a after ≡ nothing
 finds_in_shape s above a after tables source b h = by_open (is_open b) refl
   where
@@ -131,7 +134,8 @@ unfolding read_tree
 reads_settled s above a below after none = by_quiet (is_quiet a.part.shape) refl
   where
     by_quiet : (quiet : Bool) → is_quiet a.part.shape ≡ quiet
-        → (let r : Passed (Unit {0}) = read_tree s plain_tags above 0 a below after in (r.trees ≡ settled s.text a below) × (r.goes_on ≡ None))
+        → (let r : Passed (Unit {0}) = read_tree s plain_tags above 0 a below after in (r.trees ≡ settled s.text a below)
+        × (r.goes_on ≡ None))
     by_quiet true e = rw e (refl, refl)
     by_quiet false e = rw (e, none) (refl, refl)
 
@@ -143,12 +147,14 @@ settled_reads s above ix next old new tables ready nothing_there puts =
     let item = item_at old ix in
     let a = label_at s.text tables old ix in
     let after = trees_from s.text tables old (sibling_of old ix) in
-    let none : find s above a after ≡ nothing = finds_in_shape s above a after tables (slice_range s.text item.start item.end) item.body nothing_there in
+    let none : find s above a after ≡ nothing = finds_in_shape s above a after tables (slice_range s.text item.start item.end) item.body
+    nothing_there in
     let reads = reads_settled s above a (trees_from s.text tables old (child_of old ix)) after none in
     reads_item s above ix (settled s.text) None next old new tables tables ready (record { standing = reads.0; ends = reads.1 }) puts
 
 -- where no search was made, none looked at an item
-pub looks_at_none : (failed : Bool) (visits items items' : ℕ) → visits < 2 ^ 128 → items' < items → LooksAt failed failed visits visits items items'
+pub looks_at_none : (failed : Bool) (visits items items' : ℕ) → visits < 2 ^ 128 → items' < items
+    → LooksAt failed failed visits visits items items'
 looks_at_none failed visits items items' bound fewer = record {
   more = 0;
   counted = omega arith;
@@ -158,29 +164,37 @@ looks_at_none failed visits items items' bound fewer = record {
 }
 
 -- what searches have learned of a chain holds of what is left when an item was read
-pub holds_on : (s : Setting) (above : Above) (kind : SpanKind) (learned : Learned) (ix : ℕ) (next : Option ℕ) (old new : List (Node Item)) (tables tables' : Tables)
-    → CanResolve s.text tables old (Some ix) → ReadsItem s above ix next old new tables tables' → HoldsFrom kind learned old (Some ix) → HoldsFrom kind learned new next
+pub holds_on : (s : Setting) (above : Above) (kind : SpanKind) (learned : Learned) (ix : ℕ) (next : Option ℕ) (old new : List (Node Item))
+    (tables tables' : Tables)
+    → CanResolve s.text tables old (Some ix) → ReadsItem s above ix next old new tables tables' → HoldsFrom kind learned old (Some ix)
+    → HoldsFrom kind learned new next
 holds_on s above kind learned ix next old new tables tables' ready reads h =
     reads.holds kind learned (holds_next kind learned old ix (chain_leads s.text tables old (Some ix) ready) h)
 
 -- an item was read, by the rules of the setting, unless memory was refused
-pub ok_reads : {E : Type 0} (r : Result (Option ℕ) E) (text source : List ℕ) (rules : Rules) (gfm : Bool) (tree : Arena Item) (ix : ℕ) (new : List (Node Item)) (tables tables' : Tables)
+pub ok_reads : {E : Type 0} (r : Result (Option ℕ) E) (text source : List ℕ) (rules : Rules) (gfm : Bool) (tree : Arena Item) (ix : ℕ)
+    (new : List (Node Item)) (tables tables' : Tables)
     → text ≡ source → gfm ≡ gfm_footnotes rules.options
-    → IfOk r (λ next. (rules : Rules) → gfm_footnotes rules.options ≡ gfm → ReadsItem (setting_of text rules) (above_cursor text tree) ix next tree.nodes new tables tables')
+    → IfOk r (λ next. (rules : Rules) → gfm_footnotes rules.options ≡ gfm
+    → ReadsItem (setting_of text rules) (above_cursor text tree) ix next tree.nodes new tables tables')
     → IfOk r (λ next. ReadsItem (setting_of source rules) (above_cursor source tree) ix next tree.nodes new tables tables')
 ok_reads (Ok next) text source rules gfm tree ix new tables tables' e f h =
     subst (λ (t : List ℕ). ReadsItem (setting_of t rules) (above_cursor t tree) ix next tree.nodes new tables tables') e (h rules (sym f))
 ok_reads (Err fault) text source rules gfm tree ix new tables tables' e f h = tt
 
 -- then what searches of the other kind have learned holds of what is left
-pub ok_holds : {E : Type 0} (r : Result (Option ℕ) E) (s : Setting) (above : Above) (kind : SpanKind) (learned : Learned) (ix : ℕ) (old new : List (Node Item)) (tables tables' : Tables)
-    → CanResolve s.text tables old (Some ix) → HoldsFrom kind learned old (Some ix) → IfOk r (λ next. ReadsItem s above ix next old new tables tables')
+pub ok_holds : {E : Type 0} (r : Result (Option ℕ) E) (s : Setting) (above : Above) (kind : SpanKind) (learned : Learned) (ix : ℕ)
+    (old new : List (Node Item)) (tables tables' : Tables)
+    → CanResolve s.text tables old (Some ix) → HoldsFrom kind learned old (Some ix)
+    → IfOk r (λ next. ReadsItem s above ix next old new tables tables')
     → IfOk r (λ next. HoldsFrom kind learned new next)
-ok_holds (Ok next) s above kind learned ix old new tables tables' ready h reads = holds_on s above kind learned ix next old new tables tables' ready reads h
+ok_holds (Ok next) s above kind learned ix old new tables tables' ready h reads = holds_on s above kind learned ix next old new tables
+    tables' ready reads h
 ok_holds (Err fault) s above kind learned ix old new tables tables' ready h reads = tt
 
 -- and those have looked at no item
-pub ok_looks : {E : Type 0} (r : Result (Option ℕ) E) (s : Setting) (above : Above) (failed : Bool) (visits ix : ℕ) (old new : List (Node Item)) (tables tables' : Tables)
+pub ok_looks : {E : Type 0} (r : Result (Option ℕ) E) (s : Setting) (above : Above) (failed : Bool) (visits ix : ℕ)
+    (old new : List (Node Item)) (tables tables' : Tables)
     → visits < 2 ^ 128 → IfOk r (λ next. ReadsItem s above ix next old new tables tables')
     → IfOk r (λ next. LooksAt failed failed visits visits (items_from old (Some ix)) (items_from new next))
 ok_looks (Ok next) s above failed visits ix old new tables tables' bound reads =
@@ -202,8 +216,10 @@ above_left source ix next old new tables' (n ∷ deeper) leaves above =
     )
 
 -- so the blocks above the chain do
-pub inside_left : (source : List ℕ) (ix : ℕ) (next : Option ℕ) (old new : List (Node Item)) (tables' : Tables) (spine : List ℕ) (outer : Above)
-    → LeavesRest source ix next old new tables' → AreAbove source old (Some ix) spine → inside_all new spine outer ≡ inside_all old spine outer
+pub inside_left : (source : List ℕ) (ix : ℕ) (next : Option ℕ) (old new : List (Node Item)) (tables' : Tables) (spine : List ℕ)
+    (outer : Above)
+    → LeavesRest source ix next old new tables' → AreAbove source old (Some ix) spine
+    → inside_all new spine outer ≡ inside_all old spine outer
 inside_left source ix next old new tables' [] outer leaves above = refl
 inside_left source ix next old new tables' (n ∷ deeper) outer leaves above =
     let at = above.0 in
@@ -231,7 +247,8 @@ risen_is zero old bound = omega arith
 risen_is (suc n) old bound = refl
 
 -- so it is where it has risen twice
-risen_more : (more n old now new : ℕ) → old < 2 ^ 128 → now ≡ risen more old → new ≡ min (now + n) (2 ^ 128 - 1) → new ≡ risen (more + n) old
+risen_more : (more n old now new : ℕ) → old < 2 ^ 128 → now ≡ risen more old → new ≡ min (now + n) (2 ^ 128 - 1)
+    → new ≡ risen (more + n) old
 risen_more more n old now new bound e h = omega (arith, risen_is more old bound, risen_is (more + n) old bound, e, h)
 
 -- one search more was made, or none

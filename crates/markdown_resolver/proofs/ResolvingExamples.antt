@@ -185,14 +185,16 @@ unfolding pass_one read_chain read_tree closed decided
 row_image known = refl
 
 row_destination : (known : Known)
-    → left_by_pass_one (codes "[a](`b`)") (opener 0 ∷ plain_text 1 2 ∷ closer 2 ∷ plain_text 3 4 ∷ ticks 4 1 ∷ plain_text 5 6 ∷ ticks 6 1 ∷ plain_text 7 8 ∷ []) known
+    → left_by_pass_one (codes "[a](`b`)") (opener 0 ∷ plain_text 1 2 ∷ closer 2 ∷ plain_text 3 4 ∷ ticks 4 1 ∷ plain_text 5 6 ∷ ticks 6 1
+    ∷ plain_text 7 8 ∷ []) known
     ≡ node (over 0 8 (enclosed (link (inline_to (codes "`b`"))))) (node (text_at (codes "[a](`b`)") 1 2) nil nil) nil
 unfolding pass_one read_chain read_tree closed decided
 row_destination known = refl
 
 -- but code that begins before the `]` is found before it
 row_code_in_brackets : (known : Known)
-    → left_by_pass_one (codes "[`a](b`)") (opener 0 ∷ ticks 1 1 ∷ plain_text 2 3 ∷ closer 3 ∷ plain_text 4 6 ∷ ticks 6 1 ∷ plain_text 7 8 ∷ []) known
+    → left_by_pass_one (codes "[`a](b`)") (opener 0 ∷ ticks 1 1 ∷ plain_text 2 3 ∷ closer 3 ∷ plain_text 4 6 ∷ ticks 6 1 ∷ plain_text 7 8
+    ∷ []) known
     ≡ node (text_at (codes "[`a](b`)") 0 1) nil
     (node (sliced_at (code (codes "a](b")) 1 7) nil (node (text_at (codes "[`a](b`)") 7 8) nil nil))
 unfolding pass_one read_chain read_tree replaced_past is_sliced closed decided
@@ -200,14 +202,17 @@ row_code_in_brackets known = refl
 
 -- a link holds the run inside it, which is paired when its chain is reached; one that closes outside stays open
 row_emphasis_in_link : (known : Known)
-    → resolved_below (codes "[a *b*](c)") (opener 0 ∷ plain_text 1 3 ∷ star 3 true false ∷ plain_text 4 5 ∷ star 5 false true ∷ closer 6 ∷ plain_text 7 10 ∷ []) known
+    → resolved_below (codes "[a *b*](c)") (opener 0 ∷ plain_text 1 3 ∷ star 3 true false ∷ plain_text 4 5 ∷ star 5 false true ∷ closer 6
+    ∷ plain_text 7 10 ∷ []) known
     ≡ node (over 0 10 (enclosed (link (inline_to (codes "c")))))
-    (node (text_at (codes "[a *b*](c)") 1 3) nil (node (over 3 6 (enclosed emphasis)) (node (text_at (codes "[a *b*](c)") 4 5) nil nil) nil)) nil
+    (node (text_at (codes "[a *b*](c)") 1 3) nil (node (over 3 6 (enclosed emphasis)) (node (text_at (codes "[a *b*](c)") 4 5) nil nil)
+    nil)) nil
 unfolding resolved pass_one read_chain read_tree closed decided paired runs_paired reads_from closed_by with_quotes
 row_emphasis_in_link known = refl
 
 row_run_into_link : (known : Known)
-    → resolved_below (codes "*a [b*](c)") (star 0 true false ∷ plain_text 1 3 ∷ opener 3 ∷ plain_text 4 5 ∷ star 5 false true ∷ closer 6 ∷ plain_text 7 10 ∷ []) known
+    → resolved_below (codes "*a [b*](c)") (star 0 true false ∷ plain_text 1 3 ∷ opener 3 ∷ plain_text 4 5 ∷ star 5 false true ∷ closer 6
+    ∷ plain_text 7 10 ∷ []) known
     ≡ node (text_at (codes "*a [b*](c)") 0 1) nil
     (node (text_at (codes "*a [b*](c)") 1 3) nil
     (node (over 3 10 (enclosed (link (inline_to (codes "c")))))

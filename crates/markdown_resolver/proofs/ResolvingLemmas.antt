@@ -23,7 +23,8 @@ module _ {A : Type 0} where
   made_stands a b h e closed = (closed_quiet b.part.shape closed, rw e h.1)
 
   -- a chain that waits for pairing alone is paired, and keeps what is known
-  pub resolved-quiet : (s : Setting) (tags : Tags A) (above : Above) (chain : Forest (Label A)) (known : Known) → IsQuiet chain → resolved s tags above chain known ≡ record { questions = []; forest = paired s chain; known = known }
+  pub resolved-quiet : (s : Setting) (tags : Tags A) (above : Above) (chain : Forest (Label A)) (known : Known) → IsQuiet chain
+      → resolved s tags above chain known ≡ record { questions = []; forest = paired s chain; known = known }
   unfolding resolved
   resolved-quiet s tags above chain known q = ap (then_paired s) (pass_one-stays s tags above chain known q)
 
@@ -51,7 +52,12 @@ module _ {A : Type 0} where
   -- what is quiet or settled keeps its chains
   pub IsKept-from_IsQuiet : (f : Forest (Label A)) → IsQuiet f → IsKept f
   IsKept-from_IsQuiet nil q = tt
-  IsKept-from_IsQuiet (node a below after) q = (λ h. quiet_below (node a below after) q, IsKept-from_IsQuiet below q.2, IsKept-from_IsQuiet after q.3)
+  IsKept-from_IsQuiet (node a below after) q = (
+    λ h. quiet_below (node a below after) q,
+    IsKept-from_IsQuiet below q.2,
+    IsKept-from_IsQuiet
+        after q.3,
+  )
 
   pub IsKept-from_IsSettled : (f : Forest (Label A)) → IsSettled f → IsKept f
   IsKept-from_IsSettled nil h = tt
@@ -64,14 +70,19 @@ module _ {A : Type 0} where
 
   -- so is a quiet chain once it is paired
   paired-settled : (s : Setting) (chain : Forest (Label A)) → IsQuiet chain → IsSettled (paired s chain)
-  paired-settled s chain q = settled_if_closed (paired s chain) (closed-law s chain) (paired-keeps IsQuietLabel made_stands s chain (each_quiet chain q))
+  paired-settled s chain q = settled_if_closed (paired s chain) (closed-law s chain) (paired-keeps IsQuietLabel made_stands s chain
+      (each_quiet chain q))
 
   -- and a resolved one
-  pub resolved-settled : (s : Setting) (tags : Tags A) (above : Above) (chain : Forest (Label A)) (known : Known) → IsQuietBelow chain → IsSettled (resolved s tags above chain known).forest
+  pub resolved-settled : (s : Setting) (tags : Tags A) (above : Above) (chain : Forest (Label A)) (known : Known) → IsQuietBelow chain
+      → IsSettled (resolved s tags above chain known).forest
   unfolding resolved
-  resolved-settled s tags above chain known q = paired-settled s (pass_one s tags above chain known).forest (pass_one-quiet s tags above chain known q)
+  resolved-settled s tags above chain known q = paired-settled s (pass_one s tags above chain known).forest
+      (pass_one-quiet s tags above chain known q)
 
   -- a chain whose first item is open gives an event at once, after its questions
-  pub resolved-begins : (s : Setting) (tags : Tags A) (above : Above) (a : Label A) (below after : Forest (Label A)) (known : Known) → is_unresolved a.part.shape ≡ true → Begins (resolved s tags above (node a below after) known).forest
+  pub resolved-begins : (s : Setting) (tags : Tags A) (above : Above) (a : Label A) (below after : Forest (Label A)) (known : Known)
+      → is_unresolved a.part.shape ≡ true → Begins (resolved s tags above (node a below after) known).forest
   unfolding resolved
-  resolved-begins s tags above a below after known h = pass_one-first s tags above (λ f. Begins (paired s f)) a below after known (begins-law s) h
+  resolved-begins s tags above a below after known h = pass_one-first s tags above (λ f. Begins (paired s f)) a below after known
+      (begins-law s) h

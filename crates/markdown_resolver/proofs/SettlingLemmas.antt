@@ -1,6 +1,7 @@
 -- One item of a chain at which nothing is found is settled, in one node of an arena.
 use Rattle.markdown_base.specs.declared.item.ItemBody.TheVariants as body
-use Rattle.std.proofs.Common.{◌≡◌, ℕ, zero, suc, ◌<◌, ◌≤◌, Bool, true, false, List, [], ◌∷◌, length, Option, Some, None, refl, sym, ap, ◌∙◌, arith}
+use Rattle.std.proofs.Common.{◌≡◌, ℕ, zero, suc, ◌<◌, ◌≤◌, Bool, true, false, List, [], ◌∷◌, length, Option, Some, None, refl, sym, ap, ◌∙◌}
+use Rattle.std.proofs.Common.{arith}
 use Rattle.std.specs.Prelude.{not, ◌&&◌, slice_range, IfSome}
 use Rattle.std.specs.Option.{option_map}
 use Rattle.markdown_base.specs.Arena.{Arena, child_of, sibling_of, changed_at}
@@ -16,7 +17,8 @@ use Rattle.markdown_base.specs.declared.node.Node.{Node}
 use Rattle.markdown_base.proofs.ArenaForestLemmas.{opens, forest_at-none}
 use Rattle.markdown_base.proofs.ArenaLemmas.{length-changed_at}
 use Rattle.markdown_chains.specs.ChainRest.{joined}
-use Rattle.markdown_chains.specs.Document.{Plain, Shape, leaf, enclosed, plain, backslash_break, unresolved, is_unresolved, shape_of, label_of}
+use Rattle.markdown_chains.specs.Document.{Plain, Shape, leaf, enclosed, plain, backslash_break, unresolved, is_unresolved, shape_of}
+use Rattle.markdown_chains.specs.Document.{label_of}
 use Rattle.markdown_chains.specs.ItemRules.{StandsBefore, KeepsItemRules}
 use Rattle.markdown_chains.specs.Places.{HasSlices, IsPlaced, trees_from}
 use Rattle.markdown_chains.specs.Tables.{Tables, Named, some_text, some_link, some_alignments, NamesEntries}
@@ -31,21 +33,27 @@ use Rattle.markdown_resolver.specs.Chains.{CanResolve}
 use Rattle.markdown_resolver.specs.Rewritten.{Puts, Rewrites, replaced, text_unless, settled}
 use Rattle.markdown_resolver.specs.Settling.{becomes_text, settled_if, settled_item, settled_at}
 use Rattle.markdown_resolver.proofs.ChainOrderLemmas.{leads_kept}
-use Rattle.markdown_resolver.proofs.ComposeLemmas.{Stands, stands_ready, changes_move, moves_none, HeadWritten, head_moves, after_head, below_kept, following_kept}
+use Rattle.markdown_resolver.proofs.ComposeLemmas.{Stands, stands_ready, changes_move, moves_none, HeadWritten, head_moves, after_head}
+use Rattle.markdown_resolver.proofs.ComposeLemmas.{below_kept, following_kept}
 use Rattle.markdown_resolver.proofs.NodeChangeLemmas.{changed_other, changed_here, item_again}
 use Rattle.markdown_resolver.proofs.PastByteLemmas.{tree_same}
 use Rattle.markdown_resolver.proofs.PutLemmas.{rest_same, leaves_rest, whole_put, rewrites_none, over_numbers}
 
 -- an item that is written as a Text where it becomes one is settled, and so is another as it is
 pub settled_open : (tree tree' : Arena Item) (ix : ℕ) (item : Item) → item ≡ item_at tree.nodes ix → becomes_text item.body ≡ true
-    → tree' ≡ record tree { nodes = changed_at ix (λ n. record n { item = record { start = item.start; end = item.end; body = body.Text false } }) tree.nodes }
+    → tree' ≡ record tree {
+      nodes = changed_at ix
+          (λ n. record n { item = record { start = item.start; end = item.end; body = body.Text false } }) tree.nodes;
+    }
     → tree' ≡ record tree { nodes = settled_at ix tree.nodes }
 settled_open tree tree' ix item same is made =
     let text : Item = record { start = item.start; end = item.end; body = body.Text false } in
     let e : text ≡ settled_item item = ap (λ x. let t : Item = record item { body = settled_if x item.body } in t) (sym is) in
-    made ∙ ap (λ (x : Item). let t : Arena Item = record tree { nodes = changed_at ix (λ n. record n { item = x }) tree.nodes } in t) (e ∙ ap settled_item same)
+    made ∙ ap (λ (x : Item). let t : Arena Item = record tree { nodes = changed_at ix (λ n. record n { item = x }) tree.nodes } in t) (e
+    ∙ ap settled_item same)
 
-pub settled_closed : (tree : Arena Item) (ix : ℕ) → becomes_text (item_at tree.nodes ix).body ≡ false → tree ≡ record tree { nodes = settled_at ix tree.nodes }
+pub settled_closed : (tree : Arena Item) (ix : ℕ) → becomes_text (item_at tree.nodes ix).body ≡ false
+    → tree ≡ record tree { nodes = settled_at ix tree.nodes }
 settled_closed tree ix is =
     let item = item_at tree.nodes ix in
     let e : item ≡ settled_item item = ap (λ x. let t : Item = record item { body = settled_if x item.body } in t) (sym is) in
@@ -66,7 +74,8 @@ in_table_settled : (is : Bool) (b : ItemBody) (tables : Tables) → NamesEntries
 in_table_settled true b tables h = record { text = tt; link = tt; alignments = tt; attributes = tt }
 in_table_settled false b tables h = h
 
-slices_settled : (source : List ℕ) (is : Bool) (b : ItemBody) (tables : Tables) → HasSlices source tables b → HasSlices source tables (settled_if is b)
+slices_settled : (source : List ℕ) (is : Bool) (b : ItemBody) (tables : Tables) → HasSlices source tables b
+    → HasSlices source tables (settled_if is b)
 slices_settled source true b tables h = tt
 slices_settled source false b tables h = h
 
@@ -114,19 +123,27 @@ quiet_shape tables source b = by_open (is_open b) refl
     by_open false e = closed_quiet (shape_of tables source b) (closed_shape tables source b e)
 
 -- it reads as what stands for the label of what it was, where nothing is below what becomes a Text
-reads_settled : (source : List ℕ) (tables : Tables) (item : Item) (below rest : Forest Plain) (is : Bool) → becomes_text item.body ≡ is → (is_open item.body ≡ true → below ≡ nil)
-    → node (label_of source tables (record item { body = settled_if is item.body })) below rest ≡ joined (text_unless (not is) source (label_of source tables item) below) rest
-reads_settled source tables item below rest true e childless = rw (block-open item.body (text_open item.body e), childless (text_open item.body e)) refl
+reads_settled : (source : List ℕ) (tables : Tables) (item : Item) (below rest : Forest Plain) (is : Bool) → becomes_text item.body ≡ is
+    → (is_open item.body ≡ true → below ≡ nil)
+    → node (label_of source tables (record item { body = settled_if is item.body })) below rest
+    ≡ joined (text_unless (not is) source (label_of source tables item) below) rest
+reads_settled source tables item below rest true e childless = rw (
+  block-open item.body (text_open item.body e),
+  childless
+      (text_open item.body e),
+) refl
 reads_settled source tables item below rest false e childless = refl
 
 settled_reads : (source : List ℕ) (tables : Tables) (item : Item) (below rest : Forest Plain) → (is_open item.body ≡ true → below ≡ nil)
     → node (label_of source tables (settled_item item)) below rest ≡ joined (settled source (label_of source tables item) below) rest
 settled_reads source tables item below rest childless =
     reads_settled source tables item below rest (becomes_text item.body) refl childless
-    ∙ ap (λ quiet. joined (text_unless quiet source (label_of source tables item) below) rest) (sym (quiet_shape tables (slice_range source item.start item.end) item.body))
+    ∙ ap (λ quiet. joined (text_unless quiet source (label_of source tables item) below) rest)
+    (sym (quiet_shape tables (slice_range source item.start item.end) item.body))
 
 -- the node is there
-pub node_within : (source : List ℕ) (tables : Tables) (nodes : List (Node Item)) (ix : ℕ) → CanResolve source tables nodes (Some ix) → ix < length nodes
+pub node_within : (source : List ℕ) (tables : Tables) (nodes : List (Node Item)) (ix : ℕ) → CanResolve source tables nodes (Some ix)
+    → ix < length nodes
 node_within source tables nodes ix ready = (opens (links_of nodes) (IsPlaced source tables nodes) ix ready.reaches).within
 
 -- what a settled item stands before and after, and the rules that it keeps
@@ -134,26 +151,32 @@ block_settled : (is : Bool) (b : ItemBody) → becomes_text b ≡ is → is_bloc
 block_settled true b e h = open-no-block b (text_open b e)
 block_settled false b e h = h
 
-before_settled : (a : Numbered) (nodes nodes' : List (Node Item)) (ix : ℕ) → item_at nodes' ix ≡ settled_item (item_at nodes ix) → StandsBefore a (Some (numbered nodes ix)) → StandsBefore a (Some (numbered nodes' ix))
+before_settled : (a : Numbered) (nodes nodes' : List (Node Item)) (ix : ℕ) → item_at nodes' ix ≡ settled_item (item_at nodes ix)
+    → StandsBefore a (Some (numbered nodes ix)) → StandsBefore a (Some (numbered nodes' ix))
 before_settled a nodes nodes' ix e stands = rw e (λ x y.
     let p = stands x (block_settled (becomes_text (item_at nodes ix).body) (item_at nodes ix).body refl y) in
     record { ends = p.ends; numbers = p.numbers })
 
-follows_settled : (ix : ℕ) (item : Item) (next : Option Numbered) → becomes_text item.body ≡ true → StandsBefore (record { number = ix; item = item }) next
+follows_settled : (ix : ℕ) (item : Item) (next : Option Numbered) → becomes_text item.body ≡ true
+    → StandsBefore (record { number = ix; item = item }) next
     → StandsBefore (record { number = ix; item = record item { body = body.Text false } }) next
 follows_settled ix item None e stands = tt
 follows_settled ix item (Some b) e stands = λ x y.
     let p = stands (open-no-block item.body (text_open item.body e)) y in
     record { ends = p.ends; numbers = p.numbers }
 
-keeps_settled : (source : List ℕ) (ix : ℕ) (item : Item) (child : Option ℕ) (next : Option Numbered) (is : Bool) → becomes_text item.body ≡ is
-    → KeepsItemRules source (record { number = ix; item = item }) child next → KeepsItemRules source (record { number = ix; item = record item { body = settled_if is item.body } }) child next
+keeps_settled : (source : List ℕ) (ix : ℕ) (item : Item) (child : Option ℕ) (next : Option Numbered) (is : Bool)
+    → becomes_text item.body ≡ is
+    → KeepsItemRules source (record { number = ix; item = item }) child next
+    → KeepsItemRules source (record { number = ix; item = record item { body = settled_if is item.body } }) child next
 keeps_settled source ix item child next true e h =
-    keeps-closed source (record { number = ix; item = record item { body = body.Text false } }) child next refl (follows_settled ix item next e h.in_order)
+    keeps-closed source (record { number = ix; item = record item { body = body.Text false } }) child next refl
+    (follows_settled ix item next e h.in_order)
 keeps_settled source ix item child next false e h = h
 
 -- a run that goes on at an item still does where that is settled, which changes no run's character
-goes_on_settled : (source : List ℕ) (a b : Numbered) (count : ℕ) (opens closes is : Bool) → becomes_text b.item.body ≡ is → RunGoesOn source a count opens closes (Some b)
+goes_on_settled : (source : List ℕ) (a b : Numbered) (count : ℕ) (opens closes is : Bool) → becomes_text b.item.body ≡ is
+    → RunGoesOn source a count opens closes (Some b)
     → RunGoesOn source a count opens closes (Some (record { number = b.number; item = record b.item { body = settled_if is b.item.body } }))
 goes_on_settled source a b zero opens closes is e h = h
 goes_on_settled source a b (suc zero) opens closes true e h = tt
@@ -171,7 +194,8 @@ run_settled source a b (Some c) h = record {
 }
 
 -- the node of an item is written
-head_settled : (source : List ℕ) (tables : Tables) (nodes : List (Node Item)) (ix : ℕ) → Stands source tables nodes (Some ix) → HeadWritten source ix nodes (settled_at ix nodes) tables tables
+head_settled : (source : List ℕ) (tables : Tables) (nodes : List (Node Item)) (ix : ℕ) → Stands source tables nodes (Some ix)
+    → HeadWritten source ix nodes (settled_at ix nodes) tables tables
 head_settled source tables nodes ix s =
     let o = opens (links_of nodes) (IsPlaced source tables nodes) ix s.reaches in
     let item = item_at nodes ix in
@@ -213,23 +237,29 @@ settle_puts source tables nodes ix ready =
     let whole : (rule : Forest Plain → Forest Plain) (new : List (Node Item)) (later : Tables) → Rewrites source rule l mid new tables later
     → Rewrites source (replaced (settled source) None rule) (Some ix) nodes new tables later = λ rule new later r.
     let m = changes_move source l mid new tables later r.changes in
-    let kept = below_kept source ix nodes mid new tables tables later l s h m c.child (rw c.item (weight_settled (becomes_text item.body) item.body)) in
-    let follows : StandsBefore (numbered mid ix) (option_map (numbered new) l) = r.changes.before (numbered mid ix) (rw (following, c.item) keeps.in_order) in
+    let kept = below_kept source ix nodes mid new tables tables later l s h m c.child
+    (rw c.item (weight_settled (becomes_text item.body) item.body)) in
+    let follows : StandsBefore (numbered mid ix) (option_map (numbered new) l) = r.changes.before (numbered mid ix)
+    (rw (following, c.item) keeps.in_order) in
     let goes_on = r.runs (numbered mid ix) (rw (following, c.item) keeps.runs_are_whole) in
     let hm = head_moves source ix nodes mid new tables tables later s h (rw c.next m) kept.below (rw c.next follows) (rw c.next goes_on) in
-    let none : is_open item.body ≡ true → trees_from source tables nodes (child_of nodes ix) ≡ nil = λ e. rw (o.holds.keeps.childless e, forest_at-none (links_of nodes)) refl in
+    let none : is_open item.body ≡ true → trees_from source tables nodes (child_of nodes ix)
+    ≡ nil = λ e. rw (o.holds.keeps.childless e, forest_at-none (links_of nodes)) refl in
     let rest : trees_from source later new (sibling_of mid ix) ≡ rule (trees_from source tables nodes l) =
     ap (λ (k : Option ℕ). trees_from source later new k) c.next ∙ r.rewritten ∙ ap rule a.rest.trees in
     whole_put source ix nodes mid new tables tables later (settled source) None rule ready h hm
     (λ b stands. before_settled b nodes mid ix c.item stands)
     (λ b whole. rw c.item (run_settled source b (numbered nodes ix) (run_character b.item.body) whole))
     (tree_same _ _ _ _ _ _ (ap (λ x. label_of source tables x) c.item) kept.trees rest
-    ∙ settled_reads source tables item (trees_from source tables nodes (child_of nodes ix)) (rule (trees_from source tables nodes l)) none) in
+    ∙ settled_reads source tables item (trees_from source tables nodes (child_of nodes ix)) (rule (trees_from source tables nodes l)) none)
+    in
     let all = whole (λ f. f) mid tables (rewrites_none source l mid tables a.stands) in
     record {
       whole = whole;
-      leaves = leaves_rest source ix nodes mid mid tables tables tables l None ready h (moves_none source l mid tables a.stands) a.rest.trees;
-      leads = λ low chain k. leads_kept nodes mid l (forest_at (links_of nodes) l) low chain a.after.spelled h.more (rest_same source ix nodes mid tables tables s h) k;
+      leaves = leaves_rest source ix nodes mid mid tables tables tables l None ready h (moves_none source l mid tables a.stands)
+          a.rest.trees;
+      leads = λ low chain k. leads_kept nodes mid l (forest_at (links_of nodes) l) low chain a.after.spelled h.more
+          (rest_same source ix nodes mid tables tables s h) k;
       standing = ix ∷ [];
       numbers = over_numbers source ix l mid tables all.changes.reaches c.next;
       as_many = λ x below. one_settled (is_quiet x.part.shape) source x below;

@@ -14,7 +14,9 @@ use Rattle.markdown_chains.specs.Document.{Shape, leaf, enclosed, plain, backsla
 use Rattle.markdown_chains.specs.Places.{label_at}
 use Rattle.markdown_chains.specs.Tables.{Tables}
 use Rattle.markdown_chains.proofs.PlaceLemmas.{shape-open}
-use Rattle.markdown_code.specs.Closers.{Dollar, MathClose, can_close, can_open, closed_by, closing_count, code_close, code_closer, context_of, display_close, dollar_next, first_dollar, inline_close, is_code_of, is_dollar, is_dollar_of, math_close, math_close_from, searched_for_math}
+use Rattle.markdown_code.specs.Closers.{Dollar, MathClose, can_close, can_open, closed_by, closing_count, code_close, code_closer}
+use Rattle.markdown_code.specs.Closers.{context_of, display_close, dollar_next, first_dollar, inline_close, is_code_of, is_dollar}
+use Rattle.markdown_code.specs.Closers.{is_dollar_of, math_close, math_close_from, searched_for_math}
 use Rattle.markdown_code.specs.SpanClosers.{item_in}
 use Rattle.markdown_delims.proofs.PairingLemmas.{closed_shape}
 
@@ -54,7 +56,8 @@ closes_closed : (b : ItemBody) → is_open b ≡ false → can_close b ≡ false
 closes_closed (body.MaybeMath opens closes context) h = cc h
 closes_closed other h = refl
 
-pub label_alike : (source : List ℕ) (tables : Tables) (nodes : List (Node Item)) (n : ℕ) → LooksAlike (as_item (label_at source tables nodes n)) (item_at nodes n)
+pub label_alike : (source : List ℕ) (tables : Tables) (nodes : List (Node Item)) (n : ℕ)
+    → LooksAlike (as_item (label_at source tables nodes n)) (item_at nodes n)
 label_alike source tables nodes n = by_open (is_open (item_at nodes n).body) refl
   where
     by_open : (x : Bool) → is_open (item_at nodes n).body ≡ x → LooksAlike (as_item (label_at source tables nodes n)) (item_at nodes n)
@@ -92,21 +95,25 @@ shown_close g m = record { display = m.display; closer = g m.closer; last = g m.
 abbrev pub shown_dollar : {A : Type 0} → (ℕ → A) → Dollar ℕ → Dollar A
 shown_dollar g d = record { dollar = g d.dollar; after = map g d.after }
 
-module _ {A : Type 0} (item_of : A → Item) (g : ℕ → A) (nodes : List (Node Item)) (alike : (n : ℕ) → LooksAlike (item_of (g n)) (item_at nodes n)) where
+module _ {A : Type 0} (item_of : A → Item) (g : ℕ → A) (nodes : List (Node Item)) (alike : (n : ℕ)
+    → LooksAlike (item_of (g n)) (item_at nodes n)) where
   -- code
   code_closer_shown : (n : ℕ) (xs : List ℕ) → code_closer item_of n (map g xs) ≡ option_map g (code_closer (item_at nodes) n xs)
   code_closer_shown n [] = refl
-  code_closer_shown n (x ∷ after) = by (is_code_of n (item_of (g x)).body) (is_code_of n (item_at nodes x).body) ((alike x).code n) (code_closer_shown n after)
+  code_closer_shown n (x ∷ after) = by (is_code_of n (item_of (g x)).body) (is_code_of n (item_at nodes x).body) ((alike x).code n)
+      (code_closer_shown n after)
     where
       by : (b b' : Bool) → b ≡ b' → code_closer item_of n (map g after) ≡ option_map g (code_closer (item_at nodes) n after)
-          → (if b then Some (g x) else code_closer item_of n (map g after)) ≡ option_map g (if b' then Some x else code_closer (item_at nodes) n after)
+          → (if b then Some (g x) else code_closer item_of n (map g after))
+          ≡ option_map g (if b' then Some x else code_closer (item_at nodes) n after)
       by true true e h = refl
       by true false e h = cc e
       by false true e h = cc e
       by false false e h = h
 
   pub code_close_shown : (count : ℕ) (escaped : Bool) (xs : List ℕ)
-      → code_close item_of (body.MaybeCode count escaped) (map g xs) ≡ option_map g (code_close (item_at nodes) (body.MaybeCode count escaped) xs)
+      → code_close item_of (body.MaybeCode count escaped) (map g xs)
+      ≡ option_map g (code_close (item_at nodes) (body.MaybeCode count escaped) xs)
   code_close_shown count escaped xs = by (closing_count count escaped == 0)
     where
       by : (b : Bool) → (if b then None else code_closer item_of (closing_count count escaped) (map g xs))
@@ -125,33 +132,41 @@ module _ {A : Type 0} (item_of : A → Item) (g : ℕ → A) (nodes : List (Node
       by false true e = cc e
       by false false e = refl
 
-  pub first_dollar_shown : (context : ℕ) (xs : List ℕ) → first_dollar item_of context (map g xs) ≡ option_map (shown_dollar g) (first_dollar (item_at nodes) context xs)
+  pub first_dollar_shown : (context : ℕ) (xs : List ℕ) → first_dollar item_of context (map g xs)
+      ≡ option_map (shown_dollar g) (first_dollar (item_at nodes) context xs)
   first_dollar_shown context [] = refl
-  first_dollar_shown context (x ∷ after) = by (is_dollar_of context (item_of (g x)).body) (is_dollar_of context (item_at nodes x).body) ((alike x).context context) (first_dollar_shown context after)
+  first_dollar_shown context (x ∷ after) = by (is_dollar_of context (item_of (g x)).body) (is_dollar_of context (item_at nodes x).body)
+      ((alike x).context context) (first_dollar_shown context after)
     where
-      by : (b b' : Bool) → b ≡ b' → first_dollar item_of context (map g after) ≡ option_map (shown_dollar g) (first_dollar (item_at nodes) context after)
+      by : (b b' : Bool) → b ≡ b' → first_dollar item_of context (map g after)
+          ≡ option_map (shown_dollar g) (first_dollar (item_at nodes) context after)
           → (if b then Some (record { dollar = g x; after = map g after }) else first_dollar item_of context (map g after))
-          ≡ option_map (shown_dollar g) (if b' then Some (record { dollar = x; after = after }) else first_dollar (item_at nodes) context after)
+          ≡ option_map (shown_dollar g) (if b' then Some (record { dollar = x; after = after }) else first_dollar (item_at nodes) context
+          after)
       by true true e h = refl
       by true false e h = cc e
       by false true e h = cc e
       by false false e h = h
 
-  inline_shown : (opener_end : ℕ) (d : Option (Dollar ℕ)) → inline_close item_of opener_end (option_map (shown_dollar g) d) ≡ option_map (shown_close g) (inline_close (item_at nodes) opener_end d)
+  inline_shown : (opener_end : ℕ) (d : Option (Dollar ℕ)) → inline_close item_of opener_end (option_map (shown_dollar g) d)
+      ≡ option_map (shown_close g) (inline_close (item_at nodes) opener_end d)
   inline_shown opener_end None = refl
   inline_shown opener_end (Some d) =
-      rw ((alike d.dollar).closes, (alike d.dollar).start) (by (can_close (item_at nodes d.dollar).body && not (opener_end == (item_at nodes d.dollar).start)))
+      rw ((alike d.dollar).closes, (alike d.dollar).start) (by (can_close (item_at nodes d.dollar).body
+      && not (opener_end == (item_at nodes d.dollar).start)))
     where
       by : (b : Bool) → (if b then Some (record { display = false; closer = g d.dollar; last = g d.dollar }) else None)
           ≡ option_map (shown_close g) (if b then Some (record { display = false; closer = d.dollar; last = d.dollar }) else None)
       by true = refl
       by false = refl
 
-  closed_by_shown : (closer : ℕ) (last : Option ℕ) → closed_by (g closer) (option_map g last) ≡ option_map (shown_close g) (closed_by closer last)
+  closed_by_shown : (closer : ℕ) (last : Option ℕ) → closed_by (g closer) (option_map g last)
+      ≡ option_map (shown_close g) (closed_by closer last)
   closed_by_shown closer None = refl
   closed_by_shown closer (Some last) = refl
 
-  display_shown : (d : Option (Dollar ℕ)) → display_close item_of (option_map (shown_dollar g) d) ≡ option_map (shown_close g) (display_close (item_at nodes) d)
+  display_shown : (d : Option (Dollar ℕ)) → display_close item_of (option_map (shown_dollar g) d)
+      ≡ option_map (shown_close g) (display_close (item_at nodes) d)
   display_shown None = refl
   display_shown (Some d) = rw (dollar_next_shown d.after) (closed_by_shown d.dollar (dollar_next (item_at nodes) d.after))
 
@@ -173,15 +188,20 @@ module _ {A : Type 0} (item_of : A → Item) (g : ℕ → A) (nodes : List (Node
     | Some second ↦ display_close (item_at nodes) (first_dollar (item_at nodes) context (drop 1 xs))
     | None ↦ inline_close (item_at nodes) opener_end (first_dollar (item_at nodes) context xs)
   ])
-  math_by_shown opener_end context xs None = ap (inline_close item_of opener_end) (first_dollar_shown context xs) ∙ inline_shown opener_end (first_dollar (item_at nodes) context xs)
+  math_by_shown opener_end context xs None = ap (inline_close item_of opener_end) (first_dollar_shown context xs)
+      ∙ inline_shown opener_end (first_dollar (item_at nodes) context xs)
   math_by_shown opener_end context xs (Some second) =
       ap (λ after. display_close item_of (first_dollar item_of context after)) (drop_shown xs)
-      ∙ ap (display_close item_of) (first_dollar_shown context (drop 1 xs)) ∙ display_shown (first_dollar (item_at nodes) context (drop 1 xs))
+      ∙ ap (display_close item_of) (first_dollar_shown context (drop 1 xs))
+      ∙ display_shown (first_dollar (item_at nodes) context (drop 1 xs))
 
-  math_shown : (opener_end context : ℕ) (xs : List ℕ) → math_close item_of opener_end context (map g xs) ≡ option_map (shown_close g) (math_close (item_at nodes) opener_end context xs)
-  math_shown opener_end context xs = rw (dollar_next_shown xs, math_close) (math_by_shown opener_end context xs (dollar_next (item_at nodes) xs))
+  math_shown : (opener_end context : ℕ) (xs : List ℕ) → math_close item_of opener_end context (map g xs)
+      ≡ option_map (shown_close g) (math_close (item_at nodes) opener_end context xs)
+  math_shown opener_end context xs = rw (dollar_next_shown xs, math_close)
+      (math_by_shown opener_end context xs (dollar_next (item_at nodes) xs))
 
-  pub math_from_shown : (opener : Item) (xs : List ℕ) → math_close_from item_of opener (map g xs) ≡ option_map (shown_close g) (math_close_from (item_at nodes) opener xs)
+  pub math_from_shown : (opener : Item) (xs : List ℕ) → math_close_from item_of opener (map g xs)
+      ≡ option_map (shown_close g) (math_close_from (item_at nodes) opener xs)
   math_from_shown opener xs = by (can_open opener.body)
     where
       by : (b : Bool) → (if b then math_close item_of opener.end (context_of opener.body) (map g xs) else None)
@@ -203,22 +223,30 @@ pub record CodeCloses (nodes : List (Node Item)) (xs : List ℕ) (n x : ℕ) : T
   pub among : StandsAmong xs x
   pub is_code : is_code_of n (item_at nodes x).body ≡ true
 
-code_closer_among : (nodes : List (Node Item)) (n : ℕ) (xs : List ℕ) (x : ℕ) → code_closer (item_at nodes) n xs ≡ Some x → CodeCloses nodes xs n x
+code_closer_among : (nodes : List (Node Item)) (n : ℕ) (xs : List ℕ) (x : ℕ) → code_closer (item_at nodes) n xs ≡ Some x
+    → CodeCloses nodes xs n x
 code_closer_among nodes n [] x e = cc e
 code_closer_among nodes n (y ∷ xs) x e = by (is_code_of n (item_at nodes y).body) refl (code_closer_among nodes n xs x)
   where
-    by : (b : Bool) → is_code_of n (item_at nodes y).body ≡ b → (code_closer (item_at nodes) n xs ≡ Some x → CodeCloses nodes xs n x) → CodeCloses nodes (y ∷ xs) n x
+    by : (b : Bool) → is_code_of n (item_at nodes y).body ≡ b → (code_closer (item_at nodes) n xs ≡ Some x → CodeCloses nodes xs n x)
+        → CodeCloses nodes (y ∷ xs) n x
     by true is later =
         let same : y ≡ x = let found = rw is at e in cc in
-        record { among = record { before = []; after = xs; parts = ap (λ z. z ∷ xs) same }; is_code = ap (λ z. is_code_of n (item_at nodes z).body) (sym same) ∙ is }
+        record {
+          among = record { before = []; after = xs; parts = ap (λ z. z ∷ xs) same };
+          is_code =
+              ap (λ z. is_code_of n (item_at nodes z).body) (sym same) ∙ is;
+        }
     by false is later =
         let there = later (rw is at e) in
         record { among = stands_later y xs x there.among; is_code = there.is_code }
 
-pub code_close_among : (nodes : List (Node Item)) (count : ℕ) (escaped : Bool) (xs : List ℕ) (x : ℕ) → code_close (item_at nodes) (body.MaybeCode count escaped) xs ≡ Some x
+pub code_close_among : (nodes : List (Node Item)) (count : ℕ) (escaped : Bool) (xs : List ℕ) (x : ℕ)
+    → code_close (item_at nodes) (body.MaybeCode count escaped) xs ≡ Some x
     → ((closing_count count escaped == 0) ≡ false) × CodeCloses nodes xs (closing_count count escaped) x
 code_close_among nodes count escaped xs x e = by (closing_count count escaped == 0) refl
   where
-    by : (b : Bool) → (closing_count count escaped == 0) ≡ b → ((closing_count count escaped == 0) ≡ false) × CodeCloses nodes xs (closing_count count escaped) x
+    by : (b : Bool) → (closing_count count escaped == 0) ≡ b → ((closing_count count escaped == 0) ≡ false)
+        × CodeCloses nodes xs (closing_count count escaped) x
     by true is = let none = rw is at e in cc
     by false is = (is, code_closer_among nodes (closing_count count escaped) xs x (rw is at e))

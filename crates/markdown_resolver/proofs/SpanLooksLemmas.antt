@@ -1,5 +1,6 @@
 -- How many items a search of a chain looks at, where the chain is read on past what it found.
-use Rattle.std.proofs.Common.{◌≡◌, ℕ, suc, ◌+◌, ◌≤◌, Bool, true, false, not, ◌==◌, List, ◌∷◌, ◌++◌, map, length, Option, Some, None, refl, sym, ap, ◌∙◌, arith, subst}
+use Rattle.std.proofs.Common.{◌≡◌, ℕ, suc, ◌+◌, ◌≤◌, Bool, true, false, not, ◌==◌, List, ◌∷◌, ◌++◌, map, length, Option, Some, None, refl}
+use Rattle.std.proofs.Common.{sym, ap, ◌∙◌, arith, subst}
 use Rattle.std.specs.Prelude.{if◌then◌else◌, is_some}
 use Rattle.std.specs.Option.{option_map}
 use Rattle.std.proofs.lemmas.List.{length-map, map-append}
@@ -10,8 +11,10 @@ use Rattle.markdown_base.specs.declared.item.ItemBody.TheVariants as body
 use Rattle.markdown_base.specs.declared.node.Node.{Node}
 use Rattle.markdown_chains.specs.Stages.{items_from}
 use Rattle.markdown_chains.specs.Tables.{Tables}
-use Rattle.markdown_code.specs.Closers.{Dollar, can_open, closing_count, code_close, context_of, first_dollar, looked_for_code, looked_for_code_close, looked_for_math_from, math_close_from, opens_code, searched_for_math}
-use Rattle.markdown_code.specs.SpanClosers.{ClosesCode, ClosesMath, Learned, LooksForCode, LooksForMath, RisesBy, failed_by_now, has_failed, item_in, unless_failed}
+use Rattle.markdown_code.specs.Closers.{Dollar, can_open, closing_count, code_close, context_of, first_dollar, looked_for_code}
+use Rattle.markdown_code.specs.Closers.{looked_for_code_close, looked_for_math_from, math_close_from, opens_code, searched_for_math}
+use Rattle.markdown_code.specs.SpanClosers.{ClosesCode, ClosesMath, Learned, LooksForCode, LooksForMath, RisesBy, failed_by_now, has_failed}
+use Rattle.markdown_code.specs.SpanClosers.{item_in, unless_failed}
 use Rattle.markdown_code.specs.declared.span_closers.FoundMath.{FoundMath}
 use Rattle.markdown_code.proofs.VisitLemmas.{code_visit_law, math_visit_law}
 use Rattle.markdown_resolver.specs.Chains.{CanResolve}
@@ -20,10 +23,12 @@ use Rattle.markdown_resolver.specs.ReadsItem.{LooksAt}
 use Rattle.markdown_resolver.proofs.FollowersLemmas.{InOrder, fewer_left, followers, items_led, opens_chain}
 use Rattle.markdown_resolver.proofs.CodeSpanLemmas.{closed_code, closes_by_number}
 use Rattle.markdown_resolver.proofs.MathSpanLemmas.{MathStands, close_of, math_by_number, stands_of}
-use Rattle.markdown_resolver.proofs.SpanFindLemmas.{StandsAmong, code_close_shown, first_dollar_shown, math_from_shown, number_alike, searched_shown, shown_close, shown_dollar}
+use Rattle.markdown_resolver.proofs.SpanFindLemmas.{StandsAmong, code_close_shown, first_dollar_shown, math_from_shown, number_alike}
+use Rattle.markdown_resolver.proofs.SpanFindLemmas.{searched_shown, shown_close, shown_dollar}
 
 -- a search looks at no more items than there are; at none without an opener; and where it finds, at none past what is left
-pub looks_at : (learned : Learned) (after searched found : Bool) (looked old new items items' : ℕ) → RisesBy (unless_failed learned looked) old new
+pub looks_at : (learned : Learned) (after searched found : Bool) (looked old new items items' : ℕ)
+    → RisesBy (unless_failed learned looked) old new
     → after ≡ failed_by_now learned searched found → looked ≤ items → items' ≤ items → (searched ≡ false → looked ≡ 0)
     → (found ≡ true → looked + items' ≤ items) → LooksAt (has_failed learned) after old new items items'
 looks_at None after searched found looked old new items items' rises failed within fewer unless past = record {
@@ -47,8 +52,10 @@ looks_at (Some known) after searched found looked old new items items' rises fai
 }
 
 -- how many items are left of a chain
-pub items_put : (source : List ℕ) (ix : ℕ) (trees : Standing) (goes_on next : Option ℕ) (old new : List (Node Item)) (tables tables' : Tables) → CanResolve source tables old (Some ix)
-    → Puts source ix trees goes_on next old new tables tables' → items_from new next ≡ length (numbered_past goes_on (map (numbered old) (followers old ix)))
+pub items_put : (source : List ℕ) (ix : ℕ) (trees : Standing) (goes_on next : Option ℕ) (old new : List (Node Item))
+    (tables tables' : Tables) → CanResolve source tables old (Some ix)
+    → Puts source ix trees goes_on next old new tables tables'
+    → items_from new next ≡ length (numbered_past goes_on (map (numbered old) (followers old ix)))
 items_put source ix trees goes_on next old new tables tables' ready puts =
     let o = opens_chain source tables old ix ready in
     let chain = map (numbered old) (followers old ix) in
@@ -64,7 +71,8 @@ unless_code (body.MaybeCode count escaped) chain h = by (closing_count count esc
 unless_code other chain h = refl
 
 -- where nothing closes code
-pub nothing_looks : (source : List ℕ) (tables tables' : Tables) (old new : List (Node Item)) (ix : ℕ) (trees : Standing) (next : Option ℕ) (learned after : Learned) (visits visits' : ℕ)
+pub nothing_looks : (source : List ℕ) (tables tables' : Tables) (old new : List (Node Item)) (ix : ℕ) (trees : Standing) (next : Option ℕ)
+    (learned after : Learned) (visits visits' : ℕ)
     → CanResolve source tables old (Some ix) → LooksForCode learned old ix visits visits'
     → has_failed after ≡ failed_by_now learned (opens_code (item_at old ix).body) false
     → Puts source ix trees None next old new tables tables'
@@ -76,7 +84,8 @@ nothing_looks source tables tables' old new ix trees next learned after visits v
     let size = length-map (followers old ix) (numbered old) in
     let left = items_put source ix trees None next old new tables tables' ready puts in
     let within = code_visit_law.within (item_at old ix).body chain in
-    looks_at learned (has_failed after) (opens_code (item_at old ix).body) false looked visits visits' (items_from old (Some ix)) (items_from new next)
+    looks_at learned (has_failed after) (opens_code (item_at old ix).body) false looked visits visits' (items_from old (Some ix))
+    (items_from new next)
     (counted (suc ix) chain o.leads) failed (omega (arith, within, size, o.items)) (omega (arith, left, size, o.items))
     (unless_code (item_at old ix).body chain) (λ found. cc found)
 
@@ -88,17 +97,21 @@ up_to_closer nodes count escaped xs x among closes =
     let b = body.MaybeCode count escaped in
     let before = map (numbered nodes) among.before in
     let later = map (numbered nodes) among.after in
-    let parts : map (numbered nodes) xs ≡ before ++ numbered nodes x ∷ later = ap (map (numbered nodes)) among.parts ∙ map-append (numbered nodes) among.before (x ∷ among.after) in
+    let parts : map (numbered nodes) xs ≡ before ++ numbered nodes x ∷ later = ap (map (numbered nodes)) among.parts
+    ∙ map-append (numbered nodes) among.before (x ∷ among.after) in
     let found : code_close item_in b (before ++ numbered nodes x ∷ later) ≡ Some (numbered nodes x) =
-    ap (code_close item_in b) (sym parts) ∙ code_close_shown item_in (numbered nodes) nodes (number_alike nodes) count escaped xs ∙ ap (option_map (numbered nodes)) closes in
+    ap (code_close item_in b) (sym parts) ∙ code_close_shown item_in (numbered nodes) nodes (number_alike nodes) count escaped xs
+    ∙ ap (option_map (numbered nodes)) closes in
     let law = code_visit_law.before b before later (numbered nodes x) found in
     let size = length-map xs (numbered nodes) in
     let rest = length-map among.after (numbered nodes) in
     let all = ap length parts in
     rw parts (omega (arith, law, size, rest, all))
 
-pub code_looks : (source : List ℕ) (tables tables' : Tables) (old new : List (Node Item)) (ix x count : ℕ) (escaped : Bool) (trees : Standing) (next : Option ℕ) (learned after : Learned) (visits visits' : ℕ)
-    → CanResolve source tables old (Some ix) → (item_at old ix).body ≡ body.MaybeCode count escaped → ClosesCode old ix (Some x) → LooksForCode learned old ix visits visits'
+pub code_looks : (source : List ℕ) (tables tables' : Tables) (old new : List (Node Item)) (ix x count : ℕ) (escaped : Bool)
+    (trees : Standing) (next : Option ℕ) (learned after : Learned) (visits visits' : ℕ)
+    → CanResolve source tables old (Some ix) → (item_at old ix).body ≡ body.MaybeCode count escaped → ClosesCode old ix (Some x)
+    → LooksForCode learned old ix visits visits'
     → has_failed after ≡ failed_by_now learned (opens_code (item_at old ix).body) true
     → Puts source ix trees (Some (item_at old x).end) next old new tables tables'
     → LooksAt (has_failed learned) (has_failed after) visits visits' (items_from old (Some ix)) (items_from new next)
@@ -110,15 +123,18 @@ code_looks source tables tables' old new ix x count escaped trees next learned a
     let there = (closed_code source tables old ix x count escaped ready is closes).1 in
     let among = there.among in
     let looked = looked_for_code_close item_in (item_at old ix).body chain in
-    let ordered : InOrder old (item_at old ix).end (among.before ++ x ∷ among.after) = subst (InOrder old (item_at old ix).end) among.parts o.ordered in
-    let left : items_from new next ≡ length (numbered_past (Some end) chain) = items_put source ix trees (Some end) next old new tables tables' ready puts in
+    let ordered : InOrder old (item_at old ix).end (among.before ++ x ∷ among.after) = subst (InOrder old (item_at old ix).end) among.parts
+    o.ordered in
+    let left : items_from new next ≡ length (numbered_past (Some end) chain) = items_put source ix trees (Some end) next old new tables
+    tables' ready puts in
     let fewer : length (numbered_past (Some end) chain) ≤ length among.after =
     subst (λ (xs : List ℕ). length (numbered_past (Some end) (map (numbered old) xs)) ≤ length among.after) (sym among.parts)
     (fewer_left old (item_at old ix).end end among.before x among.after ordered (omega arith)) in
     let up_to : looked + length among.after ≤ length xs =
     subst (λ (b : ItemBody). looked_for_code_close item_in b chain + length among.after ≤ length xs) (sym is)
     (up_to_closer old count escaped xs x among (closes_by_number source tables old ix count escaped (Some x) ready is closes)) in
-    looks_at learned (has_failed after) (opens_code (item_at old ix).body) true looked visits visits' (items_from old (Some ix)) (items_from new next)
+    looks_at learned (has_failed after) (opens_code (item_at old ix).body) true looked visits visits' (items_from old (Some ix))
+    (items_from new next)
     (counted (suc ix) chain o.leads) failed (omega (arith, up_to, o.items)) (omega (arith, up_to, left, fewer, o.items))
     (unless_code (item_at old ix).body chain) (λ found. omega (arith, up_to, left, fewer, o.items))
 
@@ -127,7 +143,8 @@ unless_math : (opener : Item) (chain : List Numbered) → can_open opener.body �
 unless_math opener chain h = rw h refl
 
 -- where nothing closes math
-pub no_math_looks : (source : List ℕ) (tables tables' : Tables) (old new : List (Node Item)) (ix : ℕ) (trees : Standing) (next : Option ℕ) (learned after : Learned) (visits visits' : ℕ)
+pub no_math_looks : (source : List ℕ) (tables tables' : Tables) (old new : List (Node Item)) (ix : ℕ) (trees : Standing) (next : Option ℕ)
+    (learned after : Learned) (visits visits' : ℕ)
     → CanResolve source tables old (Some ix) → LooksForMath learned old ix visits visits'
     → has_failed after ≡ failed_by_now learned (can_open (item_at old ix).body) false
     → Puts source ix trees None next old new tables tables'
@@ -139,12 +156,14 @@ no_math_looks source tables tables' old new ix trees next learned after visits v
     let size = length-map (followers old ix) (numbered old) in
     let left = items_put source ix trees None next old new tables tables' ready puts in
     let within = math_visit_law.within (item_at old ix) chain in
-    looks_at learned (has_failed after) (can_open (item_at old ix).body) false looked visits visits' (items_from old (Some ix)) (items_from new next)
+    looks_at learned (has_failed after) (can_open (item_at old ix).body) false looked visits visits' (items_from old (Some ix))
+    (items_from new next)
     (counted (suc ix) chain o.leads) failed (omega (arith, within, size, o.items)) (omega (arith, left, size, o.items))
     (unless_math (item_at old ix) chain) (λ found. cc found)
 
 -- and where something does
-up_to_dollar : (nodes : List (Node Item)) (opener : Item) (xs : List ℕ) (m : FoundMath) → math_close_from (item_at nodes) opener xs ≡ Some (close_of m)
+up_to_dollar : (nodes : List (Node Item)) (opener : Item) (xs : List ℕ) (m : FoundMath) → math_close_from (item_at nodes) opener xs
+    ≡ Some (close_of m)
     → (stands : MathStands nodes opener.end (context_of opener.body) xs m)
     → looked_for_math_from item_in opener (map (numbered nodes) xs) + length stands.after ≤ length xs
 up_to_dollar nodes opener xs m closes stands =
@@ -152,7 +171,8 @@ up_to_dollar nodes opener xs m closes stands =
     let context = context_of opener.body in
     let d : Dollar Numbered = record { dollar = numbered nodes m.closer; after = map (numbered nodes) stands.after } in
     let found : is_some (math_close_from item_in opener chain) ≡ true =
-    ap is_some (math_from_shown item_in (numbered nodes) nodes (number_alike nodes) opener xs ∙ ap (option_map (shown_close (numbered nodes))) closes) in
+    ap is_some (math_from_shown item_in (numbered nodes) nodes (number_alike nodes) opener xs
+    ∙ ap (option_map (shown_close (numbered nodes))) closes) in
     let first : first_dollar item_in context (searched_for_math item_in chain) ≡ Some d =
     ap (first_dollar item_in context) (searched_shown item_in (numbered nodes) nodes (number_alike nodes) xs)
     ∙ first_dollar_shown item_in (numbered nodes) nodes (number_alike nodes) context (searched_for_math (item_at nodes) xs)
@@ -160,7 +180,8 @@ up_to_dollar nodes opener xs m closes stands =
     let law = math_visit_law.before opener chain d found first in
     omega (arith, law, length-map xs (numbered nodes), length-map stands.after (numbered nodes))
 
-pub math_looks : (source : List ℕ) (tables tables' : Tables) (old new : List (Node Item)) (ix : ℕ) (m : FoundMath) (trees : Standing) (next : Option ℕ) (learned after : Learned) (visits visits' : ℕ)
+pub math_looks : (source : List ℕ) (tables tables' : Tables) (old new : List (Node Item)) (ix : ℕ) (m : FoundMath) (trees : Standing)
+    (next : Option ℕ) (learned after : Learned) (visits visits' : ℕ)
     → CanResolve source tables old (Some ix) → ClosesMath old ix (Some m) → LooksForMath learned old ix visits visits'
     → has_failed after ≡ failed_by_now learned (can_open (item_at old ix).body) true
     → Puts source ix trees (Some (item_at old m.last).end) next old new tables tables'
@@ -172,12 +193,15 @@ math_looks source tables tables' old new ix m trees next learned after visits vi
     let end = (item_at old m.last).end in
     let there = stands_of source tables old ix m ready closes in
     let looked = looked_for_math_from item_in (item_at old ix) chain in
-    let ordered : InOrder old (item_at old ix).end (there.before ++ m.closer ∷ there.after) = subst (InOrder old (item_at old ix).end) there.parts o.ordered in
-    let left : items_from new next ≡ length (numbered_past (Some end) chain) = items_put source ix trees (Some end) next old new tables tables' ready puts in
+    let ordered : InOrder old (item_at old ix).end (there.before ++ m.closer ∷ there.after) = subst (InOrder old (item_at old ix).end)
+    there.parts o.ordered in
+    let left : items_from new next ≡ length (numbered_past (Some end) chain) = items_put source ix trees (Some end) next old new tables
+    tables' ready puts in
     let fewer : length (numbered_past (Some end) chain) ≤ length there.after =
     subst (λ (xs : List ℕ). length (numbered_past (Some end) (map (numbered old) xs)) ≤ length there.after) (sym there.parts)
     (fewer_left old (item_at old ix).end end there.before m.closer there.after ordered there.to_last) in
     let up_to = up_to_dollar old (item_at old ix) xs m (math_by_number source tables old ix (Some m) ready closes) there in
-    looks_at learned (has_failed after) (can_open (item_at old ix).body) true looked visits visits' (items_from old (Some ix)) (items_from new next)
+    looks_at learned (has_failed after) (can_open (item_at old ix).body) true looked visits visits' (items_from old (Some ix))
+    (items_from new next)
     (counted (suc ix) chain o.leads) failed (omega (arith, up_to, o.items)) (omega (arith, up_to, left, fewer, o.items))
     (unless_math (item_at old ix) chain) (λ found. omega (arith, up_to, left, fewer, o.items))

@@ -37,7 +37,8 @@ relabelled_as_many g (node a below after) = ap suc (relabelled_as_many g after)
 first_so : {A : Type 0} (k : ℕ) (x y : Forest A) → k ≡ length (roots x) → first_trees k (joined x y) ≡ x
 first_so k x y e = rw e (first_joined x y)
 
-past_so : {A : Type 0} (k : ℕ) (x : Forest A) (b : A) (under y : Forest A) → k ≡ length (roots x) → trees_past (suc k) (joined x (node b under y)) ≡ y
+past_so : {A : Type 0} (k : ℕ) (x : Forest A) (b : A) (under y : Forest A) → k ≡ length (roots x)
+    → trees_past (suc k) (joined x (node b under y)) ≡ y
 past_so k nil b under y e = rw e refl
 past_so k (node a below after) b under y e = rw e (past_so (length (roots after)) after b under y refl)
 
@@ -45,13 +46,17 @@ past_so k (node a below after) b under y e = rw e (past_so (length (roots after)
 pub record OpensNumbered (source : List ℕ) (tables : Tables) (nodes : List (Node Item)) (ix : ℕ) : Type 0 where
   pub within : ix < length nodes
   pub placed : IsPlaced source tables nodes ix
-  pub forest : forest_at (links_of nodes) (Some ix) ≡ node ix (forest_at (links_of nodes) (child_of nodes ix)) (forest_at (links_of nodes) (sibling_of nodes ix))
-  pub numbered : numbered_from source tables nodes (Some ix) ≡ node (numbered_label source tables nodes ix) (numbered_from source tables nodes (child_of nodes ix))
+  pub forest : forest_at (links_of nodes) (Some ix) ≡ node ix (forest_at (links_of nodes) (child_of nodes ix))
+      (forest_at (links_of nodes) (sibling_of nodes ix))
+  pub numbered : numbered_from source tables nodes (Some ix) ≡ node (numbered_label source tables nodes ix)
+      (numbered_from source tables nodes (child_of nodes ix))
       (numbered_from source tables nodes (sibling_of nodes ix))
-  pub trees : trees_from source tables nodes (Some ix) ≡ node (label_at source tables nodes ix) (trees_from source tables nodes (child_of nodes ix))
+  pub trees : trees_from source tables nodes (Some ix) ≡ node (label_at source tables nodes ix)
+      (trees_from source tables nodes (child_of nodes ix))
       (trees_from source tables nodes (sibling_of nodes ix))
 
-pub opens_numbered : (source : List ℕ) (tables : Tables) (nodes : List (Node Item)) (ix : ℕ) → CanResolve source tables nodes (Some ix) → OpensNumbered source tables nodes ix
+pub opens_numbered : (source : List ℕ) (tables : Tables) (nodes : List (Node Item)) (ix : ℕ) → CanResolve source tables nodes (Some ix)
+    → OpensNumbered source tables nodes ix
 opens_numbered source tables nodes ix ready =
     let o = opens (links_of nodes) (IsPlaced source tables nodes) ix ready.reaches in
     record {
@@ -65,10 +70,14 @@ opens_numbered source tables nodes ix ready =
 -- what stands from an opener on
 pub record InsideOf (source : List ℕ) (tables : Tables) (nodes : List (Node Item)) (closer : ℕ) (o : Split ℕ) : Type 0 where
   pub label_is : o.opener ≡ numbered_label source tables nodes o.opener.tag
-  pub follows : roots (forest_at (links_of nodes) (sibling_of nodes o.opener.tag)) ≡ inside_numbers o ++ closer ∷ roots (forest_at (links_of nodes) (sibling_of nodes closer))
-  pub numbered : numbered_from source tables nodes (sibling_of nodes o.opener.tag) ≡ joined (inside o) (numbered_from source tables nodes (Some closer))
-  pub inside_is : first_trees (length (inside_numbers o)) (trees_from source tables nodes (sibling_of nodes o.opener.tag)) ≡ without_numbers (inside o)
-  pub behind_is : trees_past (suc (length (inside_numbers o))) (trees_from source tables nodes (sibling_of nodes o.opener.tag)) ≡ trees_from source tables nodes (sibling_of nodes closer)
+  pub follows : roots (forest_at (links_of nodes) (sibling_of nodes o.opener.tag)) ≡ inside_numbers o
+      ++ closer ∷ roots (forest_at (links_of nodes) (sibling_of nodes closer))
+  pub numbered : numbered_from source tables nodes (sibling_of nodes o.opener.tag)
+      ≡ joined (inside o) (numbered_from source tables nodes (Some closer))
+  pub inside_is : first_trees (length (inside_numbers o)) (trees_from source tables nodes (sibling_of nodes o.opener.tag))
+      ≡ without_numbers (inside o)
+  pub behind_is : trees_past (suc (length (inside_numbers o))) (trees_from source tables nodes (sibling_of nodes o.opener.tag))
+      ≡ trees_from source tables nodes (sibling_of nodes closer)
 
 node_label : {A : Type 0} (a b : A) (x y u v : Forest A) → node a x y ≡ node b u v → a ≡ b
 node_label a b x y u v e = cc
@@ -76,35 +85,45 @@ node_label a b x y u v e = cc
 node_after : {A : Type 0} (a b : A) (x y u v : Forest A) → node a x y ≡ node b u v → y ≡ v
 node_after a b x y u v e = cc
 
-pub inside_of : (source : List ℕ) (tables : Tables) (nodes : List (Node Item)) (closer : ℕ) (o : Split ℕ) → CanResolve source tables nodes (Some o.opener.tag)
+pub inside_of : (source : List ℕ) (tables : Tables) (nodes : List (Node Item)) (closer : ℕ) (o : Split ℕ)
+    → CanResolve source tables nodes (Some o.opener.tag)
     → CanResolve source tables nodes (Some closer)
-    → numbered_from source tables nodes (Some o.opener.tag) ≡ node o.opener nil (trees_onto o.after (numbered_from source tables nodes (Some closer))) → InsideOf source tables nodes closer o
+    → numbered_from source tables nodes (Some o.opener.tag)
+    ≡ node o.opener nil (trees_onto o.after (numbered_from source tables nodes (Some closer))) → InsideOf source tables nodes closer o
 inside_of source tables nodes closer o ready ready' is =
     let first = opens_numbered source tables nodes o.opener.tag ready in
     let last = opens_numbered source tables nodes closer ready' in
     let next = sibling_of nodes o.opener.tag in
     let rest = numbered_from source tables nodes (Some closer) in
-    let whole : node (numbered_label source tables nodes o.opener.tag) (numbered_from source tables nodes (child_of nodes o.opener.tag)) (numbered_from source tables nodes next)
+    let whole : node (numbered_label source tables nodes o.opener.tag) (numbered_from source tables nodes (child_of nodes o.opener.tag))
+    (numbered_from source tables nodes next)
     ≡ node o.opener nil (trees_onto o.after rest) = sym first.numbered ∙ is in
-    let numbered : numbered_from source tables nodes next ≡ joined (inside o) rest = node_after _ _ _ _ _ _ whole ∙ onto_split o.after rest in
+    let numbered : numbered_from source tables nodes next ≡ joined (inside o) rest = node_after _ _ _ _ _ _ whole ∙ onto_split o.after rest
+    in
     let at = forest_at (links_of nodes) (Some closer) in
     let numbers : forest_at (links_of nodes) next ≡ joined (numbers_of (inside o)) at =
-    sym (numbers_are source tables nodes (forest_at (links_of nodes) next)) ∙ ap numbers_of numbered ∙ relabelled_joined (λ (a : Label ℕ). a.tag) (inside o) rest
+    sym (numbers_are source tables nodes (forest_at (links_of nodes) next)) ∙ ap numbers_of numbered
+    ∙ relabelled_joined (λ (a : Label ℕ). a.tag) (inside o) rest
     ∙ ap (joined (numbers_of (inside o))) (numbers_are source tables nodes at) in
     let untagged : Label ℕ → Plain = λ a. record { tag = tt; part = a.part } in
     let within : Forest Plain = without_numbers (inside o) in
     let reads : trees_from source tables nodes next ≡ joined within (trees_from source tables nodes (Some closer)) =
-    sym (plain_from source tables nodes next) ∙ ap without_numbers numbered ∙ relabelled_joined untagged (inside o) rest ∙ ap (joined within) (plain_from source tables nodes (Some closer)) in
-    let opened : trees_from source tables nodes next ≡ joined within (node (label_at source tables nodes closer) (trees_from source tables nodes (child_of nodes closer))
+    sym (plain_from source tables nodes next) ∙ ap without_numbers numbered ∙ relabelled_joined untagged (inside o) rest
+    ∙ ap (joined within) (plain_from source tables nodes (Some closer)) in
+    let opened : trees_from source tables nodes next
+    ≡ joined within (node (label_at source tables nodes closer) (trees_from source tables nodes (child_of nodes closer))
     (trees_from source tables nodes (sibling_of nodes closer))) =
     reads ∙ ap (joined within) last.trees in
-    let many : length (inside_numbers o) ≡ length (roots within) = relabelled_as_many (λ (a : Label ℕ). a.tag) (inside o) ∙ sym (relabelled_as_many untagged (inside o)) in
+    let many : length (inside_numbers o) ≡ length (roots within) = relabelled_as_many (λ (a : Label ℕ). a.tag) (inside o)
+    ∙ sym (relabelled_as_many untagged (inside o)) in
     record {
       label_is = sym (node_label _ _ _ _ _ _ whole);
       follows = ap roots numbers ∙ roots_joined (numbers_of (inside o)) at ∙ ap (λ (f : Forest ℕ). inside_numbers o ++ roots f) last.forest;
       numbered = numbered;
-      inside_is = ap (first_trees (length (inside_numbers o))) reads ∙ first_so (length (inside_numbers o)) within (trees_from source tables nodes (Some closer)) many;
+      inside_is = ap (first_trees (length (inside_numbers o))) reads ∙ first_so (length (inside_numbers o)) within
+          (trees_from source tables nodes (Some closer)) many;
       behind_is = ap (trees_past (suc (length (inside_numbers o)))) opened
-          ∙ past_so (length (inside_numbers o)) within (label_at source tables nodes closer) (trees_from source tables nodes (child_of nodes closer))
+          ∙ past_so (length (inside_numbers o)) within (label_at source tables nodes closer)
+          (trees_from source tables nodes (child_of nodes closer))
           (trees_from source tables nodes (sibling_of nodes closer)) many;
     }

@@ -1,5 +1,6 @@
 -- A left list that stands in an arena: what is left of the chain, one of its openers, other marks, and the numbers along it.
-use Rattle.std.proofs.Common.{◌≡◌, ℕ, zero, suc, ◌<◌, Bool, true, false, List, [], ◌∷◌, length, Option, Some, None, refl, sym, ap, ◌∙◌, subst, arith}
+use Rattle.std.proofs.Common.{◌≡◌, ℕ, zero, suc, ◌<◌, Bool, true, false, List, [], ◌∷◌, length, Option, Some, None, refl, sym, ap, ◌∙◌}
+use Rattle.std.proofs.Common.{subst, arith}
 use Rattle.std.specs.Prelude.{if◌then◌else◌}
 use Rattle.markdown_base.specs.Arena.{child_of, sibling_of}
 use Rattle.markdown_base.specs.ArenaForest.{Links, links_of, followed, forest_at}
@@ -10,7 +11,8 @@ use Rattle.markdown_base.proofs.ArenaForestLemmas.{opens, forest_at-none}
 use Rattle.markdown_brackets.specs.ChainHeld.{numbers_of}
 use Rattle.markdown_brackets.specs.Decides.{EachOpener}
 use Rattle.markdown_brackets.specs.Finish.{IsSplit}
-use Rattle.markdown_brackets.specs.LeftList.{Mark, Entry, done, waits, Split, on_marks, second_folded, before_link, before_wikilink, before_footnote, disabled_mark, without_bracket, without_wikilink, change_nearest, trees_onto}
+use Rattle.markdown_brackets.specs.LeftList.{Mark, Entry, done, waits, Split, on_marks, second_folded, before_link, before_wikilink}
+use Rattle.markdown_brackets.specs.LeftList.{before_footnote, disabled_mark, without_bracket, without_wikilink, change_nearest, trees_onto}
 use Rattle.markdown_brackets.specs.Openers.{Waiting}
 use Rattle.markdown_brackets.proofs.OpenerHeldLemmas.{trees_stay}
 use Rattle.markdown_chains.specs.ChainRest.{joined}
@@ -22,8 +24,11 @@ use Rattle.markdown_resolver.specs.Chains.{AreAbove, CanResolve, ChangesChain}
 use Rattle.markdown_resolver.specs.Kept.{IsQuiet, IsQuietBelow}
 use Rattle.markdown_resolver.specs.PutsTrees.{numbered_from, numbered_label, without_numbers}
 use Rattle.markdown_resolver.specs.ReadOn.{AreHeld, EachWaits, IsOpener, StandsTo}
-use Rattle.markdown_resolver.proofs.ComposeLemmas.{Stands, stands_ready, Moves, changes_move, moves_change, moves_none, moves_twice, first_leaves}
-use Rattle.markdown_resolver.proofs.LeftTreesLemmas.{onto_split, quiet_first, below_second, below_tagged, below_untagged, waits_here, onto_appended, marked_trees, marked_waits, folded_trees, folded_waits, each_bracket, each_wikilink}
+use Rattle.markdown_resolver.proofs.ComposeLemmas.{Stands, stands_ready, Moves, changes_move, moves_change, moves_none, moves_twice}
+use Rattle.markdown_resolver.proofs.ComposeLemmas.{first_leaves}
+use Rattle.markdown_resolver.proofs.LeftTreesLemmas.{onto_split, quiet_first, below_second, below_tagged, below_untagged, waits_here}
+use Rattle.markdown_resolver.proofs.LeftTreesLemmas.{onto_appended, marked_trees, marked_waits, folded_trees, folded_waits, each_bracket}
+use Rattle.markdown_resolver.proofs.LeftTreesLemmas.{each_wikilink}
 
 -- where there are nodes, a link leads to its own node first
 first_followed : (n : ℕ) (k : Links) (l : Option ℕ) → 0 < n → first_root (followed n k l) ≡ l
@@ -41,7 +46,8 @@ module _ (source : List ℕ) (tables : Tables) (nodes : List (Node Item)) where
   numbers_are nil = refl
   numbers_are (node ix below after) = rw (numbers_are below, numbers_are after) refl
 
-  pub plain_are : (f : Forest ℕ) → without_numbers (relabelled (numbered_label source tables nodes) f) ≡ relabelled (label_at source tables nodes) f
+  pub plain_are : (f : Forest ℕ) → without_numbers (relabelled (numbered_label source tables nodes) f)
+      ≡ relabelled (label_at source tables nodes) f
   plain_are nil = refl
   plain_are (node ix below after) = rw (plain_are below, plain_are after) refl
 
@@ -55,7 +61,8 @@ module _ (source : List ℕ) (tables : Tables) (nodes : List (Node Item)) where
   -- a chain opens at its first node
   pub numbered_opens : (ix : ℕ) → Stands source tables nodes (Some ix)
       → numbered_from source tables nodes (Some ix)
-      ≡ node (numbered_label source tables nodes ix) (numbered_from source tables nodes (child_of nodes ix)) (numbered_from source tables nodes (sibling_of nodes ix))
+      ≡ node (numbered_label source tables nodes ix) (numbered_from source tables nodes (child_of nodes ix))
+      (numbered_from source tables nodes (sibling_of nodes ix))
   numbered_opens ix s = rw (opens (links_of nodes) (IsPlaced source tables nodes) ix s.reaches).here refl
 
   pub numbered_none : numbered_from source tables nodes None ≡ nil
@@ -67,14 +74,16 @@ module _ (source : List ℕ) (tables : Tables) (nodes : List (Node Item)) where
     pub moves : Moves source l link nodes nodes tables tables
     pub trees : numbered_from source tables nodes link ≡ rest
 
-  pub leads : (head rest : Forest (Label ℕ)) (l : Option ℕ) → Stands source tables nodes l → numbered_from source tables nodes l ≡ joined head rest → Leads l rest
+  pub leads : (head rest : Forest (Label ℕ)) (l : Option ℕ) → Stands source tables nodes l → numbered_from source tables nodes l
+      ≡ joined head rest → Leads l rest
   leads nil rest l s e = record { link = l; moves = moves_none source l nodes tables s; trees = e }
   leads (node a below after) rest None s e =
       let q : nil ≡ node a below (joined after rest) = sym numbered_none ∙ e in
       absurd (cc q)
   leads (node a below after) rest (Some ix) s e =
       let first = first_leaves source ix nodes tables s in
-      let q : node (numbered_label source tables nodes ix) (numbered_from source tables nodes (child_of nodes ix)) (numbered_from source tables nodes (sibling_of nodes ix))
+      let q : node (numbered_label source tables nodes ix) (numbered_from source tables nodes (child_of nodes ix))
+      (numbered_from source tables nodes (sibling_of nodes ix))
       ≡ node a below (joined after rest) = sym (numbered_opens ix s) ∙ e in
       let r = leads after rest (sibling_of nodes ix) first.stands (cc q) in
       record {
@@ -87,14 +96,17 @@ module _ (source : List ℕ) (tables : Tables) (nodes : List (Node Item)) where
   pub quiet_numbered : (l : Option ℕ) → IsQuietBelow (trees_from source tables nodes l) → IsQuietBelow (numbered_from source tables nodes l)
   quiet_numbered l h =
       let f = forest_at (links_of nodes) l in
-      below_untagged (λ n. tt) (numbered_from source tables nodes l) (subst (λ (g : Forest (Label (Unit {0}))). IsQuietBelow g) (sym (plain_are f)) h)
+      below_untagged (λ n. tt) (numbered_from source tables nodes l) (subst (λ (g : Forest (Label (Unit {0}))). IsQuietBelow g)
+      (sym (plain_are f)) h)
 
   pub quiet_plain : (l : Option ℕ) → IsQuietBelow (numbered_from source tables nodes l) → IsQuietBelow (trees_from source tables nodes l)
   quiet_plain l h =
       let f = forest_at (links_of nodes) l in
-      subst (λ (g : Forest (Label (Unit {0}))). IsQuietBelow g) (plain_are f) (below_tagged (λ n. tt) (numbered_from source tables nodes l) h)
+      subst (λ (g : Forest (Label (Unit {0}))). IsQuietBelow g) (plain_are f) (below_tagged (λ n. tt) (numbered_from source tables nodes l)
+      h)
 
-  pub stands_from : (first : ℕ) (at : Option ℕ) (left : List (Entry ℕ)) → StandsTo source tables nodes first at left → Stands source tables nodes (Some first)
+  pub stands_from : (first : ℕ) (at : Option ℕ) (left : List (Entry ℕ)) → StandsTo source tables nodes first at left
+      → Stands source tables nodes (Some first)
   stands_from first at left h = stands_ready source tables nodes (Some first) h.ready
 
   pub some_nodes : (first : ℕ) (at : Option ℕ) (left : List (Entry ℕ)) → StandsTo source tables nodes first at left → 0 < length nodes
@@ -117,11 +129,13 @@ module _ (source : List ℕ) (tables : Tables) (nodes : List (Node Item)) where
       record {
         whole = whole;
         moves = subst (λ (l : Option ℕ). Moves source (Some first) l nodes nodes tables tables) link r.moves;
-        quiet_below = below_second (trees_onto left nil) later (subst (λ (g : Forest (Label ℕ)). IsQuietBelow g) whole (quiet_numbered (Some first) h.ready.quiet_below));
+        quiet_below = below_second (trees_onto left nil) later (subst (λ (g : Forest (Label ℕ)). IsQuietBelow g) whole
+            (quiet_numbered (Some first) h.ready.quiet_below));
       }
 
 -- what is left of a chain may be read
-pub stands_rest : (source : List ℕ) (tables : Tables) (nodes : List (Node Item)) (first : ℕ) (at : Option ℕ) (left : List (Entry ℕ)) → StandsTo source tables nodes first at left
+pub stands_rest : (source : List ℕ) (tables : Tables) (nodes : List (Node Item)) (first : ℕ) (at : Option ℕ) (left : List (Entry ℕ))
+    → StandsTo source tables nodes first at left
     → CanResolve source tables nodes at
 stands_rest source tables nodes first at left h =
     let r = rest_of source tables nodes first at left h in
@@ -133,7 +147,8 @@ stands_rest source tables nodes first at left h =
     }
 
 -- nodes above a chain are above what is left of it
-above_moved : (source : List ℕ) (l l' : Option ℕ) (old new : List (Node Item)) (tables tables' : Tables) (spine : List ℕ) → Moves source l l' old new tables tables'
+above_moved : (source : List ℕ) (l l' : Option ℕ) (old new : List (Node Item)) (tables tables' : Tables) (spine : List ℕ)
+    → Moves source l l' old new tables tables'
     → AreAbove source old l spine → AreAbove source new l' spine
 above_moved source l l' old new tables tables' [] m above = tt
 above_moved source l l' old new tables tables' (n ∷ deeper) m above =
@@ -146,30 +161,37 @@ above_moved source l l' old new tables tables' (n ∷ deeper) m above =
       above_moved source l l' old new tables tables' deeper m above.1,
     )
 
-pub above_rest : (source : List ℕ) (tables : Tables) (nodes : List (Node Item)) (first : ℕ) (at : Option ℕ) (left : List (Entry ℕ)) (spine : List ℕ) → StandsTo source tables nodes first at left
+pub above_rest : (source : List ℕ) (tables : Tables) (nodes : List (Node Item)) (first : ℕ) (at : Option ℕ) (left : List (Entry ℕ))
+    (spine : List ℕ) → StandsTo source tables nodes first at left
     → AreAbove source nodes (Some first) spine → AreAbove source nodes at spine
 above_rest source tables nodes first at left spine h above =
     above_moved source (Some first) at nodes nodes tables tables spine (rest_of source tables nodes first at left h).moves above
 
 -- and above a chain that was changed where it stands
-pub above_changed : (source : List ℕ) (l : Option ℕ) (old new : List (Node Item)) (tables tables' : Tables) (spine : List ℕ) → ChangesChain source l old new tables tables'
+pub above_changed : (source : List ℕ) (l : Option ℕ) (old new : List (Node Item)) (tables tables' : Tables) (spine : List ℕ)
+    → ChangesChain source l old new tables tables'
     → AreAbove source old l spine → AreAbove source new l spine
-above_changed source l old new tables tables' spine c above = above_moved source l l old new tables tables' spine (changes_move source l old new tables tables' c) above
+above_changed source l old new tables tables' spine c above = above_moved source l l old new tables tables' spine
+    (changes_move source l old new tables tables' c) above
 
 -- one change of a chain, and then another
-pub changes_twice : (source : List ℕ) (l : Option ℕ) (a b c : List (Node Item)) (t u v : Tables) → ChangesChain source l a b t u → ChangesChain source l b c u v → ChangesChain source l a c t v
+pub changes_twice : (source : List ℕ) (l : Option ℕ) (a b c : List (Node Item)) (t u v : Tables) → ChangesChain source l a b t u
+    → ChangesChain source l b c u v → ChangesChain source l a c t v
 changes_twice source l a b c t u v p q =
-    moves_change source l a c t v (moves_twice source l l l a b c t u v (changes_move source l a b t u p) (changes_move source l b c u v q)) (λ x stands. q.before x (p.before x stands))
+    moves_change source l a c t v (moves_twice source l l l a b c t u v (changes_move source l a b t u p) (changes_move source l b c u v q))
+    (λ x stands. q.before x (p.before x stands))
 
 -- a left list at one of its openers: it stands up to that, and from there on the opener, what is after it and the rest
 pub record AtOpener (source : List ℕ) (tables : Tables) (nodes : List (Node Item)) (first : ℕ) (at : Option ℕ) (o : Split ℕ) : Type 0 where
   pub stands : StandsTo source tables nodes first (Some o.opener.tag) o.before
-  pub trees : numbered_from source tables nodes (Some o.opener.tag) ≡ node o.opener nil (trees_onto o.after (numbered_from source tables nodes at))
+  pub trees : numbered_from source tables nodes (Some o.opener.tag)
+      ≡ node o.opener nil (trees_onto o.after (numbered_from source tables nodes at))
   pub opener : IsOpener source nodes o.opener.tag
   pub label : numbered_label source tables nodes o.opener.tag ≡ o.opener
   pub ready : CanResolve source tables nodes (Some o.opener.tag)
 
-pub stands_at_opener : (source : List ℕ) (tables : Tables) (nodes : List (Node Item)) (first : ℕ) (at : Option ℕ) (left : List (Entry ℕ)) (o : Split ℕ)
+pub stands_at_opener : (source : List ℕ) (tables : Tables) (nodes : List (Node Item)) (first : ℕ) (at : Option ℕ) (left : List (Entry ℕ))
+    (o : Split ℕ)
     → StandsTo source tables nodes first at left → IsSplit left o → AtOpener source tables nodes first at o
 stands_at_opener source tables nodes first at left o h split =
     let later = numbered_from source tables nodes at in
@@ -177,16 +199,20 @@ stands_at_opener source tables nodes first at left o h split =
     let onto : (f : Forest (Label ℕ)) → trees_onto left f ≡ trees_onto o.before (node o.opener nil (trees_onto o.after f)) =
     λ f. ap (λ (l : List (Entry ℕ)). trees_onto l f) split.left_is ∙ onto_appended split.after_then o.before split.mark_then o.opener f
     ∙ ap (λ (g : Forest (Label ℕ)). trees_onto o.before (node o.opener nil g)) (split.same_trees f) in
-    let whole : numbered_from source tables nodes (Some first) ≡ joined (trees_onto o.before nil) rest = h.stands ∙ onto later ∙ onto_split o.before rest in
+    let whole : numbered_from source tables nodes (Some first) ≡ joined (trees_onto o.before nil) rest = h.stands ∙ onto later
+    ∙ onto_split o.before rest in
     let r = leads source tables nodes (trees_onto o.before nil) rest (Some first) (stands_from source tables nodes first at left h) whole in
     let here = link_is r.link r.moves.stands r.trees in
-    let waiting = waits_here (IsOpener source nodes) split.after_then o.before split.mark_then o.opener (subst (λ (l : List (Entry ℕ)). EachWaits (IsOpener source nodes) l) split.left_is h.waiting) in
-    let trees : numbered_from source tables nodes (Some o.opener.tag) ≡ rest = subst (λ (l : Option ℕ). numbered_from source tables nodes l ≡ rest) here.0 r.trees in
+    let waiting = waits_here (IsOpener source nodes) split.after_then o.before split.mark_then o.opener
+    (subst (λ (l : List (Entry ℕ)). EachWaits (IsOpener source nodes) l) split.left_is h.waiting) in
+    let trees : numbered_from source tables nodes (Some o.opener.tag) ≡ rest = subst (λ (l : Option ℕ). numbered_from source tables nodes l
+    ≡ rest) here.0 r.trees in
     let stands : StandsTo source tables nodes first (Some o.opener.tag) o.before = record {
       ready = h.ready;
       stands = h.stands ∙ onto later ∙ ap (λ (g : Forest (Label ℕ)). trees_onto o.before g) (sym trees);
       quiet = quiet_first (trees_onto o.before nil) (node o.opener nil (trees_onto o.after nil))
-          (subst (λ (g : Forest (Label ℕ)). IsQuiet g) (onto nil ∙ onto_split o.before (node o.opener nil (trees_onto o.after nil))) h.quiet);
+          (subst (λ (g : Forest (Label ℕ)). IsQuiet g) (onto nil ∙ onto_split o.before (node o.opener nil (trees_onto o.after nil)))
+          h.quiet);
       waiting = waiting.1;
     } in
     record {
@@ -197,10 +223,12 @@ stands_at_opener source tables nodes first at left o h split =
       ready = stands_rest source tables nodes first (Some o.opener.tag) o.before stands;
     }
   where
-    link_is : (l : Option ℕ) → Stands source tables nodes l → numbered_from source tables nodes l ≡ node o.opener nil (trees_onto o.after (numbered_from source tables nodes at))
+    link_is : (l : Option ℕ) → Stands source tables nodes l → numbered_from source tables nodes l
+        ≡ node o.opener nil (trees_onto o.after (numbered_from source tables nodes at))
         → (l ≡ Some o.opener.tag) × (numbered_label source tables nodes o.opener.tag ≡ o.opener)
     link_is None s e =
-        let q : nil ≡ node o.opener nil (trees_onto o.after (numbered_from source tables nodes at)) = sym (numbered_none source tables nodes) ∙ e in
+        let q : nil ≡ node o.opener nil (trees_onto o.after (numbered_from source tables nodes at)) =
+        sym (numbered_none source tables nodes) ∙ e in
         absurd (cc q)
     link_is (Some ix) s e =
         let q = sym (numbered_opens source tables nodes ix s) ∙ e in
@@ -210,7 +238,8 @@ stands_at_opener source tables nodes first at left o h split =
 
 -- a left list with the same trees, and no other openers, stands where the first does
 pub marks_stand : (source : List ℕ) (tables : Tables) (nodes : List (Node Item)) (first : ℕ) (at : Option ℕ) (left left' : List (Entry ℕ))
-    → ((later : Forest (Label ℕ)) → trees_onto left' later ≡ trees_onto left later) → (EachWaits (IsOpener source nodes) left → EachWaits (IsOpener source nodes) left')
+    → ((later : Forest (Label ℕ)) → trees_onto left' later ≡ trees_onto left later) → (EachWaits (IsOpener source nodes) left
+    → EachWaits (IsOpener source nodes) left')
     → StandsTo source tables nodes first at left → StandsTo source tables nodes first at left'
 marks_stand source tables nodes first at left left' same waiting h = record {
   ready = h.ready;
@@ -221,7 +250,8 @@ marks_stand source tables nodes first at left left' same waiting h = record {
 
 -- so does one before a finished link or image, before a wikilink, before a footnote reference, and one with a mark of its own at
 -- the nearest opener
-pub link_trees : (is_image : Bool) (left : List (Entry ℕ)) (later : Forest (Label ℕ)) → trees_onto (before_link is_image left) later ≡ trees_onto left later
+pub link_trees : (is_image : Bool) (left : List (Entry ℕ)) (later : Forest (Label ℕ)) → trees_onto (before_link is_image left) later
+    ≡ trees_onto left later
 link_trees true left later = folded_trees left later
 link_trees false left later = marked_trees disabled_mark (second_folded left) later ∙ folded_trees left later
 
@@ -241,38 +271,51 @@ footnote_trees left later = marked_trees without_bracket (second_folded left) la
 pub footnote_waits : (p : ℕ → Type 0) (left : List (Entry ℕ)) → EachWaits p left → EachWaits p (before_footnote left)
 footnote_waits p left h = marked_waits p without_bracket (second_folded left) (folded_waits p left h)
 
-pub taken_waits : (p : ℕ → Type 0) (test : Mark → Bool) (f : Mark → Mark) (left : List (Entry ℕ)) → EachWaits p left → EachWaits p (change_nearest test f left)
+pub taken_waits : (p : ℕ → Type 0) (test : Mark → Bool) (f : Mark → Mark) (left : List (Entry ℕ)) → EachWaits p left
+    → EachWaits p (change_nearest test f left)
 taken_waits p test f [] h = h
 taken_waits p test f (done a below ∷ left) h = taken_waits p test f left h
 taken_waits p test f (waits m a ∷ left) h = by (test m) (taken_waits p test f left h.1)
   where
-    by : (b : Bool) → EachWaits p (change_nearest test f left) → EachWaits p (if b then waits (f m) a ∷ left else waits m a ∷ change_nearest test f left)
+    by : (b : Bool) → EachWaits p (change_nearest test f left)
+        → EachWaits p (if b then waits (f m) a ∷ left else waits m a ∷ change_nearest test f left)
     by true later = h
     by false later = (h.0, later)
 
-module _ (source : List ℕ) (tables : Tables) (nodes : List (Node Item)) (first : ℕ) (at : Option ℕ) (left : List (Entry ℕ)) (h : StandsTo source tables nodes first at left) where
+module _ (source : List ℕ) (tables : Tables) (nodes : List (Node Item)) (first : ℕ) (at : Option ℕ) (left : List (Entry ℕ))
+    (h : StandsTo source tables nodes first at left) where
   pub link_stands : (is_image : Bool) → StandsTo source tables nodes first at (before_link is_image left)
-  link_stands is_image = marks_stand source tables nodes first at left (before_link is_image left) (link_trees is_image left) (link_waits (IsOpener source nodes) is_image left) h
+  link_stands is_image = marks_stand source tables nodes first at left (before_link is_image left) (link_trees is_image left)
+      (link_waits (IsOpener source nodes) is_image left) h
 
   pub wikilink_stands : StandsTo source tables nodes first at (before_wikilink left)
-  wikilink_stands = marks_stand source tables nodes first at left (before_wikilink left) (wikilink_trees left) (wikilink_waits (IsOpener source nodes) left) h
+  wikilink_stands = marks_stand source tables nodes first at left (before_wikilink left) (wikilink_trees left)
+      (wikilink_waits (IsOpener source nodes) left) h
 
   pub footnote_stands : StandsTo source tables nodes first at (before_footnote left)
-  footnote_stands = marks_stand source tables nodes first at left (before_footnote left) (footnote_trees left) (footnote_waits (IsOpener source nodes) left) h
+  footnote_stands = marks_stand source tables nodes first at left (before_footnote left) (footnote_trees left)
+      (footnote_waits (IsOpener source nodes) left) h
 
   pub marked_stands : (f : Mark → Mark) → StandsTo source tables nodes first at (on_marks f left)
-  marked_stands f = marks_stand source tables nodes first at left (on_marks f left) (marked_trees f left) (marked_waits (IsOpener source nodes) f left) h
+  marked_stands f = marks_stand source tables nodes first at left (on_marks f left) (marked_trees f left)
+      (marked_waits (IsOpener source nodes) f left) h
 
   pub folded_stands : StandsTo source tables nodes first at (second_folded left)
-  folded_stands = marks_stand source tables nodes first at left (second_folded left) (folded_trees left) (folded_waits (IsOpener source nodes) left) h
+  folded_stands = marks_stand source tables nodes first at left (second_folded left) (folded_trees left)
+      (folded_waits (IsOpener source nodes) left) h
 
   pub taken_stands : (test : Mark → Bool) (f : Mark → Mark) → StandsTo source tables nodes first at (change_nearest test f left)
-  taken_stands test f = marks_stand source tables nodes first at left (change_nearest test f left) (trees_stay test f left) (taken_waits (IsOpener source nodes) test f left) h
+  taken_stands test f = marks_stand source tables nodes first at left (change_nearest test f left) (trees_stay test f left)
+      (taken_waits (IsOpener source nodes) test f left) h
 
 -- what stacks hold of a left list that stands there are openers
-pub held_each : (source : List ℕ) (tables : Tables) (nodes : List (Node Item)) (first : ℕ) (at : Option ℕ) (left : List (Entry ℕ)) (brackets wikilinks : List Waiting)
-    → StandsTo source tables nodes first at left → AreHeld brackets wikilinks left → EachOpener (IsOpener source nodes) brackets × EachOpener (IsOpener source nodes) wikilinks
+pub held_each : (source : List ℕ) (tables : Tables) (nodes : List (Node Item)) (first : ℕ) (at : Option ℕ) (left : List (Entry ℕ))
+    (brackets wikilinks : List Waiting)
+    → StandsTo source tables nodes first at left → AreHeld brackets wikilinks left → EachOpener (IsOpener source nodes) brackets
+    × EachOpener (IsOpener source nodes) wikilinks
 held_each source tables nodes first at left brackets wikilinks h held = (
-  subst (λ (w : List Waiting). EachOpener (IsOpener source nodes) w) (sym held.brackets_are) (each_bracket (IsOpener source nodes) left h.waiting),
-  subst (λ (w : List Waiting). EachOpener (IsOpener source nodes) w) (sym held.wikilinks_are) (each_wikilink (IsOpener source nodes) left h.waiting),
+  subst (λ (w : List Waiting). EachOpener (IsOpener source nodes) w) (sym held.brackets_are) (each_bracket (IsOpener source nodes) left
+      h.waiting),
+  subst (λ (w : List Waiting). EachOpener (IsOpener source nodes) w) (sym held.wikilinks_are) (each_wikilink (IsOpener source nodes) left
+      h.waiting),
 )

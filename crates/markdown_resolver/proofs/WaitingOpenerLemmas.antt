@@ -1,6 +1,7 @@
 -- An opener of a left list that stands in an arena may be tried at the `]` behind that: the chain from it on may be read, it
 -- stands before the `]`, and what is read of the text lies between characters.
-use Rattle.std.proofs.Common.{◌≡◌, ℕ, ◌<◌, ◌≤◌, Bool, true, false, ◌==◌, List, [], ◌∷◌, ◌++◌, Option, Some, None, refl, sym, ap, ◌∙◌, subst, append_assoc, nat_lt, arith}
+use Rattle.std.proofs.Common.{◌≡◌, ℕ, ◌<◌, ◌≤◌, Bool, true, false, ◌==◌, List, [], ◌∷◌, ◌++◌, Option, Some, None, refl, sym, ap, ◌∙◌, subst}
+use Rattle.std.proofs.Common.{append_assoc, nat_lt, arith}
 use Rattle.std.specs.Prelude.{⊤, IfSome, if◌then◌else◌}
 use Rattle.std.specs.Option.{option_and_then}
 use Rattle.std.specs.Str.{IsCharBoundary}
@@ -43,13 +44,15 @@ roots_joined nil g = refl
 roots_joined (node a below after) g = ap (λ (l : List ℕ). a ∷ l) (roots_joined after g)
 
 -- it is there where the left list is at it
-at_opener : (source : List ℕ) (tables : Tables) (nodes : List (Node Item)) (first closer : ℕ) (o : Split ℕ) → CanResolve source tables nodes (Some closer) → AtOpener source tables nodes first (Some closer) o
+at_opener : (source : List ℕ) (tables : Tables) (nodes : List (Node Item)) (first closer : ℕ) (o : Split ℕ)
+    → CanResolve source tables nodes (Some closer) → AtOpener source tables nodes first (Some closer) o
     → StandsOpen source tables nodes closer o.opener.tag
 at_opener source tables nodes first closer o closes at =
     let n = o.opener.tag in
     let later = numbered_from source tables nodes (Some closer) in
     let opened = opens_chain source tables nodes n at.ready in
-    let here : node (numbered_label source tables nodes n) (numbered_from source tables nodes (child_of nodes n)) (numbered_from source tables nodes (sibling_of nodes n)) ≡ node o.opener nil (trees_onto o.after later) =
+    let here : node (numbered_label source tables nodes n) (numbered_from source tables nodes (child_of nodes n))
+    (numbered_from source tables nodes (sibling_of nodes n)) ≡ node o.opener nil (trees_onto o.after later) =
     sym (numbered_opens source tables nodes n (stands_ready source tables nodes (Some n) at.ready)) ∙ at.trees in
     let rest : numbered_from source tables nodes (sibling_of nodes n) ≡ trees_onto o.after later = cc here in
     let f = forest_at (links_of nodes) (sibling_of nodes n) in
@@ -57,28 +60,35 @@ at_opener source tables nodes first closer o closes at =
     let c = numbered_opens source tables nodes closer (stands_ready source tables nodes (Some closer) closes) in
     let after = numbers_of (numbered_from source tables nodes (sibling_of nodes closer)) in
     let follows : roots f ≡ roots inside ++ closer ∷ roots after =
-    ap (λ (g : Forest ℕ). roots g) (sym (numbers_are source tables nodes f) ∙ ap (λ (g : Forest (Label ℕ)). numbers_of g) (rest ∙ onto_split o.after later) ∙ relabelled_joined (λ a. a.tag) (trees_onto o.after nil) later)
+    ap (λ (g : Forest ℕ). roots g) (sym (numbers_are source tables nodes f) ∙ ap (λ (g : Forest (Label ℕ)). numbers_of g) (rest
+    ∙ onto_split o.after later) ∙ relabelled_joined (λ a. a.tag) (trees_onto o.after nil) later)
     ∙ roots_joined inside (numbers_of later) ∙ ap (λ (g : Forest (Label ℕ)). roots inside ++ roots (numbers_of g)) c in
     record {
       opener = at.opener;
       ready = at.ready;
-      order = (order_around nodes (item_at nodes n).end (roots inside) closer (roots after) (subst (λ (l : List ℕ). InOrder nodes (item_at nodes n).end l) follows opened.ordered)).from;
+      order = (order_around nodes (item_at nodes n).end (roots inside) closer (roots after)
+          (subst (λ (l : List ℕ). InOrder nodes (item_at nodes n).end l) follows opened.ordered)).from;
     }
 
 -- so it is with each opener of a left list
-waits_open : (source : List ℕ) (tables : Tables) (nodes : List (Node Item)) (first closer : ℕ) (whole after left : List (Entry ℕ)) → CanResolve source tables nodes (Some closer)
-    → StandsTo source tables nodes first (Some closer) whole → whole ≡ after ++ left → EachWaits (StandsOpen source tables nodes closer) left
+waits_open : (source : List ℕ) (tables : Tables) (nodes : List (Node Item)) (first closer : ℕ) (whole after left : List (Entry ℕ))
+    → CanResolve source tables nodes (Some closer)
+    → StandsTo source tables nodes first (Some closer) whole → whole ≡ after ++ left
+    → EachWaits (StandsOpen source tables nodes closer) left
 waits_open source tables nodes first closer whole after [] closes h e = tt
 waits_open source tables nodes first closer whole after (done a below ∷ left) closes h e =
-    waits_open source tables nodes first closer whole (after ++ done a below ∷ []) left closes h (e ∙ sym (append_assoc after (done a below ∷ []) left))
+    waits_open source tables nodes first closer whole (after ++ done a below ∷ []) left closes h (e
+    ∙ sym (append_assoc after (done a below ∷ []) left))
 waits_open source tables nodes first closer whole after (waits m a ∷ left) closes h e =
     let o : Split ℕ = record { mark = m; opener = a; after = after; before = left } in
     let split : IsSplit whole o = record { after_then = after; mark_then = m; left_is = e; same_trees = λ later. refl } in (
       at_opener source tables nodes first closer o closes (stands_at_opener source tables nodes first (Some closer) whole o h split),
-      waits_open source tables nodes first closer whole (after ++ waits m a ∷ []) left closes h (e ∙ sym (append_assoc after (waits m a ∷ []) left)),
+      waits_open source tables nodes first closer whole (after ++ waits m a ∷ []) left closes h (e
+          ∙ sym (append_assoc after (waits m a ∷ []) left)),
     )
 
-pub each_open : (source : List ℕ) (tables : Tables) (nodes : List (Node Item)) (first closer : ℕ) (left : List (Entry ℕ)) → StandsTo source tables nodes first (Some closer) left
+pub each_open : (source : List ℕ) (tables : Tables) (nodes : List (Node Item)) (first closer : ℕ) (left : List (Entry ℕ))
+    → StandsTo source tables nodes first (Some closer) left
     → EachWaits (StandsOpen source tables nodes closer) left
 each_open source tables nodes first closer left h =
     waits_open source tables nodes first closer left [] left (stands_rest source tables nodes first (Some closer) left h) h refl
@@ -88,25 +98,30 @@ each_at_all : (p : ℕ → Type 0) (f : Forest ℕ) → Each p f → Each (λ ix
 each_at_all p nil h = tt
 each_at_all p (node ix below after) h = (tt, each_at_all p below h.1, each_at_all p after h.2)
 
-pub is_chain : (source : List ℕ) (tables : Tables) (nodes : List (Node Item)) (l : Option ℕ) → CanResolve source tables nodes l → IsChain nodes l
+pub is_chain : (source : List ℕ) (tables : Tables) (nodes : List (Node Item)) (l : Option ℕ) → CanResolve source tables nodes l
+    → IsChain nodes l
 is_chain source tables nodes l ready = record {
   spelled = ready.reaches.spelled;
   each = each_at_all (IsPlaced source tables nodes) (forest_at (links_of nodes) l) ready.reaches.each;
 }
 
 -- its items start between characters
-start_between : (source : List ℕ) (tables : Tables) (nodes : List (Node Item)) (f : Forest ℕ) (n s : ℕ) → Each (IsPlaced source tables nodes) f → first_start nodes (numbers_past nodes n f) ≡ Some s
+start_between : (source : List ℕ) (tables : Tables) (nodes : List (Node Item)) (f : Forest ℕ) (n s : ℕ)
+    → Each (IsPlaced source tables nodes) f → first_start nodes (numbers_past nodes n f) ≡ Some s
     → IsCharBoundary source s
 start_between source tables nodes nil n s h e = cc e
-start_between source tables nodes (node ix below after) n s h e = by (nat_lt n (item_at nodes ix).end) e (start_between source tables nodes after n s h.2)
+start_between source tables nodes (node ix below after) n s h e = by (nat_lt n (item_at nodes ix).end) e
+    (start_between source tables nodes after n s h.2)
   where
     by : (b : Bool) → first_start nodes (if b then node ix below after else numbers_past nodes n after) ≡ Some s
         → (first_start nodes (numbers_past nodes n after) ≡ Some s → IsCharBoundary source s) → IsCharBoundary source s
-    by true found later = let here : (item_at nodes ix).start ≡ s = cc found in subst (λ (i : ℕ). IsCharBoundary source i) here h.0.lies.start
+    by true found later = let here : (item_at nodes ix).start ≡ s = cc found in subst (λ (i : ℕ). IsCharBoundary source i) here
+        h.0.lies.start
     by false found later = later found
 
 -- it may be tried
-pub can_try : (tables : Tables) (nodes : List (Node Item)) (place : BracketPlace) (closer n : ℕ) → CanResolve place.text.now tables nodes (Some closer) → 0 < (item_at nodes closer).end
+pub can_try : (tables : Tables) (nodes : List (Node Item)) (place : BracketPlace) (closer n : ℕ)
+    → CanResolve place.text.now tables nodes (Some closer) → 0 < (item_at nodes closer).end
     → IsCharBoundary place.text.now place.block_end → StandsOpen place.text.now tables nodes closer n → CanTry nodes place closer n
 can_try tables nodes place closer n closes some block o =
     let source = place.text.now in
@@ -139,7 +154,8 @@ unless_some closer (Some n) ix e = by (n == closer) e
 starts_body : (source : List ℕ) (tables : Tables) (nodes : List (Node Item)) (l : Option ℕ) → CanResolve source tables nodes l
     → IfSome l (λ first. IsChain nodes (Some first) × IsCharBoundary source (item_at nodes first).start)
 starts_body source tables nodes None ready = tt
-starts_body source tables nodes (Some first) ready = (is_chain source tables nodes (Some first) ready, (opens_chain source tables nodes first ready).placed.lies.start)
+starts_body source tables nodes (Some first) ready =
+    (is_chain source tables nodes (Some first) ready, (opens_chain source tables nodes first ready).placed.lies.start)
 
 unless_ready : (source : List ℕ) (tables : Tables) (nodes : List (Node Item)) (closer : ℕ) (l : Option ℕ) → CanResolve source tables nodes l
     → IfSome (unless_is closer l) (λ ix. CanResolve source tables nodes (Some ix))
@@ -149,25 +165,31 @@ unless_ready source tables nodes closer l ready = by (unless_is closer l) refl
     by None e = tt
     by (Some ix) e = subst (λ (k : Option ℕ). CanResolve source tables nodes k) (unless_some closer l ix e) ready
 
-body_of_some : (source : List ℕ) (tables : Tables) (nodes : List (Node Item)) (closer : ℕ) (o : Option ℕ) → IfSome o (λ ix. CanResolve source tables nodes (Some ix))
+body_of_some : (source : List ℕ) (tables : Tables) (nodes : List (Node Item)) (closer : ℕ) (o : Option ℕ)
+    → IfSome o (λ ix. CanResolve source tables nodes (Some ix))
     → IfSome o (λ first. IsChain nodes (Some first) × IsCharBoundary source (item_at nodes first).start)
 body_of_some source tables nodes closer None h = tt
 body_of_some source tables nodes closer (Some ix) h = starts_body source tables nodes (Some ix) h
 
-body_start_some : (source : List ℕ) (tables : Tables) (nodes : List (Node Item)) (closer : ℕ) (o : Option ℕ) → IfSome o (λ ix. CanResolve source tables nodes (Some ix))
-    → IfSome (option_and_then (λ ix. unless_is closer (sibling_of nodes ix)) o) (λ first. IsChain nodes (Some first) × IsCharBoundary source (item_at nodes first).start)
+body_start_some : (source : List ℕ) (tables : Tables) (nodes : List (Node Item)) (closer : ℕ) (o : Option ℕ)
+    → IfSome o (λ ix. CanResolve source tables nodes (Some ix))
+    → IfSome (option_and_then (λ ix. unless_is closer (sibling_of nodes ix)) o) (λ first. IsChain nodes (Some first)
+    × IsCharBoundary source (item_at nodes first).start)
 body_start_some source tables nodes closer None h = tt
 body_start_some source tables nodes closer (Some ix) h =
-    body_of_some source tables nodes closer (unless_is closer (sibling_of nodes ix)) (unless_ready source tables nodes closer (sibling_of nodes ix) (ready_next source tables nodes ix h))
+    body_of_some source tables nodes closer (unless_is closer (sibling_of nodes ix)) (unless_ready source tables nodes closer
+    (sibling_of nodes ix) (ready_next source tables nodes ix h))
 
-pub can_find : (source : List ℕ) (tables : Tables) (nodes : List (Node Item)) (closer n : ℕ) → CanResolve source tables nodes (Some closer) → StandsOpen source tables nodes closer n
+pub can_find : (source : List ℕ) (tables : Tables) (nodes : List (Node Item)) (closer n : ℕ) → CanResolve source tables nodes (Some closer)
+    → StandsOpen source tables nodes closer n
     → CanFindWikilink nodes source n closer
 can_find source tables nodes closer n closes o =
     let c = opens_chain source tables nodes closer closes in
     record {
       opens = o.opener.within;
       closes = c.within;
-      starts = body_start_some source tables nodes closer (unless_is closer (sibling_of nodes n)) (unless_ready source tables nodes closer (sibling_of nodes n) (ready_next source tables nodes n o.ready));
+      starts = body_start_some source tables nodes closer (unless_is closer (sibling_of nodes n)) (unless_ready source tables nodes closer
+          (sibling_of nodes n) (ready_next source tables nodes n o.ready));
       stops = c.placed.lies.start;
     }
 

@@ -1,6 +1,7 @@
 -- Runs stay whole in pass one: what waits for pairing stays as it is, what stands for a find or an opener is no run's
 -- character, and what is left of a chain past a byte begins with a whole character of a run or with none.
-use Rattle.std.proofs.Common.{◌≡◌, ℕ, zero, suc, ◌+◌, ◌-◌, ◌<◌, Bool, true, false, List, Option, Some, None, max, refl, sym, ap, subst, ◌∙◌, nat_le, arith}
+use Rattle.std.proofs.Common.{◌≡◌, ℕ, zero, suc, ◌+◌, ◌-◌, ◌<◌, Bool, true, false, List, Option, Some, None, max, refl, sym, ap, subst, ◌∙◌}
+use Rattle.std.proofs.Common.{nat_le, arith}
 use Rattle.std.proofs.lemmas.Bool.{leb-false}
 use Rattle.std.specs.Prelude.{IfSome, if◌then◌else◌, [], ◌∷◌, ⊤}
 use Rattle.std.specs.Option.{option_map}
@@ -12,7 +13,9 @@ use Rattle.markdown_base.specs.declared.item.ItemBody.TheVariants as body
 use Rattle.markdown_base.specs.Event.{LinkView}
 use Rattle.markdown_brackets.specs.BracketDecision.{Around, Closing, Progress, Wikilink, past_second, text_from, wikilink_in}
 use Rattle.markdown_brackets.specs.ClosingBracket.{closed, footnote_from, footnote_onto, linked, tag_for, wikilink_target}
-use Rattle.markdown_brackets.specs.LeftList.{Entry, Mark, Split, before_footnote, before_link, behind, change_nearest, disabled_mark, done, inside, nearest, on_marks, opens_bracket, opens_wikilink, second_folded, trees_onto, waits, without_bracket, without_wikilink}
+use Rattle.markdown_brackets.specs.LeftList.{Entry, Mark, Split, before_footnote, before_link, behind, change_nearest, disabled_mark, done}
+use Rattle.markdown_brackets.specs.LeftList.{inside, nearest, on_marks, opens_bracket, opens_wikilink, second_folded, trees_onto, waits}
+use Rattle.markdown_brackets.specs.LeftList.{without_bracket, without_wikilink}
 use Rattle.markdown_brackets.specs.QuietItems.{all_done}
 use Rattle.markdown_brackets.specs.ReadChain.{begun, closing, opened, read, read_as, read_chain, read_past}
 use Rattle.markdown_brackets.proofs.ClosingBracketLemmas.{Cases, in_each_case, some_of}
@@ -50,16 +53,23 @@ cut_run n backslash_break = refl
 cut_run n (unresolved b) = refl
 
 -- where no run's character follows one, no other item that is none makes a difference
-goes_other : (text : List ℕ) (a b d : Numbered) (count : ℕ) (opens closes : Bool) → run_character b.item.body ≡ None → run_character d.item.body ≡ None
+goes_other : (text : List ℕ) (a b d : Numbered) (count : ℕ) (opens closes : Bool) → run_character b.item.body ≡ None
+    → run_character d.item.body ≡ None
     → RunGoesOn text a count opens closes (Some b) → RunGoesOn text a count opens closes (Some d)
 goes_other text a b d zero opens closes was is h = h
 goes_other text a b d (suc zero) opens closes was is h = rw is tt
 goes_other text a b d (suc (suc count)) opens closes was is h = let q = sym was ∙ h.body in cc
 
-run_other : (text : List ℕ) (a b d : Numbered) (o : Option RunCharacter) → run_character b.item.body ≡ None → run_character d.item.body ≡ None
+run_other : (text : List ℕ) (a b d : Numbered) (o : Option RunCharacter) → run_character b.item.body ≡ None
+    → run_character d.item.body ≡ None
     → IfSome o (StandsInRun text a (Some b)) → IfSome o (StandsInRun text a (Some d))
 run_other text a b d None was is h = tt
-run_other text a b d (Some c) was is h = record { one_byte = h.one_byte; delimiter = h.delimiter; goes_on = goes_other text a b d c.count c.can_open c.can_close was is h.goes_on }
+run_other text a b d (Some c) was is h = record {
+  one_byte = h.one_byte;
+  delimiter = h.delimiter;
+  goes_on = goes_other text a b d c.count
+      c.can_open c.can_close was is h.goes_on;
+}
 
 goes_none : (text : List ℕ) (a b : Numbered) (count : ℕ) (opens closes : Bool) → run_character b.item.body ≡ None
     → RunGoesOn text a count opens closes (Some b) → RunGoesOn text a count opens closes None
@@ -70,7 +80,12 @@ goes_none text a b (suc (suc count)) opens closes was h = let q = sym was ∙ h.
 run_none : (text : List ℕ) (a b : Numbered) (o : Option RunCharacter) → run_character b.item.body ≡ None
     → IfSome o (StandsInRun text a (Some b)) → IfSome o (StandsInRun text a None)
 run_none text a b None was h = tt
-run_none text a b (Some c) was h = record { one_byte = h.one_byte; delimiter = h.delimiter; goes_on = goes_none text a b c.count c.can_open c.can_close was h.goes_on }
+run_none text a b (Some c) was h = record {
+  one_byte = h.one_byte;
+  delimiter = h.delimiter;
+  goes_on = goes_none text a b c.count c.can_open
+      c.can_close was h.goes_on;
+}
 
 -- an item that begins where it did
 same_start : (start end i : ℕ) → end ≡ suc start → i < end → max start i ≡ start
@@ -82,33 +97,63 @@ module _ {A : Type 0} where
   IsWholeAt source a after = RunsAreWhole source (by_place a) (option_map by_place (first_root after))
 
   -- so it is where the label is no run's character
-  whole_other : (source : List ℕ) (a : Label A) (after : Forest (Label A)) → run_character (open_body a.part.shape) ≡ None → IsWholeAt source a after
+  whole_other : (source : List ℕ) (a : Label A) (after : Forest (Label A)) → run_character (open_body a.part.shape) ≡ None
+      → IsWholeAt source a after
   whole_other source a after none = rw none tt
 
   -- trees of which nothing is open, and then a chain in which runs are whole
   closed_whole : (source : List ℕ) (trees : Forest (Label A)) → AllClosed trees → RunsStandWhole source trees
   closed_whole source nil closed = tt
-  closed_whole source (node a below others) closed =
-      (whole_other source a others (closed_no_run a.part.shape closed.0), closed_whole source below closed.1, closed_whole source others closed.2)
+  closed_whole source (node a below others) closed = (
+    whole_other source a others (closed_no_run a.part.shape closed.0),
+    closed_whole source below closed.1,
+    closed_whole source others
+        closed.2,
+  )
 
-  joined_whole : (source : List ℕ) (trees after : Forest (Label A)) → AllClosed trees → RunsStandWhole source after → RunsStandWhole source (joined trees after)
+  joined_whole : (source : List ℕ) (trees after : Forest (Label A)) → AllClosed trees → RunsStandWhole source after
+      → RunsStandWhole source (joined trees after)
   joined_whole source nil after closed w = w
-  joined_whole source (node a below others) after closed w =
-      (whole_other source a (joined others after) (closed_no_run a.part.shape closed.0), closed_whole source below closed.1, joined_whole source others after closed.2 w)
+  joined_whole source (node a below others) after closed w = (
+    whole_other source a (joined others after) (closed_no_run a.part.shape closed.0),
+    closed_whole source below closed.1,
+    joined_whole
+        source others after closed.2 w,
+  )
 
   -- a run's character that ends past a byte begins there or later, so it stays whole in what is left past that byte
   begun_place : (i : ℕ) (a : Label A) → max (start_of a) i ≡ start_of a → by_place (begun_at i a) ≡ by_place a
   begun_place i a same =
-      ap (λ (n : ℕ). let p : Numbered = record { number = n; item = record { start = n; end = end_of a; body = open_body (cut_shape (i - start_of a) a.part.shape) } } in p) same
-      ∙ ap (λ (b : ItemBody). let p : Numbered = record { number = start_of a; item = record { start = start_of a; end = end_of a; body = b } } in p)
+      ap (λ (n : ℕ). let p : Numbered = record {
+        number = n;
+        item = record {
+          start = n;
+          end = end_of a;
+          body =
+              open_body (cut_shape (i - start_of a) a.part.shape);
+        };
+      } in p) same
+      ∙ ap (λ (b : ItemBody). let p : Numbered = record {
+        number = start_of a;
+        item = record {
+          start = start_of a;
+          end = end_of a;
+          body =
+              b;
+        };
+      } in p)
       (cut_run (i - start_of a) a.part.shape)
 
-  begun_whole : (source : List ℕ) (i : ℕ) (a : Label A) (after : Forest (Label A)) → i < end_of a → (o : Option RunCharacter) → run_character (open_body a.part.shape) ≡ o
+  begun_whole : (source : List ℕ) (i : ℕ) (a : Label A) (after : Forest (Label A)) → i < end_of a → (o : Option RunCharacter)
+      → run_character (open_body a.part.shape) ≡ o
       → IsWholeAt source a after → IsWholeAt source (begun_at i a) after
-  begun_whole source i a after past None e w = whole_other source (begun_at i a) after (ap run_character (cut_run (i - start_of a) a.part.shape) ∙ e)
+  begun_whole source i a after past None e w = whole_other source (begun_at i a) after
+      (ap run_character (cut_run (i - start_of a) a.part.shape) ∙ e)
   begun_whole source i a after past (Some c) e w =
-      let whole : StandsInRun source (by_place a) (option_map by_place (first_root after)) c = subst (λ o. IfSome o (StandsInRun source (by_place a) (option_map by_place (first_root after)))) e w in
-      subst (λ p. RunsAreWhole source p (option_map by_place (first_root after))) (sym (begun_place i a (same_start (start_of a) (end_of a) i whole.one_byte past))) w
+      let whole : StandsInRun source (by_place a) (option_map by_place (first_root after)) c =
+      subst (λ o. IfSome o (StandsInRun source (by_place a) (option_map by_place (first_root after)))) e w in
+      subst (λ p. RunsAreWhole source p (option_map by_place (first_root after)))
+      (sym (begun_place i a (same_start (start_of a) (end_of a) i whole.one_byte past))) w
 
   -- what is left of a chain past a byte is whole
   past_byte_whole : (source : List ℕ) (i : ℕ) (f : Forest (Label A)) → RunsStandWhole source f → RunsStandWhole source (past_byte i f)
@@ -118,34 +163,44 @@ module _ {A : Type 0} where
       by : (ends : Bool) → nat_le (end_of a) i ≡ ends → RunsStandWhole source (past_byte i after)
           → RunsStandWhole source (if ends then past_byte i after else node (begun_at i a) below after)
       by true e later = later
-      by false e later = (begun_whole source i a after (leb-false (end_of a) i e) (run_character (open_body a.part.shape)) refl w.0, w.1, w.2)
+      by false e later = (
+        begun_whole source i a after (leb-false (end_of a) i e) (run_character (open_body a.part.shape)) refl w.0,
+        w.1,
+        w.2,
+      )
 
-  past_whole : (source : List ℕ) (goes_on : Option ℕ) (f : Forest (Label A)) → RunsStandWhole source f → RunsStandWhole source (past goes_on f)
+  past_whole : (source : List ℕ) (goes_on : Option ℕ) (f : Forest (Label A)) → RunsStandWhole source f
+      → RunsStandWhole source (past goes_on f)
   past_whole source None f w = w
   past_whole source (Some i) f w = past_byte_whole source i f w
 
   -- before an item that is no run's character another one may stand, or none
-  before_other : (source : List ℕ) (b d : Label A) (x y f g : Forest (Label A)) → run_character (open_body b.part.shape) ≡ None → run_character (open_body d.part.shape) ≡ None
+  before_other : (source : List ℕ) (b d : Label A) (x y f g : Forest (Label A)) → run_character (open_body b.part.shape) ≡ None
+      → run_character (open_body d.part.shape) ≡ None
       → (a : Label A) → IsWholeAt source a (node b x f) → IsWholeAt source a (node d y g)
-  before_other source b d x y f g was is a h = run_other source (by_place a) (by_place b) (by_place d) (run_character (open_body a.part.shape)) was is h
+  before_other source b d x y f g was is a h = run_other source (by_place a) (by_place b) (by_place d)
+      (run_character (open_body a.part.shape)) was is h
 
   before_none : (source : List ℕ) (b : Label A) (x f : Forest (Label A)) → run_character (open_body b.part.shape) ≡ None
       → (a : Label A) → IsWholeAt source a (node b x f) → IsWholeAt source a nil
   before_none source b x f was a h = run_none source (by_place a) (by_place b) (run_character (open_body a.part.shape)) was h
 
-  before_closed : (source : List ℕ) (b : Label A) (below rest trees others : Forest (Label A)) → Begins trees → AllClosed trees → run_character (open_body b.part.shape) ≡ None
+  before_closed : (source : List ℕ) (b : Label A) (below rest trees others : Forest (Label A)) → Begins trees → AllClosed trees
+      → run_character (open_body b.part.shape) ≡ None
       → (a : Label A) → IsWholeAt source a (node b below rest) → IsWholeAt source a (joined trees others)
   before_closed source b below rest nil others begins closed none a w = absurd begins
   before_closed source b below rest (node d inner after) others begins closed none a w =
       before_other source b d below inner rest (joined after others) none (closed_no_run d.part.shape closed.0) a w
 
   -- behind a left list something else may stand, if runs are whole in it and go on as they did
-  behind_whole : (source : List ℕ) (left : List (Entry A)) (f : Forest (Label A)) → RunsStandWhole source (trees_onto left f) → RunsStandWhole source f
+  behind_whole : (source : List ℕ) (left : List (Entry A)) (f : Forest (Label A)) → RunsStandWhole source (trees_onto left f)
+      → RunsStandWhole source f
   behind_whole source [] f w = w
   behind_whole source (done a below ∷ left) f w = (behind_whole source left (node a below f) w).2
   behind_whole source (waits m a ∷ left) f w = (behind_whole source left (node a nil f) w).2
 
-  other_whole : (source : List ℕ) (left : List (Entry A)) (f g : Forest (Label A)) → RunsStandWhole source (trees_onto left f) → RunsStandWhole source g
+  other_whole : (source : List ℕ) (left : List (Entry A)) (f g : Forest (Label A)) → RunsStandWhole source (trees_onto left f)
+      → RunsStandWhole source g
       → ((a : Label A) → IsWholeAt source a f → IsWholeAt source a g) → RunsStandWhole source (trees_onto left g)
   other_whole source [] f g w whole goes = whole
   other_whole source (done a below ∷ left) f g w whole goes =
@@ -162,26 +217,31 @@ module _ {A : Type 0} where
   WaitsClosed (waits m a ∷ left) = (is_unresolved a.part.shape ≡ false) × WaitsClosed left
 
   -- marks say nothing to the trees
-  same_change : (opens : Mark → Bool) (f : Mark → Mark) (left : List (Entry A)) (later : Forest (Label A)) → trees_onto (change_nearest opens f left) later ≡ trees_onto left later
+  same_change : (opens : Mark → Bool) (f : Mark → Mark) (left : List (Entry A)) (later : Forest (Label A))
+      → trees_onto (change_nearest opens f left) later ≡ trees_onto left later
   same_change opens f [] later = refl
   same_change opens f (done a below ∷ left) later = same_change opens f left (node a below later)
   same_change opens f (waits m a ∷ left) later = by (opens m) (same_change opens f left (node a nil later))
     where
       by : (b : Bool) → trees_onto (change_nearest opens f left) (node a nil later) ≡ trees_onto left (node a nil later)
-          → trees_onto (if b then waits (f m) a ∷ left else waits m a ∷ change_nearest opens f left) later ≡ trees_onto left (node a nil later)
+          → trees_onto (if b then waits (f m) a ∷ left else waits m a ∷ change_nearest opens f left) later
+          ≡ trees_onto left (node a nil later)
       by true h = refl
       by false h = h
 
-  closed_change : (opens : Mark → Bool) (f : Mark → Mark) (left : List (Entry A)) → WaitsClosed left → WaitsClosed (change_nearest opens f left)
+  closed_change : (opens : Mark → Bool) (f : Mark → Mark) (left : List (Entry A)) → WaitsClosed left
+      → WaitsClosed (change_nearest opens f left)
   closed_change opens f [] h = tt
   closed_change opens f (done a below ∷ left) h = closed_change opens f left h
   closed_change opens f (waits m a ∷ left) h = by (opens m) (closed_change opens f left h.1)
     where
-      by : (b : Bool) → WaitsClosed (change_nearest opens f left) → WaitsClosed (if b then waits (f m) a ∷ left else waits m a ∷ change_nearest opens f left)
+      by : (b : Bool) → WaitsClosed (change_nearest opens f left)
+          → WaitsClosed (if b then waits (f m) a ∷ left else waits m a ∷ change_nearest opens f left)
       by true k = h
       by false k = (h.0, k)
 
-  same_marks : (f : Mark → Mark) (left : List (Entry A)) (later : Forest (Label A)) → trees_onto (on_marks f left) later ≡ trees_onto left later
+  same_marks : (f : Mark → Mark) (left : List (Entry A)) (later : Forest (Label A)) → trees_onto (on_marks f left) later
+      ≡ trees_onto left later
   same_marks f [] later = refl
   same_marks f (done a below ∷ left) later = same_marks f left (node a below later)
   same_marks f (waits m a ∷ left) later = same_marks f left (node a nil later)
@@ -201,7 +261,8 @@ module _ {A : Type 0} where
   closed_second (done a below ∷ left) h = h
   closed_second (waits m a ∷ left) h = h
 
-  same_link : (is_image : Bool) (left : List (Entry A)) (later : Forest (Label A)) → trees_onto (before_link is_image left) later ≡ trees_onto left later
+  same_link : (is_image : Bool) (left : List (Entry A)) (later : Forest (Label A)) → trees_onto (before_link is_image left) later
+      ≡ trees_onto left later
   same_link true left later = same_second left later
   same_link false left later = same_marks disabled_mark (second_folded left) later ∙ same_second left later
 
@@ -215,9 +276,15 @@ module _ {A : Type 0} where
     closed : is_unresolved o.opener.part.shape ≡ false
     before : WaitsClosed o.before
 
-  split_behind : (e : Entry A) (left : List (Entry A)) (x : Option (Split A)) → IfSome x (SplitWhole left) → IfSome (option_map (behind e) x) (SplitWhole (e ∷ left))
+  split_behind : (e : Entry A) (left : List (Entry A)) (x : Option (Split A)) → IfSome x (SplitWhole left)
+      → IfSome (option_map (behind e) x) (SplitWhole (e ∷ left))
   split_behind e left None h = tt
-  split_behind (done a below) left (Some o) h = record { splits = λ later. h.splits (node a below later); closed = h.closed; before = h.before }
+  split_behind (done a below) left (Some o) h = record {
+    splits = λ later. h.splits (node a below later);
+    closed = h.closed;
+    before =
+        h.before;
+  }
   split_behind (waits m a) left (Some o) h = record { splits = λ later. h.splits (node a nil later); closed = h.closed; before = h.before }
 
   split_at : (opens : Mark → Bool) (left : List (Entry A)) → WaitsClosed left → IfSome (nearest opens left) (SplitWhole left)
@@ -226,7 +293,8 @@ module _ {A : Type 0} where
   split_at opens (waits m a ∷ left) h = by (opens m) (split_at opens left h.1)
     where
       by : (b : Bool) → IfSome (nearest opens left) (SplitWhole left)
-          → IfSome (if b then Some (record { mark = m; opener = a; after = []; before = left }) else option_map (behind (waits m a)) (nearest opens left)) (SplitWhole (waits m a ∷ left))
+          → IfSome (if b then Some (record { mark = m; opener = a; after = []; before = left })
+          else option_map (behind (waits m a)) (nearest opens left)) (SplitWhole (waits m a ∷ left))
       by true k = record { splits = λ later. refl; closed = h.0; before = h.1 }
       by false k = split_behind (waits m a) left (nearest opens left) k
 
@@ -257,14 +325,17 @@ module _ {A : Type 0} where
           let here = behind_whole source o.before (node o.opener nil (trees_onto o.after (node c.label nil rest))) around_opener in
           other_whole source o.after (node c.label nil rest) nil here.2 tt (before_none source c.label nil rest closer)
 
-      put_whole : (d : Label A) (below later : Forest (Label A)) → run_character (open_body d.part.shape) ≡ None → RunsStandWhole source below → RunsStandWhole source later
+      put_whole : (d : Label A) (below later : Forest (Label A)) → run_character (open_body d.part.shape) ≡ None
+          → RunsStandWhole source below → RunsStandWhole source later
           → RunsStandWhole source (trees_onto o.before (node d below later))
       put_whole d below later none inner outer =
           other_whole source o.before (node o.opener nil (trees_onto o.after (node c.label nil rest))) (node d below later) around_opener
           (whole_other source d later none, inner, outer)
-          (before_other source o.opener d nil below (trees_onto o.after (node c.label nil rest)) later (closed_no_run o.opener.part.shape s.closed) none)
+          (before_other source o.opener d nil below (trees_onto o.after (node c.label nil rest)) later
+          (closed_no_run o.opener.part.shape s.closed) none)
 
-    footnote_whole : (i : Bool) (left : List (Entry A)) (o : Split A) (name : List ℕ) → WholeBefore source c.label rest left → SplitWhole left o
+    footnote_whole : (i : Bool) (left : List (Entry A)) (o : Split A) (name : List ℕ) → WholeBefore source c.label rest left
+        → SplitWhole left o
         → WholeAfter source (footnote_onto w c i o.opener name (before_footnote o.before))
     footnote_whole false left o name q s = record {
       whole = λ later k. subst (RunsStandWhole source)
@@ -301,16 +372,20 @@ module _ {A : Type 0} where
       link = λ left o target end q found live.
           let s = some_of (nearest opens_bracket left) o (SplitWhole left) found (split_at opens_bracket left q.waiting) in
           record {
-            whole = λ later k. subst (RunsStandWhole source) (sym (same_link o.mark.is_image o.before (node (linked o target end) (inside o) later)))
+            whole = λ later k. subst (RunsStandWhole source)
+                (sym (same_link o.mark.is_image o.before (node (linked o target end) (inside o) later)))
                 (put_whole left o q s (linked o target end) (inside o) later refl (inside_whole left o q s) k);
             waiting = closed_link o.mark.is_image o.before s.before;
           };
       footnote = λ left o name q found live.
-          footnote_whole o.mark.is_image left o name q (some_of (nearest opens_bracket left) o (SplitWhole left) found (split_at opens_bracket left q.waiting));
+          footnote_whole o.mark.is_image left o name q (some_of (nearest opens_bracket left) o (SplitWhole left) found
+          (split_at opens_bracket left q.waiting));
       wikilink = λ left o v end q found live is.
           let s = some_of (nearest opens_wikilink left) o (SplitWhole left) found (split_at opens_wikilink left q.waiting) in
-          let children = some_of (wikilink_in w (past_second (inside o)) (start_of c.label)) v (λ (v : Wikilink A). RunsStandWhole source v.children) is
-          (wikilink_keeps w (RunsStandWhole source) (λ a x y. (tt, tt, tt)) (λ i f h. past_byte_whole source i f h) (past_second (inside o)) (start_of c.label)
+          let children = some_of (wikilink_in w (past_second (inside o)) (start_of c.label)) v (λ (v : Wikilink A). RunsStandWhole source
+          v.children) is
+          (wikilink_keeps w (RunsStandWhole source) (λ a x y. (tt, tt, tt)) (λ i f h. past_byte_whole source i f h) (past_second (inside o))
+          (start_of c.label)
           (past_second_whole source (inside o) (inside_whole left o q s))) in
           record {
             whole = λ later k. subst (RunsStandWhole source)
@@ -321,7 +396,8 @@ module _ {A : Type 0} where
     }
 
   -- trees put onto a left list
-  onto_done : (trees : Forest (Label A)) (left : List (Entry A)) (later : Forest (Label A)) → trees_onto (all_done trees left) later ≡ trees_onto left (joined trees later)
+  onto_done : (trees : Forest (Label A)) (left : List (Entry A)) (later : Forest (Label A)) → trees_onto (all_done trees left) later
+      ≡ trees_onto left (joined trees later)
   onto_done nil left later = refl
   onto_done (node a below after) left later = onto_done after (done a below ∷ left) later
 
@@ -335,12 +411,14 @@ module _ {A : Type 0} where
     waiting : WaitsClosed p.left
 
   module _ (s : Setting) (tags : Tags A) (above : Above) where
-    other_step : (a : Label A) (below rest : Forest (Label A)) (p : Progress A) → RunsStandWhole s.text (trees_onto p.left (node a below rest)) → WaitsClosed p.left
+    other_step : (a : Label A) (below rest : Forest (Label A)) (p : Progress A)
+        → RunsStandWhole s.text (trees_onto p.left (node a below rest)) → WaitsClosed p.left
         → WholeSoFar s.text (read_other s tags above a below rest p) rest
     unfolding read_tree
     other_step a below rest p w waiting = by (is_quiet a.part.shape) refl
       where
-        by : (quiet : Bool) → is_quiet a.part.shape ≡ quiet → WholeSoFar s.text (put_passed (read_unless quiet s tags above p.made a below rest) p) rest
+        by : (quiet : Bool) → is_quiet a.part.shape ≡ quiet
+            → WholeSoFar s.text (put_passed (read_unless quiet s tags above p.made a below rest) p) rest
         by true q = record { whole = w; waiting = waiting }
         by false q =
             let found = find s above a rest in
@@ -352,23 +430,29 @@ module _ {A : Type 0} where
               whole = subst (RunsStandWhole s.text) (sym (onto_done trees p.left later))
                   (other_whole s.text p.left (node a below rest) (joined trees later) w
                   (joined_whole s.text trees later (closed_trees s fresh a found) (past_whole s.text (end_of_find found) rest here.2))
-                  (before_closed s.text a below rest trees later (begins_trees s fresh a found) (closed_trees s fresh a found) (quiet_no_run a.part.shape q)));
+                  (before_closed s.text a below rest trees later (begins_trees s fresh a found) (closed_trees s fresh a found)
+                  (quiet_no_run a.part.shape q)));
               waiting = closed_done trees p.left waiting;
             }
 
-    opened_step : (i : Bool) (a : Label A) (below rest : Forest (Label A)) (p : Progress A) → p.goes_on ≡ None → run_character (open_body a.part.shape) ≡ None
-        → RunsStandWhole s.text (trees_onto p.left (node a below rest)) → WaitsClosed p.left → WholeSoFar s.text (opened (around s above) i a rest p) rest
+    opened_step : (i : Bool) (a : Label A) (below rest : Forest (Label A)) (p : Progress A) → p.goes_on ≡ None
+        → run_character (open_body a.part.shape) ≡ None
+        → RunsStandWhole s.text (trees_onto p.left (node a below rest)) → WaitsClosed p.left
+        → WholeSoFar s.text (opened (around s above) i a rest p) rest
     opened_step i a below rest p none no_run w waiting =
         let here = behind_whole s.text p.left (node a below rest) w in
         record {
-          whole = subst (λ (goes_on : Option ℕ). RunsStandWhole s.text (trees_onto p.left (node (as_text s.text a) nil (past goes_on rest)))) (sym none)
+          whole = subst (λ (goes_on : Option ℕ). RunsStandWhole s.text
+              (trees_onto p.left (node (as_text s.text a) nil (past goes_on rest)))) (sym none)
               (other_whole s.text p.left (node a below rest) (node (as_text s.text a) nil rest) w (tt, tt, here.2)
               (before_other s.text a (as_text s.text a) below nil rest rest no_run refl));
           waiting = (refl, waiting);
         }
 
-    closed_step : (could : Bool) (a : Label A) (below rest : Forest (Label A)) (p : Progress A) → run_character (open_body a.part.shape) ≡ None
-        → RunsStandWhole s.text (trees_onto p.left (node a below rest)) → WaitsClosed p.left → WholeSoFar s.text (closed (around s above) (closing could a rest p) p) rest
+    closed_step : (could : Bool) (a : Label A) (below rest : Forest (Label A)) (p : Progress A) → run_character (open_body a.part.shape)
+        ≡ None
+        → RunsStandWhole s.text (trees_onto p.left (node a below rest)) → WaitsClosed p.left
+        → WholeSoFar s.text (closed (around s above) (closing could a rest p) p) rest
     closed_step could a below rest p no_run w waiting =
         let here = behind_whole s.text p.left (node a below rest) w in
         let before : WholeBefore s.text a rest p.left = record {
@@ -376,9 +460,11 @@ module _ {A : Type 0} where
           waiting = waiting;
         } in
         let c = closing could a rest p in
-        let after = in_each_case (around s above) c (WholeBefore s.text a rest) (WholeAfter s.text) (whole_cases (around s above) c rest no_run) p before in
+        let after = in_each_case (around s above) c (WholeBefore s.text a rest) (WholeAfter s.text)
+        (whole_cases (around s above) c rest no_run) p before in
         record {
-          whole = after.whole (past (closed (around s above) c p).goes_on rest) (past_whole s.text (closed (around s above) c p).goes_on rest here.2);
+          whole = after.whole (past (closed (around s above) c p).goes_on rest) (past_whole s.text (closed (around s above) c p).goes_on
+              rest here.2);
           waiting = after.waiting;
         }
 
@@ -390,31 +476,45 @@ module _ {A : Type 0} where
     step (body.MaybeLinkClose could) a below rest p is none w waiting = closed_step could a below rest p (ap run_character is) w waiting
     step other a below rest p is none w waiting = other_step a below rest p w waiting
 
-    past_step : (goes_on : Option ℕ) (a : Label A) (below rest : Forest (Label A)) (p : Progress A) → p.goes_on ≡ goes_on → WholeSoFar s.text p (node a below rest)
+    past_step : (goes_on : Option ℕ) (a : Label A) (below rest : Forest (Label A)) (p : Progress A) → p.goes_on ≡ goes_on
+        → WholeSoFar s.text p (node a below rest)
         → WholeSoFar s.text (read_past (around s above) (read_other s tags above) goes_on a below rest p) rest
     past_step None a below rest p is so =
-        step (open_body a.part.shape) a below rest p refl is (subst (λ (o : Option ℕ). RunsStandWhole s.text (trees_onto p.left (past o (node a below rest)))) is so.whole) so.waiting
+        step (open_body a.part.shape) a below rest p refl is
+        (subst (λ (o : Option ℕ). RunsStandWhole s.text (trees_onto p.left (past o (node a below rest)))) is so.whole) so.waiting
     past_step (Some i) a below rest p is so =
-        by (nat_le (end_of a) i) (subst (λ (o : Option ℕ). RunsStandWhole s.text (trees_onto p.left (past o (node a below rest)))) is so.whole)
+        by (nat_le (end_of a) i) (subst (λ (o : Option ℕ). RunsStandWhole s.text (trees_onto p.left (past o (node a below rest)))) is
+        so.whole)
       where
         by : (ends : Bool) → RunsStandWhole s.text (trees_onto p.left (if ends then past_byte i rest else node (begun_at i a) below rest))
-            → WholeSoFar s.text (if ends then p else read (around s above) (read_other s tags above) (begun_at i a) below rest (record p { goes_on = None })) rest
-        by true w = record { whole = subst (λ (o : Option ℕ). RunsStandWhole s.text (trees_onto p.left (past o rest))) (sym is) w; waiting = so.waiting }
-        by false w = step (open_body (begun_at i a).part.shape) (begun_at i a) below rest (record p { goes_on = None }) refl refl w so.waiting
+            → WholeSoFar s.text (if ends then p else read (around s above) (read_other s tags above) (begun_at i a) below rest
+            (record p { goes_on = None })) rest
+        by true w = record {
+          whole = subst (λ (o : Option ℕ). RunsStandWhole s.text (trees_onto p.left (past o rest))) (sym is) w;
+          waiting =
+              so.waiting;
+        }
+        by false w = step (open_body (begun_at i a).part.shape) (begun_at i a) below rest (record p { goes_on = None }) refl refl w
+            so.waiting
 
-    chain_whole : (chain : Forest (Label A)) (p : Progress A) → WholeSoFar s.text p chain → WholeSoFar s.text (read_on s tags above chain p) nil
+    chain_whole : (chain : Forest (Label A)) (p : Progress A) → WholeSoFar s.text p chain
+        → WholeSoFar s.text (read_on s tags above chain p) nil
     unfolding read_chain
     chain_whole nil p so = so
     chain_whole (node a below rest) p so =
-        chain_whole rest (read_past (around s above) (read_other s tags above) p.goes_on a below rest p) (past_step p.goes_on a below rest p refl so)
+        chain_whole rest (read_past (around s above) (read_other s tags above) p.goes_on a below rest p)
+        (past_step p.goes_on a below rest p refl so)
 
-    nothing_left : (left : List (Entry A)) (goes_on : Option ℕ) → RunsStandWhole s.text (trees_onto left (past goes_on nil)) → RunsStandWhole s.text (trees_onto left nil)
+    nothing_left : (left : List (Entry A)) (goes_on : Option ℕ) → RunsStandWhole s.text (trees_onto left (past goes_on nil))
+        → RunsStandWhole s.text (trees_onto left nil)
     nothing_left left None w = w
     nothing_left left (Some i) w = w
 
-  pub pass_one-whole : (s : Setting) (tags : Tags A) (above : Above) (chain : Forest (Label A)) (known : Known) → RunsStandWhole s.text chain
+  pub pass_one-whole : (s : Setting) (tags : Tags A) (above : Above) (chain : Forest (Label A)) (known : Known)
+      → RunsStandWhole s.text chain
       → RunsStandWhole s.text (pass_one s tags above chain known).forest
   unfolding pass_one
   pass_one-whole s tags above chain known w =
       let read = read_on s tags above chain (begun known) in
-      nothing_left s tags above read.left read.goes_on (chain_whole s tags above chain (begun known) (record { whole = w; waiting = tt })).whole
+      nothing_left s tags above read.left read.goes_on (chain_whole s tags above chain (begun known)
+      (record { whole = w; waiting = tt })).whole

@@ -1,6 +1,7 @@
 -- What a wikilink shows begins and ends between characters, as the items before its `]` do, and so does a text after a `|`,
 -- which is one byte. No byte cuts an open item of its body: only runs' characters and quotes are open there, of one byte each.
-use Rattle.std.proofs.Common.{◌≡◌, ℕ, ◌+◌, ◌-◌, ◌<◌, ◌≤◌, ◌⊎◌, inl, inr, Bool, true, false, ◌==◌, List, [], ◌∷◌, Option, Some, None, IsUtf8, length, take, drop, get_or, max, refl, sym, ap, ◌∙◌, subst, arith}
+use Rattle.std.proofs.Common.{◌≡◌, ℕ, ◌+◌, ◌-◌, ◌<◌, ◌≤◌, ◌⊎◌, inl, inr, Bool, true, false, ◌==◌, List, [], ◌∷◌, Option, Some, None, IsUtf8}
+use Rattle.std.proofs.Common.{length, take, drop, get_or, max, refl, sym, ap, ◌∙◌, subst, arith}
 use Rattle.std.specs.Prelude.{IfSome, if◌then◌else◌, nat_le, nat_lt, position, slice_range, ⊤}
 use Rattle.std.specs.List.{position_or_len}
 use Rattle.std.specs.Option.{option_and_then, option_map}
@@ -21,14 +22,17 @@ use Rattle.markdown_base.specs.declared.item.ItemBody.TheVariants as body
 use Rattle.markdown_base.specs.declared.node.Node.{Node}
 use Rattle.markdown_brackets.specs.BracketDecision.{Around, Wikilink, children_of, if_some, past_second, wikilink_by, wikilink_in}
 use Rattle.markdown_brackets.specs.LeftList.{Mark, Entry, Split, inside, nearest, trees_onto}
-use Rattle.markdown_brackets.specs.Wikilink.{Shows, WikilinkBody, cut_at, has_pothole, named, shown_from, shows_from, shows_name, shows_nothing, wikilink_body}
+use Rattle.markdown_brackets.specs.Wikilink.{Shows, WikilinkBody, cut_at, has_pothole, named, shown_from, shows_from, shows_name}
+use Rattle.markdown_brackets.specs.Wikilink.{shows_nothing, wikilink_body}
 use Rattle.markdown_brackets.proofs.OpenerHeldLemmas.{splits_at}
 use Rattle.markdown_chains.specs.ChainRest.{begun_at, end_of, joined, past_byte, start_of}
 use Rattle.markdown_chains.specs.Document.{Label, is_unresolved}
+use Rattle.markdown_chains.specs.Origins.{StandsIn}
 use Rattle.markdown_chains.specs.Places.{IsPlaced}
 use Rattle.markdown_chains.specs.Tables.{Tables}
 use Rattle.markdown_chains.specs.Waiting.{is_quiet, waits_for_pairing}
 use Rattle.markdown_chains.proofs.PlaceLemmas.{open-unresolved, shape-open}
+use Rattle.markdown_code.proofs.SliceLemmas.{stands_between, stands_within}
 use Rattle.markdown_resolver.specs.Closes.{FirstLies, IsNotCut, NoneOpenAround, ShowsWell}
 use Rattle.markdown_resolver.specs.Kept.{IsQuiet}
 use Rattle.markdown_resolver.specs.PutsTrees.{numbered_label}
@@ -58,7 +62,8 @@ past_second_lies source nil h = tt
 past_second_lies source (node a below after) h = h.1
 
 -- what waits for pairing is one byte long
-waiting_long : (bytes : List ℕ) (b : ItemBody) → waits_for_pairing b ≡ true → StandsOverMarkup bytes b → IfSome (run_character b) (λ c. length bytes ≡ 1) → length bytes ≡ 1
+waiting_long : (bytes : List ℕ) (b : ItemBody) → waits_for_pairing b ≡ true → StandsOverMarkup bytes b
+    → IfSome (run_character b) (λ c. length bytes ≡ 1) → length bytes ≡ 1
 waiting_long bytes (body.MaybeEmphasis count opens closes) waits markup run = run
 waiting_long bytes (body.MaybeSmartQuote quote opens closes) waits markup run = ap length markup.0
 waiting_long bytes other waits markup run = absurd (cc waits)
@@ -77,35 +82,45 @@ numbered_lies source tables nodes ix placed quiet =
       short = λ opens.
           let shape = shape-open tables bytes item.body (open-unresolved tables bytes item.body opens) in
           let waits : waits_for_pairing item.body ≡ true = sym (ap is_quiet shape) ∙ quiet in
-          let run = one_byte source (numbered nodes ix) (next_at nodes ix) (run_character item.body) bytes size placed.keeps.runs_are_whole in
+          let run = one_byte source (numbered nodes ix) (next_at nodes ix) (run_character item.body) bytes size placed.keeps.runs_are_whole
+          in
           let long = waiting_long bytes item.body waits placed.keeps.markup_is_there run in
           omega (arith, size, long);
     }
 
-first_lies : (source : List ℕ) (tables : Tables) (nodes : List (Node Item)) (f : Forest ℕ) (g h : Forest (Label ℕ)) → Each (IsPlaced source tables nodes) f
+first_lies : (source : List ℕ) (tables : Tables) (nodes : List (Node Item)) (f : Forest ℕ) (g h : Forest (Label ℕ))
+    → Each (IsPlaced source tables nodes) f
     → relabelled (numbered_label source tables nodes) f ≡ joined g h → IsQuiet g → AllLie source g
 first_lies source tables nodes f nil h placed e quiet = tt
 first_lies source tables nodes nil (node a below after) h placed e quiet = absurd (cc e)
 first_lies source tables nodes (node ix inner later) (node a below after) h placed e quiet =
     let same : numbered_label source tables nodes ix ≡ a = cc e in
-    let shape : is_quiet (numbered_label source tables nodes ix).part.shape ≡ true = ap (λ (b : Label ℕ). is_quiet b.part.shape) same ∙ quiet.0 in
-    let rest : relabelled (numbered_label source tables nodes) later ≡ joined after h = cc e in
-    (subst (LabelLies source) same (numbered_lies source tables nodes ix placed.0 shape), first_lies source tables nodes later after h placed.2 rest quiet.3)
+    let shape : is_quiet (numbered_label source tables nodes ix).part.shape ≡ true = ap (λ (b : Label ℕ). is_quiet b.part.shape) same
+    ∙ quiet.0 in
+    let rest : relabelled (numbered_label source tables nodes) later ≡ joined after h = cc e in (
+      subst (LabelLies source) same (numbered_lies source tables nodes ix placed.0 shape),
+      first_lies source tables nodes later after h
+          placed.2 rest quiet.3,
+    )
 
 -- the trees of a left list that stands in an arena
-pub left_lies : (source : List ℕ) (tables : Tables) (nodes : List (Node Item)) (first : ℕ) (at : Option ℕ) (left : List (Entry ℕ)) → StandsTo source tables nodes first at left
+pub left_lies : (source : List ℕ) (tables : Tables) (nodes : List (Node Item)) (first : ℕ) (at : Option ℕ) (left : List (Entry ℕ))
+    → StandsTo source tables nodes first at left
     → AllLie source (trees_onto left nil)
 left_lies source tables nodes first at left h =
     let r = rest_of source tables nodes first at left h in
     first_lies source tables nodes (forest_at (links_of nodes) (Some first)) (trees_onto left nil) _ h.ready.reaches.each r.whole h.quiet
 
 -- and those inside an opener of it, past the second
-pub inside_lies : (source : List ℕ) (test : Mark → Bool) (left : List (Entry ℕ)) (o : Split ℕ) → AllLie source (trees_onto left nil) → nearest test left ≡ Some o
+pub inside_lies : (source : List ℕ) (test : Mark → Bool) (left : List (Entry ℕ)) (o : Split ℕ) → AllLie source (trees_onto left nil)
+    → nearest test left ≡ Some o
     → AllLie source (past_second (inside o))
 inside_lies source test left o h found =
-    let splits = subst (λ (s : Option (Split ℕ)). IfSome s (λ o. (later : Forest (Label ℕ)) → trees_onto left later ≡ trees_onto o.before (node o.opener nil (trees_onto o.after later))))
+    let splits = subst (λ (s : Option (Split ℕ)). IfSome s (λ o. (later : Forest (Label ℕ))
+    → trees_onto left later ≡ trees_onto o.before (node o.opener nil (trees_onto o.after later))))
     found (splits_at test left) in
-    let whole : trees_onto left nil ≡ joined (trees_onto o.before nil) (node o.opener nil (inside o)) = splits nil ∙ onto_split o.before (node o.opener nil (inside o)) in
+    let whole : trees_onto left nil ≡ joined (trees_onto o.before nil) (node o.opener nil (inside o)) = splits nil
+    ∙ onto_split o.before (node o.opener nil (inside o)) in
     let all = second_lies source (trees_onto o.before nil) (node o.opener nil (inside o)) (subst (AllLie source) whole h) in
     past_second_lies source (inside o) all.1
 
@@ -120,7 +135,8 @@ none_cut source i (node a below after) h = by (nat_le (end_of a) i) refl (none_c
 
     by : (ended : Bool) → nat_le (end_of a) i ≡ ended → NoneOpenAround i after → IsNotCut ended i a (NoneOpenAround i after)
     by true e later = later
-    by false e later = λ starts. let ends : i < end_of a = grind (arith, nat_tests) in by_shape (is_unresolved a.part.shape) refl starts ends
+    by false e later = λ starts. let ends : i < end_of a = grind (arith, nat_tests) in by_shape (is_unresolved a.part.shape) refl starts
+        ends
 
 -- what is left of them past a byte between characters begins and ends so
 max_between : (source : List ℕ) (s i : ℕ) → IsCharBoundary source s → IsCharBoundary source i → IsCharBoundary source (max s i)
@@ -148,7 +164,8 @@ IsCut text start end shows_name = start < end
 IsCut text start end (shows_nothing at) = IsCharBoundary text at
 IsCut text start end (shows_from at) = IsCharBoundary text at
 
-named_cut : (text : List ℕ) (start end : ℕ) (name : List ℕ) (shows : Shows) → IsCut text start end shows → IfSome (named name shows) (λ b. IsCut text start end b.shows)
+named_cut : (text : List ℕ) (start end : ℕ) (name : List ℕ) (shows : Shows) → IsCut text start end shows
+    → IfSome (named name shows) (λ b. IsCut text start end b.shows)
 named_cut text start end [] shows h = tt
 named_cut text start end (b ∷ name) shows h = h
 
@@ -166,7 +183,8 @@ cut_is text start end (Some pipe) order h = named_cut text start end pipe.1 (sho
 
 -- behind a `|`
 pipe_between : (text : List ℕ) (start size : ℕ) → IsUtf8 text
-    → IfSome {T = ℕ × List ℕ} (option_map (λ n. (start + n + 1, take n (take size (drop start text)))) (position (λ b. b == 124) (take size (drop start text)))) (λ pipe. IsCharBoundary text pipe.0)
+    → IfSome {T = ℕ × List ℕ} (option_map (λ n. (start + n + 1, take n (take size (drop start text))))
+    (position (λ b. b == 124) (take size (drop start text)))) (λ pipe. IsCharBoundary text pipe.0)
 pipe_between text start size utf8 = by (nat_lt n (length part)) refl
   where
     part : List ℕ
@@ -176,7 +194,8 @@ pipe_between text start size utf8 = by (nat_lt n (length part)) refl
     n = position_or_len (λ b. b == 124) part
 
     by : (found : Bool) → nat_lt n (length part) ≡ found
-        → IfSome {T = ℕ × List ℕ} (option_map (λ n. (start + n + 1, take n part)) (if found then Some n else None)) (λ pipe. IsCharBoundary text pipe.0)
+        → IfSome {T = ℕ × List ℕ} (option_map (λ n. (start + n + 1, take n part)) (if found then Some n else None))
+        (λ pipe. IsCharBoundary text pipe.0)
     by true e =
         let inside_part : n < length part = grind (arith, nat_tests) in
         let is : get_or part n 0 ≡ 124 = eqb-true (get_or part n 0) 124 (passes_at_first (λ b. b == 124) part 0 inside_part) in
@@ -200,21 +219,27 @@ some_lies : (source : List ℕ) (f : Forest (Label ℕ)) → FirstLies source f 
 some_lies source nil h = tt
 some_lies source (node a below after) h = h
 
-children_lie : (w : Around) (first : Label ℕ) (f : Forest (Label ℕ)) (end : ℕ) (shows : Shows) → AllLie w.setting.text f → IsCharBoundary w.setting.text (start_of first)
-    → IsCharBoundary w.setting.text end → IsCut w.setting.text (start_of first) end shows → IfSome (children_of w first f end shows) (FirstLies w.setting.text)
+children_lie : (w : Around) (first : Label ℕ) (f : Forest (Label ℕ)) (end : ℕ) (shows : Shows) → AllLie w.setting.text f
+    → IsCharBoundary w.setting.text (start_of first)
+    → IsCharBoundary w.setting.text end → IsCut w.setting.text (start_of first) end shows
+    → IfSome (children_of w first f end shows) (FirstLies w.setting.text)
 children_lie w first f end shows_name all starts ends cut = (omega (arith, cut), starts, ends)
 children_lie w first f end (shows_nothing at) all starts ends cut = (omega arith, cut, cut)
-children_lie w first f end (shows_from at) all starts ends cut = some_lies w.setting.text (past_byte at f) (past_lies w.setting.text at f all cut)
+children_lie w first f end (shows_from at) all starts ends cut = some_lies w.setting.text (past_byte at f)
+    (past_lies w.setting.text at f all cut)
 
 made_lies : (source : List ℕ) (b : WikilinkBody) (children : Option (Forest (Label ℕ))) → IfSome children (FirstLies source)
-    → IfSome {T = Wikilink ℕ} (option_map (λ children. record { name = b.name; has_pothole = has_pothole b.shows; children = children }) children) (λ v. FirstLies source v.children)
+    → IfSome {T = Wikilink ℕ} (option_map (λ children. record { name = b.name; has_pothole = has_pothole b.shows; children = children })
+    children) (λ v. FirstLies source v.children)
 made_lies source b None h = tt
 made_lies source b (Some children) h = h
 
-wikilink_lies : (w : Around) (f : Forest (Label ℕ)) (end : ℕ) → IsUtf8 w.setting.text → AllLie w.setting.text f → IsCharBoundary w.setting.text end
+wikilink_lies : (w : Around) (f : Forest (Label ℕ)) (end : ℕ) → IsUtf8 w.setting.text → AllLie w.setting.text f
+    → IsCharBoundary w.setting.text end
     → IfSome (wikilink_in w f end) (λ v. FirstLies w.setting.text v.children)
 wikilink_lies w nil end utf8 all ends = tt
-wikilink_lies w (node first below after) end utf8 all ends = by (wikilink_body w.setting.text (start_of first) end) (body_cut w.setting.text (start_of first) end utf8)
+wikilink_lies w (node first below after) end utf8 all ends = by (wikilink_body w.setting.text (start_of first) end)
+    (body_cut w.setting.text (start_of first) end utf8)
   where
     by : (found : Option WikilinkBody) → IfSome found (λ b. IsCut w.setting.text (start_of first) end b.shows)
         → IfSome (option_and_then (wikilink_by w first (node first below after) end) found) (λ v. FirstLies w.setting.text v.children)
@@ -224,9 +249,65 @@ wikilink_lies w (node first below after) end utf8 all ends = by (wikilink_body w
         (children_lie w first (node first below after) end b.shows all all.0.starts ends cut)
 
 -- so a wikilink of this body shows what may be shown
-pub shows_well : (w : Around) (f : Forest (Label ℕ)) (end : ℕ) (v : Wikilink ℕ) → IsUtf8 w.setting.text → AllLie w.setting.text f → IsCharBoundary w.setting.text end
+pub shows_well : (w : Around) (f : Forest (Label ℕ)) (end : ℕ) (v : Wikilink ℕ) → IsUtf8 w.setting.text → AllLie w.setting.text f
+    → IsCharBoundary w.setting.text end
     → wikilink_in w f end ≡ Some v → ShowsWell w.setting.text f v.children
 shows_well w f end v utf8 all ends e = record {
-  lies = subst (λ (found : Option (Wikilink ℕ)). IfSome found (λ v. FirstLies w.setting.text v.children)) e (wikilink_lies w f end utf8 all ends);
+  lies = subst (λ (found : Option (Wikilink ℕ)). IfSome found (λ v. FirstLies w.setting.text v.children)) e
+      (wikilink_lies w f end utf8 all ends);
   not_cut = λ at same. none_cut w.setting.text at f all;
 }
+
+-- and its name stands in the text
+named_stands : (text name : List ℕ) (shows : Shows) → StandsIn text name → IfSome (named name shows) (λ b. StandsIn text b.name)
+named_stands text [] shows h = tt
+named_stands text (b ∷ name) shows h = h
+
+pipe_stands : (text : List ℕ) (start end : ℕ)
+    → IfSome {T = ℕ × List ℕ} (option_map (λ n. (start + n + 1, take n (slice_range text start end)))
+    (position (λ b. b == 124) (slice_range text start end))) (λ pipe. StandsIn text pipe.1)
+pipe_stands text start end = by (position (λ b. b == 124) body)
+  where
+    body : List ℕ
+    body = slice_range text start end
+
+    by : (found : Option ℕ) → IfSome {T = ℕ × List ℕ} (option_map (λ n. (start + n + 1, take n body)) found) (λ pipe. StandsIn text pipe.1)
+    by None = tt
+    by (Some n) =
+        let size : n ≡ n - 0 = omega arith in
+        stands_within text start end (take n body) (stands_between body 0 n (take n body) (ap (λ k. take k body) size))
+
+cut_stands : (text : List ℕ) (start end : ℕ) (found : Option (ℕ × List ℕ)) → IfSome found (λ pipe. StandsIn text pipe.1)
+    → IfSome (cut_at text start end found) (λ b. StandsIn text b.name)
+cut_stands text start end None h = named_stands text (slice_range text start end) shows_name
+    (stands_between text start end (slice_range text start end) refl)
+cut_stands text start end (Some pipe) h = named_stands text pipe.1 (shown_from pipe.0 end) h
+
+body_stands : (text : List ℕ) (start end : ℕ) → IfSome (wikilink_body text start end) (λ b. StandsIn text b.name)
+body_stands text start end = by (nat_lt start end) _ (pipe_stands text start end)
+  where
+    by : (order : Bool) (found : Option (ℕ × List ℕ)) → IfSome found (λ pipe. StandsIn text pipe.1)
+        → IfSome (if order then cut_at text start end found else None) (λ b. StandsIn text b.name)
+    by true found h = cut_stands text start end found h
+    by false found h = tt
+
+name_stands : (w : Around) (f : Forest (Label ℕ)) (end : ℕ) → IfSome (wikilink_in w f end) (λ v. StandsIn w.setting.text v.name)
+name_stands w nil end = tt
+name_stands w (node first below after) end = by (wikilink_body w.setting.text (start_of first) end)
+    (body_stands w.setting.text (start_of first) end)
+  where
+    made : (b : WikilinkBody) (children : Option (Forest (Label ℕ))) → StandsIn w.setting.text b.name
+        → IfSome {T = Wikilink ℕ} (option_map (λ children. record { name = b.name; has_pothole = has_pothole b.shows; children = children })
+        children) (λ v. StandsIn w.setting.text v.name)
+    made b None h = tt
+    made b (Some children) h = h
+
+    by : (found : Option WikilinkBody) → IfSome found (λ b. StandsIn w.setting.text b.name)
+        → IfSome (option_and_then (wikilink_by w first (node first below after) end) found) (λ v. StandsIn w.setting.text v.name)
+    by None h = tt
+    by (Some b) h = made b (children_of w first (node first below after) end b.shows) h
+
+pub names_stand : (w : Around) (f : Forest (Label ℕ)) (end : ℕ) (v : Wikilink ℕ) → wikilink_in w f end ≡ Some v
+    → StandsIn w.setting.text v.name
+names_stand w f end v e = subst (λ (found : Option (Wikilink ℕ)). IfSome found (λ v. StandsIn w.setting.text v.name)) e
+    (name_stands w f end)

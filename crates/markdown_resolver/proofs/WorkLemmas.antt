@@ -1,5 +1,6 @@
 -- How much the counts of work rise where a chain is resolved.
-use Rattle.std.proofs.Common.{◌≡◌, ℕ, zero, suc, ◌+◌, ◌-◌, ◌*◌, ◌^◌, ◌<◌, ◌≤◌, min, List, ◌++◌, Option, Some, length, refl, sym, ap, ◌∙◌, arith}
+use Rattle.std.proofs.Common.{◌≡◌, ℕ, zero, suc, ◌+◌, ◌-◌, ◌*◌, ◌^◌, ◌<◌, ◌≤◌, min, List, ◌++◌, Option, Some, length, refl, sym, ap, ◌∙◌}
+use Rattle.std.proofs.Common.{arith}
 use Rattle.std.proofs.lemmas.List.{length-map}
 use Rattle.markdown_base.specs.ArenaForest.{Spells, links_of, forest_at}
 use Rattle.markdown_base.specs.BlockTree.{trees_at}
@@ -25,7 +26,8 @@ use Rattle.markdown_resolver.specs.PassOne.{Outcome, pass_one}
 use Rattle.markdown_resolver.proofs.PairedLemmas.{delimiters_left}
 
 -- a chain has as many items as nodes, and one at least
-chain_items : (source : List ℕ) (tables : Tables) (nodes : List (Node Item)) (l : Option ℕ) → length (roots (trees_from source tables nodes l)) ≡ items_from nodes l
+chain_items : (source : List ℕ) (tables : Tables) (nodes : List (Node Item)) (l : Option ℕ)
+    → length (roots (trees_from source tables nodes l)) ≡ items_from nodes l
 chain_items source tables nodes l =
     ap length (roots-relabelled (label_at source tables nodes) (forest_at (links_of nodes) l))
     ∙ length-map (roots (forest_at (links_of nodes) l)) (label_at source tables nodes)
@@ -34,7 +36,8 @@ some_root : (nodes : List (Node Item)) (ix : ℕ) (f : Forest ℕ) → Spells (l
 some_root nodes ix nil s = cc s
 some_root nodes ix (node j below after) s = omega arith
 
-some_items : (nodes : List (Node Item)) (ix : ℕ) → Spells (links_of nodes) (Some ix) (forest_at (links_of nodes) (Some ix)) → 0 < items_from nodes (Some ix)
+some_items : (nodes : List (Node Item)) (ix : ℕ) → Spells (links_of nodes) (Some ix) (forest_at (links_of nodes) (Some ix))
+    → 0 < items_from nodes (Some ix)
 some_items nodes ix spelled = some_root nodes ix (forest_at (links_of nodes) (Some ix)) spelled
 
 -- a count that has not passed the greatest rises by none, or by some up to the greatest
@@ -58,12 +61,19 @@ pub record AreCounts (w : Work) : Type 0 where
 same_rise : (most most' old new new' : ℕ) → most' ≡ most → new' ≡ new → RisesAtMost most old new → RisesAtMost most' old new'
 same_rise most most' old new new' e e' r = record { more = r.more; within = omega (arith, e, r.within); counted = e' ∙ r.counted }
 
-work_rises : (n : ChainCounts) (old new : Work) → AreCounts old → 0 < n.items → new.items ≡ min (old.items + n.items) (2 ^ 128 - 1) → new.delimiters ≡ min (old.delimiters + n.delimiters) (2 ^ 128 - 1)
-    → ExaminesAtMost (10 * n.delimiters) old.examined new.examined → RisesAtLeast n.found old.examined new.examined → RisesAtMost n.items old.code_visits new.code_visits → RisesAtMost n.items old.math_visits new.math_visits → WorkRises n old new
+work_rises : (n : ChainCounts) (old new : Work) → AreCounts old → 0 < n.items → new.items ≡ min (old.items + n.items) (2 ^ 128 - 1)
+    → new.delimiters ≡ min (old.delimiters + n.delimiters) (2 ^ 128 - 1)
+    → ExaminesAtMost (10 * n.delimiters) old.examined new.examined → RisesAtLeast n.found old.examined new.examined
+    → RisesAtMost n.items old.code_visits new.code_visits → RisesAtMost n.items old.math_visits new.math_visits → WorkRises n old new
 work_rises n old new fits some items delimiters examined found code math = record {
   items = items ∙ risen_some n.items old.items some;
   delimiters = delimiters ∙ risen_is n.delimiters old.delimiters fits.delimiters;
-  examined = record { more = examined.examined; within = examined.within; counted = examined.counted ∙ risen_is examined.examined old.examined fits.examined };
+  examined = record {
+    more = examined.examined;
+    within = examined.within;
+    counted = examined.counted
+        ∙ risen_is examined.examined old.examined fits.examined;
+  };
   found = found;
   code_visits = code;
   math_visits = math;
@@ -84,16 +94,25 @@ pub record PairCounts (delimiters found : ℕ) (old new : Work) : Type 0 where
   pub finds : RisesAtLeast found old.examined new.examined
 
 examined_by : (d d' old old' new : ℕ) → d ≡ d' → old ≡ old' → ExaminesAtMost (10 * d) old new → ExaminesAtMost (10 * d') old' new
-examined_by d d' old old' new e e' h = record { examined = h.examined; within = omega (arith, e, h.within); counted = h.counted ∙ ap (λ n. min (n + h.examined) (2 ^ 128 - 1)) e' }
+examined_by d d' old old' new e e' h = record {
+  examined = h.examined;
+  within = omega (arith, e, h.within);
+  counted = h.counted
+      ∙ ap (λ n. min (n + h.examined) (2 ^ 128 - 1)) e';
+}
 
 found_by : (f f' old old' new : ℕ) → f ≡ f' → old ≡ old' → RisesAtLeast f old new → RisesAtLeast f' old' new
 found_by f f' old old' new e e' h = rw (sym e, sym e') h
 
 -- where a chain was read, and then paired, the counts rose by those of the chain
-pub counts_rise : {C : Type 0} (step : C → Question → Option Answer → C → Type 0) (s : Setting) (above : Above) (first : ℕ) (old mid : Stage C) (work then new : Work)
-    → Spells (links_of old.nodes) (Some first) (forest_at (links_of old.nodes) (Some first)) → (r : ResolvesFrom step s.text (pass_one s plain_tags above) (Some first) old mid)
-    → AreCounts work → ReadCounts (items_from old.nodes (Some first)) work then → PairCounts (delimiters_of (trees_at mid.nodes (Some first))) (finds_in s (chain_at s.text mid (Some first))) then new
-    → (later : Answers) → WorkRises (chain_counts s plain_tags above (chain_at s.text old (Some first)) (known_at old (r.answers ++ later))) work new
+pub counts_rise : {C : Type 0} (step : C → Question → Option Answer → C → Type 0) (s : Setting) (above : Above) (first : ℕ)
+    (old mid : Stage C) (work then new : Work)
+    → Spells (links_of old.nodes) (Some first) (forest_at (links_of old.nodes) (Some first))
+    → (r : ResolvesFrom step s.text (pass_one s plain_tags above) (Some first) old mid)
+    → AreCounts work → ReadCounts (items_from old.nodes (Some first)) work then
+    → PairCounts (delimiters_of (trees_at mid.nodes (Some first))) (finds_in s (chain_at s.text mid (Some first))) then new
+    → (later : Answers) → WorkRises (chain_counts s plain_tags above (chain_at s.text old (Some first)) (known_at old (r.answers ++ later)))
+    work new
 counts_rise step s above first old mid work then new spelled r fits read paired later =
     let n = chain_counts s plain_tags above (chain_at s.text old (Some first)) (known_at old (r.answers ++ later)) in
     let d = delimiters_of (trees_at mid.nodes (Some first)) in
@@ -102,9 +121,12 @@ counts_rise step s above first old mid work then new spelled r fits read paired 
     let some : 0 < n.items = omega (arith, items, some_items old.nodes first spelled) in
     work_rises n work new fits some
     (ap (λ (w : Work). w.items) paired.counted ∙ read.items_counted ∙ ap (λ k. min (work.items + k) (2 ^ 128 - 1)) (sym items))
-    (ap (λ (w : Work). w.delimiters) paired.counted ∙ ap (λ k. min (k + d) (2 ^ 128 - 1)) read.same_delimiters ∙ ap (λ k. min (work.delimiters + k) (2 ^ 128 - 1)) left)
+    (ap (λ (w : Work). w.delimiters) paired.counted ∙ ap (λ k. min (k + d) (2 ^ 128 - 1)) read.same_delimiters
+    ∙ ap (λ k. min (work.delimiters + k) (2 ^ 128 - 1)) left)
     (examined_by d n.delimiters then.examined work.examined new.examined left read.same_examined paired.compared)
     (found_by (finds_in s (chain_at s.text mid (Some first))) n.found then.examined work.examined new.examined
     (ap (λ (o : Outcome (Unit {0})). finds_in s o.forest) (sym (r.resolves later))) read.same_examined paired.finds)
-    (same_rise (items_from old.nodes (Some first)) n.items work.code_visits then.code_visits new.code_visits items (ap (λ (w : Work). w.code_visits) paired.counted) read.code)
-    (same_rise (items_from old.nodes (Some first)) n.items work.math_visits then.math_visits new.math_visits items (ap (λ (w : Work). w.math_visits) paired.counted) read.math)
+    (same_rise (items_from old.nodes (Some first)) n.items work.code_visits then.code_visits new.code_visits items
+    (ap (λ (w : Work). w.code_visits) paired.counted) read.code)
+    (same_rise (items_from old.nodes (Some first)) n.items work.math_visits then.math_visits new.math_visits items
+    (ap (λ (w : Work). w.math_visits) paired.counted) read.math)

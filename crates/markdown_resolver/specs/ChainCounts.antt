@@ -9,8 +9,8 @@ use Rattle.markdown_chains.specs.Setting.{Setting, Known}
 use Rattle.markdown_delims.specs.PairingFinds.{finds_in}
 use Rattle.markdown_resolver.specs.PassOne.{pass_one}
 
--- the items of a chain from its first open one on, the delimiter characters that pass one leaves of it, and the searches
--- for an opener that find one when it is paired
+-- the items of a chain from its first open one on, the delimiter characters that pass one leaves of it, and the
+-- searches for an opener that find one when it is paired
 abbrev pub chain_counts : {A : Type 0} → Setting → Tags A → Above → Forest (Label A) → Known → ChainCounts
 chain_counts s tags above chain known = record {
   items = length (roots chain);

@@ -24,9 +24,10 @@ pub record CanReadItem (place : ChainPlace) (tree : Arena Item) (held : Allocate
   pub ready : CanResolve place.text.now (tables_of held) tree.nodes (Some ix)
   pub above : AreAbove place.text.now tree.nodes (Some ix) tree.spine
 
--- a chain was read up to the item of a node, which may be read: from the node `first` on a left list stands, of which two
--- stacks hold the openers
-pub record CanReadOn (place : ChainPlace) (tree : Arena Item) (held : Allocated) (brackets wikilinks : List Waiting) (first ix : ℕ) (left : List (Entry ℕ)) : Type 0 where
+-- a chain was read up to the item of a node, which may be read: from the node `first` on a left list stands, of which
+-- two stacks hold the openers
+pub record CanReadOn (place : ChainPlace) (tree : Arena Item) (held : Allocated) (brackets wikilinks : List Waiting)
+    (first ix : ℕ) (left : List (Entry ℕ)) : Type 0 where
   pub stands : IsPlaceOf place tree
   pub above : AreAbove place.text.now tree.nodes (Some first) tree.spine
   pub so_far : StandsTo place.text.now (tables_of held) tree.nodes first (Some ix) left

@@ -28,26 +28,30 @@ use Rattle.markdown_chains.specs.Stages.{Stage, chain_at, known_at, named_in, st
 use Rattle.markdown_chains.specs.Tables.{Tables, Named, number_of, size_for, HasGrown}
 
 -- the chain from the link l on was changed where it stands, and the tables with it
-pub record ChangesChain (source : List ℕ) (l : Option ℕ) (old new : List (Node Item)) (tables tables' : Tables) : Type 0 where
-  -- from l the links spell a forest of items that are placed, so that the runs in it are whole, at every depth
-  pub reaches : Reaches (links_of new) (IsPlaced source tables' new) l
-  -- no node stands twice in it, and each is of the chain or new
-  pub once : (n : ℕ) → times_in new l n ≤ 1
-  pub of_chain : (n : ℕ) → n < length old → times_in new l n ≤ times_in old l n
-  -- nodes that are not of the chain are as they were
-  pub more_nodes : length old ≤ length new
-  pub outside : (n : ℕ) → n < length old → times_in old l n ≡ 0 → IsSameAt old new n
-  -- the tables have grown at their ends; no entry is named twice, and each is new or was named in the chain
-  pub grown : HasGrown tables tables'
-  pub named_once : (n : Named) → named_in new l n ≤ 1
-  pub named : (n : Named) → number_of n < size_for tables n → named_in new l n ≤ named_in old l n
-  -- what stands before the chain still does
-  pub before : (a : Numbered) → StandsBefore a (option_map (numbered old) l) → StandsBefore a (option_map (numbered new) l)
-  -- it is no heavier
-  pub no_heavier : weight_in new l ≤ weight_in old l
+pub record ChangesChain (source : List ℕ) (l : Option ℕ) (old new : List (Node Item)) (tables tables' : Tables) : Type 0
+  where
+    -- from l the links spell a forest of items that are placed, so that the runs in it are whole, at every depth
+    pub reaches : Reaches (links_of new) (IsPlaced source tables' new) l
+    -- no node stands twice in it, and each is of the chain or new
+    pub once : (n : ℕ) → times_in new l n ≤ 1
+    pub of_chain : (n : ℕ) → n < length old → times_in new l n ≤ times_in old l n
+    -- nodes that are not of the chain are as they were
+    pub more_nodes : length old ≤ length new
+    pub outside : (n : ℕ) → n < length old → times_in old l n ≡ 0 → IsSameAt old new n
+    -- the tables have grown at their ends; no entry is named twice, and each is new or was named in the chain
+    pub grown : HasGrown tables tables'
+    pub named_once : (n : Named) → named_in new l n ≤ 1
+    pub named : (n : Named) → number_of n < size_for tables n → named_in new l n ≤ named_in old l n
+    -- what stands before the chain still does
+    pub before : (a : Numbered) → StandsBefore a (option_map (numbered old) l)
+        → StandsBefore a (option_map (numbered new) l)
+    -- it is no heavier
+    pub no_heavier : weight_in new l ≤ weight_in old l
 
 -- from one stage to another the chain from the link l on was resolved by a rule, in place
-pub record ResolvesFrom {C : Type 0} (step : C → Question → Option Answer → C → Type 0) (source : List ℕ) (rule : Forest Plain → Known → Outcome (Unit {0})) (l : Option ℕ) (old new : Stage C) : Type 0 where
+pub record ResolvesFrom {C : Type 0} (step : C → Question → Option Answer → C
+    → Type 0) (source : List ℕ) (rule : Forest Plain → Known → Outcome (Unit {0})) (l : Option ℕ) (old new : Stage C)
+    : Type 0 where
   pub changes : ChangesChain source l old.nodes new.nodes old.tables new.tables
   -- the callback went by these questions and answers, and for them the forest is the rule's, whatever answers
   -- follow, which are handed on
@@ -77,23 +81,29 @@ AreAbove source nodes l [] = ⊤
 AreAbove source nodes l (ix ∷ deeper) = IsAbove source nodes l ix × AreAbove source nodes l deeper
 
 -- the chain from the node `first` on was resolved, below the nodes of the spine; all else is as it was
-pub record ResolvesChain {C : Type 0} (step : C → Question → Option Answer → C → Type 0) (s : Setting) (first : ℕ) (old new : Arena Item) (held held' : Allocated) (limit limit' : ℕ) (callback callback' : Option C) (work work' : Work) : Type 0 where
+pub record ResolvesChain {C : Type 0} (step : C → Question → Option Answer → C → Type 0) (s : Setting) (first : ℕ)
+    (old new : Arena Item) (held held' : Allocated) (limit limit' : ℕ) (callback callback' : Option C)
+    (work work' : Work) : Type 0 where
   pub tree : new ≡ record old { nodes = new.nodes }
   -- of the tables the texts, the links and the uses of footnotes change: what their names are stays
   pub tables : held' ≡ record held { cows = held'.cows; links = held'.links; footdefs = held'.footdefs }
   pub footnotes : (name : List ℕ) → is_some (footnote_at held'.footdefs name) ≡ is_some (footnote_at held.footdefs name)
-  pub chain : ResolvesFrom step s.text (resolved s plain_tags (above_cursor s.text old)) (Some first) (stage old held limit callback) (stage new held' limit' callback')
+  pub chain : ResolvesFrom step s.text (resolved s plain_tags (above_cursor s.text old)) (Some first)
+      (stage old held limit callback) (stage new held' limit' callback')
   -- the counts rose by those of the chain, for the answers that were given
   pub counted : (later : Answers) → WorkRises
-      (chain_counts s plain_tags (above_cursor s.text old) (chain_at s.text (stage old held limit callback) (Some first))
+      (chain_counts s plain_tags (above_cursor s.text old) (chain_at s.text (stage old held limit callback)
+      (Some first))
       (known_at (stage old held limit callback) (chain.answers ++ later)))
       work work'
 
 -- memory was refused on the way: the callback went by these questions, with which those of the chain begin, and
 -- these answers
-pub record StopsIn {C : Type 0} (step : C → Question → Option Answer → C → Type 0) (s : Setting) (above : Above) (first : ℕ) (old : Stage C) (callback' : Option C) : Type 0 where
+pub record StopsIn {C : Type 0} (step : C → Question → Option Answer → C → Type 0) (s : Setting) (above : Above)
+    (first : ℕ) (old : Stage C) (callback' : Option C) : Type 0 where
   pub answers : Answers
   pub questions : List Question
   pub asked : Asks step old.callback questions answers callback'
   pub begins : (later : Answers) → (others : List Question)
-      × ((resolved s plain_tags above (chain_at s.text old (Some first)) (known_at old (answers ++ later))).questions ≡ questions ++ others)
+      × ((resolved s plain_tags above (chain_at s.text old (Some first)) (known_at old (answers ++ later))).questions
+      ≡ questions ++ others)

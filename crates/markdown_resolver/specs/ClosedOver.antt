@@ -24,6 +24,7 @@ first_trees zero f = nil
 first_trees (suc k) nil = nil
 first_trees (suc k) (node a below after) = node a below (first_trees k after)
 
+-- a chain without its first trees
 abbrev pub trees_past : {A : Type 0} → ℕ → Forest A → Forest A
 trees_past zero f = f
 trees_past (suc k) nil = nil
@@ -33,8 +34,8 @@ trees_past (suc k) (node a below after) = trees_past k after
 abbrev pub Enclosing : Type 0
 Enclosing = Plain → (inside : Forest Plain) → Forest Plain
 
--- trees stand for the first tree of a chain, which is an opener, for the k trees inside, for the `]` behind them and for
--- what follows it up to a byte; a rule reads what is left
+-- trees stand for the first tree of a chain, which is an opener, for the k trees inside, for the `]` behind them and
+-- for what follows it up to a byte; a rule reads what is left
 abbrev pub closed_over : (k : ℕ) → Enclosing → (goes_on : ℕ) → (Forest Plain → Forest Plain) → Forest Plain
     → Forest Plain
 closed_over k trees goes_on rule nil = nil
@@ -45,6 +46,7 @@ closed_over k trees goes_on rule (node a below after) =
 abbrev pub over_inside : List ℕ → Tables → Item → Enclosing
 over_inside source tables item a inside = node (label_of source tables item) inside nil
 
+-- a tree in place of all that it closes over
 abbrev pub in_place_of : List ℕ → Tables → Item → Enclosing
 in_place_of source tables item a inside = node (label_of source tables item) nil nil
 
@@ -53,6 +55,7 @@ abbrev pub over_text : List ℕ → Tables → (item text : Item) → Enclosing
 over_text source tables item text a inside =
     node (label_of source tables item) (node (label_of source tables text) nil nil) nil
 
+-- a tree over what a wikilink shows
 abbrev pub over_shown : List ℕ → Tables → Item → (k from : ℕ) → Enclosing
 over_shown source tables item k from a inside =
     node (label_of source tables item) (past_byte from (trees_past k inside)) nil
@@ -67,9 +70,10 @@ abbrev pub last_inside : (opener : ℕ) → List ℕ → ℕ
 last_inside opener [] = opener
 last_inside opener (n ∷ inside) = last_inside n inside
 
--- from an opener on, which is a Text by then, a chain stands with these nodes inside and a `]` behind them: what is found
--- ends at a byte
-pub record CanClose (source : List ℕ) (tables : Tables) (nodes : List (Node Item)) (opener closer : ℕ) (inside : List ℕ) (byte : ℕ) : Type 0 where
+-- from an opener on, which is a Text by then, a chain stands with these nodes inside and a `]` behind them: what is
+-- found ends at a byte
+pub record CanClose (source : List ℕ) (tables : Tables) (nodes : List (Node Item)) (opener closer : ℕ) (inside : List ℕ)
+    (byte : ℕ) : Type 0 where
   pub ready : CanResolve source tables nodes (Some opener)
   pub opener_closed : is_open (item_at nodes opener).body ≡ false
   pub childless : child_of nodes opener ≡ None
@@ -79,17 +83,20 @@ pub record CanClose (source : List ℕ) (tables : Tables) (nodes : List (Node It
   pub closer_ends : (item_at nodes closer).end ≤ byte
   pub boundary : IsCharBoundary source byte
   -- nothing open stands around that byte
-  pub between : (next : ℕ) → first_past nodes byte after ≡ Some next → (item_at nodes next).start < byte → is_open (item_at nodes next).body ≡ false
+  pub between : (next : ℕ) → first_past nodes byte after ≡ Some next → (item_at nodes next).start < byte
+      → is_open (item_at nodes next).body ≡ false
 
 -- an item may be put into the node of that opener: it begins where that does, and ends at the byte or before
-pub record CanPutOver (source : List ℕ) (tables tables' : Tables) (nodes : List (Node Item)) (opener : ℕ) (item : Item) (byte : ℕ) : Type 0 where
+pub record CanPutOver (source : List ℕ) (tables tables' : Tables) (nodes : List (Node Item)) (opener : ℕ) (item : Item)
+    (byte : ℕ) : Type 0 where
   pub puts : CanPut source tables tables' item
   pub starts : item.start ≡ (item_at nodes opener).start
   pub ends : item.end ≤ byte
 
--- what stands inside from a node on may be shown from a byte on: that node is the first that ends past it, and is not cut
--- where it is open
-pub record CanShow (source : List ℕ) (nodes : List (Node Item)) (inside : List ℕ) (skipped : List ℕ) (first from : ℕ) : Type 0 where
+-- what stands inside from a node on may be shown from a byte on: that node is the first that ends past it, and is not
+-- cut where it is open
+pub record CanShow (source : List ℕ) (nodes : List (Node Item)) (inside : List ℕ) (skipped : List ℕ) (first from : ℕ)
+    : Type 0 where
   pub shown : List ℕ
   pub inside_is : inside ≡ skipped ++ first ∷ shown
   pub boundary : (item_at nodes first).start < from → IsCharBoundary source from
@@ -97,7 +104,8 @@ pub record CanShow (source : List ℕ) (nodes : List (Node Item)) (inside : List
   pub not_cut : (item_at nodes first).start < from → is_open (item_at nodes first).body ≡ false
 
 -- two items may be put there: over the opener's first byte, and into the node of the closer, which ends where it does
-pub record CanPutMark (source : List ℕ) (tables tables' : Tables) (nodes : List (Node Item)) (opener closer : ℕ) (mark item : Item) : Type 0 where
+pub record CanPutMark (source : List ℕ) (tables tables' : Tables) (nodes : List (Node Item)) (opener closer : ℕ)
+    (mark item : Item) : Type 0 where
   pub puts_mark : CanPut source tables tables' mark
   pub puts : CanPut source tables tables' item
   pub names_nothing : (n : Named) → times_named n mark.body ≡ 0
@@ -107,7 +115,8 @@ pub record CanPutMark (source : List ℕ) (tables tables' : Tables) (nodes : Lis
   pub closer_open : is_open (item_at nodes closer).body ≡ true
 
 -- what a `]` becomes was put where it stands; these nodes stand there now
-pub record PutsOver (source : List ℕ) (opener closer : ℕ) (inside : List ℕ) (trees : Enclosing) (goes_on : ℕ) (standing : List ℕ) (next : Option ℕ) (old new : List (Node Item)) (tables tables' : Tables) : Type 0 where
+pub record PutsOver (source : List ℕ) (opener closer : ℕ) (inside : List ℕ) (trees : Enclosing) (goes_on : ℕ)
+    (standing : List ℕ) (next : Option ℕ) (old new : List (Node Item)) (tables tables' : Tables) : Type 0 where
   -- once what is left is rewritten by a rule, the whole is
   pub whole : (rule : Forest Plain → Forest Plain) (nodes : List (Node Item)) (later : Tables)
       → Rewrites source rule next new nodes tables' later

@@ -7,12 +7,14 @@ use Rattle.markdown_base.specs.Forest.{Forest, nil, node}
 use Rattle.markdown_base.specs.declared.item.Item.{Item}
 use Rattle.markdown_base.specs.declared.item.ItemBody.TheVariants as body
 use Rattle.markdown_base.specs.declared.node.Node.{Node}
-use Rattle.markdown_brackets.specs.BracketDecision.{Around, Becomes, a_text, a_link, a_footnote, a_wikilink, Closing, Progress, past_second}
+use Rattle.markdown_brackets.specs.BracketDecision.{Around, Becomes, a_text, a_link, a_footnote, a_wikilink, Closing}
+use Rattle.markdown_brackets.specs.BracketDecision.{Progress, past_second}
 use Rattle.markdown_brackets.specs.ClosingBracket.{put}
 use Rattle.markdown_brackets.specs.Finish.{SplitsAs}
 use Rattle.markdown_brackets.specs.LeftList.{Entry, brackets_of, inside, wikilinks_of}
 use Rattle.markdown_chains.specs.ChainRest.{end_of, past, past_byte, start_of}
 use Rattle.markdown_chains.specs.Document.{Label, is_unresolved}
+use Rattle.markdown_chains.specs.Origins.{StandsIn, destination_origin, made}
 use Rattle.markdown_chains.specs.Places.{trees_from}
 use Rattle.markdown_chains.specs.Stages.{items_from}
 use Rattle.markdown_chains.specs.Tables.{Tables}
@@ -27,6 +29,7 @@ abbrev pub IsNotCut : (ends : Bool) → ℕ → Label ℕ → (later : Type 0) �
 IsNotCut true i a later = later
 IsNotCut false i a later = start_of a < i → is_unresolved a.part.shape ≡ false
 
+-- no open item stands around a byte, but the one that is cut there
 abbrev pub NoneOpenAround : ℕ → Forest (Label ℕ) → Type 0
 NoneOpenAround i nil = ⊤
 NoneOpenAround i (node a below after) = IsNotCut (nat_le (end_of a) i) i a (NoneOpenAround i after)
@@ -40,24 +43,28 @@ pub record CanGoOn (source : List ℕ) (c : Closing ℕ) (byte : ℕ) : Type 0 w
 -- the first tree, if there is one, lies between characters
 abbrev pub FirstLies : List ℕ → Forest (Label ℕ) → Type 0
 FirstLies source nil = ⊤
-FirstLies source (node a below after) = (start_of a ≤ end_of a) × IsCharBoundary source (start_of a) × IsCharBoundary source (end_of a)
+FirstLies source (node a below after) = (start_of a ≤ end_of a) × IsCharBoundary source (start_of a)
+    × IsCharBoundary source (end_of a)
 
 -- what a wikilink shows of its body begins and ends between characters, and is not cut where it is open
 pub record ShowsWell (source : List ℕ) (body children : Forest (Label ℕ)) : Type 0 where
   pub lies : FirstLies source children
   pub not_cut : (at : ℕ) → past_byte at body ≡ children → NoneOpenAround at body
 
--- what it becomes ends between characters, at the `]` or later, and no later than where the chain goes on
+-- what it becomes ends between characters, at the `]` or later, and no later than where the chain goes on; a link is no
+-- autolink and no wikilink; and the name of a wikilink stands in the text
 abbrev pub EndsWell : List ℕ → Closing ℕ → Becomes ℕ → Type 0
 EndsWell source c a_text = ⊤
 EndsWell source c (a_link o target end next) =
     CanGoOn source c next × IsCharBoundary source end × (end_of c.label ≤ end) × (end ≤ next)
+    × (destination_origin target.kind ≡ made)
 EndsWell source c (a_footnote o name) = CanGoOn source c (end_of c.label)
 EndsWell source c (a_wikilink o found end) =
-    CanGoOn source c end × ShowsWell source (past_second (inside o)) found.children
+    CanGoOn source c end × ShowsWell source (past_second (inside o)) found.children × StandsIn source found.name
 
 -- behind a left list stands a `]` of an arena, which becomes this
-pub record ClosesAt (source : List ℕ) (tables : Tables) (nodes : List (Node Item)) (first closer : ℕ) (left : List (Entry ℕ)) (w : Around) (c : Closing ℕ) (becomes : Becomes ℕ) : Type 0 where
+pub record ClosesAt (source : List ℕ) (tables : Tables) (nodes : List (Node Item)) (first closer : ℕ)
+    (left : List (Entry ℕ)) (w : Around) (c : Closing ℕ) (becomes : Becomes ℕ) : Type 0 where
   pub stands : StandsTo source tables nodes first (Some closer) left
   pub closes : (could_be : Bool) × ((item_at nodes closer).body ≡ body.MaybeLinkClose could_be)
   pub label_is : c.label ≡ numbered_label source tables nodes closer
@@ -67,17 +74,21 @@ pub record ClosesAt (source : List ℕ) (tables : Tables) (nodes : List (Node It
   pub ends : EndsWell source c becomes
 
 -- it was put there
-pub record PutsClosed (source : List ℕ) (first closer : ℕ) (next : Option ℕ) (left : List (Entry ℕ)) (w : Around) (c : Closing ℕ) (becomes : Becomes ℕ) (old new : List (Node Item)) (tables tables' : Tables) : Type 0 where
+pub record PutsClosed (source : List ℕ) (first closer : ℕ) (next : Option ℕ) (left : List (Entry ℕ)) (w : Around)
+    (c : Closing ℕ) (becomes : Becomes ℕ) (old new : List (Node Item)) (tables tables' : Tables) : Type 0 where
   pub changes : ChangesChain source (Some first) old new tables tables'
   -- a left list stands there, which is what is put but for the numbers, and holds the same openers
   pub left_then : List (Entry ℕ)
   pub stands : StandsTo source tables' new first next left_then
-  pub puts : (p : Progress ℕ) → p.left ≡ left → left_without_numbers left_then ≡ left_without_numbers (put w c becomes p).left
+  pub puts : (p : Progress ℕ) → p.left ≡ left
+      → left_without_numbers left_then ≡ left_without_numbers (put w c becomes p).left
   pub brackets : (p : Progress ℕ) → p.left ≡ left → brackets_of left_then ≡ brackets_of (put w c becomes p).left
   pub wikilinks : (p : Progress ℕ) → p.left ≡ left → wikilinks_of left_then ≡ wikilinks_of (put w c becomes p).left
   -- what is left of the chain
   pub rest_is : (p : Progress ℕ) → p.goes_on ≡ None
-      → trees_from source tables' new next ≡ past (put w c becomes p).goes_on (trees_from source tables old (sibling_of old closer))
+      → trees_from source tables' new next
+      ≡ past (put w c becomes p).goes_on (trees_from source tables old (sibling_of old closer))
   pub fewer : items_from new next < items_from old (Some closer)
   -- what searches have learned of what follows the `]` is true of what is left
-  pub holds : (kind : SpanKind) (learned : Learned) → HoldsFrom kind learned old (sibling_of old closer) → HoldsFrom kind learned new next
+  pub holds : (kind : SpanKind) (learned : Learned) → HoldsFrom kind learned old (sibling_of old closer)
+      → HoldsFrom kind learned new next

@@ -7,7 +7,8 @@ use Rattle.markdown_chains.specs.Waiting.{is_quiet}
 -- nothing but what waits for pairing is open in it, and no block stands in it, at every depth
 abbrev pub IsQuiet : {A : Type 0} → Forest (Label A) → Type 0
 IsQuiet nil = ⊤
-IsQuiet (node a below after) = (is_quiet a.part.shape ≡ true) × (is_some a.part.block ≡ false) × IsQuiet below × IsQuiet after
+IsQuiet (node a below after) = (is_quiet a.part.shape ≡ true) × (is_some a.part.block ≡ false) × IsQuiet below
+    × IsQuiet after
 
 -- the items of a chain are no blocks, and below them it is so
 abbrev pub IsQuietBelow : {A : Type 0} → Forest (Label A) → Type 0
@@ -17,7 +18,8 @@ IsQuietBelow (node a below after) = (is_some a.part.block ≡ false) × IsQuiet 
 -- so it is in each chain, from its first open item on
 abbrev pub IsKept : {A : Type 0} → Forest (Label A) → Type 0
 IsKept nil = ⊤
-IsKept (node a below after) = (is_unresolved a.part.shape ≡ true → IsQuietBelow (node a below after)) × IsKept below × IsKept after
+IsKept (node a below after) = (is_unresolved a.part.shape ≡ true → IsQuietBelow (node a below after)) × IsKept below
+    × IsKept after
 
 -- nothing in its own chain is open, and its chains of children are quiet
 abbrev pub IsSettled : {A : Type 0} → Forest (Label A) → Type 0

@@ -31,11 +31,13 @@ OrderLaw A = (s : Setting) (chain : Forest (Label A)) → all_paired s (paired s
 
 -- nothing of a resolved chain is open, and below it runs and quotes are at most
 abbrev pub SettledLaw : Type 0 → Type 0
-SettledLaw A = (s : Setting) (tags : Tags A) (above : Above) (chain : Forest (Label A)) (known : Known) → IsQuietBelow chain → IsSettled (resolved s tags above chain known).forest
+SettledLaw A = (s : Setting) (tags : Tags A) (above : Above) (chain : Forest (Label A)) (known : Known)
+    → IsQuietBelow chain → IsSettled (resolved s tags above chain known).forest
 
 -- a chain that begins with an open item is resolved to one that begins with an event
 abbrev pub BeginLaw : Type 0 → Type 0
-BeginLaw A = (s : Setting) (tags : Tags A) (above : Above) (a : Label A) (below after : Forest (Label A)) (known : Known) → is_unresolved a.part.shape ≡ true
+BeginLaw A = (s : Setting) (tags : Tags A) (above : Above) (a : Label A) (below after : Forest (Label A))
+    (known : Known) → is_unresolved a.part.shape ≡ true
     → Begins (resolved s tags above (node a below after) known).forest
 
 -- what is known to a chain, where other answers are to come
@@ -44,14 +46,17 @@ with_answers answers known = record { limit = known.limit; answers = answers; us
 
 -- with one answer for each question the result is the same whatever answers follow, and those are handed on
 abbrev pub AnswerLaw : Type 0 → Type 0
-AnswerLaw A = (s : Setting) (tags : Tags A) (above : Above) (chain : Forest (Label A)) (known : Known) (answers later : Answers)
+AnswerLaw A = (s : Setting) (tags : Tags A) (above : Above) (chain : Forest (Label A)) (known : Known)
+    (answers later : Answers)
     → let r : Outcome A = resolved s tags above chain (with_answers answers known) in
     length r.questions ≡ length answers
-    → resolved s tags above chain (with_answers (answers ++ later) known) ≡ record { questions = r.questions; forest = r.forest; known = with_answers later r.known }
+    → resolved s tags above chain (with_answers (answers ++ later) known)
+    ≡ record { questions = r.questions; forest = r.forest; known = with_answers later r.known }
 
 -- a chain is resolved to one that is no heavier
 abbrev pub WeightLaw : Type 0 → Type 0
-WeightLaw A = (s : Setting) (tags : Tags A) (above : Above) (chain : Forest (Label A)) (known : Known) → weight (resolved s tags above chain known).forest ≤ weight chain
+WeightLaw A = (s : Setting) (tags : Tags A) (above : Above) (chain : Forest (Label A)) (known : Known)
+    → weight (resolved s tags above chain known).forest ≤ weight chain
 
 -- the tags of what is made go the same way
 pub record Follows {A B : Type 0} (f : A → B) (tags : Tags A) (tags' : Tags B) : Type 0 where
@@ -59,9 +64,11 @@ pub record Follows {A B : Type 0} (f : A → B) (tags : Tags A) (tags' : Tags B)
 
 -- tags say nothing: a chain with other tags is resolved to the same, with those tags
 abbrev pub TagLaw : Type 0 → Type 0 → Type 0
-TagLaw A B = (f : A → B) (s : Setting) (tags : Tags A) (tags' : Tags B) → Follows f tags tags' → (above : Above) (chain : Forest (Label A)) (known : Known)
+TagLaw A B = (f : A → B) (s : Setting) (tags : Tags A) (tags' : Tags B) → Follows f tags tags'
+    → (above : Above) (chain : Forest (Label A)) (known : Known)
     → let r : Outcome A = resolved s tags above chain known in
-    resolved s tags' above (retagged f chain) known ≡ record { questions = r.questions; forest = retagged f r.forest; known = r.known }
+    resolved s tags' above (retagged f chain) known
+    ≡ record { questions = r.questions; forest = retagged f r.forest; known = r.known }
 
 -- a label as an item, with the byte at which it begins for a number: those of a run's characters follow each other
 abbrev pub by_place : {A : Type 0} → Label A → Numbered
@@ -70,14 +77,17 @@ by_place a = record { number = start_of a; item = as_item a }
 -- runs are whole in a chain, and at every depth below it, as in a block result: a character that is counted n > 1 is
 -- followed, touching, by one of the same byte and flags that is counted n - 1; one counted 1 by none of the same byte
 abbrev pub RunsStandWhole : {A : Type 0} → List ℕ → Forest (Label A) → Type 0
-RunsStandWhole source chain = Throughout (λ a below after. RunsAreWhole source (by_place a) (option_map by_place (first_root after))) chain
+RunsStandWhole source chain = Throughout (λ a below after. RunsAreWhole source (by_place a)
+    (option_map by_place (first_root after))) chain
 
 -- so they are in the tree of a document
 abbrev pub DocumentLaw : Type 0
-DocumentLaw = (source : List ℕ) (nodes : List (Node Item)) (parts : BlockParts) (tables : Tables) → IsWellFormed source nodes parts
+DocumentLaw = (source : List ℕ) (nodes : List (Node Item)) (parts : BlockParts) (tables : Tables)
+    → IsWellFormed source nodes parts
     → RunsStandWhole source (document source tables nodes)
 
 -- where runs are whole in a chain, they are whole in what pass one makes of it
 abbrev pub WholeLaw : Type 0 → Type 0
-WholeLaw A = (s : Setting) (tags : Tags A) (above : Above) (chain : Forest (Label A)) (known : Known) → RunsStandWhole s.text chain
+WholeLaw A = (s : Setting) (tags : Tags A) (above : Above) (chain : Forest (Label A)) (known : Known)
+    → RunsStandWhole s.text chain
     → RunsStandWhole s.text (pass_one s tags above chain known).forest

@@ -8,6 +8,7 @@ pub mod ReadsItem
 pub mod Resolved
 pub mod Kept
 pub mod Laws
+pub mod ChainQuestions
 -- what a resolver owes a walk
 pub mod Chains
 -- what private contracts speak of

@@ -1,5 +1,6 @@
--- Pass one over a chain: its items are read from left to right, each once. Code, math, autolinks and raw HTML are found, an
--- opener of them at which nothing is found is a Text, and brackets become links, images, footnote references and wikilinks.
+-- Pass one over a chain: its items are read from left to right, each once. Code, math, autolinks and raw HTML are
+-- found, an opener of them at which nothing is found is a Text, and brackets become links, images, footnote references
+-- and wikilinks.
 use Rattle.std.specs.Prelude.{List, Some}
 use Rattle.markdown_base.specs.Forest.{Forest, nil}
 use Rattle.markdown_base.specs.Questions.{Question}
@@ -34,6 +35,7 @@ pub record Outcome (A : Type 0) : Type 0 where
   pub forest : Forest (Label A)
   pub known : Known
 
+-- what pass one made of a chain
 abbrev pub outcome : {A : Type 0} → Progress A → Outcome A
 outcome p = record { questions = p.asked; forest = trees_onto p.left nil; known = p.known }
 

@@ -17,6 +17,7 @@ first_backtick opener = record { start = opener.start; end = opener.start + 1; b
 abbrev pub span_item : (opener closer : Item) → ItemBody → Item
 span_item opener closer b = record { start = opener.start; end = closer.end; body = b }
 
+-- a code span that begins after the first backtick, which was escaped
 abbrev pub span_past_backtick : (opener closer : Item) → ItemBody → Item
 span_past_backtick opener closer b = record { start = opener.start + 1; end = closer.end; body = b }
 
@@ -35,7 +36,9 @@ CanPutSpan source tables tables' nodes ix closer b true =
     CanPutPair source tables tables' nodes ix closer
     (first_backtick (item_at nodes ix)) (span_past_backtick (item_at nodes ix) (item_at nodes closer) b)
 
-pub record CanPutCode (source : List ℕ) (tables tables' : Tables) (nodes : List (Node Item)) (ix closer : ℕ) (b : ItemBody) : Type 0 where
+-- a code span can be put at a node
+pub record CanPutCode (source : List ℕ) (tables tables' : Tables) (nodes : List (Node Item)) (ix closer : ℕ)
+    (b : ItemBody) : Type 0 where
   pub grown : HasGrown tables tables'
   pub found : IsFoundAt source tables nodes ix (item_at nodes closer).end
   pub closer_within : closer < length nodes

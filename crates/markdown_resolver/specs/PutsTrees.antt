@@ -18,15 +18,18 @@ use Rattle.markdown_resolver.specs.Rewritten.{RunsGoOn}
 abbrev pub numbered_label : List ℕ → Tables → List (Node Item) → ℕ → Label ℕ
 numbered_label source tables nodes ix = record { tag = ix; part = part_of source tables (item_at nodes ix) }
 
+-- a chain, each tree with the number of its node
 abbrev pub numbered_from : List ℕ → Tables → List (Node Item) → Option ℕ → Forest (Label ℕ)
-numbered_from source tables nodes link = relabelled (numbered_label source tables nodes) (forest_at (links_of nodes) link)
+numbered_from source tables nodes link = relabelled (numbered_label source tables nodes)
+    (forest_at (links_of nodes) link)
 
 -- without the numbers
 abbrev pub without_numbers : Forest (Label ℕ) → Forest Plain
 without_numbers f = retagged (λ n. tt) f
 
 -- trees were put where a node stands, and the chain goes on at a link with what is left
-pub record PutsTrees (source : List ℕ) (ix : ℕ) (next : Option ℕ) (trees rest : Forest Plain) (old new : List (Node Item)) (tables tables' : Tables) : Type 0 where
+pub record PutsTrees (source : List ℕ) (ix : ℕ) (next : Option ℕ) (trees rest : Forest Plain)
+    (old new : List (Node Item)) (tables tables' : Tables) : Type 0 where
   pub changes : ChangesChain source (Some ix) old new tables tables'
   pub runs : RunsGoOn source old new (Some ix)
   -- they stand there, and what is left behind them

@@ -1,4 +1,5 @@
--- How far a chain was read where it stands: the trees of a left list stand in the arena, and then what is left of the chain.
+-- How far a chain was read where it stands: the trees of a left list stand in the arena, and then what is left of the
+-- chain.
 use Rattle.std.specs.Prelude.{◌≡◌, ℕ, ◌-◌, ◌<◌, ◌+◌, ◌++◌, ◌||◌, ⊤, false, List, [], ◌∷◌, Option, Some, None, length}
 use Rattle.std.specs.Str.{IsCharBoundary}
 use Rattle.markdown_base.specs.Arena.{child_of}
@@ -42,22 +43,25 @@ pub record IsOpener (source : List ℕ) (nodes : List (Node Item)) (ix : ℕ) : 
   pub closed : is_open (item_at nodes ix).body ≡ false
   pub childless : child_of nodes ix ≡ None
 
+-- each opener that waits in a left list
 abbrev pub EachWaits : (ℕ → Type 0) → List (Entry ℕ) → Type 0
 EachWaits p [] = ⊤
 EachWaits p (done a below ∷ left) = EachWaits p left
 EachWaits p (waits m a ∷ left) = p a.tag × EachWaits p left
 
 -- from the node `first` on a left list stands, and behind it the chain from a link on
-pub record StandsTo (source : List ℕ) (tables : Tables) (nodes : List (Node Item)) (first : ℕ) (at : Option ℕ) (left : List (Entry ℕ)) : Type 0 where
+pub record StandsTo (source : List ℕ) (tables : Tables) (nodes : List (Node Item)) (first : ℕ) (at : Option ℕ)
+    (left : List (Entry ℕ)) : Type 0 where
   pub ready : CanResolve source tables nodes (Some first)
   pub stands : numbered_from source tables nodes (Some first) ≡ trees_onto left (numbered_from source tables nodes at)
   -- nothing in the left list is open but what waits for pairing
   pub quiet : IsQuiet (trees_onto left nil)
   pub waiting : EachWaits (IsOpener source nodes) left
 
--- trees were put behind a left list, in place of the chain that stood there, and the chain goes on at a link with what is
--- left
-pub record PutsBehind (source : List ℕ) (first : ℕ) (next : Option ℕ) (before : List (Entry ℕ)) (trees rest : Forest Plain) (old new : List (Node Item)) (tables tables' : Tables) : Type 0 where
+-- trees were put behind a left list, in place of the chain that stood there, and the chain goes on at a link with what
+-- is left
+pub record PutsBehind (source : List ℕ) (first : ℕ) (next : Option ℕ) (before : List (Entry ℕ))
+    (trees rest : Forest Plain) (old new : List (Node Item)) (tables tables' : Tables) : Type 0 where
   pub changes : ChangesChain source (Some first) old new tables tables'
   pub standing : Forest (Label ℕ)
   pub stands : StandsTo source tables' new first next (all_done standing before)
@@ -82,10 +86,12 @@ at_left left stage answers p =
 abbrev pub all_read : Setting → Above → Forest Plain → Progress (Unit {0}) → Progress (Unit {0})
 all_read s above chain p = record (read_on s plain_tags above chain p) { goes_on = None }
 
--- from one link of a chain to another it was read where it stands: to read on from there, whatever answers follow, is to
--- read on from the first
-pub record ReadsOn {C : Type 0} (step : C → Question → Option Answer → C → Type 0) (s : Setting) (above : Above) (first : ℕ)
-    (at next : Option ℕ) (left : List (Entry ℕ)) (old new : Stage C) (spent spent' : SpentEnds) (brackets wikilinks : List Waiting)
+-- from one link of a chain to another it was read where it stands: to read on from there, whatever answers follow, is
+-- to read on from the first
+pub record ReadsOn {C : Type 0} (step : C → Question → Option Answer → C → Type 0) (s : Setting) (above : Above)
+    (first : ℕ)
+    (at next : Option ℕ) (left : List (Entry ℕ)) (old new : Stage C) (spent spent' : SpentEnds)
+    (brackets wikilinks : List Waiting)
     : Type 0 where
   pub changes : ChangesChain s.text (Some first) old.nodes new.nodes old.tables new.tables
   pub left_then : List (Entry ℕ)
@@ -101,23 +107,32 @@ pub record ReadsOn {C : Type 0} (step : C → Question → Option Answer → C �
   pub reads : (p : Progress (Unit {0})) (later : Answers) → AreSpent spent p.spent
       → all_read s above (chain_at s.text old at) (at_left left old (answers ++ later) p)
       ≡ all_read s above (chain_at s.text new next)
-      (at_left left_then new later (record p { spent = ends ++ p.spent; asked = p.asked ++ questions; made = p.made + made }))
+      (at_left left_then new later (record p {
+        spent = ends ++ p.spent;
+        asked = p.asked ++ questions;
+        made = p.made
+            + made;
+      }))
 
 -- memory was refused on the way: the callback went by these questions, with which those of the rest begin, and these
 -- answers
-pub record StopsOn {C : Type 0} (step : C → Question → Option Answer → C → Type 0) (s : Setting) (above : Above) (at : Option ℕ)
+pub record StopsOn {C : Type 0} (step : C → Question → Option Answer → C → Type 0) (s : Setting) (above : Above)
+    (at : Option ℕ)
     (left : List (Entry ℕ)) (old : Stage C) (spent : SpentEnds) (callback' : Option C) : Type 0 where
   pub answers : Answers
   pub questions : List Question
   pub asked : Asks step old.callback questions answers callback'
   pub begins : (p : Progress (Unit {0})) (later : Answers) → AreSpent spent p.spent → (others : List Question)
-      × ((all_read s above (chain_at s.text old at) (at_left left old (answers ++ later) p)).asked ≡ p.asked ++ questions ++ others)
+      × ((all_read s above (chain_at s.text old at) (at_left left old (answers ++ later) p)).asked ≡ p.asked
+      ++ questions ++ others)
 
 -- so it was in pass one over the chain from the node `first` on
-pub record StopsInPassOne {C : Type 0} (step : C → Question → Option Answer → C → Type 0) (s : Setting) (above : Above) (first : ℕ)
+pub record StopsInPassOne {C : Type 0} (step : C → Question → Option Answer → C → Type 0) (s : Setting) (above : Above)
+    (first : ℕ)
     (old : Stage C) (callback' : Option C) : Type 0 where
   pub answers : Answers
   pub questions : List Question
   pub asked : Asks step old.callback questions answers callback'
   pub begins : (later : Answers) → (others : List Question)
-      × ((pass_one s plain_tags above (chain_at s.text old (Some first)) (known_at old (answers ++ later))).questions ≡ questions ++ others)
+      × ((pass_one s plain_tags above (chain_at s.text old (Some first)) (known_at old (answers ++ later))).questions
+      ≡ questions ++ others)

@@ -18,16 +18,20 @@ use Rattle.markdown_resolver.specs.Rewritten.{LeavesRest}
 -- what is read of the first tree of a chain in an arena
 abbrev pub read_at : Setting → Above → Tables → List (Node Item) → ℕ → Passed (Unit {0})
 read_at s above tables nodes ix =
-    read_tree s plain_tags above 0 (label_at s.text tables nodes ix) (trees_from s.text tables nodes (child_of nodes ix))
+    read_tree s plain_tags above 0 (label_at s.text tables nodes ix)
+    (trees_from s.text tables nodes (child_of nodes ix))
     (trees_from s.text tables nodes (sibling_of nodes ix))
 
 -- that was put, and what is left is what follows it, up to where a find ends
-pub record ReadsItem (s : Setting) (above : Above) (ix : ℕ) (next : Option ℕ) (old new : List (Node Item)) (tables tables' : Tables) : Type 0 where
+pub record ReadsItem (s : Setting) (above : Above) (ix : ℕ) (next : Option ℕ) (old new : List (Node Item))
+    (tables tables' : Tables) : Type 0 where
   pub puts : PutsTrees s.text ix next (read_at s above tables old ix).trees
-      (past (read_at s above tables old ix).goes_on (trees_from s.text tables old (sibling_of old ix))) old new tables tables'
+      (past (read_at s above tables old ix).goes_on (trees_from s.text tables old (sibling_of old ix))) old new tables
+      tables'
   pub leaves : LeavesRest s.text ix next old new tables'
   -- what searches have learned of what follows the item is true of what is left
-  pub holds : (kind : SpanKind) (learned : Learned) → HoldsFrom kind learned old (sibling_of old ix) → HoldsFrom kind learned new next
+  pub holds : (kind : SpanKind) (learned : Learned) → HoldsFrom kind learned old (sibling_of old ix)
+      → HoldsFrom kind learned new next
 
 -- a search has looked at some items, or at none once one had failed: at none past what is left, unless it failed
 pub record LooksAt (before after : Bool) (old new items items' : ℕ) : Type 0 where

@@ -16,13 +16,16 @@ unfoldable pub resolved : {A : Type 0} → Setting → Tags A → Above → Fore
 resolved s tags above chain known = then_paired s (pass_one s tags above chain known)
 
 -- a chain of children, from its first open item on: nothing in it asks
-abbrev pub paired_from : {A : Type 0} → Setting → Bool → Label A → (below after later : Forest (Label A)) → Forest (Label A)
+abbrev pub paired_from : {A : Type 0} → Setting → Bool → Label A → (below after later : Forest (Label A))
+    → Forest (Label A)
 paired_from s true a below after later = paired s (node a below after)
 paired_from s false a below after later = node a below later
 
+-- chains of children paired, where they begin with an open item
 abbrev pub paired_if_open : {A : Type 0} → Setting → Forest (Label A) → Forest (Label A)
 paired_if_open s nil = nil
-paired_if_open s (node a below after) = paired_from s (is_unresolved a.part.shape) a below after (paired_if_open s after)
+paired_if_open s (node a below after) = paired_from s (is_unresolved a.part.shape) a below after
+    (paired_if_open s after)
 
 -- a forest with each chain of children in it paired, the inner ones first
 abbrev pub all_paired : {A : Type 0} → Setting → Forest (Label A) → Forest (Label A)

@@ -1,5 +1,6 @@
 -- A chain of an arena that is rewritten where it stands: what private contracts say of its nodes.
-use Rattle.std.specs.Prelude.{◌≡◌, ℕ, ◌<◌, ◌≤◌, max, Bool, true, false, List, [], ◌∷◌, ◌++◌, Option, Some, None, length, if◌then◌else◌, nat_le}
+use Rattle.std.specs.Prelude.{◌≡◌, ℕ, ◌<◌, ◌≤◌, max, Bool, true, false, List, [], ◌∷◌, ◌++◌, Option, Some, None, length}
+use Rattle.std.specs.Prelude.{if◌then◌else◌, nat_le}
 use Rattle.std.specs.Option.{option_map}
 use Rattle.markdown_base.specs.Arena.{sibling_of}
 use Rattle.markdown_base.specs.ArenaForest.{links_of, forest_at}
@@ -22,10 +23,12 @@ use Rattle.markdown_resolver.specs.Chains.{CanResolve, ChangesChain}
 -- a run that goes on at a link still does
 abbrev pub RunsGoOn : List ℕ → List (Node Item) → List (Node Item) → Option ℕ → Type 0
 RunsGoOn source nodes nodes' l =
-    (a : Numbered) → RunsAreWhole source a (option_map (numbered nodes) l) → RunsAreWhole source a (option_map (numbered nodes') l)
+    (a : Numbered) → RunsAreWhole source a (option_map (numbered nodes) l)
+    → RunsAreWhole source a (option_map (numbered nodes') l)
 
 -- the chain from the link l on was rewritten by a rule that asks nothing, so that it may be the rest of a chain
-pub record Rewrites (source : List ℕ) (rule : Forest Plain → Forest Plain) (l : Option ℕ) (old new : List (Node Item)) (tables tables' : Tables) : Type 0 where
+pub record Rewrites (source : List ℕ) (rule : Forest Plain → Forest Plain) (l : Option ℕ) (old new : List (Node Item))
+    (tables tables' : Tables) : Type 0 where
   pub changes : ChangesChain source l old new tables tables'
   pub runs : RunsGoOn source old new l
   pub rewritten : trees_from source tables' new l ≡ rule (trees_from source tables old l)
@@ -34,8 +37,8 @@ pub record Rewrites (source : List ℕ) (rule : Forest Plain → Forest Plain) (
 abbrev pub Standing : Type 0
 Standing = Plain → Forest Plain → Forest Plain
 
--- trees stand for the first tree of a chain and, where something was found, for what follows it up to a byte; a rule reads
--- what is left
+-- trees stand for the first tree of a chain and, where something was found, for what follows it up to a byte; a rule
+-- reads what is left
 abbrev pub replaced : Standing → (goes_on : Option ℕ) → (Forest Plain → Forest Plain) → Forest Plain → Forest Plain
 replaced trees goes_on rule nil = nil
 replaced trees goes_on rule (node a below after) = joined (trees a below) (rule (past goes_on after))
@@ -45,6 +48,7 @@ abbrev pub text_unless : (is_quiet : Bool) → List ℕ → Standing
 text_unless true source a below = node a below nil
 text_unless false source a below = node (as_text source a) nil nil
 
+-- an item at which nothing is found: a Text, unless it waits for pairing
 abbrev pub settled : List ℕ → Standing
 settled source a below = text_unless (is_quiet a.part.shape) source a below
 
@@ -71,6 +75,7 @@ numbered_past_byte i (a ∷ after) =
     if nat_le a.item.end i then numbered_past_byte i after
     else record { number = a.number; item = begun_item i a.item } ∷ after
 
+-- the items after a byte, where there is one
 abbrev pub numbered_past : Option ℕ → List Numbered → List Numbered
 numbered_past None after = after
 numbered_past (Some i) after = numbered_past_byte i after
@@ -100,7 +105,8 @@ pub record CanPut (source : List ℕ) (tables tables' : Tables) (item : Item) : 
   pub new_names : (n : Named) → number_of n < size_for tables n → times_named n item.body ≡ 0
 
 -- the first item of a chain was read where it stands, and the chain goes on at a link
-pub record LeavesRest (source : List ℕ) (ix : ℕ) (next : Option ℕ) (old new : List (Node Item)) (tables' : Tables) : Type 0 where
+pub record LeavesRest (source : List ℕ) (ix : ℕ) (next : Option ℕ) (old new : List (Node Item)) (tables' : Tables)
+    : Type 0 where
   -- what is left may be read; it is lighter, and has fewer items
   pub ready : CanResolve source tables' new next
   pub lighter : weight_in new next < weight_in old (Some ix)
@@ -111,7 +117,8 @@ pub record LeavesRest (source : List ℕ) (ix : ℕ) (next : Option ℕ) (old ne
   pub outside : (n : ℕ) → n < length old → times_in old (Some ix) n ≡ 0 → IsSameAt old new n
 
 -- two items may be put into the nodes of an opener and of what closes it, which follows it and ends where they do
-pub record CanPutPair (source : List ℕ) (tables tables' : Tables) (nodes : List (Node Item)) (ix closer : ℕ) (first second : Item) : Type 0 where
+pub record CanPutPair (source : List ℕ) (tables tables' : Tables) (nodes : List (Node Item)) (ix closer : ℕ)
+    (first second : Item) : Type 0 where
   pub puts_first : CanPut source tables tables' first
   pub puts_second : CanPut source tables tables' second
   pub names_nothing : (n : Named) → times_named n first.body ≡ 0
@@ -125,17 +132,20 @@ pub record CanPutPair (source : List ℕ) (tables tables' : Tables) (nodes : Lis
   pub closer_no_run : run_character (item_at nodes closer).body ≡ None
 
 -- an item with one child may be put into the node of an opener
-pub record CanPutParent (source : List ℕ) (tables tables' : Tables) (nodes : List (Node Item)) (ix : ℕ) (item inside : Item) : Type 0 where
+pub record CanPutParent (source : List ℕ) (tables tables' : Tables) (nodes : List (Node Item)) (ix : ℕ)
+    (item inside : Item) : Type 0 where
   pub puts : CanPut source tables tables' item
   pub puts_inside : CanPut source tables tables' inside
   pub names_nothing : (n : Named) → times_named n inside.body ≡ 0
   pub starts : item.start ≡ (item_at nodes ix).start
 
 -- trees were put there for what was found from the item on, up to a byte
-pub record Puts (source : List ℕ) (ix : ℕ) (trees : Standing) (goes_on : Option ℕ) (next : Option ℕ) (old new : List (Node Item)) (tables tables' : Tables) : Type 0 where
+pub record Puts (source : List ℕ) (ix : ℕ) (trees : Standing) (goes_on : Option ℕ) (next : Option ℕ)
+    (old new : List (Node Item)) (tables tables' : Tables) : Type 0 where
   -- once what is left is rewritten by a rule, the whole is
   pub whole : (rule : Forest Plain → Forest Plain) (nodes : List (Node Item)) (later : Tables)
-      → Rewrites source rule next new nodes tables' later → Rewrites source (replaced trees goes_on rule) (Some ix) old nodes tables later
+      → Rewrites source rule next new nodes tables' later
+      → Rewrites source (replaced trees goes_on rule) (Some ix) old nodes tables later
   pub leaves : LeavesRest source ix next old new tables'
   -- the links lead on past that byte
   pub leads : (low : ℕ) (after : List Numbered) → LeadsThrough old low (sibling_of old ix) after

@@ -1,6 +1,7 @@
 //! Brackets in a chain, where it stands: an opener waits for its `]`, and what a `]` becomes is put where its opener
 //! stands.
-ghost use Rattle.std.specs.Prelude.{◌≡◌, ◌∷◌, ◌&&◌, ◌<◌, false, ℕ, List, None, Some, IfErr, IfOk, IfSome, OnOk, if◌then◌else◌, length};
+ghost use Rattle.std.specs.Prelude.{◌≡◌, ◌∷◌, ◌&&◌, ◌<◌, false, ℕ, List, None, Some, IfErr, IfOk, IfSome, OnOk};
+ghost use Rattle.std.specs.Prelude.{if◌then◌else◌, length};
 ghost use Rattle.std.specs.Option.{option_map_or};
 ghost use Rattle.markdown_base.specs.Arena.{sibling_of};
 ghost use Rattle.markdown_base.specs.BlockTree.{item_at};
@@ -9,7 +10,8 @@ ghost use Rattle.markdown_base.specs.Event.{LinkView};
 ghost use Rattle.markdown_base.specs.declared.fault.Fault.{Fault};
 ghost use Rattle.markdown_base.specs.declared.item.ItemBody.TheVariants as body;
 ghost use Rattle.markdown_brackets.specs.declared.closing_bracket.ClosedBracket.TheVariants.{Wikilinked};
-ghost use Rattle.markdown_brackets.specs.BracketDecision.{Around, Becomes, Closing, Wikilink, a_footnote, a_link, a_wikilink, past_second};
+ghost use Rattle.markdown_brackets.specs.BracketDecision.{Around, Becomes, Closing, Wikilink, a_footnote, a_link};
+ghost use Rattle.markdown_brackets.specs.BracketDecision.{a_wikilink, past_second};
 ghost use Rattle.markdown_brackets.specs.BracketOptions.{wikilinks_on};
 ghost use Rattle.markdown_brackets.specs.DecisionView.{IsBecome, first_shown, opener_of, shown_of};
 ghost use Rattle.markdown_brackets.specs.LeftList.{Entry, Split, inside};
@@ -67,8 +69,8 @@ fn leads_to_opener(tree: &Tree<Item>, link: Option<usize>) -> bool
     }
 }
 
-/// Reads an opener, `[` or `![`: it is a Text, and waits for its `]`; with wikilinks on, one before another opener waits
-/// for two of them too. The chain goes on at the next item. The only error is `Fault::Memory`.
+/// Reads an opener, `[` or `![`: it is a Text, and waits for its `]`; with wikilinks on, one before another opener
+/// waits for two of them too. The chain goes on at the next item. The only error is `Fault::Memory`.
 pub(crate) fn open_bracket(
     tree: &mut Tree<Item>,
     openers: &mut ChainOpeners,
@@ -77,7 +79,8 @@ pub(crate) fn open_bracket(
     is_image: bool,
 ) -> Result<Option<usize>, Fault>
     requires { (source : List ℕ) × (tables : Tables) × CanResolve source tables tree.old.nodes (Some ix) }
-    ensures puts { IfOk result (λ next. (source : List ℕ) (tables : Tables) → CanResolve source tables tree.old.nodes (Some ix)
+    ensures puts { IfOk result (λ next. (source : List ℕ) (tables : Tables)
+        → CanResolve source tables tree.old.nodes (Some ix)
         → Puts source ix (settled source) None next tree.old.nodes tree.new.nodes tables tables) }
     ensures next { IfOk result (λ next. next ≡ sibling_of tree.old.nodes ix) }
     ensures place { IfOk result (λ _. tree.new ≡ record tree.old { nodes = tree.new.nodes }) }

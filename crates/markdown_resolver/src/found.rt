@@ -1,5 +1,5 @@
-//! What was found in a chain is put where it stands: into the node of its opener, or with another one. What ends there or
-//! before leaves the chain, and what is left begins there at the earliest.
+//! What was found in a chain is put where it stands: into the node of its opener, or with another one. What ends there
+//! or before leaves the chain, and what is left begins there at the earliest.
 ghost use Rattle.std.specs.Prelude.{◌≡◌, ◌<◌, ℕ, List, length, Some, None, IfOk, IfSome, OnErr};
 ghost use Rattle.markdown_base.specs.Arena.{sibling_of};
 ghost use Rattle.markdown_base.specs.ArenaForest.{Spells, forest_at, links_of};
@@ -7,7 +7,8 @@ ghost use Rattle.markdown_base.specs.BlockTree.{item_at};
 ghost use Rattle.markdown_base.specs.Forest.{roots};
 ghost use Rattle.markdown_chains.specs.Tables.{HasGrown, Tables};
 ghost use Rattle.markdown_resolver.specs.Chains.{CanResolve};
-ghost use Rattle.markdown_resolver.specs.Rewritten.{CanPut, CanPutPair, CanPutParent, IsFoundAt, Puts, first_past, settled, one, pair, parent};
+ghost use Rattle.markdown_resolver.specs.Rewritten.{CanPut, CanPutPair, CanPutParent, IsFoundAt, Puts, first_past};
+ghost use Rattle.markdown_resolver.specs.Rewritten.{settled, one, pair, parent};
 ghost use Rattle.markdown_resolver.specs.Settling.{IsWritten, begun_from};
 
 use crate::settling::settle_node;
@@ -60,8 +61,8 @@ pub(crate) fn write_node(tree: &mut Tree<Item>, ix: usize, item: Item, next: Opt
     tree.set_next(ix, next);
 }
 
-/// Settles an item at which nothing is found: it is a Text, unless it is not open or waits for pairing. The chain goes on
-/// at the next item.
+/// Settles an item at which nothing is found: it is a Text, unless it is not open or waits for pairing. The chain goes
+/// on at the next item.
 pub(crate) fn settle(tree: &mut Tree<Item>, ix: usize) -> Option<usize>
     requires { (source : List ℕ) × (tables : Tables) × CanResolve source tables tree.old.nodes (Some ix) }
     ensures puts { (source : List ℕ) (tables : Tables) → CanResolve source tables tree.old.nodes (Some ix)
@@ -103,8 +104,10 @@ pub(crate) fn put_pair(
     requires { (source : List ℕ) × (tables : Tables) × (tables' : Tables) × HasGrown tables tables'
         × IsFoundAt source tables tree.old.nodes ix second.end × CanPutPair source tables tables' tree.old.nodes ix closer first second }
     ensures puts { (source : List ℕ) (tables tables' : Tables) → HasGrown tables tables'
-        → IsFoundAt source tables tree.old.nodes ix second.end → CanPutPair source tables tables' tree.old.nodes ix closer first second
-        → Puts source ix (pair source tables' first second) (Some second.end) result tree.old.nodes tree.new.nodes tables tables' }
+        → IsFoundAt source tables tree.old.nodes ix second.end
+        → CanPutPair source tables tables' tree.old.nodes ix closer first second
+        → Puts source ix (pair source tables' first second) (Some second.end) result tree.old.nodes tree.new.nodes
+        tables tables' }
     ensures place { tree.new ≡ record tree.old { nodes = tree.new.nodes } }
 {
     write_node(tree, ix, first, Some(closer));
@@ -125,8 +128,10 @@ pub(crate) fn put_parent(
     requires { (source : List ℕ) × (tables : Tables) × (tables' : Tables) × HasGrown tables tables'
         × IsFoundAt source tables tree.old.nodes ix item.end × CanPutParent source tables tables' tree.old.nodes ix item inside }
     ensures puts { IfOk result (λ next. (source : List ℕ) (tables tables' : Tables) → HasGrown tables tables'
-        → IsFoundAt source tables tree.old.nodes ix item.end → CanPutParent source tables tables' tree.old.nodes ix item inside
-        → Puts source ix (parent source tables' item inside) (Some item.end) next tree.old.nodes tree.new.nodes tables tables') }
+        → IsFoundAt source tables tree.old.nodes ix item.end
+        → CanPutParent source tables tables' tree.old.nodes ix item inside
+        → Puts source ix (parent source tables' item inside) (Some item.end) next tree.old.nodes tree.new.nodes tables
+        tables') }
     ensures place { IfOk result (λ _. tree.new ≡ record tree.old { nodes = tree.new.nodes }) }
     ensures refused { OnErr result (tree.new ≡ tree.old) }
 {

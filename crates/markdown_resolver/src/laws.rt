@@ -1,7 +1,9 @@
 //! The laws of what a chain is resolved to, each a function without code: at numbers, which are the nodes of an arena,
 //! and at the one tag of a document's tree.
 ghost use Rattle.std.specs.Prelude.{ℕ, ⊤};
-ghost use Rattle.markdown_resolver.specs.Laws.{QuietLaw, OrderLaw, SettledLaw, BeginLaw, AnswerLaw, WeightLaw, TagLaw, DocumentLaw, WholeLaw};
+ghost use Rattle.markdown_resolver.specs.ChainQuestions.{ChainCountLaw, ChainEndsLaw, DocumentLineLaw};
+ghost use Rattle.markdown_resolver.specs.Laws.{QuietLaw, OrderLaw, SettledLaw, BeginLaw, AnswerLaw, WeightLaw, TagLaw};
+ghost use Rattle.markdown_resolver.specs.Laws.{DocumentLaw, WholeLaw};
 
 /// Resolving a chain in which only runs and quotes are open asks nothing, and is pairing alone.
 pub fn quiet_chain_asks_nothing()
@@ -46,4 +48,19 @@ pub fn runs_of_documents_are_whole()
 /// Pass one breaks no delimiter run.
 pub fn runs_stay_whole()
     ensures { WholeLaw ℕ × WholeLaw ⊤ }
+{}
+
+/// Resolving a chain asks at most one question for each of its `]`, and none at a limit of 0.
+pub fn each_bracket_asks_once_at_most()
+    ensures { ChainCountLaw ℕ × ChainCountLaw ⊤ }
+{}
+
+/// No two questions of a chain end at the same byte, where its items stand in order and over their markup.
+pub fn questions_of_a_chain_end_apart()
+    ensures { ChainEndsLaw ℕ × ChainEndsLaw ⊤ }
+{}
+
+/// So stand the items of each chain of a well-formed block result.
+pub fn chains_of_documents_stand_in_line()
+    ensures { DocumentLineLaw }
 {}

@@ -1,10 +1,12 @@
-//! What a closing bracket becomes is put where it stands: into the node of its opener, over what stands inside. What ends
-//! at a byte or before leaves the chain, and what is left begins there at the earliest.
+//! What a closing bracket becomes is put where it stands: into the node of its opener, over what stands inside. What
+//! ends at a byte or before leaves the chain, and what is left begins there at the earliest.
 ghost use Rattle.std.specs.Prelude.{◌≡◌, ◌<◌, ◌∷◌, ◌++◌, [], ℕ, List, length, Some, None, IfSome};
 ghost use Rattle.markdown_base.specs.BlockTree.{item_at};
 ghost use Rattle.markdown_chains.specs.Tables.{HasGrown, Named, Tables};
 ghost use Rattle.markdown_chains.specs.Totals.{times_named};
-ghost use Rattle.markdown_resolver.specs.ClosedOver.{CanClose, CanPutMark, CanPutOver, CanShow, IsEnclosed, PutsOver, after_mark, in_place_of, last_inside, over_inside, over_shown, over_text};
+ghost use Rattle.markdown_resolver.specs.ClosedOver.{CanClose, CanPutMark, CanPutOver, CanShow, IsEnclosed, PutsOver};
+ghost use Rattle.markdown_resolver.specs.ClosedOver.{after_mark, in_place_of, last_inside, over_inside, over_shown};
+ghost use Rattle.markdown_resolver.specs.ClosedOver.{over_text};
 ghost use Rattle.markdown_resolver.specs.Rewritten.{CanPut};
 
 use crate::found::{begin_from, first_past, write_node};
@@ -41,7 +43,8 @@ pub fn put_link(
     ensures puts { (source : List ℕ) (tables tables' : Tables) (inside : List ℕ) → HasGrown tables tables'
         → CanClose source tables tree.old.nodes opener closer inside next_byte
         → CanPutOver source tables tables' tree.old.nodes opener item next_byte → last_inside opener inside ≡ last
-        → PutsOver source opener closer inside (over_inside source tables' item) next_byte (opener ∷ []) result tree.old.nodes tree.new.nodes tables tables' }
+        → PutsOver source opener closer inside (over_inside source tables' item) next_byte (opener ∷ []) result
+        tree.old.nodes tree.new.nodes tables tables' }
     ensures place { tree.new ≡ record tree.old { nodes = tree.new.nodes } }
 {
     enclose(tree, opener, last, closer);
@@ -51,8 +54,8 @@ pub fn put_link(
     rest
 }
 
-/// Puts a footnote reference, which ends where its closer does, into the node of its opener: the link at which the chain
-/// goes on. What stood inside leaves it.
+/// Puts a footnote reference, which ends where its closer does, into the node of its opener: the link at which the
+/// chain goes on. What stood inside leaves it.
 pub fn put_footnote(
     tree: &mut Tree<Item>,
     opener: usize,
@@ -67,7 +70,8 @@ pub fn put_footnote(
         → CanClose source tables tree.old.nodes opener closer inside item.end
         → CanPutOver source tables tables' tree.old.nodes opener item item.end
         → item.end ≡ (item_at tree.old.nodes closer).end
-        → PutsOver source opener closer inside (in_place_of source tables' item) item.end (opener ∷ []) result tree.old.nodes tree.new.nodes tables tables' }
+        → PutsOver source opener closer inside (in_place_of source tables' item) item.end (opener ∷ []) result
+        tree.old.nodes tree.new.nodes tables tables' }
     ensures place { tree.new ≡ record tree.old { nodes = tree.new.nodes } }
 {
     let rest = first_past(tree, tree.next(closer), item.end);
@@ -76,8 +80,8 @@ pub fn put_footnote(
     rest
 }
 
-/// Puts a Text over the `!` of an opener into its node, and a footnote reference into the node of its closer, where that
-/// ends: the link at which the chain goes on. What stood inside leaves it.
+/// Puts a Text over the `!` of an opener into its node, and a footnote reference into the node of its closer, where
+/// that ends: the link at which the chain goes on. What stood inside leaves it.
 pub fn put_image_footnote(
     tree: &mut Tree<Item>,
     opener: usize,
@@ -91,7 +95,8 @@ pub fn put_image_footnote(
     ensures puts { (source : List ℕ) (tables tables' : Tables) (inside : List ℕ) → HasGrown tables tables'
         → CanClose source tables tree.old.nodes opener closer inside item.end
         → CanPutMark source tables tables' tree.old.nodes opener closer mark item
-        → PutsOver source opener closer inside (after_mark source tables' mark item) item.end (opener ∷ closer ∷ []) result tree.old.nodes tree.new.nodes tables tables' }
+        → PutsOver source opener closer inside (after_mark source tables' mark item) item.end (opener ∷ closer ∷ [])
+        result tree.old.nodes tree.new.nodes tables tables' }
     ensures place { tree.new ≡ record tree.old { nodes = tree.new.nodes } }
 {
     write_node(tree, opener, mark, Some(closer));
@@ -118,8 +123,9 @@ pub(crate) fn last_before(tree: &Tree<Item>, opener: usize, closer: usize) -> us
     last
 }
 
-/// Puts a wikilink that shows its name: into the node of its opener, with a Text over the name in the node `first` below
-/// it. What stood inside besides leaves the chain, which goes on behind the wikilink, at the link that is answered.
+/// Puts a wikilink that shows its name: into the node of its opener, with a Text over the name in the node `first`
+/// below it. What stood inside besides leaves the chain, which goes on behind the wikilink, at the link that is
+/// answered.
 pub(crate) fn put_wikilink_name(
     tree: &mut Tree<Item>,
     opener: usize,
@@ -128,7 +134,8 @@ pub(crate) fn put_wikilink_name(
     item: Item,
     inside: Item,
 ) -> Option<usize>
-    requires { (source : List ℕ) × (tables : Tables) × (tables' : Tables) × (nodes : List ℕ) × (skipped : List ℕ) × (shown : List ℕ) × HasGrown tables tables'
+    requires { (source : List ℕ) × (tables : Tables) × (tables' : Tables) × (nodes : List ℕ) × (skipped : List ℕ)
+        × (shown : List ℕ) × HasGrown tables tables'
         × CanClose source tables tree.old.nodes opener closer nodes item.end
         × CanPutOver source tables tables' tree.old.nodes opener item item.end × CanPut source tables tables' inside
         × (nodes ≡ skipped ++ first ∷ shown) × ((n : Named) → times_named n inside.body ≡ 0) }
@@ -136,7 +143,8 @@ pub(crate) fn put_wikilink_name(
         → CanClose source tables tree.old.nodes opener closer nodes item.end
         → CanPutOver source tables tables' tree.old.nodes opener item item.end → CanPut source tables tables' inside
         → nodes ≡ skipped ++ first ∷ shown → ((n : Named) → times_named n inside.body ≡ 0)
-        → PutsOver source opener closer nodes (over_text source tables' item inside) item.end (opener ∷ []) result tree.old.nodes tree.new.nodes tables tables' }
+        → PutsOver source opener closer nodes (over_text source tables' item inside) item.end (opener ∷ []) result
+        tree.old.nodes tree.new.nodes tables tables' }
     ensures place { tree.new ≡ record tree.old { nodes = tree.new.nodes } }
 {
     let rest = first_past(tree, Some(closer), item.end);
@@ -158,13 +166,16 @@ pub(crate) fn put_wikilink_shown(
     item: Item,
     from: usize,
 ) -> Option<usize>
-    requires { (source : List ℕ) × (tables : Tables) × (tables' : Tables) × (nodes : List ℕ) × (skipped : List ℕ) × HasGrown tables tables'
+    requires { (source : List ℕ) × (tables : Tables) × (tables' : Tables) × (nodes : List ℕ) × (skipped : List ℕ)
+        × HasGrown tables tables'
         × CanClose source tables tree.old.nodes opener closer nodes item.end
         × CanPutOver source tables tables' tree.old.nodes opener item item.end × CanShow source tree.old.nodes nodes skipped first from }
     ensures puts { (source : List ℕ) (tables tables' : Tables) (nodes skipped : List ℕ) → HasGrown tables tables'
         → CanClose source tables tree.old.nodes opener closer nodes item.end
-        → CanPutOver source tables tables' tree.old.nodes opener item item.end → CanShow source tree.old.nodes nodes skipped first from
-        → PutsOver source opener closer nodes (over_shown source tables' item (length skipped) from) item.end (opener ∷ []) result tree.old.nodes tree.new.nodes tables tables' }
+        → CanPutOver source tables tables' tree.old.nodes opener item item.end
+        → CanShow source tree.old.nodes nodes skipped first from
+        → PutsOver source opener closer nodes (over_shown source tables' item (length skipped) from) item.end
+        (opener ∷ []) result tree.old.nodes tree.new.nodes tables tables' }
     ensures place { tree.new ≡ record tree.old { nodes = tree.new.nodes } }
 {
     enclose(tree, opener, last_before(tree, opener, closer), closer);

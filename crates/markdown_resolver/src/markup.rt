@@ -27,9 +27,9 @@ use markdown_raw_html::raw_html::RawHtmlScanner;
 use markdown_spans::defs::Allocations;
 use std::alloc::Global;
 
-/// Reads a `<`: an absolute-URI autolink (CommonMark 6.5) or raw HTML (6.6), if one stands there and the next item starts
-/// directly after the `<`; else a Text. The scanner is one of the text up to the block's end: a `<` that does not stand
-/// before that is a Text too.
+/// Reads a `<`: an absolute-URI autolink (CommonMark 6.5) or raw HTML (6.6), if one stands there and the next item
+/// starts directly after the `<`; else a Text. The scanner is one of the text up to the block's end: a `<` that does
+/// not stand before that is a Text too.
 pub(crate) fn read_markup<'a>(
     alloc: Global,
     tree: &mut Tree<Item>,
@@ -84,7 +84,8 @@ fn put_markup<'a>(
     requires { (source : List ℕ) × IsMarkupAt source (tables_of tables.old) tree.old.nodes ix (markup_of found) }
     ensures puts { IfOk result (λ next. (source : List ℕ) (rules : Rules)
         → IsMarkupAt source (tables_of tables.old) tree.old.nodes ix (markup_of found.entry)
-        → Puts source ix (standing_for source rules (markup_of found.entry)) (Some (end_of_markup (markup_of found.entry))) next
+        → Puts source ix (standing_for source rules (markup_of found.entry))
+        (Some (end_of_markup (markup_of found.entry))) next
         tree.old.nodes tree.new.nodes (tables_of tables.old) (tables_of tables.new)) }
     ensures place { IfOk result (λ _. tree.new ≡ record tree.old { nodes = tree.new.nodes }) }
 
@@ -107,8 +108,10 @@ fn put_html(tree: &mut Tree<Item>, ix: usize, end: usize, body: ItemBody) -> Opt
     requires { (source : List ℕ) × (tables : Tables) × (tables' : Tables) × HasGrown tables tables'
         × IsFoundAt source tables tree.old.nodes ix end × CanPut source tables tables' (item_to tree.old.nodes ix end body) }
     ensures puts { (source : List ℕ) (tables tables' : Tables) → HasGrown tables tables'
-        → IsFoundAt source tables tree.old.nodes ix end → CanPut source tables tables' (item_to tree.old.nodes ix end body)
-        → Puts source ix (one source tables' (item_to tree.old.nodes ix end body)) (Some end) result tree.old.nodes tree.new.nodes tables tables' }
+        → IsFoundAt source tables tree.old.nodes ix end
+        → CanPut source tables tables' (item_to tree.old.nodes ix end body)
+        → Puts source ix (one source tables' (item_to tree.old.nodes ix end body)) (Some end) result tree.old.nodes
+        tree.new.nodes tables tables' }
     ensures place { tree.new ≡ record tree.old { nodes = tree.new.nodes } }
 {
     let start = tree.item(ix).start;

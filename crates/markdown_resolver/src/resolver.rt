@@ -36,8 +36,8 @@ pub struct Resolver<'a, F> {
     /// Whom to ask about references that are defined nowhere.
     pub callback: Option<F>,
     pub work: Work,
-    /// The openers that wait for their `]` in a chain, and the `]` that can be no references any more: both are emptied for
-    /// each chain, and keep their memory.
+    /// The openers that wait for their `]` in a chain, and the `]` that can be no references any more: both are emptied
+    /// for each chain, and keep their memory.
     pub openers: ChainOpeners,
     pub spent: SpentEnds,
     /// What searches for the ends of code spans, and of math spans, hold in a chain: it is emptied for each, and keeps
@@ -49,7 +49,8 @@ pub struct Resolver<'a, F> {
 }
 
 impl<'a, F: BrokenLinkCallback<'a>> Resolver<'a, F> {
-    ghost use Rattle.std.specs.Prelude.{◌≡◌, ◌+◌, ◌-◌, ◌^◌, ◌<◌, ℕ, List, min, true, Some, IfOk, IfErr, IfSome, is_some, take};
+    ghost use Rattle.std.specs.Prelude.{◌≡◌, ◌+◌, ◌-◌, ◌^◌, ◌<◌, ℕ, List, min, true, Some, IfOk, IfErr, IfSome};
+    ghost use Rattle.std.specs.Prelude.{is_some, take};
     ghost use Rattle.markdown_base.specs.Arena.{sibling_of};
     ghost use Rattle.markdown_base.specs.BlockTree.{item_at};
     ghost use Rattle.markdown_base.specs.declared.item.ItemBody.TheVariants as body;
@@ -72,8 +73,8 @@ impl<'a, F: BrokenLinkCallback<'a>> Resolver<'a, F> {
     ghost use Rattle.markdown_resolver.specs.ReadsItem.{LooksAt, ReadsItem};
     ghost use Rattle.markdown_spans.specs.Footnotes.{footnote_at};
 
-    /// Reads the item of a node of a chain, which is no bracket: the link at which the chain goes on. The scanner is one of the text up to the
-    /// block's end.
+    /// Reads the item of a node of a chain, which is no bracket: the link at which the chain goes on. The scanner is
+    /// one of the text up to the block's end.
     fn read_other(
         &mut self,
         tree: &mut Tree<Item>,
@@ -93,10 +94,12 @@ impl<'a, F: BrokenLinkCallback<'a>> Resolver<'a, F> {
             (tables_of self.old.tables) (tables_of self.new.tables)) }
         ensures code_learned { IfOk result (λ next. HoldsFrom SpanKind.Code self.new.code_closers tree.new.nodes next) }
         ensures math_learned { IfOk result (λ next. HoldsFrom SpanKind.Math self.new.math_closers tree.new.nodes next) }
-        ensures code_looks { IfOk result (λ next. LooksAt (has_failed self.old.code_closers) (has_failed self.new.code_closers)
+        ensures code_looks { IfOk result (λ next. LooksAt (has_failed self.old.code_closers)
+            (has_failed self.new.code_closers)
             self.old.work.code_visits self.new.work.code_visits
             (items_from tree.old.nodes (Some ix)) (items_from tree.new.nodes next)) }
-        ensures math_looks { IfOk result (λ next. LooksAt (has_failed self.old.math_closers) (has_failed self.new.math_closers)
+        ensures math_looks { IfOk result (λ next. LooksAt (has_failed self.old.math_closers)
+            (has_failed self.new.math_closers)
             self.old.work.math_visits self.new.work.math_visits
             (items_from tree.old.nodes (Some ix)) (items_from tree.new.nodes next)) }
         ensures place { IfOk result (λ _. tree.new ≡ record tree.old { nodes = tree.new.nodes }) }
@@ -104,7 +107,10 @@ impl<'a, F: BrokenLinkCallback<'a>> Resolver<'a, F> {
         // whatever comes
         ensures kept { self.new ≡ record self.old {
           tables = record self.old.tables { cows = self.new.tables.cows; links = self.new.tables.links };
-          work = record self.old.work { code_visits = self.new.work.code_visits; math_visits = self.new.work.math_visits };
+          work = record self.old.work {
+            code_visits = self.new.work.code_visits;
+            math_visits = self.new.work.math_visits;
+          };
           code_closers = self.new.code_closers;
           math_closers = self.new.math_closers;
         } }
@@ -149,27 +155,35 @@ impl<'a, F: BrokenLinkCallback<'a>> Resolver<'a, F> {
         could_be: bool,
     ) -> Result<Option<usize>, Fault>
         requires can_ask { IfSome self.old.callback F.can_ask }
-        requires ready { (first : ℕ) × (left : List (Entry ℕ)) × CanReadOn place.now tree.old self.old.tables self.old.openers.brackets
+        requires ready { (first : ℕ) × (left : List (Entry ℕ)) × CanReadOn place.now tree.old self.old.tables
+            self.old.openers.brackets
             self.old.openers.wikilinks first ix left }
         requires text { place.now.text.now ≡ self.old.text.now }
         requires footnotes { place.now.gfm_footnotes ≡ gfm_footnotes self.old.options }
         requires closes { (item_at tree.old.nodes ix).body ≡ body.MaybeLinkClose could_be }
-        ensures reads { IfOk result (λ next. (first : ℕ) (left : List (Entry ℕ)) → CanReadOn place.now tree.old self.old.tables
+        ensures reads { IfOk result (λ next. (first : ℕ) (left : List (Entry ℕ))
+            → CanReadOn place.now tree.old self.old.tables
             self.old.openers.brackets self.old.openers.wikilinks first ix left
-            → ReadsOn F.answers (setting_of self.old.text.now (rules_from self.old.options self.old.tables (is_some self.old.callback)))
+            → ReadsOn F.answers (setting_of self.old.text.now (rules_from self.old.options self.old.tables
+            (is_some self.old.callback)))
             (above_cursor self.old.text.now tree.old) first (Some ix) next left
-            (stage tree.old self.old.tables self.old.limit self.old.callback) (stage tree.new self.new.tables self.new.limit self.new.callback)
+            (stage tree.old self.old.tables self.old.limit self.old.callback)
+            (stage tree.new self.new.tables self.new.limit self.new.callback)
             self.old.spent self.new.spent self.new.openers.brackets self.new.openers.wikilinks) }
         ensures fewer { IfOk result (λ next. items_from tree.new.nodes next < items_from tree.old.nodes (Some ix)) }
         ensures place { IfOk result (λ _. tree.new ≡ record tree.old { nodes = tree.new.nodes }) }
         ensures holds { IfOk result (λ next. (kind : SpanKind) (learned : Learned)
-            → HoldsFrom kind learned tree.old.nodes (sibling_of tree.old.nodes ix) → HoldsFrom kind learned tree.new.nodes next) }
+            → HoldsFrom kind learned tree.old.nodes (sibling_of tree.old.nodes ix)
+            → HoldsFrom kind learned tree.new.nodes next) }
 
         // a refusal, and what holds whatever comes
-        ensures stops { IfErr result (λ _. (first : ℕ) (left : List (Entry ℕ)) → CanReadOn place.now tree.old self.old.tables
+        ensures stops { IfErr result (λ _. (first : ℕ) (left : List (Entry ℕ))
+            → CanReadOn place.now tree.old self.old.tables
             self.old.openers.brackets self.old.openers.wikilinks first ix left
-            → StopsOn F.answers (setting_of self.old.text.now (rules_from self.old.options self.old.tables (is_some self.old.callback)))
-            (above_cursor self.old.text.now tree.old) (Some ix) left (stage tree.old self.old.tables self.old.limit self.old.callback)
+            → StopsOn F.answers (setting_of self.old.text.now (rules_from self.old.options self.old.tables
+            (is_some self.old.callback)))
+            (above_cursor self.old.text.now tree.old) (Some ix) left (stage tree.old self.old.tables self.old.limit
+            self.old.callback)
             self.old.spent self.new.callback) }
         ensures again { IfSome self.new.callback F.can_ask }
         ensures refused { IfErr result (λ fault. fault ≡ Fault.Memory) }
@@ -217,27 +231,35 @@ impl<'a, F: BrokenLinkCallback<'a>> Resolver<'a, F> {
         bracket: BracketKind,
     ) -> Result<Option<usize>, Fault>
         requires can_ask { IfSome self.old.callback F.can_ask }
-        requires ready { (first : ℕ) × (left : List (Entry ℕ)) × CanReadOn place.now tree.old self.old.tables self.old.openers.brackets
+        requires ready { (first : ℕ) × (left : List (Entry ℕ)) × CanReadOn place.now tree.old self.old.tables
+            self.old.openers.brackets
             self.old.openers.wikilinks first ix left }
         requires text { place.now.text.now ≡ self.old.text.now }
         requires footnotes { place.now.gfm_footnotes ≡ gfm_footnotes self.old.options }
         requires bracket { kind_of (item_at tree.old.nodes ix).body ≡ Some bracket }
-        ensures reads { IfOk result (λ next. (first : ℕ) (left : List (Entry ℕ)) → CanReadOn place.now tree.old self.old.tables
+        ensures reads { IfOk result (λ next. (first : ℕ) (left : List (Entry ℕ))
+            → CanReadOn place.now tree.old self.old.tables
             self.old.openers.brackets self.old.openers.wikilinks first ix left
-            → ReadsOn F.answers (setting_of self.old.text.now (rules_from self.old.options self.old.tables (is_some self.old.callback)))
+            → ReadsOn F.answers (setting_of self.old.text.now (rules_from self.old.options self.old.tables
+            (is_some self.old.callback)))
             (above_cursor self.old.text.now tree.old) first (Some ix) next left
-            (stage tree.old self.old.tables self.old.limit self.old.callback) (stage tree.new self.new.tables self.new.limit self.new.callback)
+            (stage tree.old self.old.tables self.old.limit self.old.callback)
+            (stage tree.new self.new.tables self.new.limit self.new.callback)
             self.old.spent self.new.spent self.new.openers.brackets self.new.openers.wikilinks) }
         ensures fewer { IfOk result (λ next. items_from tree.new.nodes next < items_from tree.old.nodes (Some ix)) }
         ensures place { IfOk result (λ _. tree.new ≡ record tree.old { nodes = tree.new.nodes }) }
         ensures holds { IfOk result (λ next. (kind : SpanKind) (learned : Learned)
-            → HoldsFrom kind learned tree.old.nodes (sibling_of tree.old.nodes ix) → HoldsFrom kind learned tree.new.nodes next) }
+            → HoldsFrom kind learned tree.old.nodes (sibling_of tree.old.nodes ix)
+            → HoldsFrom kind learned tree.new.nodes next) }
 
         // a refusal, and what holds whatever comes
-        ensures stops { IfErr result (λ _. (first : ℕ) (left : List (Entry ℕ)) → CanReadOn place.now tree.old self.old.tables
+        ensures stops { IfErr result (λ _. (first : ℕ) (left : List (Entry ℕ))
+            → CanReadOn place.now tree.old self.old.tables
             self.old.openers.brackets self.old.openers.wikilinks first ix left
-            → StopsOn F.answers (setting_of self.old.text.now (rules_from self.old.options self.old.tables (is_some self.old.callback)))
-            (above_cursor self.old.text.now tree.old) (Some ix) left (stage tree.old self.old.tables self.old.limit self.old.callback)
+            → StopsOn F.answers (setting_of self.old.text.now (rules_from self.old.options self.old.tables
+            (is_some self.old.callback)))
+            (above_cursor self.old.text.now tree.old) (Some ix) left (stage tree.old self.old.tables self.old.limit
+            self.old.callback)
             self.old.spent self.new.callback) }
         ensures again { IfSome self.new.callback F.can_ask }
         ensures refused { IfErr result (λ fault. fault ≡ Fault.Memory) }
@@ -279,19 +301,21 @@ impl<'a, F: BrokenLinkCallback<'a>> Resolver<'a, F> {
         }
     }
 
-    /// Pass one over the chain from the node `first` on, where it stands: its items are counted, and then read from left
-    /// to right.
+    /// Pass one over the chain from the node `first` on, where it stands: its items are counted, and then read from
+    /// left to right.
     fn read_chain(&mut self, tree: &mut Tree<Item>, first: usize) -> Result<(), Fault>
         requires can_ask { IfSome self.old.callback F.can_ask }
         requires ready { CanResolve self.old.text.now (tables_of self.old.tables) tree.old.nodes (Some first) }
         requires above { AreAbove self.old.text.now tree.old.nodes (Some first) tree.old.spine }
         ensures reads { IfOk result (λ _. ResolvesFrom F.answers self.old.text.now
-            (pass_one (setting_of self.old.text.now (rules_from self.old.options self.old.tables (is_some self.old.callback)))
+            (pass_one (setting_of self.old.text.now (rules_from self.old.options self.old.tables
+            (is_some self.old.callback)))
             plain_tags (above_cursor self.old.text.now tree.old))
             (Some first) (stage tree.old self.old.tables self.old.limit self.old.callback)
             (stage tree.new self.new.tables self.new.limit self.new.callback)) }
         ensures place { IfOk result (λ _. tree.new ≡ record tree.old { nodes = tree.new.nodes }) }
-        ensures items { self.new.work.items ≡ min (self.old.work.items + items_from tree.old.nodes (Some first)) (2 ^ 128 - 1) }
+        ensures items { self.new.work.items ≡ min (self.old.work.items + items_from tree.old.nodes (Some first))
+            (2 ^ 128 - 1) }
         ensures code_visits { IfOk result (λ _.
             RisesAtMost (items_from tree.old.nodes (Some first)) self.old.work.code_visits self.new.work.code_visits) }
         ensures math_visits { IfOk result (λ _.
@@ -300,7 +324,8 @@ impl<'a, F: BrokenLinkCallback<'a>> Resolver<'a, F> {
         // a refusal, and what holds whatever comes
         ensures stops { IfErr result (λ _. StopsInPassOne F.answers
             (setting_of self.old.text.now (rules_from self.old.options self.old.tables (is_some self.old.callback)))
-            (above_cursor self.old.text.now tree.old) first (stage tree.old self.old.tables self.old.limit self.old.callback)
+            (above_cursor self.old.text.now tree.old) first (stage tree.old self.old.tables self.old.limit
+            self.old.callback)
             self.new.callback) }
         ensures again { IfSome self.new.callback F.can_ask }
         ensures kept { self.new ≡ record self.old {
@@ -353,14 +378,16 @@ impl<'a, F: BrokenLinkCallback<'a>> Resolver<'a, F> {
         requires open { is_open (item_at tree.old.nodes first).body ≡ true }
         requires above { AreAbove self.old.text.now tree.old.nodes (Some first) tree.old.spine }
         ensures resolves { IfOk result (λ _. ResolvesChain F.answers
-            (setting_of self.old.text.now (rules_from self.old.options self.old.tables (is_some self.old.callback))) first
+            (setting_of self.old.text.now (rules_from self.old.options self.old.tables (is_some self.old.callback)))
+            first
             tree.old tree.new self.old.tables self.new.tables self.old.limit self.new.limit self.old.callback self.new.callback
             self.old.work self.new.work) }
 
         // a refusal, and what holds whatever comes
         ensures refused { IfErr result (λ fault. fault ≡ Fault.Memory) }
         ensures stops { IfErr result (λ _. StopsIn F.answers
-            (setting_of self.old.text.now (rules_from self.old.options self.old.tables (is_some self.old.callback))) (above_cursor self.old.text.now tree.old) first
+            (setting_of self.old.text.now (rules_from self.old.options self.old.tables (is_some self.old.callback)))
+            (above_cursor self.old.text.now tree.old) first
             (stage tree.old self.old.tables self.old.limit self.old.callback) self.new.callback) }
         ensures again { IfSome self.new.callback F.can_ask }
         ensures text { self.new.text ≡ self.old.text }

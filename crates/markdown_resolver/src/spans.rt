@@ -50,7 +50,8 @@ fn text_between<'a>(
     requires start_boundary { IsCharBoundary place.now.text.now start }
     requires end_boundary { IsCharBoundary place.now.text.now end }
     ensures value { IfOk result (λ made. (rules : Rules) → gfm_footnotes rules.options ≡ place.now.gfm_footnotes
-        → text_of made ≡ text_between (setting_of place.now.text.now rules) (above_cursor place.now.text.now tree.now) kind start end) }
+        → text_of made ≡ text_between (setting_of place.now.text.now rules) (above_cursor place.now.text.now tree.now)
+        kind start end) }
     ensures origin { IfOk result (λ span. origin_of span
         ≡ span_origin (above_cursor place.now.text.now tree.now).in_table (slice_range place.now.text.now start end)) }
     ensures slice { IfOk result (λ span. IsSlicedOf place.now.text.now (origin_of span) (text_of span)) }
@@ -74,12 +75,13 @@ fn end_of(tree: &Tree<Item>, ix: usize) -> usize
     tree.item(ix).end
 }
 
-/// Puts a code span into the node of its opener, or, where a backslash stands before that, its first backtick as a Text;
-/// then the span begins after it, and takes the closer's node. The link at which the chain goes on.
+/// Puts a code span into the node of its opener, or, where a backslash stands before that, its first backtick as a
+/// Text; then the span begins after it, and takes the closer's node. The link at which the chain goes on.
 fn put_code(tree: &mut Tree<Item>, ix: usize, closer: usize, body: ItemBody) -> Option<usize>
     requires { (source : List ℕ) × (tables : Tables) × (tables' : Tables)
         × CanPutCode source tables tables' tree.old.nodes ix closer body }
-    ensures puts { (source : List ℕ) (tables tables' : Tables) → CanPutCode source tables tables' tree.old.nodes ix closer body
+    ensures puts { (source : List ℕ) (tables tables' : Tables)
+        → CanPutCode source tables tables' tree.old.nodes ix closer body
         → Puts source ix (code_standing source tables' (is_escaped (item_at tree.old.nodes ix).body)
         (item_at tree.old.nodes ix) (item_at tree.old.nodes closer) body)
         (Some (item_at tree.old.nodes closer).end) result tree.old.nodes tree.new.nodes tables tables' }

@@ -28,7 +28,8 @@ returns-in-Text-clause-puts c source first left w closing becomes closes is =
     let same = becomes_text w becomes (subst (λ (found : ClosedBracket). IsBecome w becomes found) c.in-Text.is is) in
     let so = subst (ClosesAt source tables old first closer left w closing) same closes in
     subst (λ (b : Becomes ℕ). PutsClosed source first closer next left w closing b old new tables tables) (sym same)
-    (text_closed source tables old new first closer next left w closing so (c.settle.ensures.puts source tables (stands_rest source tables old first (Some closer) left so.stands)))
+    (text_closed source tables old new first closer next left w closing so
+    (c.settle.ensures.puts source tables (stands_rest source tables old first (Some closer) left so.stands)))
 
 pub returns-in-Link-clause-puts : goal.returns-in-Link-clause-puts
 returns-in-Link-clause-puts c =
@@ -38,9 +39,11 @@ returns-in-Link-clause-puts c =
     let old = c.args.tree.now.nodes in
     let new = c.put_target.new.tree.nodes in
     let closer = c.args.closer in
-    let b = becomes_link w becomes c.in-Link.opener c.in-Link.target c.in-Link.end c.in-Link.next (subst (λ (found : ClosedBracket). IsBecome w becomes found) c.in-Link.is is) in
+    let b = becomes_link w becomes c.in-Link.opener c.in-Link.target c.in-Link.end c.in-Link.next
+    (subst (λ (found : ClosedBracket). IsBecome w becomes found) c.in-Link.is is) in
     subst (λ (x : Becomes ℕ). PutsClosed source first closer next left w closing x old new tables tables') (sym b.is)
-    (puts source first left w closing b.split (subst (ClosesAt source tables old first closer left w closing) b.is closes) b.opener_is)) c.put_target.ensures.puts
+    (puts source first left w closing b.split (subst (ClosesAt source tables old first closer left w closing) b.is closes) b.opener_is))
+    c.put_target.ensures.puts
 
 pub returns-in-Footnote-clause-puts : goal.returns-in-Footnote-clause-puts
 returns-in-Footnote-clause-puts c =
@@ -50,11 +53,14 @@ returns-in-Footnote-clause-puts c =
     let old = c.args.tree.now.nodes in
     let new = c.put_reference.new.tree.nodes in
     let closer = c.args.closer in
-    let b = becomes_footnote w becomes c.in-Footnote.opener c.in-Footnote.name (subst (λ (found : ClosedBracket). IsBecome w becomes found) c.in-Footnote.is is) in
+    let b = becomes_footnote w becomes c.in-Footnote.opener c.in-Footnote.name (subst (λ (found : ClosedBracket). IsBecome w becomes found)
+    c.in-Footnote.is is) in
     subst (λ (x : Becomes ℕ). PutsClosed source first closer next left w closing x old new tables tables') (sym b.is)
-    (puts source first left w closing b.split (subst (ClosesAt source tables old first closer left w closing) b.is closes) b.opener_is)) c.put_reference.ensures.puts
+    (puts source first left w closing b.split (subst (ClosesAt source tables old first closer left w closing) b.is closes) b.opener_is))
+    c.put_reference.ensures.puts
 
 pub returns-in-Wikilinked-clause-puts : goal.returns-in-Wikilinked-clause-puts
 returns-in-Wikilinked-clause-puts c =
     if_ok c.put_wikilink.result _ _ (λ next puts. λ source first left w closing becomes closes is.
-    puts source first left w closing becomes closes (subst (λ (found : ClosedBracket). IsBecome w becomes found) c.in-Wikilinked.is is)) c.put_wikilink.ensures.puts
+    puts source first left w closing becomes closes (subst (λ (found : ClosedBracket). IsBecome w becomes found) c.in-Wikilinked.is is))
+    c.put_wikilink.ensures.puts

@@ -7,7 +7,7 @@ use Rattle.markdown_brackets.specs.LookupView.{target_view}
 use Rattle.markdown_chains.specs.Tables.{tables_of}
 use Rattle.markdown_resolver.specs.ClosedOver.{CanPutOver, PutsOver, over_inside}
 use Rattle.markdown_resolver.proofs.CloseLemmas.{can_close, opener_at}
-use Rattle.markdown_resolver.proofs.CloseLinkLemmas.{can_link, link_closed, link_from}
+use Rattle.markdown_resolver.proofs.CloseLinkLemmas.{can_link, link_closed, link_from, made_link}
 use Rattle.markdown_resolver.proofs.MarkupItemLemmas.{PutsLink, link_put}
 use Rattle.markdown_resolver.proofs.SplitLemmas.{inside_numbers}
 use Rattle.markdown_resolver.proofs.brackets.put_target.Goals as goal
@@ -15,7 +15,8 @@ use Rattle.markdown_resolver.proofs.brackets.put_target.Goals as goal
 pub item-requires : goal.item-requires
 item-requires c =
     let closes = c.requires.6 in
-    let at = opener_at c.requires.0 (tables_of c.args.tables.now) c.args.tree.now.nodes c.requires.1 c.args.closer c.requires.2 c.requires.5 closes.stands closes.splits in
+    let at = opener_at c.requires.0 (tables_of c.args.tables.now) c.args.tree.now.nodes c.requires.1 c.args.closer c.requires.2 c.requires.5
+    closes.stands closes.splits in
     rw c.requires.7 at.opener.within
 
 pub last_before-last-requires : goal.last_before-last-requires
@@ -30,7 +31,8 @@ last_before-last-requires c =
       tables,
       inside_numbers o,
       c.args.next,
-      rw c.requires.7 (can_close source tables nodes c.requires.1 c.args.closer c.requires.2 c.requires.3 c.requires.4 _ o c.args.next closes at
+      rw c.requires.7 (can_close source tables nodes c.requires.1 c.args.closer c.requires.2 c.requires.3 c.requires.4 _ o c.args.next
+          closes at
           closes.ends.0),
     )
 
@@ -46,11 +48,15 @@ put_link-requires c =
     let opener = c.args.opener in
     let view = target_view c.args.target in
     let link = c.in_ok-link.link in
-    let put : PutsLink tables tables' link view = link_put held held' _ link view c.in_ok-link.ensures.put c.in_ok-link.ensures.number refl in
-    let can = can_link source tables tables' nodes c.requires.1 c.args.closer c.requires.2 c.requires.3 c.requires.4 o opener link view c.args.end c.args.next c.requires.6 c.requires.7 put in
+    let put : PutsLink source tables tables' link view = link_put source held held' _ link view c.in_ok-link.ensures.put
+    c.in_ok-link.ensures.number
+    (made_link source _ view c.requires.6.ends.4) refl in
+    let can = can_link source tables tables' nodes c.requires.1 c.args.closer c.requires.2 c.requires.3 c.requires.4 o opener link view
+    c.args.end c.args.next c.requires.6 c.requires.7 put in
     let item : ℕ → ItemBody → Item = λ start b. record { start = start; end = c.args.end; body = b } in
     let same : item c.item.result.now.start c.link_body.result ≡ link_from nodes opener link c.args.end =
-    ap (λ (i : Item). item i.start c.link_body.result) (c.item.ensures no_item) ∙ ap (item (item_at nodes opener.node).start) c.link_body.ensures in (
+    ap (λ (i : Item). item i.start c.link_body.result) (c.item.ensures no_item) ∙ ap (item (item_at nodes opener.node).start)
+    c.link_body.ensures in (
       source,
       tables,
       tables',
@@ -73,13 +79,19 @@ returns-clause-puts c source first left w closing o closes is =
     let view = target_view c.args.target in
     let link = c.in_ok-link.link in
     let next = c.put_link.result in
-    let put : PutsLink tables tables' link view = link_put held held' _ link view c.in_ok-link.ensures.put c.in_ok-link.ensures.number refl in
-    let can = can_link source tables tables' old first c.args.closer left w closing o opener link view c.args.end c.args.next closes is put in
+    let put : PutsLink source tables tables' link view = link_put source held held' _ link view c.in_ok-link.ensures.put
+    c.in_ok-link.ensures.number
+    (made_link source _ view closes.ends.4) refl in
+    let can = can_link source tables tables' old first c.args.closer left w closing o opener link view c.args.end c.args.next closes is put
+    in
     let item : ℕ → ItemBody → Item = λ start b. record { start = start; end = c.args.end; body = b } in
     let same : item c.item.result.now.start c.link_body.result ≡ link_from old opener link c.args.end =
-    ap (λ (i : Item). item i.start c.link_body.result) (c.item.ensures no_item) ∙ ap (item (item_at old opener.node).start) c.link_body.ensures in
+    ap (λ (i : Item). item i.start c.link_body.result) (c.item.ensures no_item) ∙ ap (item (item_at old opener.node).start)
+    c.link_body.ensures in
     let over = c.put_link.ensures.puts source tables tables' (inside_numbers o) put.grown can.close
     (subst (λ (i : Item). CanPutOver source tables tables' old opener.node i c.args.next) (sym same) can.over)
     (c.last_before-last.ensures source tables (inside_numbers o) c.args.next can.close) in
-    link_closed source tables tables' old new first c.args.closer next left w closing o opener link view c.args.end c.args.next closes is put
-    (subst (λ (i : Item). PutsOver source opener.node c.args.closer (inside_numbers o) (over_inside source tables' i) c.args.next (opener.node ∷ []) next old new tables tables') same over)
+    link_closed source tables tables' old new first c.args.closer next left w closing o opener link view c.args.end c.args.next closes is
+    put
+    (subst (λ (i : Item). PutsOver source opener.node c.args.closer (inside_numbers o) (over_inside source tables' i) c.args.next
+    (opener.node ∷ []) next old new tables tables') same over)

@@ -18,9 +18,10 @@ use Rattle.markdown_resolver.proofs.brackets.put_wikilink.Goals as goal
 pub item-requires : goal.item-requires
 item-requires c =
     let held = c.args.tables.now in
-    let r = ready_wikilink c.requires.0 held c.allocate_link.new.self c.args.tree.now.nodes c.requires.1 c.args.closer c.requires.2 c.requires.3 c.requires.4 c.requires.5 c.args.opener c.args.name
+    let r = ready_wikilink c.requires.0 held c.allocate_link.new.self c.args.tree.now.nodes c.requires.1 c.args.closer c.requires.2
+    c.requires.3 c.requires.4 c.requires.5 c.args.opener c.args.name
     c.args.has_pothole
-    c.args.shown c.in_ok-link.link c.args.end _ c.requires.6 c.requires.7 c.in_ok-link.ensures.put c.in_ok-link.ensures.number refl in
+    c.args.shown c.in_ok-link.link c.args.end _ c.requires.6 c.requires.7 c.in_ok-link.ensures.put c.in_ok-link.ensures.number refl refl in
     (opens_numbered c.requires.0 (tables_of held) c.args.tree.now.nodes c.args.opener.node r.can.close.ready).within
 
 pub put_wikilink_name-requires : goal.put_wikilink_name-requires
@@ -34,13 +35,16 @@ put_wikilink_name-requires c =
     let opener = c.args.opener in
     let link = c.in_ok-link.link in
     let end = c.args.end in
-    let r = ready_wikilink source held held' nodes c.requires.1 c.args.closer c.requires.2 c.requires.3 c.requires.4 c.requires.5 opener c.args.name c.args.has_pothole
-    c.args.shown link end _ c.requires.6 c.requires.7 c.in_ok-link.ensures.put c.in_ok-link.ensures.number refl in
-    let can = named_over source tables tables' nodes c.requires.1 c.args.closer c.requires.2 c.requires.3 c.requires.4 c.requires.5 opener c.args.shown link end c.in-Over.node c.in-Over.start
+    let r = ready_wikilink source held held' nodes c.requires.1 c.args.closer c.requires.2 c.requires.3 c.requires.4 c.requires.5 opener
+    c.args.name c.args.has_pothole
+    c.args.shown link end _ c.requires.6 c.requires.7 c.in_ok-link.ensures.put c.in_ok-link.ensures.number refl refl in
+    let can = named_over source tables tables' nodes c.requires.1 c.args.closer c.requires.2 c.requires.3 c.requires.4 c.requires.5 opener
+    c.args.shown link end c.in-Over.node c.in-Over.start
     c.in-Over.end r c.in-Over.is in
     let item : ℕ → ItemBody → Item = λ start b. record { start = start; end = end; body = b } in
     let same : item c.item.result.now.start c.link_body.result ≡ link_from nodes opener link end =
-    ap (λ (i : Item). item i.start c.link_body.result) (c.item.ensures no_item) ∙ ap (item (item_at nodes opener.node).start) c.link_body.ensures in (
+    ap (λ (i : Item). item i.start c.link_body.result) (c.item.ensures no_item) ∙ ap (item (item_at nodes opener.node).start)
+    c.link_body.ensures in (
       source,
       tables,
       tables',
@@ -67,14 +71,27 @@ put_wikilink_shown-requires c =
     let opener = c.args.opener in
     let link = c.in_ok-link.link in
     let end = c.args.end in
-    let r = ready_wikilink source held held' nodes c.requires.1 c.args.closer c.requires.2 c.requires.3 c.requires.4 c.requires.5 opener c.args.name c.args.has_pothole
-    c.args.shown link end _ c.requires.6 c.requires.7 c.in_ok-link.ensures.put c.in_ok-link.ensures.number refl in
-    let s = shows_over source tables tables' nodes c.requires.1 c.args.closer c.requires.2 c.requires.3 c.requires.4 c.requires.5 opener c.args.shown link end c.in-From.node c.in-From.at r
+    let r = ready_wikilink source held held' nodes c.requires.1 c.args.closer c.requires.2 c.requires.3 c.requires.4 c.requires.5 opener
+    c.args.name c.args.has_pothole
+    c.args.shown link end _ c.requires.6 c.requires.7 c.in_ok-link.ensures.put c.in_ok-link.ensures.number refl refl in
+    let s = shows_over source tables tables' nodes c.requires.1 c.args.closer c.requires.2 c.requires.3 c.requires.4 c.requires.5 opener
+    c.args.shown link end c.in-From.node c.in-From.at r
     c.in-From.is in
     let item : ℕ → ItemBody → Item = λ start b. record { start = start; end = end; body = b } in
     let same : item c.item.result.now.start c.link_body.result ≡ link_from nodes opener link end =
-    ap (λ (i : Item). item i.start c.link_body.result) (c.item.ensures no_item) ∙ ap (item (item_at nodes opener.node).start) c.link_body.ensures in
-    (source, tables, tables', inside_numbers r.split, s.skipped, r.put.grown, r.can.close, subst (λ (i : Item). CanPutOver source tables tables' nodes opener.node i end) (sym same) r.can.over, s.can)
+    ap (λ (i : Item). item i.start c.link_body.result) (c.item.ensures no_item) ∙ ap (item (item_at nodes opener.node).start)
+    c.link_body.ensures in (
+      source,
+      tables,
+      tables',
+      inside_numbers r.split,
+      s.skipped,
+      r.put.grown,
+      r.can.close,
+      subst
+          (λ (i : Item). CanPutOver source tables tables' nodes opener.node i end) (sym same) r.can.over,
+      s.can,
+    )
 
 pub returns-in-Over-clause-puts : goal.returns-in-Over-clause-puts
 returns-in-Over-clause-puts c source first left w closing becomes closes is =
@@ -92,19 +109,26 @@ returns-in-Over-clause-puts c source first left w closing becomes closes is =
     let n = c.in-Over.node in
     let from = c.in-Over.start in
     let to = c.in-Over.end in
-    let r = ready_wikilink source held held' old first closer left w closing becomes opener c.args.name c.args.has_pothole c.args.shown link end _ closes is c.in_ok-link.ensures.put
-    c.in_ok-link.ensures.number refl in
-    let can = named_over source tables tables' old first closer left w closing becomes opener c.args.shown link end n from to r c.in-Over.is in
+    let r = ready_wikilink source held held' old first closer left w closing becomes opener c.args.name c.args.has_pothole c.args.shown link
+    end _ closes is c.in_ok-link.ensures.put
+    c.in_ok-link.ensures.number refl refl in
+    let can = named_over source tables tables' old first closer left w closing becomes opener c.args.shown link end n from to r c.in-Over.is
+    in
     let item : ℕ → ItemBody → Item = λ start b. record { start = start; end = end; body = b } in
     let same : item c.item.result.now.start c.link_body.result ≡ link_from old opener link end =
-    ap (λ (i : Item). item i.start c.link_body.result) (c.item.ensures no_item) ∙ ap (item (item_at old opener.node).start) c.link_body.ensures in
+    ap (λ (i : Item). item i.start c.link_body.result) (c.item.ensures no_item) ∙ ap (item (item_at old opener.node).start)
+    c.link_body.ensures in
     let over = c.put_wikilink_name.ensures.puts source tables tables' (inside_numbers r.split) can.skipped can.shown r.put.grown r.can.close
     (subst (λ (i : Item). CanPutOver source tables tables' old opener.node i end) (sym same) r.can.over)
-    (subst (CanPut source tables tables') (sym c.text_item-inside.ensures) can.puts) can.parts (λ m. subst (λ (i : Item). times_named m i.body ≡ 0) (sym c.text_item-inside.ensures) (names_none m)) in
+    (subst (CanPut source tables tables') (sym c.text_item-inside.ensures) can.puts) can.parts
+    (λ m. subst (λ (i : Item). times_named m i.body ≡ 0) (sym c.text_item-inside.ensures) (names_none m)) in
     subst (λ (b : Becomes ℕ). PutsClosed source first closer next left w closing b old new tables tables') (sym r.is)
-    (name_closed source tables tables' old new first closer next left w closing r.split opener link r.found end n from to r.closes r.opener_is r.put can
-    (subst (λ (i : Item). PutsOver source opener.node closer (inside_numbers r.split) (over_text source tables' i (text_item_over from to)) end (opener.node ∷ []) next old new tables tables') same
-    (subst (λ (t : Item). PutsOver source opener.node closer (inside_numbers r.split) (over_text source tables' (item c.item.result.now.start c.link_body.result) t) end (opener.node ∷ []) next old
+    (name_closed source tables tables' old new first closer next left w closing r.split opener link r.found end n from to r.closes
+    r.opener_is r.put can
+    (subst (λ (i : Item). PutsOver source opener.node closer (inside_numbers r.split) (over_text source tables' i (text_item_over from to))
+    end (opener.node ∷ []) next old new tables tables') same
+    (subst (λ (t : Item). PutsOver source opener.node closer (inside_numbers r.split)
+    (over_text source tables' (item c.item.result.now.start c.link_body.result) t) end (opener.node ∷ []) next old
     new tables tables')
     c.text_item-inside.ensures over)))
 
@@ -123,15 +147,19 @@ returns-in-From-clause-puts c source first left w closing becomes closes is =
     let end = c.args.end in
     let n = c.in-From.node in
     let from = c.in-From.at in
-    let r = ready_wikilink source held held' old first closer left w closing becomes opener c.args.name c.args.has_pothole c.args.shown link end _ closes is c.in_ok-link.ensures.put
-    c.in_ok-link.ensures.number refl in
+    let r = ready_wikilink source held held' old first closer left w closing becomes opener c.args.name c.args.has_pothole c.args.shown link
+    end _ closes is c.in_ok-link.ensures.put
+    c.in_ok-link.ensures.number refl refl in
     let s = shows_over source tables tables' old first closer left w closing becomes opener c.args.shown link end n from r c.in-From.is in
     let item : ℕ → ItemBody → Item = λ start b. record { start = start; end = end; body = b } in
     let same : item c.item.result.now.start c.link_body.result ≡ link_from old opener link end =
-    ap (λ (i : Item). item i.start c.link_body.result) (c.item.ensures no_item) ∙ ap (item (item_at old opener.node).start) c.link_body.ensures in
+    ap (λ (i : Item). item i.start c.link_body.result) (c.item.ensures no_item) ∙ ap (item (item_at old opener.node).start)
+    c.link_body.ensures in
     let over = c.put_wikilink_shown.ensures.puts source tables tables' (inside_numbers r.split) s.skipped r.put.grown r.can.close
     (subst (λ (i : Item). CanPutOver source tables tables' old opener.node i end) (sym same) r.can.over) s.can in
     subst (λ (b : Becomes ℕ). PutsClosed source first closer next left w closing b old new tables tables') (sym r.is)
-    (shown_closed source tables tables' old new first closer next left w closing r.split opener link r.found end n from r.closes r.opener_is r.put s
-    (subst (λ (i : Item). PutsOver source opener.node closer (inside_numbers r.split) (over_shown source tables' i (length s.skipped) from) end (opener.node ∷ []) next old new tables tables') same
+    (shown_closed source tables tables' old new first closer next left w closing r.split opener link r.found end n from r.closes r.opener_is
+    r.put s
+    (subst (λ (i : Item). PutsOver source opener.node closer (inside_numbers r.split) (over_shown source tables' i (length s.skipped) from)
+    end (opener.node ∷ []) next old new tables tables') same
     over))

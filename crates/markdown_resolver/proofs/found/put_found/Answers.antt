@@ -15,6 +15,9 @@ pub returns-clause-puts : goal.returns-clause-puts
 returns-clause-puts c source tables tables' grown finds puts starts =
     let old = c.args.tree.now.nodes in
     let next = c.first_past-rest.result in
-    let link = c.first_past-rest.ensures.value ∙ ap (λ l. first_past old c.args.item.end (roots (forest_at (links_of old) l))) c.next.ensures.value in
-    let nodes : c.begin_from.new.tree.nodes ≡ begun_from next c.args.item.end c.write_node.new.tree.nodes = ap (λ t. t.nodes) c.begin_from.ensures in
-    rw nodes (found_puts source c.args.ix c.args.item next old c.write_node.new.tree.nodes tables tables' grown finds puts starts link c.write_node.ensures.written)
+    let link = c.first_past-rest.ensures.value ∙ ap (λ l. first_past old c.args.item.end (roots (forest_at (links_of old) l)))
+    c.next.ensures.value in
+    let nodes : c.begin_from.new.tree.nodes ≡ begun_from next c.args.item.end c.write_node.new.tree.nodes = ap (λ t. t.nodes)
+    c.begin_from.ensures in
+    rw nodes (found_puts source c.args.ix c.args.item next old c.write_node.new.tree.nodes tables tables' grown finds puts starts link
+    c.write_node.ensures.written)

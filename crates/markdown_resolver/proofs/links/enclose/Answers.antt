@@ -27,5 +27,6 @@ set_next-requires-2-clause-next c =
 
 pub returns-clause-enclosed : goal.returns-clause-enclosed
 returns-clause-enclosed c =
-    enclosed_tree c.args.tree.now c.set_next.new.self c.set_child.new.self c.set_next-2.new.self c.args.opener c.args.last c.args.closer c.next-inside.result
+    enclosed_tree c.args.tree.now c.set_next.new.self c.set_child.new.self c.set_next-2.new.self c.args.opener c.args.last c.args.closer
+    c.next-inside.result
     c.requires.opener c.requires.last c.next-inside.ensures.value c.set_next.ensures c.set_child.ensures c.set_next-2.ensures

@@ -19,14 +19,16 @@ pub returns-then-next-closer : goal.returns-then-next-closer
 returns-then-next-closer c source tables inside byte can =
     let nodes = c.args.tree.now.nodes in
     let link = sym c.next.ensures.value ∙ c.in-Some.is in
-    ahead_here nodes c.args.opener c.args.closer c.inside.last c.in-Some.next inside link (spelled_at nodes (sibling_of nodes c.inside.last) c.in-Some.next link c.inside.invariant.spelled)
+    ahead_here nodes c.args.opener c.args.closer c.inside.last c.in-Some.next inside link (spelled_at nodes (sibling_of nodes c.inside.last)
+    c.in-Some.next link c.inside.invariant.spelled)
     c.if-next-closer.true (c.inside.invariant.ahead source tables inside byte can)
 
 pub inside-smaller : goal.inside-smaller
 inside-smaller c =
     let nodes = c.args.tree.now.nodes in
     let link = sym c.next.ensures.value ∙ c.in-Some.is in
-    rw link (items_fall nodes c.in-Some.next (spelled_at nodes (sibling_of nodes c.inside.last) c.in-Some.next link c.inside.invariant.spelled))
+    rw link (items_fall nodes c.in-Some.next (spelled_at nodes (sibling_of nodes c.inside.last) c.in-Some.next link
+    c.inside.invariant.spelled))
 
 pub inside-preserved : goal.inside-preserved
 inside-preserved c =
@@ -37,9 +39,11 @@ inside-preserved c =
       within = s.within;
       spelled = s.after;
       ahead = λ source tables inside byte can.
-          ahead_next nodes c.args.opener c.args.closer c.inside.last c.in-Some.next inside link s c.if-next-closer.false (c.inside.invariant.ahead source tables inside byte can);
+          ahead_next nodes c.args.opener c.args.closer c.inside.last c.in-Some.next inside link s c.if-next-closer.false
+          (c.inside.invariant.ahead source tables inside byte can);
     }
 
 pub returns : goal.returns
 returns c source tables inside byte can =
-    absurd (ahead_none c.args.tree.now.nodes c.args.opener c.args.closer c.inside.last inside (sym c.next.ensures.value ∙ c.in_default.is) (c.inside.invariant.ahead source tables inside byte can))
+    absurd (ahead_none c.args.tree.now.nodes c.args.opener c.args.closer c.inside.last inside (sym c.next.ensures.value ∙ c.in_default.is)
+    (c.inside.invariant.ahead source tables inside byte can))

@@ -11,8 +11,10 @@ use Rattle.markdown_resolver.proofs.links.last_before.Given as goal
 abbrev pub invariant-inside : goal.invariant-inside
 invariant-inside l = record {
   within : l.last < length l.tree.nodes;
-  spelled : Spells (links_of l.tree.nodes) (sibling_of l.tree.nodes l.last) (forest_at (links_of l.tree.nodes) (sibling_of l.tree.nodes l.last));
-  ahead : (source : List ℕ) (tables : Tables) (inside : List ℕ) (byte : ℕ) → CanClose source tables l.tree.nodes l.opener l.closer inside byte
+  spelled : Spells (links_of l.tree.nodes) (sibling_of l.tree.nodes l.last)
+      (forest_at (links_of l.tree.nodes) (sibling_of l.tree.nodes l.last));
+  ahead : (source : List ℕ) (tables : Tables) (inside : List ℕ) (byte : ℕ)
+      → CanClose source tables l.tree.nodes l.opener l.closer inside byte
       → IsAhead l.tree.nodes l.opener l.closer l.last inside;
 }
 

@@ -10,12 +10,14 @@ use Rattle.markdown_resolver.proofs.SettlingLemmas.{node_within}
 use Rattle.markdown_resolver.proofs.links.put_footnote.Goals as goal
 
 pub next-requires : goal.next-requires
-next-requires c = closer_within c.requires.0 c.requires.1 c.args.tree.now.nodes c.args.opener c.args.closer c.requires.3 c.args.item.end c.requires.5
+next-requires c = closer_within c.requires.0 c.requires.1 c.args.tree.now.nodes c.args.opener c.args.closer c.requires.3 c.args.item.end
+    c.requires.5
 
 pub first_past-rest-requires : goal.first_past-rest-requires
 first_past-rest-requires c =
     rw c.next.ensures.value
-    (behind_spelled c.requires.0 c.requires.1 c.args.tree.now.nodes c.args.opener c.args.closer c.args.item.end c.requires.3 c.requires.5 c.requires.7)
+    (behind_spelled c.requires.0 c.requires.1 c.args.tree.now.nodes c.args.opener c.args.closer c.args.item.end c.requires.3 c.requires.5
+    c.requires.7)
 
 pub write_node-requires-clause-node : goal.write_node-requires-clause-node
 write_node-requires-clause-node c = node_within c.requires.0 c.requires.1 c.args.tree.now.nodes c.args.opener c.requires.5.ready
@@ -25,7 +27,9 @@ returns-clause-puts c source tables tables' inside grown can over ends =
     let old = c.args.tree.now.nodes in
     let mid = c.write_node.new.tree.nodes in
     let next = c.first_past-rest.result in
-    let link = c.first_past-rest.ensures.value ∙ ap (λ l. first_past old c.args.item.end (roots (forest_at (links_of old) l))) c.next.ensures.value in
+    let link = c.first_past-rest.ensures.value ∙ ap (λ l. first_past old c.args.item.end (roots (forest_at (links_of old) l)))
+    c.next.ensures.value in
     let nodes : c.begin_from.new.tree.nodes ≡ begun_from next c.args.item.end mid = ap (λ t. t.nodes) c.begin_from.ensures in
     rw nodes
-    (reference_puts source c.args.opener c.args.closer c.args.item inside old tables tables' grown can over ends next mid link c.write_node.ensures.written)
+    (reference_puts source c.args.opener c.args.closer c.args.item inside old tables tables' grown can over ends next mid link
+    c.write_node.ensures.written)

@@ -13,7 +13,8 @@ pub write_node-requires-clause-node : goal.write_node-requires-clause-node
 write_node-requires-clause-node c = node_within c.requires.0 c.requires.1 c.args.tree.now.nodes c.args.opener c.requires.5.ready
 
 pub write_node-requires-clause-next : goal.write_node-requires-clause-next
-write_node-requires-clause-next c = closer_within c.requires.0 c.requires.1 c.args.tree.now.nodes c.args.opener c.args.closer c.requires.3 c.args.item.end c.requires.5
+write_node-requires-clause-next c = closer_within c.requires.0 c.requires.1 c.args.tree.now.nodes c.args.opener c.args.closer c.requires.3
+    c.args.item.end c.requires.5
 
 pub next-requires : goal.next-requires
 next-requires c =
@@ -23,7 +24,8 @@ next-requires c =
 pub first_past-rest-requires : goal.first_past-rest-requires
 first_past-rest-requires c =
     rw c.next.ensures.value
-    (behind_mark c.requires.0 c.args.opener c.args.closer c.args.mark c.args.item c.requires.3 c.args.tree.now.nodes c.write_node.new.tree.nodes c.requires.1 c.requires.2 c.requires.4
+    (behind_mark c.requires.0 c.args.opener c.args.closer c.args.mark c.args.item c.requires.3 c.args.tree.now.nodes
+    c.write_node.new.tree.nodes c.requires.1 c.requires.2 c.requires.4
     c.requires.5 c.requires.6 c.write_node.ensures.written)
 
 pub write_node-requires-2-clause-node : goal.write_node-requires-2-clause-node
@@ -37,8 +39,10 @@ returns-clause-puts c source tables tables' inside grown can over =
     let mid = c.write_node.new.tree.nodes in
     let last = c.write_node-2.new.tree.nodes in
     let next = c.first_past-rest.result in
-    let link = c.first_past-rest.ensures.value ∙ ap (λ l. first_past mid c.args.item.end (roots (forest_at (links_of mid) l))) c.next.ensures.value in
+    let link = c.first_past-rest.ensures.value ∙ ap (λ l. first_past mid c.args.item.end (roots (forest_at (links_of mid) l)))
+    c.next.ensures.value in
     let nodes : c.begin_from.new.tree.nodes ≡ begun_from next c.args.item.end last = ap (λ t. t.nodes) c.begin_from.ensures in
     rw nodes
-    (mark_puts source c.args.opener c.args.closer c.args.mark c.args.item inside old mid tables tables' grown can over c.write_node.ensures.written next last link
+    (mark_puts source c.args.opener c.args.closer c.args.mark c.args.item inside old mid tables tables' grown can over
+    c.write_node.ensures.written next last link
     c.write_node-2.ensures.written)

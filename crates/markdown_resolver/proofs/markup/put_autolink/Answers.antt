@@ -8,7 +8,7 @@ use Rattle.markdown_code.specs.AfterLess.{autolink}
 use Rattle.markdown_code.specs.Finds.{address}
 use Rattle.markdown_resolver.specs.MarkupItems.{address_to, item_to}
 use Rattle.markdown_resolver.specs.Rewritten.{CanPutParent, Puts, parent}
-use Rattle.markdown_resolver.proofs.MarkupItemLemmas.{PutsLink, autolink_trees, can_put_autolink, link_put, puts_standing}
+use Rattle.markdown_resolver.proofs.MarkupItemLemmas.{PutsLink, address_from, autolink_trees, can_put_autolink, link_put, puts_standing}
 use Rattle.markdown_resolver.proofs.markup.put_autolink.Goals as goal
 
 pub put_parent-requires : goal.put_parent-requires
@@ -23,9 +23,13 @@ put_parent-requires c =
     let link = c.in_ok-link.link in
     let over : Item → Item = λ item. record { start = item.start; end = end; body = body.Link link } in
     let inside : Item → Item = λ item. record { start = item.end; end = end - 1; body = body.Text false } in
-    let put : PutsLink (tables_of held) (tables_of held') link (address c.args.uri.now) = link_put held held' _ link (address c.args.uri.now) c.in_ok-link.ensures.put c.in_ok-link.ensures.number refl in
-    let can = can_put_autolink source (tables_of held) (tables_of held') link (address c.args.uri.now) nodes ix end put at.lies at.address in
-    let here = subst (λ (item : Item). CanPutParent source (tables_of held) (tables_of held') nodes ix (over item) (inside item)) (sym (c.item-item.ensures no_item)) can in
+    let uri = c.args.uri.now in
+    let put : PutsLink source (tables_of held) (tables_of held') link (address uri) = link_put source held held' _ link (address uri)
+    c.in_ok-link.ensures.put c.in_ok-link.ensures.number
+    (address_from source uri at.address.stands) refl in
+    let can = can_put_autolink source (tables_of held) (tables_of held') link uri nodes ix end put at.lies at.address in
+    let here = subst (λ (item : Item). CanPutParent source (tables_of held) (tables_of held') nodes ix (over item) (inside item))
+    (sym (c.item-item.ensures no_item)) can in
     (source, tables_of held, tables_of held', put.grown, at.found, here)
 
 pub returns-clause-puts : goal.returns-clause-puts
@@ -43,10 +47,14 @@ returns-clause-puts c = λ source rules at.
     let next = c.in_ok-put_parent.field-0 in
     let over : Item → Item = λ item. record { start = item.start; end = end; body = body.Link link } in
     let inside : Item → Item = λ item. record { start = item.end; end = end - 1; body = body.Text false } in
-    let put : PutsLink tables tables' link (address uri) = link_put held held' _ link (address uri) c.in_ok-link.ensures.put c.in_ok-link.ensures.number refl in
-    let can = can_put_autolink source tables tables' link (address uri) old ix end put at.lies at.address in
+    let put : PutsLink source tables tables' link (address uri) = link_put source held held' _ link (address uri) c.in_ok-link.ensures.put
+    c.in_ok-link.ensures.number
+    (address_from source uri at.address.stands) refl in
+    let can = can_put_autolink source tables tables' link uri old ix end put at.lies at.address in
     let puts =
-    subst (λ (item : Item). CanPutParent source tables tables' old ix (over item) (inside item) → Puts source ix (parent source tables' (over item) (inside item)) (Some end) next old new tables tables')
+    subst (λ (item : Item). CanPutParent source tables tables' old ix (over item) (inside item)
+    → Puts source ix (parent source tables' (over item) (inside item)) (Some end) next old new tables tables')
     (c.item-item.ensures no_item) (λ h. c.in_ok-put_parent.ensures.puts source tables tables' put.grown at.found h) can in
-    puts_standing source rules (autolink end uri) ix (parent source tables' (item_to old ix end (body.Link link)) (address_to old ix end)) (Some end) next old new tables tables' at.found.ready
+    puts_standing source rules (autolink end uri) ix (parent source tables' (item_to old ix end (body.Link link)) (address_to old ix end))
+    (Some end) next old new tables tables' at.found.ready
     (autolink_trees source rules tables tables' link uri old ix end put) puts

@@ -8,9 +8,11 @@ use Rattle.markdown_chains.specs.Tables.{tables_of}
 use Rattle.markdown_code.specs.MarkupView.{markup_of}
 use Rattle.markdown_resolver.proofs.ChainPlaceLemmas.{has_blocks}
 use Rattle.markdown_resolver.proofs.MarkupItemLemmas.{boundary_before, lies_at}
-use Rattle.markdown_resolver.proofs.MarkupLemmas.{if_ok, is_scanned, markup_stands, none_follows, none_past_block, reads_found, reads_text, scan_finds, text_up_to}
+use Rattle.markdown_resolver.proofs.MarkupLemmas.{if_ok, is_scanned, markup_stands, none_follows, none_past_block, reads_found, reads_text}
+use Rattle.markdown_resolver.proofs.MarkupLemmas.{scan_finds, text_up_to}
 use Rattle.markdown_resolver.proofs.markup.read_markup.Goals as goal
-use Rattle.markdown_resolver.proofs.markup.read_markup.Goals.{then-item-place-via-then-item-place, then-item-place-via-else-item-place+then-not-starts_at}
+use Rattle.markdown_resolver.proofs.markup.read_markup.Goals.{then-item-place-via-then-item-place}
+use Rattle.markdown_resolver.proofs.markup.read_markup.Goals.{then-item-place-via-else-item-place+then-not-starts_at}
 
 pub returns-then-item-place-clause-reads : goal.returns-then-item-place-clause-reads
 returns-then-item-place-clause-reads c = λ rules gfm.
@@ -22,10 +24,12 @@ returns-then-item-place-clause-reads c = λ rules gfm.
     elim c.then-item-place.branch [
       | then-item-place-via-then-item-place w ↦
           reads_text place tree held c.args.ix rules c.settle.result c.settle.new.tree.nodes c.requires.chain c.requires.opener
-          (none_past_block place tree held c.args.ix rules c.item-item.result.now c.requires.chain c.requires.opener same w.if-item-place.true) puts
+          (none_past_block place tree held c.args.ix rules c.item-item.result.now c.requires.chain c.requires.opener same
+          w.if-item-place.true) puts
       | then-item-place-via-else-item-place+then-not-starts_at w ↦
           reads_text place tree held c.args.ix rules c.settle.result c.settle.new.tree.nodes c.requires.chain c.requires.opener
-          (none_follows place tree held c.args.ix rules c.item-item.result.now w.next.result c.requires.chain same w.next.ensures.value (sym w.if-not-starts_at.true ∙ w.starts_at.ensures)) puts
+          (none_follows place tree held c.args.ix rules c.item-item.result.now w.next.result c.requires.chain same w.next.ensures.value
+          (sym w.if-not-starts_at.true ∙ w.starts_at.ensures)) puts
     ]
 
 pub new-prefix-requires : goal.new-prefix-requires
@@ -38,7 +42,8 @@ scan_after_less-requires-clause-start c =
     let start = c.item-item.result.now.start in
     let same = c.item-item.ensures no_item in
     let lies = lies_at source (tables_of c.args.tables.now) c.args.tree.now.nodes c.args.ix c.requires.chain.ready in
-    let boundary = boundary_before source last start (rw same lies.start) (omega (arith, c.if-item-place.false, ap (λ (i : Item). i.start) same, ap (λ (i : Item). i.end) same, lies.ordered)) in
+    let boundary = boundary_before source last start (rw same lies.start)
+    (omega (arith, c.if-item-place.false, ap (λ (i : Item). i.start) same, ap (λ (i : Item). i.end) same, lies.ordered)) in
     subst (λ (xs : List ℕ). IsCharBoundary xs start) (sym (c.range-text.ensures.value ∙ text_up_to source last)) boundary
 
 pub scan_after_less-requires-clause-after : goal.scan_after_less-requires-clause-after
@@ -58,8 +63,10 @@ put_markup-requires c =
     let held = c.args.tables.now in
     let prefix = c.new-prefix.result in
     let value = sym (ap (option_map markup_of) c.in-Some.is) ∙ c.in_ok-scan_after_less.ensures.value in
-    let scanned = is_scanned place tree held c.args.ix prefix (Some (markup_of c.in-Some.found)) c.item-item.result.now c.next.result c.range-text.result.now c.requires.chain c.requires.opener
-    (c.item-item.ensures no_item) c.if-item-place.false c.next.ensures.value c.if-not-starts_at.ensures c.new-prefix.ensures.tree c.new-prefix.ensures.footnotes c.range-text.ensures.value c.range-text.utf8 value in
+    let scanned = is_scanned place tree held c.args.ix prefix (Some (markup_of c.in-Some.found)) c.item-item.result.now c.next.result
+    c.range-text.result.now c.requires.chain c.requires.opener
+    (c.item-item.ensures no_item) c.if-item-place.false c.next.ensures.value c.if-not-starts_at.ensures c.new-prefix.ensures.tree
+    c.new-prefix.ensures.footnotes c.range-text.ensures.value c.range-text.utf8 value in
     (place.text.now, markup_stands place tree held c.args.ix prefix (markup_of c.in-Some.found) scanned)
 
 pub returns-in-None-clause-reads : goal.returns-in-None-clause-reads
@@ -69,10 +76,13 @@ returns-in-None-clause-reads c = λ rules gfm.
     let held = c.args.tables.now in
     let prefix = c.new-prefix.result in
     let value = sym (ap (option_map markup_of) c.in-None.is) ∙ c.in_ok-scan_after_less.ensures.value in
-    let scanned = is_scanned place tree held c.args.ix prefix None c.item-item.result.now c.next.result c.range-text.result.now c.requires.chain c.requires.opener
-    (c.item-item.ensures no_item) c.if-item-place.false c.next.ensures.value c.if-not-starts_at.ensures c.new-prefix.ensures.tree c.new-prefix.ensures.footnotes c.range-text.ensures.value c.range-text.utf8 value in
+    let scanned = is_scanned place tree held c.args.ix prefix None c.item-item.result.now c.next.result c.range-text.result.now
+    c.requires.chain c.requires.opener
+    (c.item-item.ensures no_item) c.if-item-place.false c.next.ensures.value c.if-not-starts_at.ensures c.new-prefix.ensures.tree
+    c.new-prefix.ensures.footnotes c.range-text.ensures.value c.range-text.utf8 value in
     reads_text place tree held c.args.ix rules c.settle-in-None.result c.settle-in-None.new.tree.nodes c.requires.chain c.requires.opener
-    (scan_finds place tree held c.args.ix prefix None rules scanned gfm) (c.settle-in-None.ensures.puts place.text.now (tables_of held) c.requires.chain.ready)
+    (scan_finds place tree held c.args.ix prefix None rules scanned gfm) (c.settle-in-None.ensures.puts place.text.now (tables_of held)
+    c.requires.chain.ready)
 
 pub returns-in-Some-clause-reads : goal.returns-in-Some-clause-reads
 returns-in-Some-clause-reads c =
@@ -82,8 +92,10 @@ returns-in-Some-clause-reads c =
     let prefix = c.new-prefix.result in
     let m = markup_of c.in-Some.found in
     let value = sym (ap (option_map markup_of) c.in-Some.is) ∙ c.in_ok-scan_after_less.ensures.value in
-    let scanned = is_scanned place tree held c.args.ix prefix (Some m) c.item-item.result.now c.next.result c.range-text.result.now c.requires.chain c.requires.opener
-    (c.item-item.ensures no_item) c.if-item-place.false c.next.ensures.value c.if-not-starts_at.ensures c.new-prefix.ensures.tree c.new-prefix.ensures.footnotes c.range-text.ensures.value c.range-text.utf8 value in
+    let scanned = is_scanned place tree held c.args.ix prefix (Some m) c.item-item.result.now c.next.result c.range-text.result.now
+    c.requires.chain c.requires.opener
+    (c.item-item.ensures no_item) c.if-item-place.false c.next.ensures.value c.if-not-starts_at.ensures c.new-prefix.ensures.tree
+    c.new-prefix.ensures.footnotes c.range-text.ensures.value c.range-text.utf8 value in
     if_ok c.put_markup.result _ _ (λ next puts. λ rules gfm.
     reads_found place tree held c.args.ix prefix m rules next c.put_markup.new.tree.nodes (tables_of c.put_markup.new.tables) scanned gfm
     (puts place.text.now rules (markup_stands place tree held c.args.ix prefix m scanned))) c.put_markup.ensures.puts

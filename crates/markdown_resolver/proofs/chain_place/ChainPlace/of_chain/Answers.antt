@@ -14,7 +14,8 @@ above-init c = record {
 pub item-item-requires : goal.item-item-requires
 item-item-requires c =
     let spine = c.walk_spine-ix-items.ensures in
-    rw spine (has_blocks c.args.text.now c.args.tree.now c.requires.0 c.requires.1 c.above.ix-index (omega (arith, c.above-test.true, ap length spine)))
+    rw spine (has_blocks c.args.text.now c.args.tree.now c.requires.0 c.requires.1 c.above.ix-index
+    (omega (arith, c.above-test.true, ap length spine)))
 
 pub above-preserved : goal.above-preserved
 above-preserved c =
@@ -23,7 +24,8 @@ above-preserved c =
     let i = c.above.ix-index in
     let item = c.item-item.result.now in
     let within : i < length tree.spine = omega (arith, c.above-test.true, ap length spine) in
-    let same : item ≡ item_at tree.nodes (get_or tree.spine i 0) = c.item-item.ensures no_item ∙ ap (λ (ixs : List ℕ). item_at tree.nodes (get_or ixs i 0)) spine in
+    let same : item ≡ item_at tree.nodes (get_or tree.spine i 0) = c.item-item.ensures no_item
+    ∙ ap (λ (ixs : List ℕ). item_at tree.nodes (get_or ixs i 0)) spine in
     elim c.if-is_block.branch [
       | then-is_block w ↦ record {
         read = rw w.place-is (block_read c.args.text.now c.above.place _ tree.nodes c.requires.0 tree.spine i item c.requires.1 within same
@@ -39,7 +41,8 @@ above-preserved c =
 
 pub returns-clause-place : goal.returns-clause-place
 returns-clause-place c =
-    all_above_read c.args.text.now c.above.place c.args.tree.now c.above.ix-index (omega (arith, c.above-test.false, ap length c.walk_spine-ix-items.ensures)) c.above.invariant.read
+    all_above_read c.args.text.now c.above.place c.args.tree.now c.above.ix-index
+    (omega (arith, c.above-test.false, ap length c.walk_spine-ix-items.ensures)) c.above.invariant.read
 
 pub returns-clause-text : goal.returns-clause-text
 returns-clause-text c = c.above.invariant.read.text

@@ -29,7 +29,8 @@ chain-preserved g c =
     rw c.next-at.ensures.value (record {
       ready = ready_next s.text.now (tables_of s.tables) nodes ix ready;
       resolver = rw (c.count_item.ensures, i.resolver) refl;
-      counted = counted_more _ c.chain.self.work.items _ _ _ _ i.counted (ap (items_from nodes) c.in-Some.is ∙ items_next s.text.now (tables_of s.tables) nodes ix ready) (ap (λ (w : Work). w.items) c.count_item.ensures);
+      counted = counted_more _ c.chain.self.work.items _ _ _ _ i.counted (ap (items_from nodes) c.in-Some.is
+          ∙ items_next s.text.now (tables_of s.tables) nodes ix ready) (ap (λ (w : Work). w.items) c.count_item.ensures);
     })
 
 pub returns : goal.returns

@@ -16,20 +16,25 @@ pub returns-in-Opener-clause-reads : goal.returns-in-Opener-clause-reads
 returns-in-Opener-clause-reads g c =
     let s = c.args.self.now in
     let puts = c.open_bracket.ensures in
-    ok_reads c.args.place.now c.args.tree.now c.open_bracket.new.tree s.tables c.args.ix g.F.BrokenLinkCallback.answers s.text.now (rules_from s.options s.tables (is_some s.callback)) s.limit s.callback s.spent
+    ok_reads c.args.place.now c.args.tree.now c.open_bracket.new.tree s.tables c.args.ix g.F.BrokenLinkCallback.answers s.text.now
+    (rules_from s.options s.tables (is_some s.callback)) s.limit s.callback s.spent
     c.in-Opener.is_image s.openers.brackets s.openers.wikilinks c.open_bracket.new.openers.brackets c.open_bracket.new.openers.wikilinks
     c.requires.text (c.requires.bracket ∙ ap Some c.in-Opener.is) c.open_bracket.result puts.puts puts.brackets puts.wikilinks
 
 pub returns-in-Opener-clause-fewer : goal.returns-in-Opener-clause-fewer
 returns-in-Opener-clause-fewer g c =
-    ok_fewer c.args.place.now c.args.tree.now c.open_bracket.new.tree c.args.self.now.tables c.args.ix c.open_bracket.result (ready_here c.requires.ready.2) c.open_bracket.ensures.puts
+    ok_fewer c.args.place.now c.args.tree.now c.open_bracket.new.tree c.args.self.now.tables c.args.ix c.open_bracket.result
+    (ready_here c.requires.ready.2) c.open_bracket.ensures.puts
 
 pub returns-in-Opener-clause-holds : goal.returns-in-Opener-clause-holds
 returns-in-Opener-clause-holds g c =
-    ok_holds c.args.place.now c.args.tree.now c.open_bracket.new.tree c.args.self.now.tables c.args.ix c.open_bracket.result (ready_here c.requires.ready.2) c.open_bracket.ensures.puts
+    ok_holds c.args.place.now c.args.tree.now c.open_bracket.new.tree c.args.self.now.tables c.args.ix c.open_bracket.result
+    (ready_here c.requires.ready.2) c.open_bracket.ensures.puts
 
 pub returns-in-Opener-clause-stops : goal.returns-in-Opener-clause-stops
 returns-in-Opener-clause-stops g c =
     let s = c.args.self.now in
-    if_err c.open_bracket.result (λ first left can. stops_here g.F.BrokenLinkCallback.answers (setting_of s.text.now (rules_from s.options s.tables (is_some s.callback)))
-    (above_cursor s.text.now c.args.tree.now) (Some c.args.ix) left (stage c.args.tree.now s.tables s.limit s.callback) s.spent s.callback refl)
+    if_err c.open_bracket.result (λ first left can. stops_here g.F.BrokenLinkCallback.answers
+    (setting_of s.text.now (rules_from s.options s.tables (is_some s.callback)))
+    (above_cursor s.text.now c.args.tree.now) (Some c.args.ix) left (stage c.args.tree.now s.tables s.limit s.callback) s.spent s.callback
+    refl)

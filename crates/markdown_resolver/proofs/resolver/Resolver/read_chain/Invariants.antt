@@ -11,8 +11,10 @@ use Rattle.markdown_spans.specs.Footnotes.{footnote_at}
 
 abbrev pub invariant-chain : goal.invariant-chain
 invariant-chain g l = record {
-  reads : ReadsUpTo g.F.BrokenLinkCallback.answers (setting_of l.fn.self.text.now (rules_from l.fn.self.options l.fn.self.tables (is_some l.fn.self.callback))) l.first l.at
-      l.fn.tree l.tree l.fn.self.tables l.self.tables l.fn.self.limit l.self.limit l.fn.self.callback l.self.callback l.self.spent l.self.openers.brackets l.self.openers.wikilinks;
+  reads : ReadsUpTo g.F.BrokenLinkCallback.answers
+      (setting_of l.fn.self.text.now (rules_from l.fn.self.options l.fn.self.tables (is_some l.fn.self.callback))) l.first l.at
+      l.fn.tree l.tree l.fn.self.tables l.self.tables l.fn.self.limit l.self.limit l.fn.self.callback l.self.callback l.self.spent
+      l.self.openers.brackets l.self.openers.wikilinks;
   can_ask : IfSome l.self.callback g.F.BrokenLinkCallback.can_ask;
   scanner : l.scanner.text.now ≡ take l.place.block_end l.place.text.now;
   code_learned : HoldsFrom SpanKind.Code l.self.code_closers l.tree.nodes l.at;

@@ -10,7 +10,8 @@ use Rattle.markdown_code.specs.SpanClosers.{has_failed}
 use Rattle.markdown_code.specs.declared.span_text.SpanKind.{SpanKind}
 use Rattle.markdown_resolver.specs.Chains.{CanResolve}
 use Rattle.markdown_resolver.specs.ReadsItem.{ReadsItem}
-use Rattle.markdown_resolver.proofs.ReadingLemmas.{node_within, finds_nothing, FindsNothing, settled_reads, looks_at_none, holds_on, ok_reads, ok_holds, ok_looks}
+use Rattle.markdown_resolver.proofs.ReadingLemmas.{node_within, finds_nothing, FindsNothing, settled_reads, looks_at_none, holds_on}
+use Rattle.markdown_resolver.proofs.ReadingLemmas.{ok_reads, ok_holds, ok_looks}
 use Rattle.markdown_resolver.proofs.resolver.Resolver.read_other.Goals as goal
 
 pub item-requires : goal.item-requires
@@ -21,17 +22,22 @@ pub returns-in-MaybeCode-clause-reads : goal.returns-in-MaybeCode-clause-reads
 returns-in-MaybeCode-clause-reads g c =
     let s = c.args.self.now in
     let place = c.args.place.now in
-    ok_reads c.read_code.result place.text.now s.text.now (rules_from s.options s.tables (is_some s.callback)) place.gfm_footnotes c.args.tree.now c.args.ix
-    c.read_code.new.tree.nodes (tables_of s.tables) (tables_of c.read_code.new.tables) c.requires.text c.requires.footnotes c.read_code.ensures.reads
+    ok_reads c.read_code.result place.text.now s.text.now (rules_from s.options s.tables (is_some s.callback)) place.gfm_footnotes
+    c.args.tree.now c.args.ix
+    c.read_code.new.tree.nodes (tables_of s.tables) (tables_of c.read_code.new.tables) c.requires.text c.requires.footnotes
+    c.read_code.ensures.reads
 
 pub returns-in-MaybeCode-clause-math_learned : goal.returns-in-MaybeCode-clause-math_learned
 returns-in-MaybeCode-clause-math_learned g c =
     let s = c.args.self.now in
     let place = c.args.place.now in
     let rules = rules_from s.options s.tables (is_some s.callback) in
-    ok_holds c.read_code.result (setting_of place.text.now rules) (above_cursor place.text.now c.args.tree.now) SpanKind.Math s.math_closers c.args.ix
-    c.args.tree.now.nodes c.read_code.new.tree.nodes (tables_of s.tables) (tables_of c.read_code.new.tables) c.requires.chain.ready c.requires.math_learned
-    (ok_reads c.read_code.result place.text.now place.text.now rules place.gfm_footnotes c.args.tree.now c.args.ix c.read_code.new.tree.nodes
+    ok_holds c.read_code.result (setting_of place.text.now rules) (above_cursor place.text.now c.args.tree.now) SpanKind.Math s.math_closers
+    c.args.ix
+    c.args.tree.now.nodes c.read_code.new.tree.nodes (tables_of s.tables) (tables_of c.read_code.new.tables) c.requires.chain.ready
+    c.requires.math_learned
+    (ok_reads c.read_code.result place.text.now place.text.now rules place.gfm_footnotes c.args.tree.now c.args.ix
+    c.read_code.new.tree.nodes
     (tables_of s.tables) (tables_of c.read_code.new.tables) refl c.requires.footnotes c.read_code.ensures.reads)
 
 pub returns-in-MaybeCode-clause-math_looks : goal.returns-in-MaybeCode-clause-math_looks
@@ -39,26 +45,33 @@ returns-in-MaybeCode-clause-math_looks g c =
     let s = c.args.self.now in
     let place = c.args.place.now in
     let rules = rules_from s.options s.tables (is_some s.callback) in
-    ok_looks c.read_code.result (setting_of place.text.now rules) (above_cursor place.text.now c.args.tree.now) (has_failed s.math_closers) s.work.math_visits c.args.ix
+    ok_looks c.read_code.result (setting_of place.text.now rules) (above_cursor place.text.now c.args.tree.now) (has_failed s.math_closers)
+    s.work.math_visits c.args.ix
     c.args.tree.now.nodes c.read_code.new.tree.nodes (tables_of s.tables) (tables_of c.read_code.new.tables) (omega arith)
-    (ok_reads c.read_code.result place.text.now place.text.now rules place.gfm_footnotes c.args.tree.now c.args.ix c.read_code.new.tree.nodes
+    (ok_reads c.read_code.result place.text.now place.text.now rules place.gfm_footnotes c.args.tree.now c.args.ix
+    c.read_code.new.tree.nodes
     (tables_of s.tables) (tables_of c.read_code.new.tables) refl c.requires.footnotes c.read_code.ensures.reads)
 
 pub returns-in-MaybeMath-clause-reads : goal.returns-in-MaybeMath-clause-reads
 returns-in-MaybeMath-clause-reads g c =
     let s = c.args.self.now in
     let place = c.args.place.now in
-    ok_reads c.read_math.result place.text.now s.text.now (rules_from s.options s.tables (is_some s.callback)) place.gfm_footnotes c.args.tree.now c.args.ix
-    c.read_math.new.tree.nodes (tables_of s.tables) (tables_of c.read_math.new.tables) c.requires.text c.requires.footnotes c.read_math.ensures.reads
+    ok_reads c.read_math.result place.text.now s.text.now (rules_from s.options s.tables (is_some s.callback)) place.gfm_footnotes
+    c.args.tree.now c.args.ix
+    c.read_math.new.tree.nodes (tables_of s.tables) (tables_of c.read_math.new.tables) c.requires.text c.requires.footnotes
+    c.read_math.ensures.reads
 
 pub returns-in-MaybeMath-clause-code_learned : goal.returns-in-MaybeMath-clause-code_learned
 returns-in-MaybeMath-clause-code_learned g c =
     let s = c.args.self.now in
     let place = c.args.place.now in
     let rules = rules_from s.options s.tables (is_some s.callback) in
-    ok_holds c.read_math.result (setting_of place.text.now rules) (above_cursor place.text.now c.args.tree.now) SpanKind.Code s.code_closers c.args.ix
-    c.args.tree.now.nodes c.read_math.new.tree.nodes (tables_of s.tables) (tables_of c.read_math.new.tables) c.requires.chain.ready c.requires.code_learned
-    (ok_reads c.read_math.result place.text.now place.text.now rules place.gfm_footnotes c.args.tree.now c.args.ix c.read_math.new.tree.nodes
+    ok_holds c.read_math.result (setting_of place.text.now rules) (above_cursor place.text.now c.args.tree.now) SpanKind.Code s.code_closers
+    c.args.ix
+    c.args.tree.now.nodes c.read_math.new.tree.nodes (tables_of s.tables) (tables_of c.read_math.new.tables) c.requires.chain.ready
+    c.requires.code_learned
+    (ok_reads c.read_math.result place.text.now place.text.now rules place.gfm_footnotes c.args.tree.now c.args.ix
+    c.read_math.new.tree.nodes
     (tables_of s.tables) (tables_of c.read_math.new.tables) refl c.requires.footnotes c.read_math.ensures.reads)
 
 pub returns-in-MaybeMath-clause-code_looks : goal.returns-in-MaybeMath-clause-code_looks
@@ -66,26 +79,33 @@ returns-in-MaybeMath-clause-code_looks g c =
     let s = c.args.self.now in
     let place = c.args.place.now in
     let rules = rules_from s.options s.tables (is_some s.callback) in
-    ok_looks c.read_math.result (setting_of place.text.now rules) (above_cursor place.text.now c.args.tree.now) (has_failed s.code_closers) s.work.code_visits c.args.ix
+    ok_looks c.read_math.result (setting_of place.text.now rules) (above_cursor place.text.now c.args.tree.now) (has_failed s.code_closers)
+    s.work.code_visits c.args.ix
     c.args.tree.now.nodes c.read_math.new.tree.nodes (tables_of s.tables) (tables_of c.read_math.new.tables) (omega arith)
-    (ok_reads c.read_math.result place.text.now place.text.now rules place.gfm_footnotes c.args.tree.now c.args.ix c.read_math.new.tree.nodes
+    (ok_reads c.read_math.result place.text.now place.text.now rules place.gfm_footnotes c.args.tree.now c.args.ix
+    c.read_math.new.tree.nodes
     (tables_of s.tables) (tables_of c.read_math.new.tables) refl c.requires.footnotes c.read_math.ensures.reads)
 
 pub returns-in-MaybeHtml-clause-reads : goal.returns-in-MaybeHtml-clause-reads
 returns-in-MaybeHtml-clause-reads g c =
     let s = c.args.self.now in
     let place = c.args.place.now in
-    ok_reads c.read_markup.result place.text.now s.text.now (rules_from s.options s.tables (is_some s.callback)) place.gfm_footnotes c.args.tree.now c.args.ix
-    c.read_markup.new.tree.nodes (tables_of s.tables) (tables_of c.read_markup.new.tables) c.requires.text c.requires.footnotes c.read_markup.ensures.reads
+    ok_reads c.read_markup.result place.text.now s.text.now (rules_from s.options s.tables (is_some s.callback)) place.gfm_footnotes
+    c.args.tree.now c.args.ix
+    c.read_markup.new.tree.nodes (tables_of s.tables) (tables_of c.read_markup.new.tables) c.requires.text c.requires.footnotes
+    c.read_markup.ensures.reads
 
 pub returns-in-MaybeHtml-clause-code_learned : goal.returns-in-MaybeHtml-clause-code_learned
 returns-in-MaybeHtml-clause-code_learned g c =
     let s = c.args.self.now in
     let place = c.args.place.now in
     let rules = rules_from s.options s.tables (is_some s.callback) in
-    ok_holds c.read_markup.result (setting_of place.text.now rules) (above_cursor place.text.now c.args.tree.now) SpanKind.Code s.code_closers c.args.ix
-    c.args.tree.now.nodes c.read_markup.new.tree.nodes (tables_of s.tables) (tables_of c.read_markup.new.tables) c.requires.chain.ready c.requires.code_learned
-    (ok_reads c.read_markup.result place.text.now place.text.now rules place.gfm_footnotes c.args.tree.now c.args.ix c.read_markup.new.tree.nodes
+    ok_holds c.read_markup.result (setting_of place.text.now rules) (above_cursor place.text.now c.args.tree.now) SpanKind.Code
+    s.code_closers c.args.ix
+    c.args.tree.now.nodes c.read_markup.new.tree.nodes (tables_of s.tables) (tables_of c.read_markup.new.tables) c.requires.chain.ready
+    c.requires.code_learned
+    (ok_reads c.read_markup.result place.text.now place.text.now rules place.gfm_footnotes c.args.tree.now c.args.ix
+    c.read_markup.new.tree.nodes
     (tables_of s.tables) (tables_of c.read_markup.new.tables) refl c.requires.footnotes c.read_markup.ensures.reads)
 
 pub returns-in-MaybeHtml-clause-math_learned : goal.returns-in-MaybeHtml-clause-math_learned
@@ -93,9 +113,12 @@ returns-in-MaybeHtml-clause-math_learned g c =
     let s = c.args.self.now in
     let place = c.args.place.now in
     let rules = rules_from s.options s.tables (is_some s.callback) in
-    ok_holds c.read_markup.result (setting_of place.text.now rules) (above_cursor place.text.now c.args.tree.now) SpanKind.Math s.math_closers c.args.ix
-    c.args.tree.now.nodes c.read_markup.new.tree.nodes (tables_of s.tables) (tables_of c.read_markup.new.tables) c.requires.chain.ready c.requires.math_learned
-    (ok_reads c.read_markup.result place.text.now place.text.now rules place.gfm_footnotes c.args.tree.now c.args.ix c.read_markup.new.tree.nodes
+    ok_holds c.read_markup.result (setting_of place.text.now rules) (above_cursor place.text.now c.args.tree.now) SpanKind.Math
+    s.math_closers c.args.ix
+    c.args.tree.now.nodes c.read_markup.new.tree.nodes (tables_of s.tables) (tables_of c.read_markup.new.tables) c.requires.chain.ready
+    c.requires.math_learned
+    (ok_reads c.read_markup.result place.text.now place.text.now rules place.gfm_footnotes c.args.tree.now c.args.ix
+    c.read_markup.new.tree.nodes
     (tables_of s.tables) (tables_of c.read_markup.new.tables) refl c.requires.footnotes c.read_markup.ensures.reads)
 
 pub returns-in-MaybeHtml-clause-code_looks : goal.returns-in-MaybeHtml-clause-code_looks
@@ -103,9 +126,11 @@ returns-in-MaybeHtml-clause-code_looks g c =
     let s = c.args.self.now in
     let place = c.args.place.now in
     let rules = rules_from s.options s.tables (is_some s.callback) in
-    ok_looks c.read_markup.result (setting_of place.text.now rules) (above_cursor place.text.now c.args.tree.now) (has_failed s.code_closers) s.work.code_visits c.args.ix
+    ok_looks c.read_markup.result (setting_of place.text.now rules) (above_cursor place.text.now c.args.tree.now)
+    (has_failed s.code_closers) s.work.code_visits c.args.ix
     c.args.tree.now.nodes c.read_markup.new.tree.nodes (tables_of s.tables) (tables_of c.read_markup.new.tables) (omega arith)
-    (ok_reads c.read_markup.result place.text.now place.text.now rules place.gfm_footnotes c.args.tree.now c.args.ix c.read_markup.new.tree.nodes
+    (ok_reads c.read_markup.result place.text.now place.text.now rules place.gfm_footnotes c.args.tree.now c.args.ix
+    c.read_markup.new.tree.nodes
     (tables_of s.tables) (tables_of c.read_markup.new.tables) refl c.requires.footnotes c.read_markup.ensures.reads)
 
 pub returns-in-MaybeHtml-clause-math_looks : goal.returns-in-MaybeHtml-clause-math_looks
@@ -113,9 +138,11 @@ returns-in-MaybeHtml-clause-math_looks g c =
     let s = c.args.self.now in
     let place = c.args.place.now in
     let rules = rules_from s.options s.tables (is_some s.callback) in
-    ok_looks c.read_markup.result (setting_of place.text.now rules) (above_cursor place.text.now c.args.tree.now) (has_failed s.math_closers) s.work.math_visits c.args.ix
+    ok_looks c.read_markup.result (setting_of place.text.now rules) (above_cursor place.text.now c.args.tree.now)
+    (has_failed s.math_closers) s.work.math_visits c.args.ix
     c.args.tree.now.nodes c.read_markup.new.tree.nodes (tables_of s.tables) (tables_of c.read_markup.new.tables) (omega arith)
-    (ok_reads c.read_markup.result place.text.now place.text.now rules place.gfm_footnotes c.args.tree.now c.args.ix c.read_markup.new.tree.nodes
+    (ok_reads c.read_markup.result place.text.now place.text.now rules place.gfm_footnotes c.args.tree.now c.args.ix
+    c.read_markup.new.tree.nodes
     (tables_of s.tables) (tables_of c.read_markup.new.tables) refl c.requires.footnotes c.read_markup.ensures.reads)
 
 pub returns-in_default : goal.returns-in_default
@@ -128,12 +155,14 @@ returns-in_default g c =
     let next = c.settle.result in
     let b = (item_at nodes ix).body in
     let same = ap (λ (item : Item). item.body) (c.item.ensures no_item) in
-    let nothing_there : FindsNothing c.item.result.now.body = finds_nothing c.item.result.now.body c.in_default.not-MaybeCode c.in_default.not-MaybeMath c.in_default.not-MaybeHtml in
+    let nothing_there : FindsNothing c.item.result.now.body = finds_nothing c.item.result.now.body c.in_default.not-MaybeCode
+    c.in_default.not-MaybeMath c.in_default.not-MaybeHtml in
     let ready : CanResolve s.text.now tables nodes (Some ix) = rw c.requires.text at c.requires.chain.ready in
     let set = setting_of s.text.now (rules_from s.options s.tables (is_some s.callback)) in
     let above = above_cursor s.text.now c.args.tree.now in
     let reads : ReadsItem set above ix next nodes nodes' tables tables =
-    settled_reads set above ix next nodes nodes' tables ready (subst FindsNothing same nothing_there) (c.settle.ensures.puts s.text.now tables ready) in
+    settled_reads set above ix next nodes nodes' tables ready (subst FindsNothing same nothing_there)
+    (c.settle.ensures.puts s.text.now tables ready) in
     record {
       reads = reads;
       code_learned = holds_on set above SpanKind.Code s.code_closers ix next nodes nodes' tables tables ready reads c.requires.code_learned;

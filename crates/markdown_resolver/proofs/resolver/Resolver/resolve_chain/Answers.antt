@@ -24,7 +24,8 @@ pair_chain-requires g c =
     let s = c.args.self.now in
     let rules = rules_from s.options s.tables (is_some s.callback) in
     let after = c.read_chain.new.self in
-    let can = read_can_pair g.F.BrokenLinkCallback.answers (setting_of s.text.now rules) (above_cursor s.text.now c.args.tree.now) c.args.first (stage c.args.tree.now s.tables s.limit s.callback)
+    let can = read_can_pair g.F.BrokenLinkCallback.answers (setting_of s.text.now rules) (above_cursor s.text.now c.args.tree.now)
+    c.args.first (stage c.args.tree.now s.tables s.limit s.callback)
     (stage c.read_chain.new.tree after.tables after.limit after.callback) c.requires.ready.quiet_below c.in_ok-read_chain.ensures.reads in
     record { chain = rw c.read_chain.ensures.kept can }
 
@@ -33,7 +34,8 @@ returns-in_err-read_chain-clause-stops g c =
     let s = c.args.self.now in
     let rules = rules_from s.options s.tables (is_some s.callback) in
     if_err c.from_residual.result
-    (stops_resolving g.F.BrokenLinkCallback.answers (setting_of s.text.now rules) (above_cursor s.text.now c.args.tree.now) c.args.first (stage c.args.tree.now s.tables s.limit s.callback) c.read_chain.new.self.callback
+    (stops_resolving g.F.BrokenLinkCallback.answers (setting_of s.text.now rules) (above_cursor s.text.now c.args.tree.now) c.args.first
+    (stage c.args.tree.now s.tables s.limit s.callback) c.read_chain.new.self.callback
     c.in_err-read_chain.ensures.stops)
 
 pub returns-in_err-pair_chain-clause-stops : goal.returns-in_err-pair_chain-clause-stops
@@ -42,7 +44,8 @@ returns-in_err-pair_chain-clause-stops g c =
     let rules = rules_from s.options s.tables (is_some s.callback) in
     let after = c.read_chain.new.self in
     if_err c.from_residual-in_err-pair_chain.result
-    (stops_in g.F.BrokenLinkCallback.answers (setting_of s.text.now rules) (above_cursor s.text.now c.args.tree.now) c.args.first (stage c.args.tree.now s.tables s.limit s.callback)
+    (stops_in g.F.BrokenLinkCallback.answers (setting_of s.text.now rules) (above_cursor s.text.now c.args.tree.now) c.args.first
+    (stage c.args.tree.now s.tables s.limit s.callback)
     (stage c.read_chain.new.tree after.tables after.limit after.callback) c.in_ok-read_chain.ensures.reads)
 
 pub returns-clause-resolves : goal.returns-clause-resolves
@@ -58,8 +61,10 @@ returns-clause-resolves g c =
     let kept = c.read_chain.ensures.kept in
     let reads = c.in_ok-read_chain.ensures in
     let pairs = rw kept at (c.in_ok-pair_chain.ensures.pairs rules (rw kept refl)) in
-    let finds : RisesAtLeast (finds_in setting (chain_at s.text.now mid (Some c.args.first))) after.work.examined c.pair_chain.new.work.examined =
-    subst (λ text. RisesAtLeast (finds_in (setting_of text rules) (trees_from text (tables_of after.tables) c.read_chain.new.tree.nodes (Some c.args.first)))
+    let finds : RisesAtLeast (finds_in setting (chain_at s.text.now mid (Some c.args.first))) after.work.examined
+    c.pair_chain.new.work.examined =
+    subst (λ text. RisesAtLeast (finds_in (setting_of text rules) (trees_from text (tables_of after.tables) c.read_chain.new.tree.nodes
+    (Some c.args.first)))
     after.work.examined c.pair_chain.new.work.examined) (ap (λ (r : Resolver g.row.F.Denot). r.text.now) kept)
     (c.in_ok-pair_chain.ensures.found rules (tables_of after.tables) (rw kept refl)) in
     let fits : AreCounts s.work = record { delimiters = omega arith; examined = omega arith } in
@@ -71,10 +76,12 @@ returns-clause-resolves g c =
       math = reads.math_visits;
     } in
     record {
-      tree = c.in_ok-pair_chain.ensures.place ∙ ap (λ (t : Arena Item). let u : Arena Item = record t { nodes = c.pair_chain.new.tree.nodes } in u) reads.place;
+      tree = c.in_ok-pair_chain.ensures.place ∙ ap (λ (t : Arena Item). let u : Arena Item =
+          record t { nodes = c.pair_chain.new.tree.nodes } in u) reads.place;
       tables = rw kept refl;
       footnotes = λ name. c.read_chain.ensures.footnotes name;
       chain = then_pairs step setting above c.args.first old mid c.pair_chain.new.tree.nodes c.requires.ready.quiet_below reads.reads pairs;
-      counted = counts_rise step setting above c.args.first old mid s.work after.work c.pair_chain.new.work c.requires.ready.reaches.spelled reads.reads fits read
+      counted = counts_rise step setting above c.args.first old mid s.work after.work c.pair_chain.new.work c.requires.ready.reaches.spelled
+          reads.reads fits read
           (record { counted = c.pair_chain.ensures.counted; compared = c.in_ok-pair_chain.ensures.examined; finds = finds });
     }
