@@ -1,5 +1,6 @@
 -- A chain that is resolved in place: what a walk that stands before it has left.
-use Rattle.std.proofs.Common.{◌+◌, ◌≡◌, ℕ, ◌<◌, ◌≤◌, Bool, true, false, List, [], ◌∷◌, ◌++◌, map, length, Option, Some, refl, ap, sym, ◌∙◌, ⊎_elim, arith, append_assoc}
+use Rattle.std.proofs.Common.{◌+◌, ◌≡◌, ℕ, ◌<◌, ◌≤◌, Bool, true, false, List, [], ◌∷◌, ◌++◌, map, length, Option, Some, refl, ap, sym, ◌∙◌}
+use Rattle.std.proofs.Common.{⊎_elim, arith, append_assoc}
 use Rattle.std.specs.Prelude.{slice_range}
 use Rattle.std.proofs.lemmas.Bool.{cases_lt}
 use Rattle.std.proofs.lemmas.List.{map-append}
@@ -30,7 +31,8 @@ use Rattle.markdown_inline.specs.Walk.{around, left_of}
 use Rattle.markdown_chains.specs.Places.{label_at, trees_from, IsPlaced}
 use Rattle.markdown_resolver.specs.PassOne.{Outcome}
 use Rattle.markdown_resolver.specs.Resolved.{resolved, all_paired}
-use Rattle.markdown_chains.specs.Document.{plain_tags, Plain, Shape, leaf, enclosed, plain, backslash_break, unresolved, is_unresolved, shape_of}
+use Rattle.markdown_chains.specs.Document.{plain_tags, Plain, Shape, leaf, enclosed, plain, backslash_break, unresolved, is_unresolved}
+use Rattle.markdown_chains.specs.Document.{shape_of}
 use Rattle.markdown_chains.specs.Labels.{GivesFirst, Begins}
 use Rattle.markdown_resolver.specs.Kept.{IsSettled}
 use Rattle.markdown_chains.specs.Totals.{same, naming}
@@ -44,69 +46,99 @@ use Rattle.markdown_inline.proofs.ReadingLemmas.{reading-settled, opened-open}
 use Rattle.markdown_chains.proofs.TablesLemmas.{same-refl}
 use Rattle.markdown_resolver.proofs.ResolvingLemmas.{resolved-settled, resolved-begins, IsKept-from_IsSettled}
 
-pub times_above-past : (k : Links) (p : ℕ → Type 0) (spine : List ℕ) (n : ℕ) → AllReach k p spine → k.size ≤ n → climbed (same n) (same n) k spine ≡ 0
+pub times_above-past : (k : Links) (p : ℕ → Type 0) (spine : List ℕ) (n : ℕ) → AllReach k p spine → k.size ≤ n
+    → climbed (same n) (same n) k spine ≡ 0
 times_above-past k p [] n r z = refl
 times_above-past k p (ix ∷ deeper) n r z =
-    omega (arith, same-apart n ix (omega (arith, r.0, z)), times-past k (k.next ix) (forest_at k (k.next ix)) n r.1.spelled z, times_above-past k p deeper n r.2 z)
+    omega (
+      arith,
+      same-apart n ix (omega (arith, r.0, z)),
+      times-past k (k.next ix) (forest_at k (k.next ix)) n r.1.spelled z,
+      times_above-past k p deeper n r.2 z,
+    )
 
-pub named_above-past : (source : List ℕ) (tables : Tables) (nodes : List (Node Item)) (spine : List ℕ) (n : Named) → AllReach (links_of nodes) (IsPlaced source tables nodes) spine → size_for tables n ≤ number_of n
+pub named_above-past : (source : List ℕ) (tables : Tables) (nodes : List (Node Item)) (spine : List ℕ) (n : Named)
+    → AllReach (links_of nodes) (IsPlaced source tables nodes) spine → size_for tables n ≤ number_of n
     → climbed (λ ix. 0) (naming nodes n) (links_of nodes) spine ≡ 0
 named_above-past source tables nodes [] n r z = refl
 named_above-past source tables nodes (ix ∷ deeper) n r z =
-    omega (arith, named-past source tables nodes (forest_at (links_of nodes) (sibling_of nodes ix)) n r.1.each z, named_above-past source tables nodes deeper n r.2 z)
+    omega (
+      arith,
+      named-past source tables nodes (forest_at (links_of nodes) (sibling_of nodes ix)) n r.1.each z,
+      named_above-past source
+          tables nodes deeper n r.2 z,
+    )
 
 -- one that gives an event at once is not open
-gives-closed : (tables : Tables) (source : List ℕ) (b : ItemBody) (is : Bool) → is_open b ≡ is → GivesFirst (shape_of tables source b) → is ≡ false
+gives-closed : (tables : Tables) (source : List ℕ) (b : ItemBody) (is : Bool) → is_open b ≡ is → GivesFirst (shape_of tables source b)
+    → is ≡ false
 gives-closed tables source b true e g = absurd (rw (shape-open tables source b e) at g)
 gives-closed tables source b false e g = refl
 
-opened-begins : (shape : Shape) (range : Range ℕ) (inside : Reading → Reading) (after whole : Reading) (known : Known) → GivesFirst shape → BeginsWithEvent (opened shape range inside after whole known)
+opened-begins : (shape : Shape) (range : Range ℕ) (inside : Reading → Reading) (after whole : Reading) (known : Known) → GivesFirst shape
+    → BeginsWithEvent (opened shape range inside after whole known)
 opened-begins (leaf e origins) range inside after whole known h = record { first = (e, range, origins); rest = after known; is = refl }
-opened-begins (enclosed tag) range inside after whole known h = record { first = (start tag, range, []); rest = inside (then_reads (end (end_of tag), range, []) after) known; is = refl }
+opened-begins (enclosed tag) range inside after whole known h = record {
+  first = (start tag, range, []);
+  rest =
+      inside (then_reads (end (end_of tag), range, []) after) known;
+  is = refl;
+}
 opened-begins plain range inside after whole known h = absurd h
 opened-begins backslash_break range inside after whole known h = record { first = (hard_break, range, []); rest = after known; is = refl }
 opened-begins (unresolved b) range inside after whole known h = absurd h
 
-reading-begins : (f : Forest Plain) (s : Setting) (after : Reading) (known : Known) → Begins f → BeginsWithEvent (settled_reading (all_paired s f) after known)
+reading-begins : (f : Forest Plain) (s : Setting) (after : Reading) (known : Known) → Begins f
+    → BeginsWithEvent (settled_reading (all_paired s f) after known)
 reading-begins nil s after known h = absurd h
 reading-begins (node a below later) s after known h = opened-begins a.part.shape a.part.range _ _ _ known h
 
 -- from one state to another a chain was resolved
-pub record ChainMoves (s : Setting) (tables tables' : Tables) (nodes nodes' : List (Node Item)) (first : ℕ) (spine : List ℕ) (before now : Answers → Known) (questions : List Question) (answers : Answers) : Type 0 where
+pub record ChainMoves (s : Setting) (tables tables' : Tables) (nodes nodes' : List (Node Item)) (first : ℕ) (spine : List ℕ)
+    (before now : Answers → Known) (questions : List Question) (answers : Answers) : Type 0 where
   pub stands : Stands s.text tables' nodes' (Some first) spine
   pub left : (later : Answers) → left_of s tables nodes (Some first) spine (before (answers ++ later))
       ≡ map question questions ++ left_of s tables' nodes' (Some first) spine (now later)
   pub begins : (known : Known) → BeginsWithEvent (left_of s tables' nodes' (Some first) spine known)
   pub falls : steps_of nodes' (Some first) spine < steps_of nodes (Some first) spine
   -- its counts were ahead, and nothing is then
-  pub was_ahead : counts_ahead s tables nodes (Some first) spine ≡ chain_counts s plain_tags (above_at s.text nodes spine) (trees_from s.text tables nodes (Some first))
+  pub was_ahead : counts_ahead s tables nodes (Some first) spine ≡ chain_counts s plain_tags (above_at s.text nodes spine)
+      (trees_from s.text tables nodes (Some first))
   pub none_ahead : counts_ahead s tables' nodes' (Some first) spine ≡ no_chain
 
 -- numbers that stand above are those of nodes, and entries named there are in the tables
-above_within : (k : Links) (p : ℕ → Type 0) (spine : List ℕ) (n : ℕ) → AllReach k p spine → 0 < climbed (same n) (same n) k spine → n < k.size
+above_within : (k : Links) (p : ℕ → Type 0) (spine : List ℕ) (n : ℕ) → AllReach k p spine → 0 < climbed (same n) (same n) k spine
+    → n < k.size
 above_within k p spine n r l = ⊎_elim (λ h. h) (λ h. absurd (omega (arith, times_above-past k p spine n r h, l))) (cases_lt n k.size)
 
-above_named : (source : List ℕ) (tables : Tables) (nodes : List (Node Item)) (spine : List ℕ) (n : Named) → AllReach (links_of nodes) (IsPlaced source tables nodes) spine
+above_named : (source : List ℕ) (tables : Tables) (nodes : List (Node Item)) (spine : List ℕ) (n : Named)
+    → AllReach (links_of nodes) (IsPlaced source tables nodes) spine
     → 0 < climbed (λ ix. 0) (naming nodes n) (links_of nodes) spine → number_of n < size_for tables n
-above_named source tables nodes spine n r l = ⊎_elim (λ h. h) (λ h. absurd (omega (arith, named_above-past source tables nodes spine n r h, l))) (cases_lt (number_of n) (size_for tables n))
+above_named source tables nodes spine n r l = ⊎_elim (λ h. h)
+    (λ h. absurd (omega (arith, named_above-past source tables nodes spine n r h, l))) (cases_lt (number_of n) (size_for tables n))
 
 -- what is above a chain stays when the chain is resolved
 above_chain : {C : Type 0} (step : C → Question → Option Answer → C → Type 0) (s : Setting) (first : ℕ) (spine : List ℕ) (old new : Stage C)
-    → Stands s.text old.tables old.nodes (Some first) spine → ResolvesFrom step s.text (resolved s plain_tags (above_at s.text old.nodes spine)) (Some first) old new
+    → Stands s.text old.tables old.nodes (Some first) spine
+    → ResolvesFrom step s.text (resolved s plain_tags (above_at s.text old.nodes spine)) (Some first) old new
     → AboveFramed s old.tables new.tables old.nodes new.nodes spine
 unfolding left_total
 above_chain step s first spine old new w r =
-    above_framed s old.tables new.tables old.nodes new.nodes spine r.changes.more_nodes (grown-longer old.tables new.tables r.changes.grown) w.walk.above w.above_kept w.spine_lies
-    (λ n l. r.changes.outside n (above_within (links_of old.nodes) (IsPlaced s.text old.tables old.nodes) spine n w.walk.above l) (omega (arith, w.once n, l)))
+    above_framed s old.tables new.tables old.nodes new.nodes spine r.changes.more_nodes (grown-longer old.tables new.tables r.changes.grown)
+    w.walk.above w.above_kept w.spine_lies
+    (λ n l. r.changes.outside n (above_within (links_of old.nodes) (IsPlaced s.text old.tables old.nodes) spine n w.walk.above l)
+    (omega (arith, w.once n, l)))
     (λ n l. grown-same old.tables new.tables n r.changes.grown (above_named s.text old.tables old.nodes spine n w.walk.above l))
 
 -- the chain stands ready to be resolved
 pub can_resolve : (source : List ℕ) (tables : Tables) (nodes : List (Node Item)) (first : ℕ) (spine : List ℕ)
-    → Stands source tables nodes (Some first) spine → is_open (item_at nodes first).body ≡ true → CanResolve source tables nodes (Some first)
+    → Stands source tables nodes (Some first) spine → is_open (item_at nodes first).body ≡ true
+    → CanResolve source tables nodes (Some first)
 unfolding left_total
 can_resolve source tables nodes first spine w e =
     let o = opens (links_of nodes) (IsPlaced source tables nodes) first w.walk.here in
-    let open_shape = shape-open tables (slice_range source (item_at nodes first).start (item_at nodes first).end) (item_at nodes first).body e in
+    let open_shape = shape-open tables (slice_range source (item_at nodes first).start (item_at nodes first).end) (item_at nodes first).body
+    e in
     record {
       reaches = w.walk.here;
       once = λ n. let x = w.once n in omega arith;
@@ -115,7 +147,8 @@ can_resolve source tables nodes first spine w e =
     }
 
 -- the nodes gone into are there, lie in the text, and stand in no chain at hand
-nodes_above : (source : List ℕ) (k : Links) (nodes : List (Node Item)) (p : ℕ → Type 0) (l : Option ℕ) (spine : List ℕ) → k ≡ links_of nodes → AllReach k p spine → SpineLies source nodes spine
+nodes_above : (source : List ℕ) (k : Links) (nodes : List (Node Item)) (p : ℕ → Type 0) (l : Option ℕ) (spine : List ℕ) → k ≡ links_of nodes
+    → AllReach k p spine → SpineLies source nodes spine
     → ((n : ℕ) → times_in nodes l n + climbed (same n) (same n) k spine ≤ 1) → AreAbove source nodes l spine
 nodes_above source k nodes p l [] e r lies h = tt
 nodes_above source k nodes p l (ix ∷ deeper) e r lies h = (
@@ -123,43 +156,56 @@ nodes_above source k nodes p l (ix ∷ deeper) e r lies h = (
   nodes_above source k nodes p l deeper e r.2 lies.1 (λ n. let x = h n in omega arith),
 )
 
-pub are_above : (source : List ℕ) (tables : Tables) (nodes : List (Node Item)) (first : ℕ) (spine : List ℕ) → Stands source tables nodes (Some first) spine → AreAbove source nodes (Some first) spine
+pub are_above : (source : List ℕ) (tables : Tables) (nodes : List (Node Item)) (first : ℕ) (spine : List ℕ)
+    → Stands source tables nodes (Some first) spine → AreAbove source nodes (Some first) spine
 unfolding left_total
-are_above source tables nodes first spine w = nodes_above source (links_of nodes) nodes (IsPlaced source tables nodes) (Some first) spine refl w.walk.above w.spine_lies w.once
+are_above source tables nodes first spine w = nodes_above source (links_of nodes) nodes (IsPlaced source tables nodes) (Some first) spine
+    refl w.walk.above w.spine_lies w.once
 
-pub moves_chain : {C : Type 0} (step : C → Question → Option Answer → C → Type 0) (s : Setting) (first : ℕ) (spine : List ℕ) (old new : Stage C)
+pub moves_chain : {C : Type 0} (step : C → Question → Option Answer → C → Type 0) (s : Setting) (first : ℕ) (spine : List ℕ)
+    (old new : Stage C)
     → Stands s.text old.tables old.nodes (Some first) spine → is_open (item_at old.nodes first).body ≡ true
     → (r : ResolvesFrom step s.text (resolved s plain_tags (above_at s.text old.nodes spine)) (Some first) old new)
     → ChainMoves s old.tables new.tables old.nodes new.nodes first spine (known_at old) (known_at new) r.questions r.answers
 unfolding left_of left_total counts_ahead
 moves_chain step s first spine old new w e r =
     let o = opens (links_of old.nodes) (IsPlaced s.text old.tables old.nodes) first w.walk.here in
-    let open_shape = shape-open old.tables (slice_range s.text (item_at old.nodes first).start (item_at old.nodes first).end) (item_at old.nodes first).body e in
+    let open_shape = shape-open old.tables (slice_range s.text (item_at old.nodes first).start (item_at old.nodes first).end)
+    (item_at old.nodes first).body e in
     let ready = can_resolve s.text old.tables old.nodes first spine w e in
     let above = above_chain step s first spine old new w r in
     let made = trees_from s.text new.tables new.nodes (Some first) in
     let chain = trees_from s.text old.tables old.nodes (Some first) in
     let blocks = above_at s.text old.nodes spine in
     let after = around s (no_blocks s.text) old.tables old.nodes spine nothing in
-    let settled : IsSettled made = rw (r.resolves []) at (resolved-settled s plain_tags blocks chain (known_at old (r.answers ++ [])) ready.quiet_below) in
+    let settled : IsSettled made = rw (r.resolves []) at (resolved-settled s plain_tags blocks chain (known_at old (r.answers ++ []))
+    ready.quiet_below) in
     let begins : Begins made =
-    rw (rw o.here at (r.resolves [])) at (resolved-begins s plain_tags blocks (label_at s.text old.tables old.nodes first) (trees_from s.text old.tables old.nodes (child_of old.nodes first)) (trees_from s.text old.tables old.nodes (sibling_of old.nodes first)) (known_at old (r.answers ++ [])) (ap is_unresolved open_shape)) in
-    let before : reading s plain_tags blocks chain after ≡ chain_reading s plain_tags blocks chain after = rw o.here (opened-open (label_at s.text old.tables old.nodes first).part.shape _ _ _ _ (ap is_unresolved open_shape)) in
-    let now : reading s plain_tags (above_at s.text new.nodes spine) made (around s (no_blocks s.text) new.tables new.nodes spine nothing) ≡ settled_reading (all_paired s made) after =
+    rw (rw o.here at (r.resolves [])) at (resolved-begins s plain_tags blocks (label_at s.text old.tables old.nodes first)
+    (trees_from s.text old.tables old.nodes (child_of old.nodes first))
+    (trees_from s.text old.tables old.nodes (sibling_of old.nodes first)) (known_at old (r.answers ++ []))
+    (ap is_unresolved open_shape)) in
+    let before : reading s plain_tags blocks chain after ≡ chain_reading s plain_tags blocks chain after =
+    rw o.here (opened-open (label_at s.text old.tables old.nodes first).part.shape _ _ _ _ (ap is_unresolved open_shape)) in
+    let now : reading s plain_tags (above_at s.text new.nodes spine) made (around s (no_blocks s.text) new.tables new.nodes spine nothing)
+    ≡ settled_reading (all_paired s made) after =
     rw (above.blocks (no_blocks s.text), above.around (no_blocks s.text) nothing) (reading-settled s blocks made after settled) in
     let n = opens (links_of new.nodes) (IsPlaced s.text new.tables new.nodes) first r.changes.reaches in
     let item = item_at new.nodes first in
-    let closed : is_open item.body ≡ false = gives-closed new.tables (slice_range s.text item.start item.end) item.body (is_open item.body) refl (rw n.here at begins) in
+    let closed : is_open item.body ≡ false = gives-closed new.tables (slice_range s.text item.start item.end) item.body (is_open item.body)
+    refl (rw n.here at begins) in
     record {
       stands = record {
         walk = record { here = r.changes.reaches; above = above.reach };
         once = λ n. rw (above.times n) (⊎_elim
             (λ l. let x = w.once n in let y = r.changes.of_chain n l in omega arith)
-            (λ l. let x = times_above-past (links_of old.nodes) (IsPlaced s.text old.tables old.nodes) spine n w.walk.above l in let y = r.changes.once n in omega arith)
+            (λ l. let x = times_above-past (links_of old.nodes) (IsPlaced s.text old.tables old.nodes) spine n w.walk.above l
+            in let y = r.changes.once n in omega arith)
             (cases_lt n (length old.nodes)));
         named_once = λ n. rw (above.naming n) (⊎_elim
             (λ l. let x = w.named_once n in let y = r.changes.named n l in omega arith)
-            (λ l. let x = named_above-past s.text old.tables old.nodes spine n w.walk.above l in let y = r.changes.named_once n in omega arith)
+            (λ l. let x = named_above-past s.text old.tables old.nodes spine n w.walk.above l in let y = r.changes.named_once n
+            in omega arith)
             (cases_lt (number_of n) (size_for old.tables n)));
         here_kept = IsKept-from_IsSettled made settled;
         above_kept = above.kept;
@@ -176,28 +222,36 @@ moves_chain step s first spine old new w e r =
 -- what is left before a chain, where its first item is open
 before_chain : (s : Setting) (tables : Tables) (nodes : List (Node Item)) (first : ℕ) (spine : List ℕ) (known : Known)
     → Stands s.text tables nodes (Some first) spine → is_open (item_at nodes first).body ≡ true
-    → left_of s tables nodes (Some first) spine known ≡ then_resolved s plain_tags (resolved s plain_tags (above_at s.text nodes spine) (trees_from s.text tables nodes (Some first)) known) (around s (no_blocks s.text) tables nodes spine nothing)
+    → left_of s tables nodes (Some first) spine known ≡ then_resolved s plain_tags (resolved s plain_tags (above_at s.text nodes spine)
+    (trees_from s.text tables nodes (Some first)) known) (around s (no_blocks s.text) tables nodes spine nothing)
 unfolding left_of
 before_chain s tables nodes first spine known w e =
     let o = opens (links_of nodes) (IsPlaced s.text tables nodes) first w.walk.here in
-    let open_shape = shape-open tables (slice_range s.text (item_at nodes first).start (item_at nodes first).end) (item_at nodes first).body e in
+    let open_shape = shape-open tables (slice_range s.text (item_at nodes first).start (item_at nodes first).end) (item_at nodes first).body
+    e in
     let blocks = above_at s.text nodes spine in
     let after = around s (no_blocks s.text) tables nodes spine nothing in
-    let whole : reading s plain_tags blocks (trees_from s.text tables nodes (Some first)) after ≡ chain_reading s plain_tags blocks (trees_from s.text tables nodes (Some first)) after =
+    let whole : reading s plain_tags blocks (trees_from s.text tables nodes (Some first)) after
+    ≡ chain_reading s plain_tags blocks (trees_from s.text tables nodes (Some first)) after =
     rw o.here (opened-open (label_at s.text tables nodes first).part.shape _ _ _ _ (ap is_unresolved open_shape)) in
     ap (λ (x : Reading). x known) whole
 
-more_questions : (s : Setting) (r : Outcome (Unit {0})) (after : Reading) (questions others : List Question) → r.questions ≡ questions ++ others
+more_questions : (s : Setting) (r : Outcome (Unit {0})) (after : Reading) (questions others : List Question)
+    → r.questions ≡ questions ++ others
     → (es : List Element) × (then_resolved s plain_tags r after ≡ map question questions ++ es)
 more_questions s r after questions others e =
     (map question others ++ settled_reading (all_paired s r.forest) after r.known, rw e (simp (map-append, append_assoc)))
 
 -- where memory is refused on the way, what was left begins with the questions asked
-pub stops_chain : {C : Type 0} (step : C → Question → Option Answer → C → Type 0) (s : Setting) (first : ℕ) (spine : List ℕ) (old : Stage C) (d : Option C)
-    → Stands s.text old.tables old.nodes (Some first) spine → is_open (item_at old.nodes first).body ≡ true → (r : StopsIn step s (above_at s.text old.nodes spine) first old d)
-    → (later : Answers) → (others : List Element) × (left_of s old.tables old.nodes (Some first) spine (known_at old (r.answers ++ later)) ≡ map question r.questions ++ others)
+pub stops_chain : {C : Type 0} (step : C → Question → Option Answer → C → Type 0) (s : Setting) (first : ℕ) (spine : List ℕ) (old : Stage C)
+    (d : Option C)
+    → Stands s.text old.tables old.nodes (Some first) spine → is_open (item_at old.nodes first).body ≡ true
+    → (r : StopsIn step s (above_at s.text old.nodes spine) first old d)
+    → (later : Answers) → (others : List Element) × (left_of s old.tables old.nodes (Some first) spine (known_at old (r.answers ++ later))
+    ≡ map question r.questions ++ others)
 stops_chain step s first spine old d w e r later =
     let b = r.begins later in
     let known = known_at old (r.answers ++ later) in
     rw (before_chain s old.tables old.nodes first spine known w e)
-    (more_questions s (resolved s plain_tags (above_at s.text old.nodes spine) (chain_at s.text old (Some first)) known) (around s (no_blocks s.text) old.tables old.nodes spine nothing) r.questions b.0 b.1)
+    (more_questions s (resolved s plain_tags (above_at s.text old.nodes spine) (chain_at s.text old (Some first)) known)
+    (around s (no_blocks s.text) old.tables old.nodes spine nothing) r.questions b.0 b.1)

@@ -8,7 +8,8 @@ use Rattle.markdown_base.specs.declared.item.Item.{Item}
 use Rattle.markdown_base.specs.declared.node.Node.{Node}
 use Rattle.markdown_base.proofs.ArenaForestLemmas.{forest_at-none}
 use Rattle.markdown_base.specs.ArenaForest.{links_of}
-use Rattle.markdown_chains.specs.Document.{Shape, Origin, event_of_shape, leaf, enclosed, plain, backslash_break, unresolved, Plain, plain_tags}
+use Rattle.markdown_chains.specs.Document.{Shape, Origin, event_of_shape, leaf, enclosed, plain, backslash_break, unresolved, Plain}
+use Rattle.markdown_chains.specs.Document.{plain_tags}
 use Rattle.markdown_chains.specs.Places.{trees_from}
 use Rattle.markdown_chains.specs.declared.work.Work.{Work}
 use Rattle.markdown_chains.specs.Counts.{ChainCounts, no_counts, risen, RisesAtLeast, RisesAtMost, WorkRises}
@@ -20,9 +21,11 @@ use Rattle.markdown_inline.specs.Counts.{Counting, no_chain, before_event, first
 use Rattle.markdown_inline.specs.Walk.{closing}
 
 -- the node gone into last is left first
-pub counts_around-snoc : (s : Setting) (above : Above) (tables : Tables) (nodes : List (Node Item)) (spine : List ℕ) (ix : ℕ) (after : Counting) → counts_around s above tables nodes (spine ++ ix ∷ []) after
+pub counts_around-snoc : (s : Setting) (above : Above) (tables : Tables) (nodes : List (Node Item)) (spine : List ℕ) (ix : ℕ)
+    (after : Counting) → counts_around s above tables nodes (spine ++ ix ∷ []) after
     ≡ unless_ended (closing (item_at nodes ix).body)
-    (first_counts s plain_tags (inside_all nodes spine above) (trees_from s.text tables nodes (sibling_of nodes ix)) (counts_around s above tables nodes spine after))
+    (first_counts s plain_tags (inside_all nodes spine above) (trees_from s.text tables nodes (sibling_of nodes ix))
+    (counts_around s above tables nodes spine after))
 counts_around-snoc s above tables nodes [] ix after = refl
 counts_around-snoc s above tables nodes (j ∷ js) ix after = counts_around-snoc s (inside_item (item_at nodes j) above) tables nodes js ix _
 
@@ -35,7 +38,8 @@ gives-none backslash_break inside chain h = refl
 gives-none (unresolved b) inside chain h = absurd h
 
 -- so does one that reads as one event
-pub event-none : (shape : Shape) (inside chain : Counting) (e : EventView) (origins : List Origin) → event_of_shape shape ≡ Some (e, origins) → before_event shape inside chain ≡ no_chain
+pub event-none : (shape : Shape) (inside chain : Counting) (e : EventView) (origins : List Origin)
+    → event_of_shape shape ≡ Some (e, origins) → before_event shape inside chain ≡ no_chain
 event-none (leaf d origins') inside chain e origins h = refl
 event-none (enclosed tag) inside chain e origins h = cc h
 event-none plain inside chain e origins h = cc h
@@ -43,7 +47,8 @@ event-none backslash_break inside chain e origins h = refl
 event-none (unresolved b) inside chain e origins h = cc h
 
 -- so does a forest that begins with one that does
-pub begins-none : (s : Setting) (above : Above) (f : Forest Plain) (after : Counting) → Begins f → first_counts s plain_tags above f after ≡ no_chain
+pub begins-none : (s : Setting) (above : Above) (f : Forest Plain) (after : Counting) → Begins f → first_counts s plain_tags above f after
+    ≡ no_chain
 begins-none s above nil after h = absurd h
 begins-none s above (node a below later) after h = gives-none a.part.shape _ _ h
 
@@ -59,7 +64,15 @@ stays count = record { more = 0; within = omega arith; counted = refl }
 -- nothing was done
 pub rises-none : (n : ChainCounts) (old new : Work) → n ≡ no_counts → new ≡ old → WorkRises n old new
 rises-none n old new z e =
-    rw (z, e) (record { items = refl; delimiters = refl; examined = stays old.examined; found = omega arith; code_visits = stays old.code_visits; math_visits = stays old.math_visits })
+    rw (z, e) (record {
+      items = refl;
+      delimiters = refl;
+      examined = stays old.examined;
+      found = omega arith;
+      code_visits =
+          stays old.code_visits;
+      math_visits = stays old.math_visits;
+    })
 
 -- a count rose, and then stayed
 then_stays : (most old mid new : ℕ) → RisesAtMost most old mid → RisesAtMost 0 mid new → RisesAtMost most old new

@@ -24,22 +24,39 @@ pub record AboveFramed (s : Setting) (tables tables' : Tables) (nodes nodes' : L
   pub kept : AboveKept s.text tables' nodes' spine
   pub lies : SpineLies s.text nodes' spine
   pub times : (n : ℕ) → climbed (same n) (same n) (links_of nodes') spine ≡ climbed (same n) (same n) (links_of nodes) spine
-  pub naming : (n : Named) → climbed (λ ix. 0) (naming nodes' n) (links_of nodes') spine ≡ climbed (λ ix. 0) (naming nodes n) (links_of nodes) spine
+  pub naming : (n : Named) → climbed (λ ix. 0) (naming nodes' n) (links_of nodes') spine
+      ≡ climbed (λ ix. 0) (naming nodes n) (links_of nodes) spine
   pub steps : climbed (λ ix. 1) (weight_at nodes') (links_of nodes') spine ≡ climbed (λ ix. 1) (weight_at nodes) (links_of nodes) spine
   pub around : (above : Above) (after : Reading) → around s above tables' nodes' spine after ≡ around s above tables nodes spine after
   pub blocks : (above : Above) → inside_all nodes' spine above ≡ inside_all nodes spine above
-  pub ahead : (above : Above) (after : Counting) → counts_around s above tables' nodes' spine after ≡ counts_around s above tables nodes spine after
+  pub ahead : (above : Above) (after : Counting) → counts_around s above tables' nodes' spine after
+      ≡ counts_around s above tables nodes spine after
 
-pub above_framed : (s : Setting) (tables tables' : Tables) (nodes nodes' : List (Node Item)) (spine : List ℕ) → length nodes ≤ length nodes' → IsNoShorter tables tables'
+pub above_framed : (s : Setting) (tables tables' : Tables) (nodes nodes' : List (Node Item)) (spine : List ℕ) → length nodes ≤ length nodes'
+    → IsNoShorter tables tables'
     → AllReach (links_of nodes) (IsPlaced s.text tables nodes) spine → AboveKept s.text tables nodes spine → SpineLies s.text nodes spine
     → ((n : ℕ) → 0 < climbed (same n) (same n) (links_of nodes) spine → IsSameAt nodes nodes' n)
-    → ((n : Named) → 0 < climbed (λ ix. 0) (naming nodes n) (links_of nodes) spine → IsSameEntry tables tables' n) → AboveFramed s tables tables' nodes nodes' spine
-above_framed s tables tables' nodes nodes' [] z y r k lies h t = record { reach = tt; kept = tt; lies = tt; times = λ n. refl; naming = λ n. refl; steps = refl; around = λ above after. refl; blocks = λ above. refl; ahead = λ above after. refl }
+    → ((n : Named) → 0 < climbed (λ ix. 0) (naming nodes n) (links_of nodes) spine → IsSameEntry tables tables' n)
+    → AboveFramed s tables tables' nodes nodes' spine
+above_framed s tables tables' nodes nodes' [] z y r k lies h t = record {
+  reach = tt;
+  kept = tt;
+  lies = tt;
+  times = λ n. refl;
+  naming =
+      λ n. refl;
+  steps = refl;
+  around = λ above after. refl;
+  blocks = λ above. refl;
+  ahead = λ above after. refl;
+}
 above_framed s tables tables' nodes nodes' (ix ∷ deeper) z y r k lies h t =
     let at : IsSameAt nodes nodes' ix = h ix (omega (arith, same-refl ix)) in
-    let stay = stay_throughout tables tables' nodes nodes' (forest_at (links_of nodes) (sibling_of nodes ix)) y.headings (λ n l. h n (omega (arith, l))) (λ n l. t n (omega (arith, l))) in
+    let stay = stay_throughout tables tables' nodes nodes' (forest_at (links_of nodes) (sibling_of nodes ix)) y.headings
+    (λ n l. h n (omega (arith, l))) (λ n l. t n (omega (arith, l))) in
     let here = framed s.text tables tables' nodes nodes' (sibling_of nodes ix) z y r.1 stay in
-    let others = above_framed s tables tables' nodes nodes' deeper z y r.2 k.1 lies.1 (λ n l. h n (omega (arith, l))) (λ n l. t n (omega (arith, l))) in
+    let others = above_framed s tables tables' nodes nodes' deeper z y r.2 k.1 lies.1 (λ n l. h n (omega (arith, l)))
+    (λ n l. t n (omega (arith, l))) in
     record {
       reach = (omega (arith, r.0, z), rw at.next here.reaches, others.reach);
       kept = (rw (at.next, here.trees) k.0, others.kept);
@@ -53,19 +70,23 @@ above_framed s tables tables' nodes nodes' (ix ∷ deeper) z y r k lies h t =
     }
 
 -- what is left of a walk, where all that it leads to stays
-pub record LeftFramed (s : Setting) (tables tables' : Tables) (nodes nodes' : List (Node Item)) (l : Option ℕ) (spine : List ℕ) : Type 0 where
-  pub stands : Stands s.text tables' nodes' l spine
-  pub left : left_of s tables' nodes' l spine ≡ left_of s tables nodes l spine
-  pub ahead : counts_ahead s tables' nodes' l spine ≡ counts_ahead s tables nodes l spine
+pub record LeftFramed (s : Setting) (tables tables' : Tables) (nodes nodes' : List (Node Item)) (l : Option ℕ) (spine : List ℕ) : Type 0
+  where
+    pub stands : Stands s.text tables' nodes' l spine
+    pub left : left_of s tables' nodes' l spine ≡ left_of s tables nodes l spine
+    pub ahead : counts_ahead s tables' nodes' l spine ≡ counts_ahead s tables nodes l spine
 
-pub left_framed : (s : Setting) (tables tables' : Tables) (nodes nodes' : List (Node Item)) (l : Option ℕ) (spine : List ℕ) → length nodes ≤ length nodes' → IsNoShorter tables tables'
+pub left_framed : (s : Setting) (tables tables' : Tables) (nodes nodes' : List (Node Item)) (l : Option ℕ) (spine : List ℕ)
+    → length nodes ≤ length nodes' → IsNoShorter tables tables'
     → Stands s.text tables nodes l spine → ((n : ℕ) → 0 < times_left (links_of nodes) l spine n → IsSameAt nodes nodes' n)
     → ((n : Named) → 0 < named_left nodes l spine n → IsSameEntry tables tables' n) → LeftFramed s tables tables' nodes nodes' l spine
 unfolding left_total left_of counts_ahead
 left_framed s tables tables' nodes nodes' l spine z y w h t =
-    let stay = stay_throughout tables tables' nodes nodes' (forest_at (links_of nodes) l) y.headings (λ n x. h n (omega (arith, x))) (λ n x. t n (omega (arith, x))) in
+    let stay = stay_throughout tables tables' nodes nodes' (forest_at (links_of nodes) l) y.headings (λ n x. h n (omega (arith, x)))
+    (λ n x. t n (omega (arith, x))) in
     let here = framed s.text tables tables' nodes nodes' l z y w.walk.here stay in
-    let above = above_framed s tables tables' nodes nodes' spine z y w.walk.above w.above_kept w.spine_lies (λ n x. h n (omega (arith, x))) (λ n x. t n (omega (arith, x))) in
+    let above = above_framed s tables tables' nodes nodes' spine z y w.walk.above w.above_kept w.spine_lies (λ n x. h n (omega (arith, x)))
+    (λ n x. t n (omega (arith, x))) in
     record {
       stands = record {
         walk = record { here = here.reaches; above = above.reach };

@@ -1,5 +1,6 @@
 -- The steps of a parser, and what they give of what was left.
-use Rattle.std.proofs.Common.{◌≡◌, ℕ, Bool, ap, ◌<◌, ◌≤◌, List, [], ◌∷◌, ◌++◌, Option, Some, None, Result, Ok, Err, ◌⊎◌, inl, inr, refl, sym, subst, ◌∙◌, arith, append_assoc}
+use Rattle.std.proofs.Common.{◌≡◌, ℕ, Bool, ap, ◌<◌, ◌≤◌, List, [], ◌∷◌, ◌++◌, Option, Some, None, Result, Ok, Err, ◌⊎◌, inl, inr, refl}
+use Rattle.std.proofs.Common.{sym, subst, ◌∙◌, arith, append_assoc}
 use Rattle.std.specs.Prelude.{is_some}
 use Rattle.std.specs.declared.ops.Range.{Range}
 use Rattle.std.proofs.lemmas.List.{map-append}
@@ -23,7 +24,8 @@ use Rattle.markdown_resolver.specs.Chains.{AreAbove, ResolvesChain, CanResolve, 
 use Rattle.markdown_inline.specs.Elements.{Placed, Element}
 use Rattle.markdown_inline.specs.Moves.{Leads, Keeps, Gave, GaveEvent, WentOn, Ended, Failed, BeginsWithEvent}
 use Rattle.markdown_inline.specs.NextGives.{NextGives, IsEventOf, IsPlacedOf, GivesItem}
-use Rattle.markdown_inline.specs.ParserLeft.{parser_known, parser_counts, parser_work, parser_callback, parser_steps, parser_setting, elements, IsOver}
+use Rattle.markdown_inline.specs.ParserLeft.{parser_known, parser_counts, parser_work, parser_callback, parser_steps, parser_setting}
+use Rattle.markdown_inline.specs.ParserLeft.{elements, IsOver}
 use Rattle.markdown_chains.specs.Above.{above_cursor}
 use Rattle.markdown_chains.specs.Setting.{Setting, rules_from, setting_of}
 use Rattle.markdown_chains.specs.Tables.{tables_of}
@@ -64,21 +66,29 @@ gave_step s t given k w = record {
 }
 
 pub moved_give : {F : Type 0} (s t : Parser F) (e : Event) (range : Range ℕ) → SameBut s t
-    → Gives s.resolver.text.now s.tree t.tree s.resolver.tables t.resolver.tables e range → GaveEvent s t e range × (parser_steps t < parser_steps s)
+    → Gives s.resolver.text.now s.tree t.tree s.resolver.tables t.resolver.tables e range
+    → GaveEvent s t e range × (parser_steps t < parser_steps s)
 moved_give s t e range k g = (
-  record { placed = _; is_item = record { is_event = record { view = refl; texts = g.texts }; range = refl }; gave = gave_step s t _ k g.went },
+  record {
+    placed = _;
+    is_item = record { is_event = record { view = refl; texts = g.texts; start = g.start }; range = refl };
+    gave =
+        gave_step s t _ k g.went;
+  },
   g.went.falls,
 )
 
 -- one stretch after another
-pub leads_on : {C : Type 0} (step : C → Question → Option Answer → C → Type 0) (c d e : Option C) (x y z : Answers → List Element) (given : List Placed)
+pub leads_on : {C : Type 0} (step : C → Question → Option Answer → C → Type 0) (c d e : Option C) (x y z : Answers
+    → List Element) (given : List Placed)
     → Leads step c d x y [] → Leads step d e y z given → Leads step c e x z given
 leads_on step c d e x y z given p q =
     record {
       answers = p.answers ++ q.answers;
       questions = p.questions ++ q.questions;
       asked = Asks-append step c d e p.questions q.questions p.answers q.answers p.asked q.asked;
-      left = λ later. rw (append_assoc p.answers q.answers later, p.left (q.answers ++ later), q.left later) (simp (map-append, append_assoc));
+      left = λ later. rw (append_assoc p.answers q.answers later, p.left (q.answers ++ later), q.left later)
+          (simp (map-append, append_assoc));
     }
 
 leads_gave : {F : Type 0} (step : F → Question → Option Answer → F → Type 0) (s t : Parser F) (given : List Placed) → Gave s t given
@@ -93,47 +103,71 @@ moved_skip step s t k w =
     (record { leads = leads_gave step s t [] g; asked = inl g; counts = λ later work r. rw (g.ahead later, ← g.work) r }, w.falls)
 
 -- before a chain a resolver may be called
-pub before_chain : (source : List ℕ) (s : Arena Item) (held : Allocated) (first : ℕ) → TreeStands source (tables_of held) s → IsBefore s first → CanResolve source (tables_of held) s.nodes (Some first)
+pub before_chain : (source : List ℕ) (s : Arena Item) (held : Allocated) (first : ℕ) → TreeStands source (tables_of held) s
+    → IsBefore s first → CanResolve source (tables_of held) s.nodes (Some first)
 before_chain source s held first w b = can_resolve source (tables_of held) s.nodes first s.spine (rw b.cursor at w) b.is_open
 
 -- the nodes gone into stay when it is resolved
-pub above_chain : (source : List ℕ) (s : Arena Item) (held : Allocated) (first : ℕ) → TreeStands source (tables_of held) s → IsBefore s first → AreAbove source s.nodes (Some first) s.spine
+pub above_chain : (source : List ℕ) (s : Arena Item) (held : Allocated) (first : ℕ) → TreeStands source (tables_of held) s
+    → IsBefore s first → AreAbove source s.nodes (Some first) s.spine
 above_chain source s held first w b = are_above source (tables_of held) s.nodes first s.spine (rw b.cursor at w)
 
 -- what a resolved chain is for the walk
-chain_moves : {C : Type 0} (step : C → Question → Option Answer → C → Type 0) (g : Setting) (s t : Arena Item) (held held' : Allocated) (first limit limit' : ℕ) (c d : Option C) (work work' : Work)
+chain_moves : {C : Type 0} (step : C → Question → Option Answer → C → Type 0) (g : Setting) (s t : Arena Item) (held held' : Allocated)
+    (first limit limit' : ℕ) (c d : Option C) (work work' : Work)
     → TreeStands g.text (tables_of held) s → IsBefore s first → (r : ResolvesChain step g first s t held held' limit limit' c d work work')
-    → ChainMoves g (tables_of held) (tables_of held') s.nodes t.nodes first s.spine (known_at (stage s held limit c)) (known_at (stage t held' limit' d)) r.chain.questions r.chain.answers
+    → ChainMoves g (tables_of held) (tables_of held') s.nodes t.nodes first s.spine (known_at (stage s held limit c))
+    (known_at (stage t held' limit' d)) r.chain.questions r.chain.answers
 chain_moves step g s t held held' first limit limit' c d work work' w b r =
     moves_chain step g first s.spine (stage s held limit c) (stage t held' limit' d) (rw b.cursor at w) b.is_open r.chain
 
-pub stands_chain : {C : Type 0} (step : C → Question → Option Answer → C → Type 0) (g : Setting) (s t : Arena Item) (held held' : Allocated) (first limit limit' : ℕ) (c d : Option C) (work work' : Work)
-    → TreeStands g.text (tables_of held) s → IsBefore s first → ResolvesChain step g first s t held held' limit limit' c d work work' → TreeStands g.text (tables_of held') t
+pub stands_chain : {C : Type 0} (step : C → Question → Option Answer → C → Type 0) (g : Setting) (s t : Arena Item) (held held' : Allocated)
+    (first limit limit' : ℕ) (c d : Option C) (work work' : Work)
+    → TreeStands g.text (tables_of held) s → IsBefore s first → ResolvesChain step g first s t held held' limit limit' c d work work'
+    → TreeStands g.text (tables_of held') t
 stands_chain step g s t held held' first limit limit' c d work work' w b r =
     rw (r.tree, b.cursor) (chain_moves step g s t held held' first limit limit' c d work work' w b r).stands
 
 -- the rules go by the names of footnotes alone, and not by their uses
-setting_kept : {F : Type 0} (s t : Parser F) → t.resolver.text ≡ s.resolver.text → t.resolver.options ≡ s.resolver.options → is_some s.resolver.callback ≡ is_some t.resolver.callback
-    → t.resolver.tables ≡ record s.resolver.tables { cows = t.resolver.tables.cows; links = t.resolver.tables.links; footdefs = t.resolver.tables.footdefs }
-    → ((name : List ℕ) → is_some (footnote_at t.resolver.tables.footdefs name) ≡ is_some (footnote_at s.resolver.tables.footdefs name)) → parser_setting t ≡ parser_setting s
+setting_kept : {F : Type 0} (s t : Parser F) → t.resolver.text ≡ s.resolver.text → t.resolver.options ≡ s.resolver.options
+    → is_some s.resolver.callback ≡ is_some t.resolver.callback
+    → t.resolver.tables ≡ record s.resolver.tables {
+      cows = t.resolver.tables.cows;
+      links = t.resolver.tables.links;
+      footdefs =
+          t.resolver.tables.footdefs;
+    }
+    → ((name : List ℕ) → is_some (footnote_at t.resolver.tables.footdefs name) ≡ is_some (footnote_at s.resolver.tables.footdefs name))
+    → parser_setting t ≡ parser_setting s
 setting_kept s t x o some tables names =
     let is_name : List ℕ → Bool = λ name. is_some (footnote_at t.resolver.tables.footdefs name) in
     let was_name : List ℕ → Bool = λ name. is_some (footnote_at s.resolver.tables.footdefs name) in
     let same : is_name ≡ was_name = fun_ext names in
     let definitions : t.resolver.tables.refdefs ≡ s.resolver.tables.refdefs = ap (λ (held : Allocated). held.refdefs) tables in
     rw (x, o, ← some, definitions)
-    (ap (λ (f : List ℕ → Bool). let g : Setting = setting_of s.resolver.text.now (record { options = s.resolver.options; definitions = s.resolver.tables.refdefs; is_footnote = f; asks = is_some s.resolver.callback }) in g) same)
+    (ap (λ (f : List ℕ → Bool). let g : Setting = setting_of s.resolver.text.now
+    (record {
+      options = s.resolver.options;
+      definitions = s.resolver.tables.refdefs;
+      is_footnote = f;
+      asks = is_some s.resolver.callback;
+    }) in g) same)
 
 -- a chain that is resolved: its questions, and then an event
-pub moved_chain : {F : Type 0} (step : F → Question → Option Answer → F → Type 0) (s t : Parser F) (first : ℕ) → t.resolver.text ≡ s.resolver.text → t.resolver.options ≡ s.resolver.options
+pub moved_chain : {F : Type 0} (step : F → Question → Option Answer → F → Type 0) (s t : Parser F) (first : ℕ)
+    → t.resolver.text ≡ s.resolver.text → t.resolver.options ≡ s.resolver.options
     → TreeStands s.resolver.text.now (tables_of s.resolver.tables) s.tree → IsBefore s.tree first
-    → ResolvesChain step (parser_setting s) first s.tree t.tree s.resolver.tables t.resolver.tables s.resolver.limit t.resolver.limit s.resolver.callback t.resolver.callback
+    → ResolvesChain step (parser_setting s) first s.tree t.tree s.resolver.tables t.resolver.tables s.resolver.limit t.resolver.limit
+    s.resolver.callback t.resolver.callback
     s.resolver.work t.resolver.work
     → WentOn step s t × (parser_steps t < parser_steps s)
 moved_chain step s t first x o w b q =
-    let m = chain_moves step (parser_setting s) s.tree t.tree s.resolver.tables t.resolver.tables first s.resolver.limit t.resolver.limit s.resolver.callback t.resolver.callback s.resolver.work t.resolver.work w b q in
-    let some : is_some s.resolver.callback ≡ is_some t.resolver.callback = Asks-some step s.resolver.callback t.resolver.callback q.chain.questions q.chain.answers q.chain.asked in
-    let now : (later : Answers) → elements t later ≡ left_of (parser_setting s) (tables_of t.resolver.tables) t.tree.nodes (Some first) s.tree.spine (parser_known t later) =
+    let m = chain_moves step (parser_setting s) s.tree t.tree s.resolver.tables t.resolver.tables first s.resolver.limit t.resolver.limit
+    s.resolver.callback t.resolver.callback s.resolver.work t.resolver.work w b q in
+    let some : is_some s.resolver.callback ≡ is_some t.resolver.callback = Asks-some step s.resolver.callback t.resolver.callback
+    q.chain.questions q.chain.answers q.chain.asked in
+    let now : (later : Answers) → elements t later ≡ left_of (parser_setting s) (tables_of t.resolver.tables) t.tree.nodes (Some first)
+    s.tree.spine (parser_known t later) =
     λ later. elements-parts t later ∙ rw (setting_kept s t x o some q.tables q.footnotes, q.tree, b.cursor) refl in (
       record {
         leads = record {
@@ -145,10 +179,12 @@ moved_chain step s t first x o w b q =
         asked = inr (λ answers. rw (now answers) (m.begins _));
         counts = λ later work r.
             let known = parser_known s (q.chain.answers ++ later) in
-            let counted = chain_counts (parser_setting s) plain_tags (above_cursor s.resolver.text.now s.tree) (trees_from s.resolver.text.now (tables_of s.resolver.tables) s.tree.nodes (Some first)) known in
+            let counted = chain_counts (parser_setting s) plain_tags (above_cursor s.resolver.text.now s.tree)
+            (trees_from s.resolver.text.now (tables_of s.resolver.tables) s.tree.nodes (Some first)) known in
             let before : parser_counts s (q.chain.answers ++ later) ≡ counted = rw b.cursor (ap (λ (c : Counting). c known) m.was_ahead) in
             let after : parser_counts t later ≡ no_counts =
-            rw (setting_kept s t x o some q.tables q.footnotes, q.tree, b.cursor) (ap (λ (c : Counting). c (parser_known t later)) m.none_ahead) in
+            rw (setting_kept s t x o some q.tables q.footnotes, q.tree, b.cursor) (ap (λ (c : Counting). c (parser_known t later))
+            m.none_ahead) in
             rw before (rises-chain counted (parser_work s) (parser_work t) work (q.counted later) (rw after at r));
       },
       rw (q.tree, b.cursor) m.falls,
@@ -157,27 +193,40 @@ moved_chain step s t first x o w b q =
 -- a walk that has ended is over
 pub over_ended : {F : Type 0} (t : Parser F) → HasEnded t.tree → IsOver t
 over_ended t e = record {
-  left = λ answers. elements-parts t answers ∙ left_of_ended (parser_setting t) (tables_of t.resolver.tables) t.tree e (parser_known t answers);
+  left = λ answers. elements-parts t answers ∙ left_of_ended (parser_setting t) (tables_of t.resolver.tables) t.tree e
+      (parser_known t answers);
   steps = steps_ended t.tree e;
 }
 
-pub moved_done : {F : Type 0} (s t : Parser F) → HasEnded s.tree → t.tree ≡ s.tree → t.resolver.callback ≡ s.resolver.callback → t.resolver.work ≡ s.resolver.work → Ended s t
+pub moved_done : {F : Type 0} (s t : Parser F) → HasEnded s.tree → t.tree ≡ s.tree → t.resolver.callback ≡ s.resolver.callback
+    → t.resolver.work ≡ s.resolver.work → Ended s t
 moved_done s t e same c d = record {
   was = over_ended s e;
   is = over_ended t (rw same e);
   callback = sym c;
-  ahead = λ answers. ap (λ (c : Counting). c (parser_known s answers)) (counts_ended (parser_setting s) (tables_of s.resolver.tables) s.tree e);
+  ahead = λ answers. ap (λ (c : Counting). c (parser_known s answers)) (counts_ended (parser_setting s) (tables_of s.resolver.tables) s.tree
+      e);
   work = d;
 }
 
 -- a step that was refused asked nothing
-pub moved_refused : {F : Type 0} (step : F → Question → Option Answer → F → Type 0) (s t : Parser F) (after : Arena Item) → t.resolver.callback ≡ s.resolver.callback → IsRefused s.tree after → HasEnded t.tree → Failed step s t
-moved_refused step s t after c r e = record { is = over_ended t e; more = r.steps; questions = []; answers = []; asked = sym c; begins = λ later. (elements s later, refl) }
+pub moved_refused : {F : Type 0} (step : F → Question → Option Answer → F → Type 0) (s t : Parser F) (after : Arena Item)
+    → t.resolver.callback ≡ s.resolver.callback → IsRefused s.tree after → HasEnded t.tree → Failed step s t
+moved_refused step s t after c r e = record {
+  is = over_ended t e;
+  more = r.steps;
+  questions = [];
+  answers = [];
+  asked = sym c;
+  begins =
+      λ later. (elements s later, refl);
+}
 
 -- a chain at which memory was refused
 pub moved_stopped : {F : Type 0} (step : F → Question → Option Answer → F → Type 0) (s t : Parser F) (first : ℕ)
     → TreeStands s.resolver.text.now (tables_of s.resolver.tables) s.tree → IsBefore s.tree first
-    → StopsIn step (parser_setting s) (above_cursor s.resolver.text.now s.tree) first (stage s.tree s.resolver.tables s.resolver.limit s.resolver.callback) t.resolver.callback → HasEnded t.tree → Failed step s t
+    → StopsIn step (parser_setting s) (above_cursor s.resolver.text.now s.tree) first (stage s.tree s.resolver.tables s.resolver.limit
+    s.resolver.callback) t.resolver.callback → HasEnded t.tree → Failed step s t
 moved_stopped step s t first w b r e = record {
   is = over_ended t e;
   more = steps_at_cursor s.resolver.text.now (tables_of s.resolver.tables) s.tree first w b.cursor;
@@ -185,7 +234,8 @@ moved_stopped step s t first w b r e = record {
   answers = r.answers;
   asked = r.asked;
   begins = λ later. rw (elements-parts s (r.answers ++ later), b.cursor)
-      (stops_chain step (parser_setting s) first s.tree.spine (stage s.tree s.resolver.tables s.resolver.limit s.resolver.callback) t.resolver.callback (rw b.cursor at w) b.is_open r later);
+      (stops_chain step (parser_setting s) first s.tree.spine (stage s.tree s.resolver.tables s.resolver.limit s.resolver.callback)
+      t.resolver.callback (rw b.cursor at w) b.is_open r later);
 }
 
 -- where a walk is over no step is made
@@ -201,7 +251,12 @@ pub record HasGone {F : Type 0} (step : F → Question → Option Answer → F �
 
 pub gone_nowhere : {F : Type 0} (step : F → Question → Option Answer → F → Type 0) (s : Parser F) → HasGone step s s
 gone_nowhere step s = record {
-  went = record { leads = record { answers = []; questions = []; asked = refl; left = λ later. refl }; asked = inl (record { callback = refl; left = λ later. refl; ahead = λ answers. refl; work = refl }); counts = λ later work r. r };
+  went = record {
+    leads = record { answers = []; questions = []; asked = refl; left = λ later. refl };
+    asked =
+        inl (record { callback = refl; left = λ later. refl; ahead = λ answers. refl; work = refl });
+    counts = λ later work r. r;
+  };
   keeps = record { text = refl; definitions = refl };
   over = λ over. over;
   steps = omega arith;
@@ -211,20 +266,30 @@ keeps_more : {F : Type 0} (r s t : Parser F) → Keeps r s → Keeps s t → Kee
 keeps_more r s t a b = record { text = b.text ∙ a.text; definitions = b.definitions ∙ a.definitions }
 
 -- quiet, and then quiet; else an event comes next
-asked_more : {F : Type 0} (r s t : Parser F) → Gave r s [] ⊎ ((answers : Answers) → BeginsWithEvent (elements s answers)) → Gave s t [] ⊎ ((answers : Answers) → BeginsWithEvent (elements t answers))
+asked_more : {F : Type 0} (r s t : Parser F) → Gave r s [] ⊎ ((answers : Answers) → BeginsWithEvent (elements s answers))
+    → Gave s t [] ⊎ ((answers : Answers) → BeginsWithEvent (elements t answers))
     → Gave r t [] ⊎ ((answers : Answers) → BeginsWithEvent (elements t answers))
 asked_more r s t a (inr b) = inr b
-asked_more r s t (inl a) (inl b) = inl (record { callback = a.callback ∙ b.callback; left = λ later. a.left later ∙ b.left later; ahead = λ answers. a.ahead answers ∙ b.ahead answers; work = b.work ∙ a.work })
+asked_more r s t (inl a) (inl b) = inl (record {
+  callback = a.callback ∙ b.callback;
+  left = λ later. a.left later
+      ∙ b.left later;
+  ahead = λ answers. a.ahead answers ∙ b.ahead answers;
+  work = b.work ∙ a.work;
+})
 asked_more r s t (inr a) (inl b) = inr (λ answers. rw (← b.left answers) (a answers))
 
-pub gone_on : {F : Type 0} (step : F → Question → Option Answer → F → Type 0) (r s t : Parser F) → HasGone step r s → WentOn step s t → Keeps s t → parser_steps t < parser_steps s → HasGone step r t
+pub gone_on : {F : Type 0} (step : F → Question → Option Answer → F → Type 0) (r s t : Parser F) → HasGone step r s → WentOn step s t
+    → Keeps s t → parser_steps t < parser_steps s → HasGone step r t
 unfolding leads_on
 gone_on step r s t g w k l = record {
   went = record {
-    leads = leads_on step (parser_callback r) (parser_callback s) (parser_callback t) (elements r) (elements s) (elements t) [] g.went.leads w.leads;
+    leads = leads_on step (parser_callback r) (parser_callback s) (parser_callback t) (elements r) (elements s) (elements t) [] g.went.leads
+        w.leads;
     asked = asked_more r s t g.went.asked w.asked;
     counts = λ later work x.
-        rw (append_assoc g.went.leads.answers w.leads.answers later) (g.went.counts (w.leads.answers ++ later) work (w.counts later work x));
+        rw (append_assoc g.went.leads.answers w.leads.answers later) (g.went.counts (w.leads.answers ++ later) work
+        (w.counts later work x));
   };
   keeps = keeps_more r s t g.keeps k;
   over = λ over. absurd (no_step s t l (g.over over));
@@ -232,15 +297,18 @@ gone_on step r s t g w k l = record {
 }
 
 -- nothing is asked where nothing comes
-none_quiet : {F : Type 0} (s t : Parser F) → ((answers : Answers) → elements t answers ≡ []) → Gave s t [] ⊎ ((answers : Answers) → BeginsWithEvent (elements t answers)) → Gave s t []
+none_quiet : {F : Type 0} (s t : Parser F) → ((answers : Answers) → elements t answers ≡ [])
+    → Gave s t [] ⊎ ((answers : Answers) → BeginsWithEvent (elements t answers)) → Gave s t []
 none_quiet s t n (inl a) = a
 none_quiet s t n (inr b) = absurd (cc (n [], (b []).is))
 
 -- what `advance` gives
-abbrev pub Advances : {F : Type 0} → (F → Question → Option Answer → F → Type 0) → Parser F → Option (Result (Event × Range ℕ) Fault) → Parser F → Type 0
+abbrev pub Advances : {F : Type 0} → (F → Question → Option Answer → F → Type 0) → Parser F → Option (Result (Event × Range ℕ) Fault)
+    → Parser F → Type 0
 Advances {F} step s r t = NextGives {F = F} step IsPlacedOf s r t
 
-pub advances_none : {F : Type 0} (step : F → Question → Option Answer → F → Type 0) (s t u : Parser F) → HasGone step s t → Ended t u → Keeps t u → Advances step s None u
+pub advances_none : {F : Type 0} (step : F → Question → Option Answer → F → Type 0) (s t u : Parser F) → HasGone step s t → Ended t u
+    → Keeps t u → Advances step s None u
 advances_none step s t u g e k =
     let q = none_quiet s t e.was.left g.went.asked in
     let keeps = keeps_more s t u g.keeps k in
@@ -249,14 +317,16 @@ advances_none step s t u g e k =
         none_left = λ answers. q.left answers ∙ e.was.left answers;
         callback = sym (q.callback ∙ e.callback);
         over = e.is;
-        counts = λ answers. rises-none (parser_counts s answers) (parser_work s) (parser_work u) (q.ahead answers ∙ e.ahead answers) (e.work ∙ q.work);
+        counts = λ answers. rises-none (parser_counts s answers) (parser_work s) (parser_work u) (q.ahead answers ∙ e.ahead answers) (e.work
+            ∙ q.work);
       };
       text = keeps.text;
       definitions = keeps.definitions;
       stays = λ over. (refl, e.is);
     }
 
-pub advances_fault : {F : Type 0} (step : F → Question → Option Answer → F → Type 0) (s t u : Parser F) → HasGone step s t → Failed step t u → Keeps t u → Advances step s (Some (Err Memory)) u
+pub advances_fault : {F : Type 0} (step : F → Question → Option Answer → F → Type 0) (s t u : Parser F) → HasGone step s t → Failed step t u
+    → Keeps t u → Advances step s (Some (Err Memory)) u
 advances_fault step s t u g f k =
     let l = g.went.leads in
     let keeps = keeps_more s t u g.keeps k in
@@ -265,7 +335,8 @@ advances_fault step s t u g f k =
         memory = refl;
         questions = l.questions ++ f.questions;
         answers = l.answers ++ f.answers;
-        asked = Asks-append step (parser_callback s) (parser_callback t) (parser_callback u) l.questions f.questions l.answers f.answers l.asked f.asked;
+        asked = Asks-append step (parser_callback s) (parser_callback t) (parser_callback u) l.questions f.questions l.answers f.answers
+            l.asked f.asked;
         begins = λ later.
             let b = f.begins later in
             (b.0, rw (append_assoc l.answers f.answers later, l.left (f.answers ++ later), b.1) (simp (map-append, append_assoc)));
@@ -276,11 +347,13 @@ advances_fault step s t u g f k =
       stays = λ over. absurd (omega (arith, f.more, (g.over over).steps));
     }
 
-pub advances_event : {F : Type 0} (step : F → Question → Option Answer → F → Type 0) (s t u : Parser F) (e : Event) (range : Range ℕ) → HasGone step s t → GaveEvent t u e range → Keeps t u
+pub advances_event : {F : Type 0} (step : F → Question → Option Answer → F → Type 0) (s t u : Parser F) (e : Event) (range : Range ℕ)
+    → HasGone step s t → GaveEvent t u e range → Keeps t u
     → parser_steps u < parser_steps t → Advances step s (Some (Ok (e, range))) u
 unfolding leads_on leads_gave
 advances_event step s t u e range g w k f =
-    let l = leads_on step (parser_callback s) (parser_callback t) (parser_callback u) (elements s) (elements t) (elements u) (w.placed ∷ []) g.went.leads (leads_gave step t u (w.placed ∷ []) w.gave) in
+    let l = leads_on step (parser_callback s) (parser_callback t) (parser_callback u) (elements s) (elements t) (elements u) (w.placed ∷ [])
+    g.went.leads (leads_gave step t u (w.placed ∷ []) w.gave) in
     let keeps = keeps_more s t u g.keeps k in
     record {
       gives = record {
@@ -292,7 +365,8 @@ advances_event step s t u e range g w k f =
         left = l.left;
         counts = λ later.
             rw (append_assoc g.went.leads.answers [] later)
-            (g.went.counts later (parser_work u) (rises-none (parser_counts t later) (parser_work t) (parser_work u) (w.gave.ahead later) w.gave.work));
+            (g.went.counts later (parser_work u) (rises-none (parser_counts t later) (parser_work t) (parser_work u) (w.gave.ahead later)
+            w.gave.work));
       };
       text = keeps.text;
       definitions = keeps.definitions;
@@ -300,9 +374,20 @@ advances_event step s t u e range g w k f =
     }
 
 -- an event with its range is an event
-pub without_range : {F : Type 0} (step : F → Question → Option Answer → F → Type 0) (s : Parser F) (e : Event × Range ℕ) (t : Parser F) → GivesItem step IsPlacedOf s e t → GivesItem step IsEventOf s e.0 t
-without_range step s e t g = record { questions = g.questions; answers = g.answers; asked = g.asked; placed = g.placed; is_item = g.is_item.is_event; left = g.left; counts = g.counts }
+pub without_range : {F : Type 0} (step : F → Question → Option Answer → F → Type 0) (s : Parser F) (e : Event × Range ℕ) (t : Parser F)
+    → GivesItem step IsPlacedOf s e t → GivesItem step IsEventOf s e.0 t
+without_range step s e t g = record {
+  questions = g.questions;
+  answers = g.answers;
+  asked = g.asked;
+  placed = g.placed;
+  is_item =
+      g.is_item.is_event;
+  left = g.left;
+  counts = g.counts;
+}
 
 -- a refusal ends the walk, which was not over
-pub steps_failed : {F : Type 0} (step : F → Question → Option Answer → F → Type 0) (s t u : Parser F) → HasGone step s t → Failed step t u → parser_steps u < parser_steps s
+pub steps_failed : {F : Type 0} (step : F → Question → Option Answer → F → Type 0) (s t u : Parser F) → HasGone step s t → Failed step t u
+    → parser_steps u < parser_steps s
 steps_failed step s t u g f = omega (arith, g.steps, f.more, f.is.steps)

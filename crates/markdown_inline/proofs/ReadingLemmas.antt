@@ -16,44 +16,58 @@ use Rattle.markdown_resolver.specs.Kept.{IsQuiet, IsSettled}
 use Rattle.markdown_resolver.proofs.ResolvingLemmas.{resolved-quiet, all_paired-paired}
 
 -- a quiet chain that begins with an open item reads as its pairing
-chain-quiet : (s : Setting) (above : Above) (chain : Forest Plain) (after : Reading) → IsQuiet chain → chain_reading s plain_tags above chain after ≡ settled_reading (paired s (all_paired s chain)) after
+chain-quiet : (s : Setting) (above : Above) (chain : Forest Plain) (after : Reading) → IsQuiet chain
+    → chain_reading s plain_tags above chain after ≡ settled_reading (paired s (all_paired s chain)) after
 chain-quiet s above chain after q = fun_ext (λ known. rw (resolved-quiet s plain_tags above chain known q, all_paired-paired s chain) refl)
 
-pub opened-open : (shape : Shape) (range : Range ℕ) (inside : Reading → Reading) (after whole : Reading) → is_unresolved shape ≡ true → opened shape range inside after whole ≡ whole
+pub opened-open : (shape : Shape) (range : Range ℕ) (inside : Reading → Reading) (after whole : Reading) → is_unresolved shape ≡ true
+    → opened shape range inside after whole ≡ whole
 opened-open (leaf e origins) range inside after whole h = cc h
 opened-open (enclosed tag) range inside after whole h = cc h
 opened-open plain range inside after whole h = cc h
 opened-open backslash_break range inside after whole h = cc h
 opened-open (unresolved b) range inside after whole h = refl
 
-opened-settled : (shape : Shape) (range : Range ℕ) (inside inside' : Reading → Reading) (after after' whole whole' : Reading) → is_unresolved shape ≡ false
-    → ((inner : Reading) → inside inner ≡ inside' inner) → after ≡ after' → opened shape range inside after whole ≡ opened shape range inside' after' whole'
-opened-settled (leaf e origins) range inside inside' after after' whole whole' h i a = ap (λ (r : Reading). then_reads (e, range, origins) r) a
+opened-settled : (shape : Shape) (range : Range ℕ) (inside inside' : Reading → Reading) (after after' whole whole' : Reading)
+    → is_unresolved shape ≡ false
+    → ((inner : Reading) → inside inner ≡ inside' inner) → after ≡ after' → opened shape range inside after whole
+    ≡ opened shape range inside' after' whole'
+opened-settled (leaf e origins) range inside inside' after after' whole whole' h i a = ap (λ (r : Reading). then_reads (e, range, origins)
+    r) a
 opened-settled (enclosed tag) range inside inside' after after' whole whole' h i a =
-    ap (λ (r : Reading). then_reads (start tag, range, []) r) (i _ ∙ ap (λ (r : Reading). inside' (then_reads (end (end_of tag), range, []) r)) a)
+    ap (λ (r : Reading). then_reads (start tag, range, []) r) (i _
+    ∙ ap (λ (r : Reading). inside' (then_reads (end (end_of tag), range, []) r)) a)
 opened-settled plain range inside inside' after after' whole whole' h i a = i after ∙ ap inside' a
-opened-settled backslash_break range inside inside' after after' whole whole' h i a = ap (λ (r : Reading). then_reads (hard_break, range, []) r) a
+opened-settled backslash_break range inside inside' after after' whole whole' h i a =
+    ap (λ (r : Reading). then_reads (hard_break, range, []) r) a
 opened-settled (unresolved b) range inside inside' after after' whole whole' h i a = cc h
 
 -- of a tree of a quiet chain: open, or not
-quiet_tree : (s : Setting) (above : Above) (a : Plain) (below later : Forest Plain) (after : Reading) (is_open : Bool) → is_unresolved a.part.shape ≡ is_open
-    → ((inner : Reading) → reading s plain_tags (inside_label a above) below inner ≡ settled_reading (paired_if_open s (all_paired s below)) inner)
+quiet_tree : (s : Setting) (above : Above) (a : Plain) (below later : Forest Plain) (after : Reading) (is_open : Bool)
+    → is_unresolved a.part.shape ≡ is_open
+    → ((inner : Reading) → reading s plain_tags (inside_label a above) below inner ≡ settled_reading (paired_if_open s (all_paired s below))
+    inner)
     → reading s plain_tags above later after ≡ settled_reading (paired_if_open s (all_paired s later)) after
     → chain_reading s plain_tags above (node a below later) after ≡ settled_reading (paired s (all_paired s (node a below later))) after
     → reading s plain_tags above (node a below later) after
-    ≡ settled_reading (paired_from s is_open a (paired_if_open s (all_paired s below)) (all_paired s later) (paired_if_open s (all_paired s later))) after
+    ≡ settled_reading (paired_from s is_open a (paired_if_open s (all_paired s below)) (all_paired s later)
+    (paired_if_open s (all_paired s later))) after
 quiet_tree s above a below later after true e inside follows whole = opened-open a.part.shape a.part.range _ _ _ e ∙ whole
 quiet_tree s above a below later after false e inside follows whole = opened-settled a.part.shape a.part.range _ _ _ _ _ _ e inside follows
 
 -- a chain of children reads as its pairing
-pub reading-quiet : (s : Setting) (above : Above) (chain : Forest Plain) (after : Reading) → IsQuiet chain → reading s plain_tags above chain after ≡ settled_reading (paired_if_open s (all_paired s chain)) after
+pub reading-quiet : (s : Setting) (above : Above) (chain : Forest Plain) (after : Reading) → IsQuiet chain
+    → reading s plain_tags above chain after ≡ settled_reading (paired_if_open s (all_paired s chain)) after
 reading-quiet s above nil after q = refl
 reading-quiet s above (node a below later) after q =
-    quiet_tree s above a below later after (is_unresolved a.part.shape) refl (λ inner. reading-quiet s (inside_label a above) below inner q.2) (reading-quiet s above later after q.3)
+    quiet_tree s above a below later after (is_unresolved a.part.shape) refl (λ inner. reading-quiet s (inside_label a above) below inner
+    q.2) (reading-quiet s above later after q.3)
     (chain-quiet s above (node a below later) after q)
 
 -- a resolved forest reads as itself, with the chains of children in it paired
-pub reading-settled : (s : Setting) (above : Above) (f : Forest Plain) (after : Reading) → IsSettled f → reading s plain_tags above f after ≡ settled_reading (all_paired s f) after
+pub reading-settled : (s : Setting) (above : Above) (f : Forest Plain) (after : Reading) → IsSettled f → reading s plain_tags above f after
+    ≡ settled_reading (all_paired s f) after
 reading-settled s above nil after h = refl
 reading-settled s above (node a below later) after h =
-    opened-settled a.part.shape a.part.range _ _ _ _ _ _ h.0 (λ inner. reading-quiet s (inside_label a above) below inner h.1) (reading-settled s above later after h.2)
+    opened-settled a.part.shape a.part.range _ _ _ _ _ _ h.0 (λ inner. reading-quiet s (inside_label a above) below inner h.1)
+    (reading-settled s above later after h.2)

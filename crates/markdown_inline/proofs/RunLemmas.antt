@@ -1,5 +1,6 @@
 -- Calls of `next`, one after another up to None, and what was left before them.
-use Rattle.std.proofs.Common.{◌≡◌, ℕ, List, [], ◌∷◌, ◌++◌, map, Option, Some, None, Result, Ok, Err, inl, inr, ⊎_elim, refl, sym, ap, ◌∙◌, append_assoc, append-nil, Vec}
+use Rattle.std.proofs.Common.{◌≡◌, ℕ, List, [], ◌∷◌, ◌++◌, map, Option, Some, None, Result, Ok, Err, inl, inr, ⊎_elim, refl, sym, ap, ◌∙◌}
+use Rattle.std.proofs.Common.{append_assoc, append-nil, Vec}
 use Rattle.std.specs.Iterator.{Drains}
 use Rattle.std.specs.Prelude.{IfOk}
 use Rattle.std.proofs.lemmas.Iterator.{IsCollectResult}
@@ -20,21 +21,25 @@ pub events_of-questions : (questions : List Question) (es : List Element) → ev
 events_of-questions [] es = refl
 events_of-questions (q ∷ questions) es = events_of-questions questions es
 
-questions_of-questions : (questions : List Question) (es : List Element) → questions_of (map question questions ++ es) ≡ questions ++ questions_of es
+questions_of-questions : (questions : List Question) (es : List Element) → questions_of (map question questions ++ es) ≡ questions
+    ++ questions_of es
 questions_of-questions [] es = refl
 questions_of-questions (q ∷ questions) es = ap (λ qs. q ∷ qs) (questions_of-questions questions es)
 
-module _ {S F I : Type 0} (step : F → Question → Option Answer → F → Type 0) (is_of : List ℕ → I → Placed → Type 0) (at : S → Parser F) where
+module _ {S F I : Type 0} (step : F → Question → Option Answer → F → Type 0) (is_of : List ℕ → I → Placed → Type 0) (at : S
+    → Parser F) where
   -- a call of `next`, where a parser is at work
   abbrev pub Steps : S → Option (Result I Fault) → S → Type 0
   Steps s r t = NextGives step is_of (at s) r (at t)
 
   -- the events that were left before an item, in terms of those that are left after it
-  events_before : (s t : S) (item : I) (g : GivesItem step is_of (at s) item (at t)) (later : Answers) → events_of (elements (at s) (g.answers ++ later)) ≡ g.placed ∷ events_of (elements (at t) later)
+  events_before : (s t : S) (item : I) (g : GivesItem step is_of (at s) item (at t)) (later : Answers)
+      → events_of (elements (at s) (g.answers ++ later)) ≡ g.placed ∷ events_of (elements (at t) later)
   events_before s t item g later = rw (g.left later) (events_of-questions g.questions (event g.placed ∷ elements (at t) later))
 
   -- after an item come all that are left then
-  then_all : (s t : S) (item : I) (rest : List (Result I Fault)) → Steps s (Some (Ok item)) t → GaveAll is_of (at t) rest → GaveAll is_of (at s) (Ok item ∷ rest)
+  then_all : (s t : S) (item : I) (rest : List (Result I Fault)) → Steps s (Some (Ok item)) t → GaveAll is_of (at t) rest
+      → GaveAll is_of (at s) (Ok item ∷ rest)
   then_all s t item rest h r =
       let g = h.gives in
       record {
@@ -43,11 +48,13 @@ module _ {S F I : Type 0} (step : F → Question → Option Answer → F → Typ
         events = g.placed ∷ r.events;
         are = (g.is_item, rw h.text at r.are);
         answers = g.answers ++ r.answers;
-        left = λ later. rw (append_assoc g.answers r.answers later) (events_before s t item g (r.answers ++ later) ∙ ap (λ xs. g.placed ∷ xs) (r.left later));
+        left = λ later. rw (append_assoc g.answers r.answers later) (events_before s t item g (r.answers ++ later)
+            ∙ ap (λ xs. g.placed ∷ xs) (r.left later));
       }
 
   -- or a beginning of them
-  then_refused : (s t : S) (item : I) (rest : List (Result I Fault)) → Steps s (Some (Ok item)) t → WasRefused is_of (at t) rest → WasRefused is_of (at s) (Ok item ∷ rest)
+  then_refused : (s t : S) (item : I) (rest : List (Result I Fault)) → Steps s (Some (Ok item)) t → WasRefused is_of (at t) rest
+      → WasRefused is_of (at s) (Ok item ∷ rest)
   then_refused s t item rest h r =
       let g = h.gives in
       record {
@@ -57,12 +64,16 @@ module _ {S F I : Type 0} (step : F → Question → Option Answer → F → Typ
         are = (g.is_item, rw h.text at r.are);
         answers = g.answers ++ r.answers;
         begins = λ later.
-            let b = r.begins later in
-            (b.0, rw (append_assoc g.answers r.answers later) (events_before s t item g (r.answers ++ later) ∙ ap (λ xs. g.placed ∷ xs) b.1));
+            let b = r.begins later in (
+              b.0,
+              rw (append_assoc g.answers r.answers later) (events_before s t item g (r.answers ++ later)
+                  ∙ ap (λ xs. g.placed ∷ xs) b.1),
+            );
       }
 
   -- after an error nothing comes
-  only_error : (s t : S) (fault : Fault) (rest : List (Result I Fault)) → Steps s (Some (Err fault)) t → Drains Steps t rest → WasRefused is_of (at s) (Err fault ∷ rest)
+  only_error : (s t : S) (fault : Fault) (rest : List (Result I Fault)) → Steps s (Some (Err fault)) t → Drains Steps t rest
+      → WasRefused is_of (at s) (Err fault ∷ rest)
   only_error s t fault [] h d =
       let g = h.gives in
       record {
@@ -88,16 +99,28 @@ module _ {S F I : Type 0} (step : F → Question → Option Answer → F → Typ
     pub asks : (later : Answers) → questions_of (elements (at s) (answers ++ later)) ≡ questions ++ questions_of (elements (at t) later)
 
   pub gave_none : (s : S) → GaveFirst s s []
-  gave_none s = record { text = refl; events = []; are = tt; answers = []; questions = []; asked = refl; left = λ later. refl; asks = λ later. refl }
+  gave_none s = record {
+    text = refl;
+    events = [];
+    are = tt;
+    answers = [];
+    questions = [];
+    asked = refl;
+    left = λ later. refl;
+    asks =
+        λ later. refl;
+  }
 
-  are-append : (source : List ℕ) (given : List I) (events : List Placed) (item : I) (placed : Placed) → AreOf is_of source given events → is_of source item placed
+  are-append : (source : List ℕ) (given : List I) (events : List Placed) (item : I) (placed : Placed) → AreOf is_of source given events
+      → is_of source item placed
       → AreOf is_of source (given ++ item ∷ []) (events ++ placed ∷ [])
   are-append source [] [] item placed a h = (h, tt)
   are-append source [] (e ∷ events) item placed a h = absurd a
   are-append source (x ∷ given) [] item placed a h = absurd a
   are-append source (x ∷ given) (e ∷ events) item placed a h = (a.0, are-append source given events item placed a.1 h)
 
-  pub gave_more : (s t u : S) (given : List I) (item : I) → GaveFirst s t given → Steps t (Some (Ok item)) u → GaveFirst s u (given ++ item ∷ [])
+  pub gave_more : (s t u : S) (given : List I) (item : I) → GaveFirst s t given → Steps t (Some (Ok item)) u
+      → GaveFirst s u (given ++ item ∷ [])
   gave_more s t u given item r h =
       let g = h.gives in
       record {
@@ -106,16 +129,31 @@ module _ {S F I : Type 0} (step : F → Question → Option Answer → F → Typ
         are = are-append (parser_text (at s)) given r.events item g.placed r.are (rw r.text at g.is_item);
         answers = r.answers ++ g.answers;
         questions = r.questions ++ g.questions;
-        asked = Asks-append step (parser_callback (at s)) (parser_callback (at t)) (parser_callback (at u)) r.questions g.questions r.answers g.answers r.asked g.asked;
-        left = λ later. rw (append_assoc r.answers g.answers later, r.left (g.answers ++ later), g.left later, events_of-questions g.questions (event g.placed ∷ elements (at u) later)) (simp append_assoc);
-        asks = λ later. rw (append_assoc r.answers g.answers later, r.asks (g.answers ++ later), g.left later, questions_of-questions g.questions (event g.placed ∷ elements (at u) later)) (simp append_assoc);
+        asked = Asks-append step (parser_callback (at s)) (parser_callback (at t)) (parser_callback (at u)) r.questions g.questions
+            r.answers g.answers r.asked g.asked;
+        left = λ later. rw (
+          append_assoc r.answers g.answers later,
+          r.left (g.answers ++ later),
+          g.left later,
+          events_of-questions
+              g.questions (event g.placed ∷ elements (at u) later),
+        ) (simp append_assoc);
+        asks = λ later. rw (
+          append_assoc r.answers g.answers later,
+          r.asks (g.answers ++ later),
+          g.left later,
+          questions_of-questions
+              g.questions (event g.placed ∷ elements (at u) later),
+        ) (simp append_assoc);
       }
 
   -- at the end they are all
-  pub gave_rest : (s t u : S) (given : List I) → GaveFirst s t given → Steps t None u → GaveRest is_of step (at s) given (parser_callback (at u))
+  pub gave_rest : (s t u : S) (given : List I) → GaveFirst s t given → Steps t None u
+      → GaveRest is_of step (at s) given (parser_callback (at u))
   gave_rest s t u given r h =
       let n = h.gives in
-      let q : questions_of (elements (at s) r.answers) ≡ r.questions = rw (append-nil r.answers, n.none_left [], append-nil r.questions) at (r.asks []) in
+      let q : questions_of (elements (at s) r.answers) ≡ r.questions = rw (append-nil r.answers, n.none_left [], append-nil r.questions) at
+      (r.asks []) in
       record {
         events = r.events;
         are = r.are;
@@ -126,20 +164,30 @@ module _ {S F I : Type 0} (step : F → Question → Option Answer → F → Typ
 
   -- a run up to None
   pub is_run : (s : S) (all : List (Result I Fault)) → Drains Steps s all → IsRun is_of (at s) all
-  is_run s [] (u, (t, y, z)) = inl (record { given = []; no_fault = refl; events = []; are = tt; answers = []; left = λ later. rw y (ap events_of (z.gives.none_left later)) })
+  is_run s [] (u, (t, y, z)) = inl (record {
+    given = [];
+    no_fault = refl;
+    events = [];
+    are = tt;
+    answers = [];
+    left = λ later. rw y
+        (ap events_of (z.gives.none_left later));
+  })
   is_run s (Ok item ∷ rest) (u, (t, (j, h, y), z)) =
       ⊎_elim (λ r. inl (then_all s j item rest h r)) (λ r. inr (then_refused s j item rest h r)) (is_run j rest (u, (t, y, z)))
   is_run s (Err fault ∷ rest) (u, (t, (j, h, y), z)) = inr (only_error s j fault rest h (u, (t, y, z)))
 
   -- what `collect` makes is such a run
-  pub collected : {Z E : Type 0} (s : S) (r : Result (Vec (Result I Fault) Z) E) → IsCollectResult Steps s r → IfOk r (λ v. IsRun is_of (at s) v.items)
+  pub collected : {Z E : Type 0} (s : S) (r : Result (Vec (Result I Fault) Z) E) → IsCollectResult Steps s r
+      → IfOk r (λ v. IsRun is_of (at s) v.items)
   collected s (Ok v) (xs, (t, y, n), i) =
       let d : Drains Steps s xs = let u = n tt in (u.0, (t, y, u.1)) in
       rw i.0 (is_run s xs d)
   collected s (Err x) h = tt
 
 -- with no callback nothing is asked, and there is none afterwards
-unasked : {C : Type 0} (step : C → Question → Option Answer → C → Type 0) (old new : Option C) (questions : List Question) (answers : Answers)
+unasked : {C : Type 0} (step : C → Question → Option Answer → C → Type 0) (old new : Option C) (questions : List Question)
+    (answers : Answers)
     → Asks step old questions answers new → old ≡ None → (answers ≡ []) × (new ≡ None)
 unasked step old new [] [] h n = (refl, sym h ∙ n)
 unasked step old new [] (a ∷ answers) h n = absurd h
@@ -166,5 +214,12 @@ pub drained : {F : Type 0} (step : F → Question → Option Answer → F → Ty
 drained step p [] (u, (t, y, z)) = ([], λ later. rw (y, z.gives.none_left later) refl)
 drained step p (e ∷ given) (u, (t, (j, h, y), z)) =
     let g = h.gives in
-    let rest = drained step j given (u, (t, y, z)) in
-    (g.answers ++ rest.0, λ later. rw (append_assoc g.answers rest.0 later, events_before step IsEventOf (λ q. q) p j e g (rest.0 ++ later), g.is_item.view, rest.1 later) refl)
+    let rest = drained step j given (u, (t, y, z)) in (
+      g.answers ++ rest.0,
+      λ later. rw (
+        append_assoc g.answers rest.0 later,
+        events_before step IsEventOf (λ q. q) p j e g (rest.0 ++ later),
+        g.is_item.view,
+        rest.1 later,
+      ) refl,
+    )

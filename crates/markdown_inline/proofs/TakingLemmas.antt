@@ -1,6 +1,7 @@
 -- What an item begins with, by what it names, and what is left in the tables.
 use Rattle.markdown_base.specs.declared.item.ItemBody.TheVariants as body
-use Rattle.std.proofs.Common.{◌≡◌, ℕ, zero, suc, ◌-◌, ◌<◌, ◌≤◌, List, [], ◌∷◌, Option, Some, None, length, refl, sym, ap, arith, get_or, set}
+use Rattle.std.proofs.Common.{◌≡◌, ℕ, zero, suc, ◌-◌, ◌<◌, ◌≤◌, List, [], ◌∷◌, Option, Some, None, length, refl, sym, ap, subst, arith}
+use Rattle.std.proofs.Common.{get_or, set}
 use Rattle.std.specs.Prelude.{IfSome, slice_range}
 use Rattle.std.specs.Borrow.{Bor}
 use Rattle.std.specs.declared.alloc.Global.{Global}
@@ -8,12 +9,13 @@ use Rattle.std.specs.declared.ops.Range.{Range}
 use Rattle.std.specs.declared.vec.Vec.{Vec}
 use Rattle.std.proofs.lemmas.List.{length-set}
 use Rattle.markdown_base.specs.CowText.{text_of}
-use Rattle.markdown_base.specs.Event.{EventView, event_view}
+use Rattle.markdown_base.specs.Event.{EventView, LinkView, event_view}
 use Rattle.markdown_base.specs.Item.{text_named, alignments_named}
 use Rattle.markdown_base.specs.declared.block_parts.HeadingAttributes.{HeadingAttributes}
 use Rattle.markdown_base.specs.declared.cow_str.CowStr.{CowStr}
 use Rattle.markdown_base.specs.declared.cow_str.CowStr.TheVariants.{Borrowed}
 use Rattle.markdown_base.specs.declared.event.Event.{Event}
+use Rattle.markdown_base.specs.declared.event.Event.TheVariants as step
 use Rattle.markdown_base.specs.declared.index.AlignmentIndex.{AlignmentIndex}
 use Rattle.markdown_base.specs.declared.index.CowIndex.{CowIndex}
 use Rattle.markdown_base.specs.declared.index.HeadingIndex.{HeadingIndex}
@@ -22,12 +24,15 @@ use Rattle.markdown_base.specs.declared.item.ItemBody.{ItemBody}
 use Rattle.markdown_base.specs.declared.tag.Alignment.{Alignment}
 use Rattle.markdown_base.specs.declared.tag.HeadingLevel.{HeadingLevel}
 use Rattle.markdown_spans.specs.Allocations.{Allocated, LinkParts, LeavesEmptyCow, LeavesEmptyLink, LeavesEmptyAlignment}
-use Rattle.markdown_chains.specs.Origins.{IsSlicedOf, origin_at, origin_of}
+use Rattle.markdown_chains.specs.Origins.{IsLinkFrom, IsSlicedOf, Origin, origin_at, origin_of}
 use Rattle.markdown_chains.specs.Document.{leaf, sliced, made}
-use Rattle.markdown_chains.specs.Tables.{Tables, Named, some_text, some_link, some_alignments, text_at, link_at, link_view, link_named, alignments_at, attributes_at, attributes_view, size_for, tables_of, NamesEntries, IsSameEntry}
+use Rattle.markdown_chains.specs.Places.{HasSliceLink}
+use Rattle.markdown_chains.specs.Tables.{Tables, Named, some_text, some_link, some_alignments, text_at, link_at, link_origin_at, link_view}
+use Rattle.markdown_chains.specs.Tables.{link_named, alignments_at, attributes_at, attributes_view, size_for, tables_of, NamesEntries}
+use Rattle.markdown_chains.specs.Tables.{IsSameEntry}
 use Rattle.markdown_chains.specs.Totals.{same, times_named}
 use Rattle.markdown_chains.proofs.TablesLemmas.{same_entry-refl}
-use Rattle.markdown_inline.specs.Slices.{texts_of, IsFrom}
+use Rattle.markdown_inline.specs.Slices.{texts_of, IsFrom, StartIsFrom}
 use Rattle.markdown_inline.specs.WalkSteps.{OpensWith, TakesOnly}
 
 -- an entry that is read
@@ -46,23 +51,41 @@ from_itself : (source : List ℕ) (c : CowStr) → IsSlicedOf source (origin_of 
 from_itself source (Borrowed slice) h = h refl
 from_itself source other h = tt
 
-pub is_from : (source : List ℕ) (cows : List CowStr) (n : ℕ) (c : CowStr) → n < length cows → c ≡ get_or cows n c → IsSlicedOf source (origin_at cows n) (text_at cows n)
+pub is_from : (source : List ℕ) (cows : List CowStr) (n : ℕ) (c : CowStr) → n < length cows → c ≡ get_or cows n c
+    → IsSlicedOf source (origin_at cows n) (text_at cows n)
     → IsFrom source (origin_at cows n) c
 is_from source cows n c l e h =
     let origin = origin_at-read cows n c l e in
     rw origin (from_itself source c (rw (origin, text_at-read cows n c l e) at h))
 
-pub link_at-read : (links : List LinkParts) (n : ℕ) (c : LinkParts) → n < length links → c ≡ get_or links n c → link_at links n ≡ link_view c
+pub link_at-read : (links : List LinkParts) (n : ℕ) (c : LinkParts) → n < length links → c ≡ get_or links n c
+    → link_at links n ≡ link_view c
 link_at-read [] n c l e = absurd (omega (arith, l))
 link_at-read (d ∷ links) zero c l e = ap link_view (sym e)
 link_at-read (d ∷ links) (suc n) c l e = link_at-read links n c (omega (arith, l)) e
 
-pub alignments_at-read : (alignments : List (Vec Alignment Global)) (n : ℕ) (c : Vec Alignment Global) → n < length alignments → c ≡ get_or alignments n c → alignments_at alignments n ≡ c.items
+link_origin_at-read : (links : List LinkParts) (n : ℕ) (c : LinkParts) → n < length links → c ≡ get_or links n c
+    → link_origin_at links n ≡ origin_of c.1
+link_origin_at-read [] n c l e = absurd (omega (arith, l))
+link_origin_at-read (d ∷ links) zero c l e = ap (λ (link : LinkParts). origin_of link.1) (sym e)
+link_origin_at-read (d ∷ links) (suc n) c l e = link_origin_at-read links n c (omega (arith, l)) e
+
+-- a link leads where its entry does
+pub leads_from : (source : List ℕ) (tables : Tables) (n : ℕ) (c : LinkParts) → n < length tables.links → c ≡ get_or tables.links n c
+    → HasSliceLink source tables n
+    → IsLinkFrom source (origin_of c.1) (link_view c)
+leads_from source tables n c l e h =
+    subst (λ (v : LinkView). IsLinkFrom source (origin_of c.1) v) (link_at-read tables.links n c l e)
+    (subst (λ (o : Origin). IsLinkFrom source o (link_at tables.links n)) (link_origin_at-read tables.links n c l e) h)
+
+pub alignments_at-read : (alignments : List (Vec Alignment Global)) (n : ℕ) (c : Vec Alignment Global) → n < length alignments
+    → c ≡ get_or alignments n c → alignments_at alignments n ≡ c.items
 alignments_at-read [] n c l e = absurd (omega (arith, l))
 alignments_at-read (d ∷ alignments) zero c l e = ap (λ (v : Vec Alignment Global). v.items) (sym e)
 alignments_at-read (d ∷ alignments) (suc n) c l e = alignments_at-read alignments n c (omega (arith, l)) e
 
-pub attributes_at-read : (headings : List HeadingAttributes) (n : ℕ) (c : HeadingAttributes) → n < length headings → c ≡ get_or headings n c → attributes_at headings n ≡ attributes_view c
+pub attributes_at-read : (headings : List HeadingAttributes) (n : ℕ) (c : HeadingAttributes) → n < length headings → c ≡ get_or headings n c
+    → attributes_at headings n ≡ attributes_view c
 attributes_at-read [] n c l e = absurd (omega (arith, l))
 attributes_at-read (d ∷ headings) zero c l e = ap attributes_view (sym e)
 attributes_at-read (d ∷ headings) (suc n) c l e = attributes_at-read headings n c (omega (arith, l)) e
@@ -73,7 +96,8 @@ pub heading_named : (tables : Tables) (level : HeadingLevel) (named : Option Hea
 heading_named tables level None h = tt
 heading_named tables level (Some ix) h = h.attributes
 
-pub place_within : (headings : List HeadingAttributes) (ix : HeadingIndex) → (1 ≤ ix.0) × (ix.0 ≤ length headings) → ix.0 - 1 < length headings
+pub place_within : (headings : List HeadingAttributes) (ix : HeadingIndex) → (1 ≤ ix.0) × (ix.0 ≤ length headings)
+    → ix.0 - 1 < length headings
 place_within headings ix h = omega (arith, h.0, h.1)
 
 -- and one that is beside a replaced one
@@ -98,7 +122,16 @@ link_at-set (d ∷ links) zero (suc m) c h = refl
 link_at-set (d ∷ links) (suc n) zero c h = refl
 link_at-set (d ∷ links) (suc n) (suc m) c h = link_at-set links n m c h
 
-alignments_at-set : (alignments : List (Vec Alignment Global)) (n m : ℕ) (c : Vec Alignment Global) → same m n ≡ 0 → alignments_at (set alignments n c) m ≡ alignments_at alignments m
+link_origin_at-set : (links : List LinkParts) (n m : ℕ) (c : LinkParts) → same m n ≡ 0
+    → link_origin_at (set links n c) m ≡ link_origin_at links m
+link_origin_at-set [] n m c h = refl
+link_origin_at-set (d ∷ links) zero zero c h = cc h
+link_origin_at-set (d ∷ links) zero (suc m) c h = refl
+link_origin_at-set (d ∷ links) (suc n) zero c h = refl
+link_origin_at-set (d ∷ links) (suc n) (suc m) c h = link_origin_at-set links n m c h
+
+alignments_at-set : (alignments : List (Vec Alignment Global)) (n m : ℕ) (c : Vec Alignment Global) → same m n ≡ 0
+    → alignments_at (set alignments n c) m ≡ alignments_at alignments m
 alignments_at-set [] n m c h = refl
 alignments_at-set (d ∷ alignments) zero zero c h = cc h
 alignments_at-set (d ∷ alignments) zero (suc m) c h = refl
@@ -110,20 +143,29 @@ same_length xs ys e = omega (arith, e)
 
 -- nothing was taken
 pub takes_nothing : (body : ItemBody) (held : Allocated) → TakesOnly body held held
-takes_nothing body held = record { tables = refl; longer = record { sizes = λ n. omega arith; headings = refl }; others = λ n h. same_entry-refl (tables_of held) n }
+takes_nothing body held = record {
+  tables = refl;
+  longer = record { sizes = λ n. omega arith; headings = refl };
+  others =
+      λ n h. same_entry-refl (tables_of held) n;
+}
 
 -- the text that a body names was taken
-text_others : (tables : Tables) (b : ItemBody) (ix : ℕ) (left : CowStr) (n : Named) → text_named b ≡ Some ix → times_named n b ≡ 0 → IsSameEntry tables (record tables { cows = set tables.cows ix left }) n
-text_others tables b ix left (some_text n) e h = let apart = rw e at h in (text_at-set tables.cows ix n left apart, origin_at-set tables.cows ix n left apart)
-text_others tables b ix left (some_link n) e h = refl
+text_others : (tables : Tables) (b : ItemBody) (ix : ℕ) (left : CowStr) (n : Named) → text_named b ≡ Some ix → times_named n b ≡ 0
+    → IsSameEntry tables (record tables { cows = set tables.cows ix left }) n
+text_others tables b ix left (some_text n) e h = let apart = rw e at h
+    in (text_at-set tables.cows ix n left apart, origin_at-set tables.cows ix n left apart)
+text_others tables b ix left (some_link n) e h = (refl, refl)
 text_others tables b ix left (some_alignments n) e h = refl
 
-text_sizes : (tables : Tables) (ix : ℕ) (left : CowStr) (n : Named) → size_for tables n ≤ size_for (record tables { cows = set tables.cows ix left }) n
+text_sizes : (tables : Tables) (ix : ℕ) (left : CowStr) (n : Named)
+    → size_for tables n ≤ size_for (record tables { cows = set tables.cows ix left }) n
 text_sizes tables ix left (some_text n) = same_length tables.cows (set tables.cows ix left) (length-set tables.cows ix left)
 text_sizes tables ix left (some_link n) = omega arith
 text_sizes tables ix left (some_alignments n) = omega arith
 
-pub takes_text : (b : ItemBody) (held held' : Allocated) (ix : CowIndex) → text_named b ≡ Some ix.0 → LeavesEmptyCow held held' ix → TakesOnly b held held'
+pub takes_text : (b : ItemBody) (held held' : Allocated) (ix : CowIndex) → text_named b ≡ Some ix.0 → LeavesEmptyCow held held' ix
+    → TakesOnly b held held'
 takes_text b held held' ix e l = rw l.others (record {
   tables = refl;
   longer = record { sizes = λ n. text_sizes (tables_of held) ix.0 l.left n; headings = refl };
@@ -131,17 +173,21 @@ takes_text b held held' ix e l = rw l.others (record {
 })
 
 -- the link was
-link_others : (tables : Tables) (b : ItemBody) (ix : ℕ) (left : LinkParts) (n : Named) → link_named b ≡ Some ix → times_named n b ≡ 0 → IsSameEntry tables (record tables { links = set tables.links ix left }) n
+link_others : (tables : Tables) (b : ItemBody) (ix : ℕ) (left : LinkParts) (n : Named) → link_named b ≡ Some ix → times_named n b ≡ 0
+    → IsSameEntry tables (record tables { links = set tables.links ix left }) n
 link_others tables b ix left (some_text n) e h = (refl, refl)
-link_others tables b ix left (some_link n) e h = link_at-set tables.links ix n left (rw e at h)
+link_others tables b ix left (some_link n) e h = let apart = rw e at h
+    in (link_at-set tables.links ix n left apart, link_origin_at-set tables.links ix n left apart)
 link_others tables b ix left (some_alignments n) e h = refl
 
-link_sizes : (tables : Tables) (ix : ℕ) (left : LinkParts) (n : Named) → size_for tables n ≤ size_for (record tables { links = set tables.links ix left }) n
+link_sizes : (tables : Tables) (ix : ℕ) (left : LinkParts) (n : Named)
+    → size_for tables n ≤ size_for (record tables { links = set tables.links ix left }) n
 link_sizes tables ix left (some_text n) = omega arith
 link_sizes tables ix left (some_link n) = same_length tables.links (set tables.links ix left) (length-set tables.links ix left)
 link_sizes tables ix left (some_alignments n) = omega arith
 
-pub takes_link : (b : ItemBody) (held held' : Allocated) (ix : LinkIndex) → link_named b ≡ Some ix.0 → LeavesEmptyLink held held' ix → TakesOnly b held held'
+pub takes_link : (b : ItemBody) (held held' : Allocated) (ix : LinkIndex) → link_named b ≡ Some ix.0 → LeavesEmptyLink held held' ix
+    → TakesOnly b held held'
 takes_link b held held' ix e l = rw l.others (record {
   tables = refl;
   longer = record { sizes = λ n. link_sizes (tables_of held) ix.0 l.left n; headings = refl };
@@ -149,23 +195,32 @@ takes_link b held held' ix e l = rw l.others (record {
 })
 
 -- the alignments were
-alignments_others : (tables : Tables) (b : ItemBody) (ix : ℕ) (left : Vec Alignment Global) (n : Named) → alignments_named b ≡ Some ix → times_named n b ≡ 0
+alignments_others : (tables : Tables) (b : ItemBody) (ix : ℕ) (left : Vec Alignment Global) (n : Named) → alignments_named b ≡ Some ix
+    → times_named n b ≡ 0
     → IsSameEntry tables (record tables { alignments = set tables.alignments ix left }) n
 alignments_others tables b ix left (some_text n) e h = (refl, refl)
-alignments_others tables b ix left (some_link n) e h = refl
+alignments_others tables b ix left (some_link n) e h = (refl, refl)
 alignments_others tables b ix left (some_alignments n) e h = alignments_at-set tables.alignments ix n left (rw e at h)
 
-alignments_sizes : (tables : Tables) (ix : ℕ) (left : Vec Alignment Global) (n : Named) → size_for tables n ≤ size_for (record tables { alignments = set tables.alignments ix left }) n
+alignments_sizes : (tables : Tables) (ix : ℕ) (left : Vec Alignment Global) (n : Named)
+    → size_for tables n ≤ size_for (record tables { alignments = set tables.alignments ix left }) n
 alignments_sizes tables ix left (some_text n) = omega arith
 alignments_sizes tables ix left (some_link n) = omega arith
-alignments_sizes tables ix left (some_alignments n) = same_length tables.alignments (set tables.alignments ix left) (length-set tables.alignments ix left)
+alignments_sizes tables ix left (some_alignments n) = same_length tables.alignments (set tables.alignments ix left)
+    (length-set tables.alignments ix left)
 
-pub takes_alignments : (b : ItemBody) (held held' : Allocated) (ix : AlignmentIndex) → alignments_named b ≡ Some ix.0 → LeavesEmptyAlignment held held' ix → TakesOnly b held held'
+pub takes_alignments : (b : ItemBody) (held held' : Allocated) (ix : AlignmentIndex) → alignments_named b ≡ Some ix.0
+    → LeavesEmptyAlignment held held' ix → TakesOnly b held held'
 takes_alignments b held held' ix e l = rw l.others (record {
   tables = refl;
   longer = record { sizes = λ n. alignments_sizes (tables_of held) ix.0 l.left n; headings = refl };
   others = λ n h. alignments_others (tables_of held) b ix.0 l.left n e h;
 })
+
+-- an event of one text is no Start
+pub no_start : (source : List ℕ) (e : Event) (c : CowStr) → texts_of e ≡ c ∷ [] → StartIsFrom source e
+no_start source (step.Start tag) c h = cc h
+no_start source other c h = tt
 
 -- an event of one text that is a slice of the source
 pub opens_slice : (source : List ℕ) (range : Range ℕ) (view : List ℕ → EventView) (e : CowStr → Event) (c : CowStr)
@@ -176,20 +231,24 @@ opens_slice source range view e c (slice, is, over) viewed texts = rw is (record
   origins = sliced ∷ [];
   is_leaf = rw (viewed (Borrowed slice), over) refl;
   texts = rw (texts (Borrowed slice)) (∣ (range, over) ∣₁, tt);
+  start = no_start source (e (Borrowed slice)) (Borrowed slice) (texts (Borrowed slice));
 })
 
 -- an event of one text that is named, and is taken
-pub opens_made : (source : List ℕ) (cows : List CowStr) (n : ℕ) (view : List ℕ → EventView) (e : CowStr → Event) (c : CowStr) → n < length cows → c ≡ get_or cows n c
+pub opens_made : (source : List ℕ) (cows : List CowStr) (n : ℕ) (view : List ℕ → EventView) (e : CowStr → Event) (c : CowStr)
+    → n < length cows → c ≡ get_or cows n c
     → ((d : CowStr) → event_view (e d) ≡ view (text_of d)) → ((d : CowStr) → texts_of (e d) ≡ d ∷ [])
     → OpensWith source (leaf (view (text_at cows n)) (made ∷ [])) (e c)
 opens_made source cows n view e c within read viewed texts = record {
   origins = made ∷ [];
   is_leaf = rw (viewed c, text_at-read cows n c within read) refl;
   texts = rw (texts c) (tt, tt);
+  start = no_start source (e c) c (texts c);
 }
 
 -- so is the text of a span, which is a slice of the source where the table says so
-pub opens_span : (source : List ℕ) (cows : List CowStr) (n : ℕ) (view : List ℕ → EventView) (e : CowStr → Event) (c : CowStr) → n < length cows → c ≡ get_or cows n c
+pub opens_span : (source : List ℕ) (cows : List CowStr) (n : ℕ) (view : List ℕ → EventView) (e : CowStr → Event) (c : CowStr)
+    → n < length cows → c ≡ get_or cows n c
     → IsSlicedOf source (origin_at cows n) (text_at cows n)
     → ((d : CowStr) → event_view (e d) ≡ view (text_of d)) → ((d : CowStr) → texts_of (e d) ≡ d ∷ [])
     → OpensWith source (leaf (view (text_at cows n)) (origin_at cows n ∷ [])) (e c)
@@ -197,4 +256,5 @@ opens_span source cows n view e c within read slice viewed texts = record {
   origins = origin_at cows n ∷ [];
   is_leaf = rw (viewed c, text_at-read cows n c within read) refl;
   texts = rw (texts c) (is_from source cows n c within read slice, tt);
+  start = no_start source (e c) c (texts c);
 }

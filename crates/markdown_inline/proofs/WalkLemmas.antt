@@ -27,11 +27,13 @@ use Rattle.markdown_chains.specs.Totals.{total, same, naming, weight_at}
 use Rattle.markdown_chains.specs.Tables.{Tables, Named}
 use Rattle.markdown_inline.specs.WalkTotals.{climbed, left_total, named_left, one_if, waits_at, steps_of}
 use Rattle.markdown_inline.specs.Standing.{AboveKept, Stands}
-use Rattle.markdown_chains.specs.Document.{plain_tags, Origin, Shape, leaf, enclosed, plain, backslash_break, unresolved, shape_of, event_of_shape}
+use Rattle.markdown_chains.specs.Document.{plain_tags, Origin, Shape, leaf, enclosed, plain, backslash_break, unresolved, shape_of}
+use Rattle.markdown_chains.specs.Document.{event_of_shape}
 use Rattle.markdown_chains.proofs.PlaceLemmas.{some_weight}
 
 -- a walk went from l below spine to m below deeper, and gave these events
-pub record Moves (s : Setting) (tables : Tables) (nodes : List (Node Item)) (l : Option ℕ) (spine : List ℕ) (m : Option ℕ) (deeper : List ℕ) (given : List Placed) : Type 0 where
+pub record Moves (s : Setting) (tables : Tables) (nodes : List (Node Item)) (l : Option ℕ) (spine : List ℕ) (m : Option ℕ) (deeper : List ℕ)
+    (given : List Placed) : Type 0 where
   pub stands : Stands s.text tables nodes m deeper
   pub left : (known : Known) → left_of s tables nodes l spine known ≡ map event given ++ left_of s tables nodes m deeper known
   pub ahead : (known : Known) → LeavesAhead given (counts_ahead s tables nodes l spine known) (counts_ahead s tables nodes m deeper known)
@@ -47,11 +49,13 @@ waits_once nodes None = omega arith
 waits_once nodes (Some ix) = one_once (is_open (item_at nodes ix).body)
 
 -- one more node is gone into
-AllReach-snoc : (k : Links) (p : ℕ → Type 0) (spine : List ℕ) (ix : ℕ) → AllReach k p spine → ix < k.size → Reaches k p (k.next ix) → AllReach k p (spine ++ ix ∷ [])
+AllReach-snoc : (k : Links) (p : ℕ → Type 0) (spine : List ℕ) (ix : ℕ) → AllReach k p spine → ix < k.size → Reaches k p (k.next ix)
+    → AllReach k p (spine ++ ix ∷ [])
 AllReach-snoc k p [] ix a within follows = (within, follows, tt)
 AllReach-snoc k p (j ∷ js) ix a within follows = (a.0, a.1, AllReach-snoc k p js ix a.2 within follows)
 
-AboveKept-snoc : (source : List ℕ) (tables : Tables) (nodes : List (Node Item)) (spine : List ℕ) (ix : ℕ) → AboveKept source tables nodes spine
+AboveKept-snoc : (source : List ℕ) (tables : Tables) (nodes : List (Node Item)) (spine : List ℕ) (ix : ℕ)
+    → AboveKept source tables nodes spine
     → AboveKept source tables nodes (ix ∷ []) → AboveKept source tables nodes (spine ++ ix ∷ [])
 AboveKept-snoc source tables nodes [] ix a h = h
 AboveKept-snoc source tables nodes (j ∷ js) ix a h = (a.0, AboveKept-snoc source tables nodes js ix a.1 h)
@@ -61,17 +65,20 @@ AllReach-front : (k : Links) (p : ℕ → Type 0) (spine : List ℕ) (ix : ℕ) 
 AllReach-front k p [] ix a = tt
 AllReach-front k p (j ∷ js) ix a = (a.0, a.1, AllReach-front k p js ix a.2)
 
-AboveKept-front : (source : List ℕ) (tables : Tables) (nodes : List (Node Item)) (spine : List ℕ) (ix : ℕ) → AboveKept source tables nodes (spine ++ ix ∷ [])
+AboveKept-front : (source : List ℕ) (tables : Tables) (nodes : List (Node Item)) (spine : List ℕ) (ix : ℕ)
+    → AboveKept source tables nodes (spine ++ ix ∷ [])
     → AboveKept source tables nodes spine
 AboveKept-front source tables nodes [] ix a = tt
 AboveKept-front source tables nodes (j ∷ js) ix a = (a.0, AboveKept-front source tables nodes js ix a.1)
 
 -- what follows it is reached
-pub AllReach-last : (k : Links) (p : ℕ → Type 0) (spine : List ℕ) (ix : ℕ) → AllReach k p (spine ++ ix ∷ []) → (ix < k.size) × Reaches k p (k.next ix)
+pub AllReach-last : (k : Links) (p : ℕ → Type 0) (spine : List ℕ) (ix : ℕ) → AllReach k p (spine ++ ix ∷ [])
+    → (ix < k.size) × Reaches k p (k.next ix)
 AllReach-last k p [] ix a = (a.0, a.1)
 AllReach-last k p (j ∷ js) ix a = AllReach-last k p js ix a.2
 
-AboveKept-last : (source : List ℕ) (tables : Tables) (nodes : List (Node Item)) (spine : List ℕ) (ix : ℕ) → AboveKept source tables nodes (spine ++ ix ∷ [])
+AboveKept-last : (source : List ℕ) (tables : Tables) (nodes : List (Node Item)) (spine : List ℕ) (ix : ℕ)
+    → AboveKept source tables nodes (spine ++ ix ∷ [])
     → AboveKept source tables nodes (ix ∷ [])
 AboveKept-last source tables nodes [] ix a = a
 AboveKept-last source tables nodes (j ∷ js) ix a = AboveKept-last source tables nodes js ix a.1
@@ -80,21 +87,25 @@ AboveKept-last source tables nodes (j ∷ js) ix a = AboveKept-last source table
 around-snoc : (s : Setting) (above : Above) (tables : Tables) (nodes : List (Node Item)) (spine : List ℕ) (ix : ℕ) (after : Reading)
     → around s above tables nodes (spine ++ ix ∷ []) after
     ≡ ended (closing (item_at nodes ix).body) (range_of (item_at nodes ix))
-    (reading s plain_tags (inside_all nodes spine above) (trees_from s.text tables nodes (sibling_of nodes ix)) (around s above tables nodes spine after))
+    (reading s plain_tags (inside_all nodes spine above) (trees_from s.text tables nodes (sibling_of nodes ix))
+    (around s above tables nodes spine after))
 around-snoc s above tables nodes [] ix after = refl
 around-snoc s above tables nodes (j ∷ js) ix after = around-snoc s (inside_item (item_at nodes j) above) tables nodes js ix _
 
 -- what stands below it is inside it
-inside_all-snoc : (nodes : List (Node Item)) (spine : List ℕ) (ix : ℕ) (above : Above) → inside_all nodes (spine ++ ix ∷ []) above ≡ inside_item (item_at nodes ix) (inside_all nodes spine above)
+inside_all-snoc : (nodes : List (Node Item)) (spine : List ℕ) (ix : ℕ) (above : Above) → inside_all nodes (spine ++ ix ∷ []) above
+    ≡ inside_item (item_at nodes ix) (inside_all nodes spine above)
 inside_all-snoc nodes [] ix above = refl
 inside_all-snoc nodes (j ∷ js) ix above = inside_all-snoc nodes js ix (inside_item (item_at nodes j) above)
 
-climbed-snoc : (gone count : ℕ → ℕ) (k : Links) (spine : List ℕ) (ix : ℕ) → climbed gone count k (spine ++ ix ∷ []) ≡ (gone ix + total count (forest_at k (k.next ix))) + climbed gone count k spine
+climbed-snoc : (gone count : ℕ → ℕ) (k : Links) (spine : List ℕ) (ix : ℕ) → climbed gone count k (spine ++ ix ∷ [])
+    ≡ (gone ix + total count (forest_at k (k.next ix))) + climbed gone count k spine
 climbed-snoc gone count k [] ix = omega arith
 climbed-snoc gone count k (j ∷ js) ix = omega (arith, climbed-snoc gone count k js ix)
 
 -- how a tree ends is told by its body alone
-closing-enclosed : (tables : Tables) (source : List ℕ) (body : ItemBody) (tag : TagView) → shape_of tables source body ≡ enclosed tag → closing body ≡ Some (end_of tag)
+closing-enclosed : (tables : Tables) (source : List ℕ) (body : ItemBody) (tag : TagView) → shape_of tables source body ≡ enclosed tag
+    → closing body ≡ Some (end_of tag)
 closing-enclosed tables source body.Paragraph tag h = cc h
 closing-enclosed tables source body.TightParagraph tag h = cc h
 closing-enclosed tables source (body.HardBreak true) tag h = cc h
@@ -109,7 +120,8 @@ closing-plain tables source (body.HardBreak false) h = cc h
 closing-plain tables source other h = cc h
 
 -- a tree that reads as one event
-reads-event : (shape : Shape) (range : Range ℕ) (inside : Reading → Reading) (after whole : Reading) (e : EventView) (origins : List Origin) → event_of_shape shape ≡ Some (e, origins)
+reads-event : (shape : Shape) (range : Range ℕ) (inside : Reading → Reading) (after whole : Reading) (e : EventView) (origins : List Origin)
+    → event_of_shape shape ≡ Some (e, origins)
     → opened shape range inside after whole ≡ then_reads (e, range, origins) after
 reads-event (leaf d origins') range inside after whole e origins h =
     let same : (d, origins') ≡ (e, origins) = cc h in ap (λ (x : EventView × List Origin). then_reads (x.0, range, x.1) after) same
@@ -136,7 +148,8 @@ moves_on s tables nodes ix spine e origins w h =
         above_kept = w.above_kept;
         spine_lies = w.spine_lies;
       };
-      left = λ known. rw o.here (ap (λ (r : Reading). r known) (reads-event (label_at s.text tables nodes ix).part.shape _ _ _ _ e origins h));
+      left = λ known. rw o.here (ap (λ (r : Reading). r known) (reads-event (label_at s.text tables nodes ix).part.shape _ _ _ _ e origins
+          h));
       ahead = λ known. rw o.here (ap (λ (c : Counting). c known) (event-none (label_at s.text tables nodes ix).part.shape _ _ e origins h));
       falls = let waits = waits_once nodes (sibling_of nodes ix) in rw o.here (omega arith);
     }
@@ -169,16 +182,29 @@ moves_in s tables nodes ix spine tag w h =
     let c = closing-enclosed tables (slice_range s.text (item_at nodes ix).start (item_at nodes ix).end) (item_at nodes ix).body tag h in
     record {
       stands = record {
-        walk = record { here = o.below; above = AllReach-snoc (links_of nodes) (IsPlaced s.text tables nodes) spine ix w.walk.above o.within o.after };
+        walk = record {
+          here = o.below;
+          above = AllReach-snoc (links_of nodes) (IsPlaced s.text tables nodes) spine ix w.walk.above o.within
+              o.after;
+        };
         once = λ n. rw (climbed-snoc (same n) (same n) (links_of nodes) spine ix) (let x = rw o.here at (w.once n) in omega arith);
-        named_once = λ n. rw (climbed-snoc (λ ix. 0) (naming nodes n) (links_of nodes) spine ix) (let x = rw o.here at (w.named_once n) in omega arith);
+        named_once = λ n. rw (climbed-snoc (λ ix. 0) (naming nodes n) (links_of nodes) spine ix) (let x = rw o.here at (w.named_once n)
+            in omega arith);
         here_kept = kept.1;
         above_kept = AboveKept-snoc s.text tables nodes spine ix w.above_kept (kept.2, tt);
         spine_lies = All-append (λ n. LiesIn s.text (item_at nodes n)) spine (ix ∷ []) w.spine_lies (o.holds.lies, tt);
       };
-      left = λ known. rw (o.here, around-snoc s (no_blocks s.text) tables nodes spine ix nothing, inside_all-snoc nodes spine ix (no_blocks s.text), c, h) refl;
+      left = λ known. rw (
+        o.here,
+        around-snoc s (no_blocks s.text) tables nodes spine ix nothing,
+        inside_all-snoc nodes spine ix
+            (no_blocks s.text),
+        c,
+        h,
+      ) refl;
       ahead = λ known. rw (o.here, h) refl;
-      falls = let waits = waits_once nodes (child_of nodes ix) in rw (o.here, climbed-snoc (λ ix. 1) (weight_at nodes) (links_of nodes) spine ix) (omega arith);
+      falls = let waits = waits_once nodes (child_of nodes ix)
+          in rw (o.here, climbed-snoc (λ ix. 1) (weight_at nodes) (links_of nodes) spine ix) (omega arith);
     }
 
 -- into a node that reads as its children alone
@@ -193,38 +219,68 @@ moves_in_plain s tables nodes ix spine w h =
     let c = closing-plain tables (slice_range s.text (item_at nodes ix).start (item_at nodes ix).end) (item_at nodes ix).body h in
     record {
       stands = record {
-        walk = record { here = o.below; above = AllReach-snoc (links_of nodes) (IsPlaced s.text tables nodes) spine ix w.walk.above o.within o.after };
+        walk = record {
+          here = o.below;
+          above = AllReach-snoc (links_of nodes) (IsPlaced s.text tables nodes) spine ix w.walk.above o.within
+              o.after;
+        };
         once = λ n. rw (climbed-snoc (same n) (same n) (links_of nodes) spine ix) (let x = rw o.here at (w.once n) in omega arith);
-        named_once = λ n. rw (climbed-snoc (λ ix. 0) (naming nodes n) (links_of nodes) spine ix) (let x = rw o.here at (w.named_once n) in omega arith);
+        named_once = λ n. rw (climbed-snoc (λ ix. 0) (naming nodes n) (links_of nodes) spine ix) (let x = rw o.here at (w.named_once n)
+            in omega arith);
         here_kept = kept.1;
         above_kept = AboveKept-snoc s.text tables nodes spine ix w.above_kept (kept.2, tt);
         spine_lies = All-append (λ n. LiesIn s.text (item_at nodes n)) spine (ix ∷ []) w.spine_lies (o.holds.lies, tt);
       };
-      left = λ known. rw (o.here, around-snoc s (no_blocks s.text) tables nodes spine ix nothing, inside_all-snoc nodes spine ix (no_blocks s.text), c, h) refl;
-      ahead = λ known. rw (o.here, counts_around-snoc s (no_blocks s.text) tables nodes spine ix no_chain, inside_all-snoc nodes spine ix (no_blocks s.text), c, h) refl;
-      falls = let waits = waits_once nodes (child_of nodes ix) in rw (o.here, climbed-snoc (λ ix. 1) (weight_at nodes) (links_of nodes) spine ix) (omega arith);
+      left = λ known. rw (
+        o.here,
+        around-snoc s (no_blocks s.text) tables nodes spine ix nothing,
+        inside_all-snoc nodes spine ix
+            (no_blocks s.text),
+        c,
+        h,
+      ) refl;
+      ahead = λ known. rw (
+        o.here,
+        counts_around-snoc s (no_blocks s.text) tables nodes spine ix no_chain,
+        inside_all-snoc nodes spine ix
+            (no_blocks s.text),
+        c,
+        h,
+      ) refl;
+      falls = let waits = waits_once nodes (child_of nodes ix)
+          in rw (o.here, climbed-snoc (λ ix. 1) (weight_at nodes) (links_of nodes) spine ix) (omega arith);
     }
 
 -- out of a node, whose end reads so
 pub moves_out : (s : Setting) (tables : Tables) (nodes : List (Node Item)) (ix : ℕ) (spine : List ℕ) (given : List Placed)
     → Stands s.text tables nodes None (spine ++ ix ∷ [])
-    → ((after : Reading) (known : Known) → ended (closing (item_at nodes ix).body) (range_of (item_at nodes ix)) after known ≡ map event given ++ after known)
+    → ((after : Reading) (known : Known) → ended (closing (item_at nodes ix).body) (range_of (item_at nodes ix)) after known
+    ≡ map event given ++ after known)
     → ((after : Counting) (known : Known) → LeavesAhead given (unless_ended (closing (item_at nodes ix).body) after known) (after known))
     → Moves s tables nodes None (spine ++ ix ∷ []) (sibling_of nodes ix) spine given
 unfolding left_of left_total counts_ahead
 moves_out s tables nodes ix spine given w h a =
     record {
       stands = record {
-        walk = record { here = (AllReach-last (links_of nodes) (IsPlaced s.text tables nodes) spine ix w.walk.above).1; above = AllReach-front (links_of nodes) (IsPlaced s.text tables nodes) spine ix w.walk.above };
+        walk = record {
+          here = (AllReach-last (links_of nodes) (IsPlaced s.text tables nodes) spine ix w.walk.above).1;
+          above =
+              AllReach-front (links_of nodes) (IsPlaced s.text tables nodes) spine ix w.walk.above;
+        };
         once = λ n. let x = rw (climbed-snoc (same n) (same n) (links_of nodes) spine ix) at (w.once n) in omega arith;
         named_once = λ n. let x = rw (climbed-snoc (λ ix. 0) (naming nodes n) (links_of nodes) spine ix) at (w.named_once n) in omega arith;
         here_kept = (AboveKept-last s.text tables nodes spine ix w.above_kept).0;
         above_kept = AboveKept-front s.text tables nodes spine ix w.above_kept;
         spine_lies = All-front (λ n. LiesIn s.text (item_at nodes n)) spine ix w.spine_lies;
       };
-      left = λ known. rw (forest_at-none (links_of nodes), around-snoc s (no_blocks s.text) tables nodes spine ix nothing) (h (reading s plain_tags (above_at s.text nodes spine) (trees_from s.text tables nodes (sibling_of nodes ix)) (around s (no_blocks s.text) tables nodes spine nothing)) known);
-      ahead = λ known. rw (forest_at-none (links_of nodes), counts_around-snoc s (no_blocks s.text) tables nodes spine ix no_chain) (a (first_counts s plain_tags (above_at s.text nodes spine) (trees_from s.text tables nodes (sibling_of nodes ix)) (counts_around s (no_blocks s.text) tables nodes spine no_chain)) known);
-      falls = let waits = waits_once nodes (sibling_of nodes ix) in rw (forest_at-none (links_of nodes), climbed-snoc (λ ix. 1) (weight_at nodes) (links_of nodes) spine ix) (omega arith);
+      left = λ known. rw (forest_at-none (links_of nodes), around-snoc s (no_blocks s.text) tables nodes spine ix nothing)
+          (h (reading s plain_tags (above_at s.text nodes spine) (trees_from s.text tables nodes (sibling_of nodes ix))
+          (around s (no_blocks s.text) tables nodes spine nothing)) known);
+      ahead = λ known. rw (forest_at-none (links_of nodes), counts_around-snoc s (no_blocks s.text) tables nodes spine ix no_chain)
+          (a (first_counts s plain_tags (above_at s.text nodes spine) (trees_from s.text tables nodes (sibling_of nodes ix))
+          (counts_around s (no_blocks s.text) tables nodes spine no_chain)) known);
+      falls = let waits = waits_once nodes (sibling_of nodes ix)
+          in rw (forest_at-none (links_of nodes), climbed-snoc (λ ix. 1) (weight_at nodes) (links_of nodes) spine ix) (omega arith);
     }
 
 -- at the end nothing is left
@@ -233,7 +289,8 @@ unfolding left_of
 left_of-end s tables nodes known = rw (forest_at-none (links_of nodes)) refl
 
 -- a node in focus takes steps
-pub steps-some : (source : List ℕ) (tables : Tables) (nodes : List (Node Item)) (ix : ℕ) (spine : List ℕ) → Stands source tables nodes (Some ix) spine → 0 < steps_of nodes (Some ix) spine
+pub steps-some : (source : List ℕ) (tables : Tables) (nodes : List (Node Item)) (ix : ℕ) (spine : List ℕ)
+    → Stands source tables nodes (Some ix) spine → 0 < steps_of nodes (Some ix) spine
 unfolding left_total
 steps-some source tables nodes ix spine w =
     let o = opens (links_of nodes) (IsPlaced source tables nodes) ix w.walk.here in

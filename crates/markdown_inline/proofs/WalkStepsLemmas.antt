@@ -24,7 +24,8 @@ use Rattle.markdown_chains.specs.Document.{Origin, enclosed, plain, shape_of, ev
 use Rattle.markdown_chains.specs.Tables.{Tables, Named, tables_of}
 use Rattle.markdown_inline.specs.WalkSteps.{TreeStands, HasEnded, Went, IsRefused, TakesOnly, tree_left, tree_steps}
 use Rattle.markdown_inline.proofs.LeftFrameLemmas.{left_framed}
-use Rattle.markdown_inline.proofs.WalkLemmas.{Moves, moves_on, moves_past, moves_in, moves_past_in, moves_in_plain, moves_out, left_of-end, steps-some, steps-end, stands-end, AllReach-last}
+use Rattle.markdown_inline.proofs.WalkLemmas.{Moves, moves_on, moves_past, moves_in, moves_past_in, moves_in_plain, moves_out, left_of-end}
+use Rattle.markdown_inline.proofs.WalkLemmas.{steps-some, steps-end, stands-end, AllReach-last}
 
 -- the bytes that an item stands over
 abbrev pub over : List ℕ → Item → List ℕ
@@ -35,86 +36,120 @@ any_rules : Rules
 any_rules = record { options = record { 0 = 0 }; definitions = []; is_footnote = λ name. false; asks = false }
 
 -- after a move an entry that is taken, and is not named any more, changes nothing of what is left
-taken_after : (source : List ℕ) (nodes : List (Node Item)) (ix : ℕ) (held held' : Allocated) (m : Option ℕ) (deeper : List ℕ) (rules : Rules)
-    → TakesOnly (item_at nodes ix).body held held' → ((n : Named) → naming nodes n ix + named_left nodes m deeper n ≤ 1) → Stands source (tables_of held) nodes m deeper
-    → Stands source (tables_of held') nodes m deeper × (left_of (setting_of source rules) (tables_of held') nodes m deeper ≡ left_of (setting_of source rules) (tables_of held) nodes m deeper)
-    × (counts_ahead (setting_of source rules) (tables_of held') nodes m deeper ≡ counts_ahead (setting_of source rules) (tables_of held) nodes m deeper)
+taken_after : (source : List ℕ) (nodes : List (Node Item)) (ix : ℕ) (held held' : Allocated) (m : Option ℕ) (deeper : List ℕ)
+    (rules : Rules)
+    → TakesOnly (item_at nodes ix).body held held' → ((n : Named) → naming nodes n ix + named_left nodes m deeper n ≤ 1)
+    → Stands source (tables_of held) nodes m deeper
+    → Stands source (tables_of held') nodes m deeper × (left_of (setting_of source rules) (tables_of held') nodes m deeper
+    ≡ left_of (setting_of source rules) (tables_of held) nodes m deeper)
+    × (counts_ahead (setting_of source rules) (tables_of held') nodes m deeper ≡ counts_ahead (setting_of source rules) (tables_of held)
+    nodes m deeper)
 taken_after source nodes ix held held' m deeper rules t past w =
-    let f = left_framed (setting_of source rules) (tables_of held) (tables_of held') nodes nodes m deeper (omega arith) t.longer w (λ n l. record { child = refl; next = refl; item = refl })
+    let f = left_framed (setting_of source rules) (tables_of held) (tables_of held') nodes nodes m deeper (omega arith) t.longer w
+    (λ n l. record { child = refl; next = refl; item = refl })
     (λ n l. t.others n (let x = past n in omega arith)) in
     (f.stands, f.left, f.ahead)
 
 went : (source : List ℕ) (s t : Arena Item) (held held' : Allocated) (ix : ℕ) (m : Option ℕ) (deeper : List ℕ) (given : List Placed)
     → s.cursor ≡ Some ix → t ≡ record s { cursor = m; spine = deeper } → TakesOnly (item_at s.nodes ix).body held held'
     → ((n : Named) → naming s.nodes n ix + named_left s.nodes m deeper n ≤ 1)
-    → ((rules : Rules) → Moves (setting_of source rules) (tables_of held) s.nodes (Some ix) s.spine m deeper given) → Went source s t held held' given
+    → ((rules : Rules) → Moves (setting_of source rules) (tables_of held) s.nodes (Some ix) s.spine m deeper given)
+    → Went source s t held held' given
 went source s t held held' ix m deeper given a c k past mv =
     rw (c, a) (record {
       stands = (taken_after source s.nodes ix held held' m deeper any_rules k past (mv any_rules).stands).0;
-      ahead = λ rules known. rw (taken_after source s.nodes ix held held' m deeper rules k past (mv rules).stands).2 ((mv rules).ahead known);
+      ahead = λ rules known. rw (taken_after source s.nodes ix held held' m deeper rules k past (mv rules).stands).2
+          ((mv rules).ahead known);
       tables = k.tables;
       left = λ rules known. rw (taken_after source s.nodes ix held held' m deeper rules k past (mv rules).stands).1 ((mv rules).left known);
       falls = (mv any_rules).falls;
     })
 
-stands_at : (source : List ℕ) (tables : Tables) (s : Arena Item) (l : Option ℕ) (up : List ℕ) → s.cursor ≡ l → s.spine ≡ up → TreeStands source tables s
+stands_at : (source : List ℕ) (tables : Tables) (s : Arena Item) (l : Option ℕ) (up : List ℕ) → s.cursor ≡ l → s.spine ≡ up
+    → TreeStands source tables s
     → Stands source tables s.nodes l up
 stands_at source tables s l up a b w = rw (← a, ← b) w
 
 -- the node in focus is there, and its item is placed
-pub cursor_within : (source : List ℕ) (tables : Tables) (s : Arena Item) (ix : ℕ) → TreeStands source tables s → s.cursor ≡ Some ix → ix < length s.nodes
+pub cursor_within : (source : List ℕ) (tables : Tables) (s : Arena Item) (ix : ℕ) → TreeStands source tables s → s.cursor ≡ Some ix
+    → ix < length s.nodes
 cursor_within source tables s ix w e = (opens (links_of s.nodes) (IsPlaced source tables s.nodes) ix (rw (← e) w.walk.here)).within
 
-pub cursor_placed : (source : List ℕ) (tables : Tables) (s : Arena Item) (ix : ℕ) → TreeStands source tables s → s.cursor ≡ Some ix → IsPlaced source tables s.nodes ix
+pub cursor_placed : (source : List ℕ) (tables : Tables) (s : Arena Item) (ix : ℕ) → TreeStands source tables s → s.cursor ≡ Some ix
+    → IsPlaced source tables s.nodes ix
 cursor_placed source tables s ix w e = (opens (links_of s.nodes) (IsPlaced source tables s.nodes) ix (rw (← e) w.walk.here)).holds
 
 -- so are the nodes gone into
-pub spine_within : (source : List ℕ) (tables : Tables) (s : Arena Item) (ix : ℕ) (up : List ℕ) → TreeStands source tables s → s.spine ≡ up ++ ix ∷ [] → ix < length s.nodes
+pub spine_within : (source : List ℕ) (tables : Tables) (s : Arena Item) (ix : ℕ) (up : List ℕ) → TreeStands source tables s
+    → s.spine ≡ up ++ ix ∷ [] → ix < length s.nodes
 spine_within source tables s ix up w e = (AllReach-last (links_of s.nodes) (IsPlaced source tables s.nodes) up ix (rw (← e) w.walk.above)).0
 
 -- over a node
-pub went_on : (source : List ℕ) (s t : Arena Item) (held held' : Allocated) (ix : ℕ) (item : Item) (e : EventView) (origins : List Origin) → TreeStands source (tables_of held) s → s.cursor ≡ Some ix → item ≡ item_at s.nodes ix
-    → event_of_shape (shape_of (tables_of held) (over source item) item.body) ≡ Some (e, origins) → TakesOnly item.body held held' → t ≡ record s { cursor = sibling_of s.nodes ix } → Went source s t held held' ((e, range_of item, origins) ∷ [])
+pub went_on : (source : List ℕ) (s t : Arena Item) (held held' : Allocated) (ix : ℕ) (item : Item) (e : EventView) (origins : List Origin)
+    → TreeStands source (tables_of held) s → s.cursor ≡ Some ix → item ≡ item_at s.nodes ix
+    → event_of_shape (shape_of (tables_of held) (over source item) item.body) ≡ Some (e, origins) → TakesOnly item.body held held'
+    → t ≡ record s { cursor = sibling_of s.nodes ix } → Went source s t held held' ((e, range_of item, origins) ∷ [])
 went_on source s t held held' ix item e origins w a h sh k c =
     let st = stands_at source (tables_of held) s (Some ix) s.spine a refl w in
-    rw h (went source s t held held' ix (sibling_of s.nodes ix) s.spine ((e, range_of (item_at s.nodes ix), origins) ∷ []) a c (rw h at k) (λ n. moves_past source (tables_of held) s.nodes ix s.spine n st)
+    rw h (went source s t held held' ix (sibling_of s.nodes ix) s.spine ((e, range_of (item_at s.nodes ix), origins) ∷ []) a c (rw h at k)
+    (λ n. moves_past source (tables_of held) s.nodes ix s.spine n st)
     (λ rules. moves_on (setting_of source rules) (tables_of held) s.nodes ix s.spine e origins st (rw h at sh)))
 
 -- into a node
-pub went_in : (source : List ℕ) (s t : Arena Item) (held held' : Allocated) (ix : ℕ) (item : Item) (tag : TagView) → TreeStands source (tables_of held) s → s.cursor ≡ Some ix → item ≡ item_at s.nodes ix
-    → shape_of (tables_of held) (over source item) item.body ≡ enclosed tag → TakesOnly item.body held held' → t ≡ record s { spine = s.spine ++ ix ∷ []; cursor = child_of s.nodes ix }
+pub went_in : (source : List ℕ) (s t : Arena Item) (held held' : Allocated) (ix : ℕ) (item : Item) (tag : TagView)
+    → TreeStands source (tables_of held) s → s.cursor ≡ Some ix → item ≡ item_at s.nodes ix
+    → shape_of (tables_of held) (over source item) item.body ≡ enclosed tag → TakesOnly item.body held held'
+    → t ≡ record s { spine = s.spine ++ ix ∷ []; cursor = child_of s.nodes ix }
     → Went source s t held held' ((start tag, range_of item, []) ∷ [])
 went_in source s t held held' ix item tag w a h sh k c =
     let st = stands_at source (tables_of held) s (Some ix) s.spine a refl w in
-    rw h (went source s t held held' ix (child_of s.nodes ix) (s.spine ++ ix ∷ []) ((start tag, range_of (item_at s.nodes ix), []) ∷ []) a c (rw h at k) (λ n. moves_past_in source (tables_of held) s.nodes ix s.spine n st)
+    rw h (went source s t held held' ix (child_of s.nodes ix) (s.spine ++ ix ∷ []) ((start tag, range_of (item_at s.nodes ix), []) ∷ []) a c
+    (rw h at k) (λ n. moves_past_in source (tables_of held) s.nodes ix s.spine n st)
     (λ rules. moves_in (setting_of source rules) (tables_of held) s.nodes ix s.spine tag st (rw h at sh)))
 
-pub went_in_plain : (source : List ℕ) (s t : Arena Item) (held held' : Allocated) (ix : ℕ) (item : Item) → TreeStands source (tables_of held) s → s.cursor ≡ Some ix → item ≡ item_at s.nodes ix
-    → shape_of (tables_of held) (over source item) item.body ≡ plain → TakesOnly item.body held held' → t ≡ record s { spine = s.spine ++ ix ∷ []; cursor = child_of s.nodes ix }
+pub went_in_plain : (source : List ℕ) (s t : Arena Item) (held held' : Allocated) (ix : ℕ) (item : Item)
+    → TreeStands source (tables_of held) s → s.cursor ≡ Some ix → item ≡ item_at s.nodes ix
+    → shape_of (tables_of held) (over source item) item.body ≡ plain → TakesOnly item.body held held'
+    → t ≡ record s { spine = s.spine ++ ix ∷ []; cursor = child_of s.nodes ix }
     → Went source s t held held' []
 went_in_plain source s t held held' ix item w a h sh k c =
     let st = stands_at source (tables_of held) s (Some ix) s.spine a refl w in
-    went source s t held held' ix (child_of s.nodes ix) (s.spine ++ ix ∷ []) [] a c (rw h at k) (λ n. moves_past_in source (tables_of held) s.nodes ix s.spine n st)
+    went source s t held held' ix (child_of s.nodes ix) (s.spine ++ ix ∷ []) [] a c (rw h at k) (λ n. moves_past_in source (tables_of held)
+    s.nodes ix s.spine n st)
     (λ rules. moves_in_plain (setting_of source rules) (tables_of held) s.nodes ix s.spine st (rw h at sh))
 
-went_out : (source : List ℕ) (s t : Arena Item) (held : Allocated) (ix : ℕ) (up : List ℕ) (given : List Placed) → TreeStands source (tables_of held) s → s.cursor ≡ None → s.spine ≡ up ++ ix ∷ []
-    → ((after : Reading) (known : Known) → ended (closing (item_at s.nodes ix).body) (range_of (item_at s.nodes ix)) after known ≡ map event given ++ after known)
+went_out : (source : List ℕ) (s t : Arena Item) (held : Allocated) (ix : ℕ) (up : List ℕ) (given : List Placed)
+    → TreeStands source (tables_of held) s → s.cursor ≡ None → s.spine ≡ up ++ ix ∷ []
+    → ((after : Reading) (known : Known) → ended (closing (item_at s.nodes ix).body) (range_of (item_at s.nodes ix)) after known
+    ≡ map event given ++ after known)
     → ((after : Counting) (known : Known) → LeavesAhead given (unless_ended (closing (item_at s.nodes ix).body) after known) (after known))
     → t ≡ record s { spine = up; cursor = sibling_of s.nodes ix } → Went source s t held held given
 went_out source s t held ix up given w a sp cl ahead c =
     let st = stands_at source (tables_of held) s None (up ++ ix ∷ []) a sp w in
     let mv = λ (rules : Rules). moves_out (setting_of source rules) (tables_of held) s.nodes ix up given st cl ahead in
-    rw (c, a, sp) (record { stands = (mv any_rules).stands; tables = refl; left = λ rules known. (mv rules).left known; ahead = λ rules known. (mv rules).ahead known; falls = (mv any_rules).falls })
+    rw (c, a, sp) (record {
+      stands = (mv any_rules).stands;
+      tables = refl;
+      left = λ rules known. (mv rules).left known;
+      ahead =
+          λ rules known. (mv rules).ahead known;
+      falls = (mv any_rules).falls;
+    })
 
 -- out of a node that gives an End
-pub went_out_end : (source : List ℕ) (s t : Arena Item) (held : Allocated) (ix : ℕ) (item : Item) (up : List ℕ) (e : TagEnd) → TreeStands source (tables_of held) s → s.cursor ≡ None → s.spine ≡ up ++ ix ∷ []
-    → item ≡ item_at s.nodes ix → closing item.body ≡ Some e → t ≡ record s { spine = up; cursor = sibling_of s.nodes ix } → Went source s t held held ((end e, range_of item, []) ∷ [])
+pub went_out_end : (source : List ℕ) (s t : Arena Item) (held : Allocated) (ix : ℕ) (item : Item) (up : List ℕ) (e : TagEnd)
+    → TreeStands source (tables_of held) s → s.cursor ≡ None → s.spine ≡ up ++ ix ∷ []
+    → item ≡ item_at s.nodes ix → closing item.body ≡ Some e → t ≡ record s { spine = up; cursor = sibling_of s.nodes ix }
+    → Went source s t held held ((end e, range_of item, []) ∷ [])
 went_out_end source s t held ix item up e w a sp h cl c =
-    rw h (went_out source s t held ix up ((end e, range_of (item_at s.nodes ix), []) ∷ []) w a sp (λ after known. rw (rw h at cl) refl) (λ after known. rw (rw h at cl) refl) c)
+    rw h (went_out source s t held ix up ((end e, range_of (item_at s.nodes ix), []) ∷ []) w a sp (λ after known. rw (rw h at cl) refl)
+    (λ after known. rw (rw h at cl) refl) c)
 
 -- out of a node that gives none
-pub went_out_plain : (source : List ℕ) (s t : Arena Item) (held : Allocated) (ix : ℕ) (item : Item) (up : List ℕ) → TreeStands source (tables_of held) s → s.cursor ≡ None → s.spine ≡ up ++ ix ∷ []
-    → item ≡ item_at s.nodes ix → closing item.body ≡ None → t ≡ record s { spine = up; cursor = sibling_of s.nodes ix } → Went source s t held held []
+pub went_out_plain : (source : List ℕ) (s t : Arena Item) (held : Allocated) (ix : ℕ) (item : Item) (up : List ℕ)
+    → TreeStands source (tables_of held) s → s.cursor ≡ None → s.spine ≡ up ++ ix ∷ []
+    → item ≡ item_at s.nodes ix → closing item.body ≡ None → t ≡ record s { spine = up; cursor = sibling_of s.nodes ix }
+    → Went source s t held held []
 went_out_plain source s t held ix item up w a sp h cl c =
     went_out source s t held ix up [] w a sp (λ after known. rw (rw h at cl) refl) (λ after known. rw (rw h at cl) refl) c
 
@@ -132,10 +167,13 @@ pub steps_ended : (t : Arena Item) → HasEnded t → tree_steps t ≡ 0
 steps_ended t e = rw (e.cursor, e.spine) (steps-end t.nodes)
 
 -- with a node in focus there are steps to come
-pub steps_at_cursor : (source : List ℕ) (tables : Tables) (s : Arena Item) (ix : ℕ) → TreeStands source tables s → s.cursor ≡ Some ix → 0 < tree_steps s
-steps_at_cursor source tables s ix w e = rw e (steps-some source tables s.nodes ix s.spine (stands_at source tables s (Some ix) s.spine e refl w))
+pub steps_at_cursor : (source : List ℕ) (tables : Tables) (s : Arena Item) (ix : ℕ) → TreeStands source tables s → s.cursor ≡ Some ix
+    → 0 < tree_steps s
+steps_at_cursor source tables s ix w e = rw e (steps-some source tables s.nodes ix s.spine (stands_at source tables s (Some ix) s.spine e
+    refl w))
 
-pub refused_at : (source : List ℕ) (tables : Tables) (s t : Arena Item) (ix : ℕ) → TreeStands source tables s → s.cursor ≡ Some ix → t ≡ s → IsRefused s t
+pub refused_at : (source : List ℕ) (tables : Tables) (s t : Arena Item) (ix : ℕ) → TreeStands source tables s → s.cursor ≡ Some ix → t ≡ s
+    → IsRefused s t
 refused_at source tables s t ix w e same = record { same = same; steps = steps_at_cursor source tables s ix w e }
 
 -- a walk that was stopped is over

@@ -8,7 +8,8 @@ use Rattle.markdown_base.specs.declared.node.Node.{Node}
 use Rattle.markdown_base.specs.declared.tag.TagEnd.{TagEnd}
 use Rattle.markdown_chains.specs.Above.{Above, no_blocks, inside_label, inside_item, above_at}
 use Rattle.markdown_chains.specs.Counts.{ChainCounts, no_counts}
-use Rattle.markdown_chains.specs.Document.{Tags, plain_tags, Shape, leaf, enclosed, plain, backslash_break, unresolved, Label}
+use Rattle.markdown_chains.specs.Document.{Tags, plain_tags, Shape, leaf, enclosed, plain, backslash_break, unresolved}
+use Rattle.markdown_chains.specs.Document.{Label}
 use Rattle.markdown_chains.specs.Places.{trees_from}
 use Rattle.markdown_chains.specs.Setting.{Setting, Known}
 use Rattle.markdown_chains.specs.Tables.{Tables}
@@ -59,6 +60,7 @@ counts_ahead s tables nodes l spine =
     first_counts s plain_tags (above_at s.text nodes spine) (trees_from s.text tables nodes l)
     (counts_around s (no_blocks s.text) tables nodes spine no_chain)
 
+-- what resolving counts, of all that a walk has before it
 abbrev pub tree_counts : Setting → Tables → Arena Item → Counting
 tree_counts s tables tree = counts_ahead s tables tree.nodes tree.cursor tree.spine
 

@@ -33,6 +33,7 @@ events_of [] = []
 events_of (question q ∷ es) = events_of es
 events_of (event e ∷ es) = e ∷ events_of es
 
+-- the questions among these
 abbrev pub questions_of : List Element → List Question
 questions_of [] = []
 questions_of (question q ∷ es) = q ∷ questions_of es

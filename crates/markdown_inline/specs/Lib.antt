@@ -2,11 +2,17 @@
 pub mod Elements
 pub mod Reading
 pub mod ReadingLaw
+pub mod QuestionLaws
 -- what contracts speak of
 pub mod ParserLeft
 pub mod Slices
 pub mod NextGives
 pub mod Runs
+-- laws of the events of a whole document
+pub mod Balanced
+pub mod NoLinkInLinkEvents
+pub mod LimitLaw
+pub mod WholeRun
 -- facts of the representation: a walk over an arena
 pub mod Walk
 pub mod WalkTotals

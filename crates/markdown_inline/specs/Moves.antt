@@ -10,7 +10,8 @@ use Rattle.markdown_chains.specs.declared.work.Work.{Work}
 use Rattle.markdown_chains.specs.Counts.{no_counts, WorkRises}
 use Rattle.markdown_inline.specs.Counts.{LeavesAhead}
 use Rattle.markdown_inline.specs.NextGives.{IsPlacedOf}
-use Rattle.markdown_inline.specs.ParserLeft.{parser_text, parser_callback, parser_steps, parser_definitions, parser_work, parser_counts, elements, IsOver}
+use Rattle.markdown_inline.specs.ParserLeft.{parser_text, parser_callback, parser_steps, parser_definitions}
+use Rattle.markdown_inline.specs.ParserLeft.{parser_work, parser_counts, elements, IsOver}
 use Rattle.markdown_inline.specs.declared.walk.Parser.{Parser}
 use Rattle.markdown_inline.specs.declared.walk.Move.{Move}
 
@@ -22,7 +23,8 @@ pub record BeginsWithEvent (es : List Element) : Type 0 where
 
 -- calls led from c to d, and from x to y: for their answers, x is the questions, then the events given, and
 -- then y
-pub record Leads {C : Type 0} (step : C → Question → Option Answer → C → Type 0) (c d : Option C) (x y : Answers → List Element) (given : List Placed) : Type 0 where
+pub record Leads {C : Type 0} (step : C → Question → Option Answer → C → Type 0) (c d : Option C) (x y : Answers
+    → List Element) (given : List Placed) : Type 0 where
   pub answers : Answers
   pub questions : List Question
   pub asked : Asks step c questions answers d
@@ -64,7 +66,8 @@ pub record Failed {F : Type 0} (step : F → Question → Option Answer → F �
   pub questions : List Question
   pub answers : Answers
   pub asked : Asks step (parser_callback s) questions answers (parser_callback t)
-  pub begins : (later : Answers) → (others : List Element) × (elements s (answers ++ later) ≡ map question questions ++ others)
+  pub begins : (later : Answers) → (others : List Element) × (elements s (answers ++ later) ≡ map question questions
+      ++ others)
 
 -- an event was given over a range
 pub record GaveEvent {F : Type 0} (s t : Parser F) (e : Event) (range : Range ℕ) : Type 0 where
@@ -72,6 +75,7 @@ pub record GaveEvent {F : Type 0} (s t : Parser F) (e : Event) (range : Range �
   pub is_item : IsPlacedOf (parser_text s) (e, range) placed
   pub gave : Gave s t (placed ∷ [])
 
+-- a move of the walk, and what it leaves
 abbrev pub Moved : {F : Type 0} → (F → Question → Option Answer → F → Type 0) → Parser F → Parser F → Move → Type 0
 Moved step s t move.Done = Ended s t
 Moved step s t move.Again = WentOn step s t × (parser_steps t < parser_steps s)

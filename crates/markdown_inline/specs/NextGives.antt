@@ -9,14 +9,17 @@ use Rattle.markdown_base.specs.declared.fault.Fault.TheVariants.{Memory}
 use Rattle.markdown_spans.specs.Callback.{Asks}
 use Rattle.markdown_chains.specs.Counts.{WorkRises}
 use Rattle.markdown_inline.specs.Elements.{Placed, Element, question, event}
-use Rattle.markdown_inline.specs.ParserLeft.{parser_text, parser_definitions, parser_callback, elements, parser_counts, parser_work, IsOver}
-use Rattle.markdown_inline.specs.Slices.{texts_of, AreFrom}
+use Rattle.markdown_inline.specs.ParserLeft.{parser_text, parser_definitions, parser_callback, elements, parser_counts}
+use Rattle.markdown_inline.specs.ParserLeft.{parser_work, IsOver}
+use Rattle.markdown_inline.specs.Slices.{texts_of, AreFrom, StartIsFrom}
 use Rattle.markdown_inline.specs.declared.walk.Parser.{Parser}
 
--- an event is one of a reading of the source: by the bytes of its texts, and each text is of the origin that is read
+-- an event is one of a reading of the source: by the bytes of its texts, and each text is of the origin that is read;
+-- the destination of an autolink or a wikilink is a slice
 pub record IsEventOf (source : List ℕ) (e : Event) (placed : Placed) : Type 0 where
   pub view : placed.0 ≡ event_view e
   pub texts : AreFrom source placed.2 (texts_of e)
+  pub start : StartIsFrom source e
 
 -- so is an event with its range
 pub record IsPlacedOf (source : List ℕ) (e : Event × Range ℕ) (placed : Placed) : Type 0 where
@@ -26,24 +29,28 @@ pub record IsPlacedOf (source : List ℕ) (e : Event × Range ℕ) (placed : Pla
 -- From s to t an item was given: the callback went by these questions and answers, and, whatever answers
 -- follow, what was left is these questions, the event that the item is, and then what is left now. The counts rose by
 -- those of the chain that was resolved, if one was.
-pub record GivesItem {F I : Type 0} (step : F → Question → Option Answer → F → Type 0) (is_of : List ℕ → I → Placed → Type 0)
+pub record GivesItem {F I : Type 0} (step : F → Question → Option Answer → F → Type 0) (is_of : List ℕ → I → Placed
+    → Type 0)
     (s : Parser F) (item : I) (t : Parser F) : Type 0 where
   pub questions : List Question
   pub answers : Answers
   pub asked : Asks step (parser_callback s) questions answers (parser_callback t)
   pub placed : Placed
   pub is_item : is_of (parser_text s) item placed
-  pub left : (later : Answers) → elements s (answers ++ later) ≡ map question questions ++ event placed ∷ elements t later
+  pub left : (later : Answers) → elements s (answers ++ later) ≡ map question questions
+      ++ event placed ∷ elements t later
   pub counts : (later : Answers) → WorkRises (parser_counts s (answers ++ later)) (parser_work s) (parser_work t)
 
 -- an error came, which is one of memory: the callback went by these questions, with which what was left
 -- begins, and these answers; and the walk is over. What it leaves of the counts is not said.
-pub record GivesError {F : Type 0} (step : F → Question → Option Answer → F → Type 0) (s : Parser F) (fault : Fault) (t : Parser F) : Type 0 where
+pub record GivesError {F : Type 0} (step : F → Question → Option Answer → F → Type 0) (s : Parser F) (fault : Fault)
+    (t : Parser F) : Type 0 where
   pub memory : fault ≡ Memory
   pub questions : List Question
   pub answers : Answers
   pub asked : Asks step (parser_callback s) questions answers (parser_callback t)
-  pub begins : (later : Answers) → (others : List Element) × (elements s (answers ++ later) ≡ map question questions ++ others)
+  pub begins : (later : Answers) → (others : List Element) × (elements s (answers ++ later) ≡ map question questions
+      ++ others)
   pub over : IsOver t
 
 -- None came: nothing was left, nothing was asked, and the walk is over. The counts rose as at an event.
@@ -54,9 +61,11 @@ pub record GivesNone {F : Type 0} (s t : Parser F) : Type 0 where
   pub counts : (answers : Answers) → WorkRises (parser_counts s answers) (parser_work s) (parser_work t)
 
 -- the whole: beside this the text and its definitions stay, and where the walk is over None comes, and it stays over
-pub record NextGives {F I : Type 0} (step : F → Question → Option Answer → F → Type 0) (is_of : List ℕ → I → Placed → Type 0)
+pub record NextGives {F I : Type 0} (step : F → Question → Option Answer → F → Type 0) (is_of : List ℕ → I → Placed
+    → Type 0)
     (s : Parser F) (r : Option (Result I Fault)) (t : Parser F) : Type 0 where
-  pub gives : MatchOption r (GivesNone s t) (λ item. MatchResult item (λ e. GivesItem step is_of s e t) (λ fault. GivesError step s fault t))
+  pub gives : MatchOption r (GivesNone s t) (λ item. MatchResult item (λ e. GivesItem step is_of s e t)
+      (λ fault. GivesError step s fault t))
   pub text : parser_text t ≡ parser_text s
   pub definitions : parser_definitions t ≡ parser_definitions s
   pub stays : IsOver s → (r ≡ None) × IsOver t

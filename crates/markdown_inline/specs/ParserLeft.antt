@@ -46,7 +46,9 @@ rules_of blocks asks = record {
 -- the reading of a block result, for these answers, where there is somebody to ask and where not
 abbrev pub reading_of : Blocks → Bool → Answers → List Element
 reading_of blocks asks answers =
-    reading (setting_of (block_text blocks) (rules_of blocks asks)) plain_tags (no_blocks (block_text blocks)) (document (block_text blocks) (tables_at_start (block_parts blocks)) (block_tree blocks).nodes) nothing (known_at_start (block_text blocks) answers)
+    reading (setting_of (block_text blocks) (rules_of blocks asks)) plain_tags (no_blocks (block_text blocks))
+    (document (block_text blocks) (tables_at_start (block_parts blocks)) (block_tree blocks).nodes) nothing
+    (known_at_start (block_text blocks) answers)
 
 -- the text that a parser reads
 abbrev pub parser_text : {F : Type 0} → Parser F → List ℕ
@@ -66,11 +68,16 @@ parser_work p = p.resolver.work
 
 -- what the rules of its chains go by
 abbrev pub parser_setting : {F : Type 0} → Parser F → Setting
-parser_setting p = setting_of p.resolver.text.now (rules_from p.resolver.options p.resolver.tables (is_some p.resolver.callback))
+parser_setting p = setting_of p.resolver.text.now (rules_from p.resolver.options p.resolver.tables
+    (is_some p.resolver.callback))
 
 -- what is known to the chain that comes next, where these answers are to come
 abbrev pub parser_known : {F : Type 0} → Parser F → Answers → Known
-parser_known p answers = record { limit = p.resolver.limit; answers = answers; uses = uses_of p.resolver.tables.footdefs }
+parser_known p answers = record {
+  limit = p.resolver.limit;
+  answers = answers;
+  uses = uses_of p.resolver.tables.footdefs;
+}
 
 -- the counts of the chain that it resolves before its next event, for these answers; none where it resolves none
 abbrev pub parser_counts : {F : Type 0} → Parser F → Answers → ChainCounts
@@ -82,7 +89,8 @@ elements p answers = tree_left (parser_setting p) (tables_of p.resolver.tables) 
 
 -- all of the reading of a block result is left, for every list of answers
 abbrev pub ReadsBlocks : {F : Type 0} → Blocks → Parser F → Type 0
-ReadsBlocks blocks p = (answers : Answers) → elements p answers ≡ reading_of blocks (is_some (parser_callback p)) answers
+ReadsBlocks blocks p = (answers : Answers)
+    → elements p answers ≡ reading_of blocks (is_some (parser_callback p)) answers
 
 -- the same of some block result of a text and options: one that is well formed and covers the text
 abbrev pub ReadsText : {F : Type 0} → List ℕ → Options → Parser F → Type 0

@@ -15,7 +15,8 @@ use Rattle.markdown_chains.specs.Setting.{Setting}
 -- follows, and `whole` is the reading of the chain from this tree on, where it is open
 abbrev pub opened : Shape → Range ℕ → (inside : Reading → Reading) → (after whole : Reading) → Reading
 opened (leaf e origins) range inside after whole = then_reads (e, range, origins) after
-opened (enclosed tag) range inside after whole = then_reads (start tag, range, []) (inside (then_reads (end (end_of tag), range, []) after))
+opened (enclosed tag) range inside after whole = then_reads (start tag, range, [])
+    (inside (then_reads (end (end_of tag), range, []) after))
 opened plain range inside after whole = inside after
 opened backslash_break range inside after whole = then_reads (hard_break, range, []) after
 opened (unresolved b) range inside after whole = whole
@@ -24,12 +25,14 @@ opened (unresolved b) range inside after whole = whole
 abbrev pub settled_reading : {A : Type 0} → Forest (Label A) → Reading → Reading
 settled_reading nil after = after
 settled_reading (node a below later) after =
-    opened a.part.shape a.part.range (λ inner. settled_reading below inner) (settled_reading later after) (settled_reading later after)
+    opened a.part.shape a.part.range (λ inner. settled_reading below inner) (settled_reading later after)
+    (settled_reading later after)
 
 -- the questions of a chain, the forest that it is resolved to, and what comes after it, with what is known then
 abbrev pub then_resolved : {A : Type 0} → Setting → Tags A → Outcome A → Reading → List Element
 then_resolved s tags r after = map question r.questions ++ settled_reading (all_paired s r.forest) after r.known
 
+-- the reading of a chain from its first open item on, and of what comes after it
 abbrev pub chain_reading : {A : Type 0} → Setting → Tags A → Above → Forest (Label A) → Reading → Reading
 chain_reading s tags above chain after known = then_resolved s tags (resolved s tags above chain known) after
 
@@ -38,5 +41,6 @@ chain_reading s tags above chain after known = then_resolved s tags (resolved s 
 abbrev pub reading : {A : Type 0} → Setting → Tags A → Above → Forest (Label A) → Reading → Reading
 reading s tags above nil after = after
 reading s tags above (node a below later) after =
-    opened a.part.shape a.part.range (λ inner. reading s tags (inside_label a above) below inner) (reading s tags above later after)
+    opened a.part.shape a.part.range (λ inner. reading s tags (inside_label a above) below inner)
+    (reading s tags above later after)
     (chain_reading s tags above (node a below later) after)

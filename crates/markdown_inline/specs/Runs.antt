@@ -33,14 +33,16 @@ module _ {I : Type 0} (is_of : List ℕ → I → Placed → Type 0) where
     pub events : List Placed
     pub are : AreOf (parser_text p) given events
     pub answers : Answers
-    pub begins : (later : Answers) → (others : List Placed) × (events_of (elements p (answers ++ later)) ≡ events ++ others)
+    pub begins : (later : Answers) → (others : List Placed) × (events_of (elements p (answers ++ later)) ≡ events
+        ++ others)
 
   -- there is no third way
   abbrev pub IsRun : {F : Type 0} → Parser F → List (Result I Fault) → Type 0
   IsRun p all = GaveAll p all ⊎ WasRefused p all
 
   -- the items are all events that were left, for the answers that the callback gave to all questions that were left
-  pub record GaveRest {F : Type 0} (step : F → Question → Option Answer → F → Type 0) (p : Parser F) (given : List I) (callback : Option F) : Type 0 where
+  pub record GaveRest {F : Type 0} (step : F → Question → Option Answer → F → Type 0) (p : Parser F) (given : List I)
+      (callback : Option F) : Type 0 where
     pub events : List Placed
     pub are : AreOf (parser_text p) given events
     pub answers : Answers

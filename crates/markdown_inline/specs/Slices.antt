@@ -1,10 +1,14 @@
--- Texts of events that are slices of the source.
+-- Texts of events that are slices of the source: those of events that are one leaf, and destinations of links.
 use Rattle.markdown_base.specs.declared.event.Event.TheVariants as step
 use Rattle.std.specs.Prelude.{ℕ, List, [], ◌∷◌}
 use Rattle.markdown_base.specs.declared.cow_str.CowStr.{CowStr}
 use Rattle.markdown_base.specs.declared.cow_str.CowStr.TheVariants.{Borrowed}
 use Rattle.markdown_base.specs.declared.event.Event.{Event}
-use Rattle.markdown_chains.specs.Origins.{Origin, sliced, made, StandsIn}
+use Rattle.markdown_base.specs.declared.tag.LinkType.{LinkType}
+use Rattle.markdown_base.specs.declared.tag.Tag.{Tag}
+use Rattle.markdown_base.specs.declared.tag.Tag.TheVariants as opens
+use Rattle.markdown_chains.specs.Origins.{Origin, sliced, made, origin_of, StandsIn, IsLinkFrom}
+use Rattle.markdown_chains.specs.Tables.{link_view}
 
 -- a text is borrowed, and is the source's bytes over some range
 abbrev pub IsSliceOf : List ℕ → CowStr → Type 0
@@ -32,3 +36,18 @@ abbrev pub AreFrom : List ℕ → List Origin → List CowStr → Type 0
 AreFrom source (origin ∷ origins) (c ∷ cows) = IsFrom source origin c × AreFrom source origins cows
 AreFrom source (origin ∷ origins) [] = Unit {0}
 AreFrom source [] cows = Unit {0}
+
+-- a link or an image leads to a slice, if it is of a type that does
+abbrev pub LeadsFrom : List ℕ → LinkType → (destination title label : CowStr) → Type 0
+LeadsFrom source link_type destination title label =
+    IsLinkFrom source (origin_of destination) (link_view (link_type, destination, title, label))
+
+abbrev pub TagIsFrom : List ℕ → Tag → Type 0
+TagIsFrom source (opens.Link link_type destination title label) = LeadsFrom source link_type destination title label
+TagIsFrom source (opens.Image link_type destination title label) = LeadsFrom source link_type destination title label
+TagIsFrom source other = Unit {0}
+
+-- so does the Start of one
+abbrev pub StartIsFrom : List ℕ → Event → Type 0
+StartIsFrom source (step.Start tag) = TagIsFrom source tag
+StartIsFrom source other = Unit {0}

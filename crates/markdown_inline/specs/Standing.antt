@@ -20,7 +20,8 @@ use Rattle.markdown_chains.specs.Tables.{Tables, Named}
 -- the chains that follow the nodes of a spine are kept
 abbrev pub AboveKept : List ℕ → Tables → List (Node Item) → List ℕ → Type 0
 AboveKept source tables nodes [] = ⊤
-AboveKept source tables nodes (ix ∷ deeper) = IsKept (trees_from source tables nodes (sibling_of nodes ix)) × AboveKept source tables nodes deeper
+AboveKept source tables nodes (ix ∷ deeper) = IsKept (trees_from source tables nodes (sibling_of nodes ix))
+    × AboveKept source tables nodes deeper
 
 -- the nodes of a spine lie in the text
 abbrev pub SpineLies : List ℕ → List (Node Item) → List ℕ → Type 0
@@ -28,7 +29,8 @@ SpineLies source nodes spine = AllByRecursion (λ ix. LiesIn source (item_at nod
 
 -- a walk stands at a link below the nodes of a spine: in what is left each item is placed, no node stands twice,
 -- no entry is named twice, below the items of an open chain nothing asks, and what was gone into lies in the text
-pub record Stands (source : List ℕ) (tables : Tables) (nodes : List (Node Item)) (l : Option ℕ) (spine : List ℕ) : Type 0 where
+pub record Stands (source : List ℕ) (tables : Tables) (nodes : List (Node Item)) (l : Option ℕ) (spine : List ℕ) : Type
+    0 where
   pub walk : IsWalk (links_of nodes) (IsPlaced source tables nodes) l spine
   pub once : (n : ℕ) → times_left (links_of nodes) l spine n ≤ 1
   pub named_once : (n : Named) → named_left nodes l spine n ≤ 1
@@ -36,6 +38,7 @@ pub record Stands (source : List ℕ) (tables : Tables) (nodes : List (Node Item
   pub above_kept : AboveKept source tables nodes spine
   pub spine_lies : SpineLies source nodes spine
 
+-- it has one proof at most
 IsQuiet-prop : {A : Type 0} (f : Forest (Label A)) → IsProp (IsQuiet f)
 IsQuiet-prop nil = Unit-prop
 IsQuiet-prop (node a below after) =
@@ -43,10 +46,13 @@ IsQuiet-prop (node a below after) =
     let behind = IsQuiet-prop after in
     hlevel props
 
+-- so has this
 IsQuietBelow-prop : {A : Type 0} (f : Forest (Label A)) → IsProp (IsQuietBelow f)
 IsQuietBelow-prop nil = Unit-prop
-IsQuietBelow-prop (node a below after) = let inside = IsQuiet-prop below in let behind = IsQuietBelow-prop after in hlevel props
+IsQuietBelow-prop (node a below after) = let inside = IsQuiet-prop below in let behind = IsQuietBelow-prop after
+    in hlevel props
 
+-- and this
 IsKept-prop : {A : Type 0} (f : Forest (Label A)) → IsProp (IsKept f)
 IsKept-prop nil = Unit-prop
 IsKept-prop (node a below after) =
@@ -55,17 +61,23 @@ IsKept-prop (node a below after) =
     let behind = IsKept-prop after in
     hlevel
 
-AboveKept-prop : (source : List ℕ) (tables : Tables) (nodes : List (Node Item)) (spine : List ℕ) → IsProp (AboveKept source tables nodes spine)
+-- and this
+AboveKept-prop : (source : List ℕ) (tables : Tables) (nodes : List (Node Item)) (spine : List ℕ)
+    → IsProp (AboveKept source tables nodes spine)
 AboveKept-prop source tables nodes [] = Unit-prop
 AboveKept-prop source tables nodes (ix ∷ deeper) =
     let here = IsKept-prop (trees_from source tables nodes (sibling_of nodes ix)) in
     let others = AboveKept-prop source tables nodes deeper in
     hlevel
 
-pub Stands-prop : (source : List ℕ) (tables : Tables) (nodes : List (Node Item)) (l : Option ℕ) (spine : List ℕ) → IsProp (Stands source tables nodes l spine)
+-- and that a walk stands in its tree
+pub Stands-prop : (source : List ℕ) (tables : Tables) (nodes : List (Node Item)) (l : Option ℕ) (spine : List ℕ)
+    → IsProp (Stands source tables nodes l spine)
 Stands-prop source tables nodes l spine =
-    let walk = IsWalk-prop (links_of nodes) (IsPlaced source tables nodes) (IsPlaced-prop source tables nodes) l spine in
+    let walk = IsWalk-prop (links_of nodes) (IsPlaced source tables nodes) (IsPlaced-prop source tables nodes) l spine
+    in
     let here = IsKept-prop (trees_from source tables nodes l) in
     let above = AboveKept-prop source tables nodes spine in
-    let lies = AllByRecursion-prop (λ ix. LiesIn source (item_at nodes ix)) (λ ix. LiesIn-prop source (item_at nodes ix)) spine in
+    let lies = AllByRecursion-prop (λ ix. LiesIn source (item_at nodes ix))
+    (λ ix. LiesIn-prop source (item_at nodes ix)) spine in
     hlevel props

@@ -9,7 +9,8 @@ use Rattle.markdown_base.specs.declared.item.Item.{Item}
 use Rattle.markdown_base.specs.declared.item.ItemBody.{ItemBody}
 use Rattle.markdown_base.specs.declared.node.Node.{Node}
 use Rattle.markdown_base.specs.declared.tag.TagEnd.{TagEnd}
-use Rattle.markdown_chains.specs.Document.{plain_tags, Shape, leaf, enclosed, plain, backslash_break, unresolved, shape_of}
+use Rattle.markdown_chains.specs.Document.{plain_tags, Shape, leaf, enclosed, plain, backslash_break, unresolved}
+use Rattle.markdown_chains.specs.Document.{shape_of}
 use Rattle.markdown_inline.specs.Elements.{Reading, nothing, then_reads}
 use Rattle.markdown_inline.specs.Reading.{reading}
 use Rattle.markdown_chains.specs.Above.{Above, no_blocks, inside_item, above_at}
@@ -46,4 +47,5 @@ around s above tables nodes (ix ∷ deeper) after =
 -- what is left of a walk
 unfoldable pub left_of : Setting → Tables → List (Node Item) → Option ℕ → List ℕ → Reading
 left_of s tables nodes cursor spine =
-    reading s plain_tags (above_at s.text nodes spine) (trees_from s.text tables nodes cursor) (around s (no_blocks s.text) tables nodes spine nothing)
+    reading s plain_tags (above_at s.text nodes spine) (trees_from s.text tables nodes cursor)
+    (around s (no_blocks s.text) tables nodes spine nothing)

@@ -15,7 +15,7 @@ use Rattle.markdown_spans.specs.Allocations.{Allocated}
 use Rattle.markdown_chains.specs.Document.{Origin, Shape, event_of_shape, enclosed, plain}
 use Rattle.markdown_inline.specs.Elements.{Placed, Reading, event}
 use Rattle.markdown_chains.specs.Setting.{Rules, Setting, Known, setting_of}
-use Rattle.markdown_inline.specs.Slices.{texts_of, AreFrom}
+use Rattle.markdown_inline.specs.Slices.{texts_of, AreFrom, TagIsFrom, StartIsFrom}
 use Rattle.markdown_inline.specs.Standing.{Stands}
 use Rattle.markdown_chains.specs.Totals.{times_named}
 use Rattle.markdown_chains.specs.Tables.{Tables, Named, tables_of, IsSameEntry, IsNoShorter}
@@ -30,11 +30,12 @@ pub record OpensWith (source : List ℕ) (shape : Shape) (e : Event) : Type 0 wh
   pub origins : List Origin
   pub is_leaf : event_of_shape shape ≡ Some (event_view e, origins)
   pub texts : AreFrom source origins (texts_of e)
+  pub start : StartIsFrom source e
 
 -- an item of this shape begins so
 abbrev pub OpensTo : List ℕ → Shape → Opening → Type 0
 OpensTo source shape (opening.Leaf e) = OpensWith source shape e
-OpensTo source shape (opening.Start tag) = shape ≡ enclosed (tag_view tag)
+OpensTo source shape (opening.Start tag) = (shape ≡ enclosed (tag_view tag)) × TagIsFrom source tag
 OpensTo source shape opening.Plain = shape ≡ plain
 
 -- a tree of this body ends so
@@ -71,14 +72,17 @@ pub record Went (source : List ℕ) (s t : Arena Item) (held held' : Allocated) 
   pub left : (rules : Rules) (known : Known) → tree_left (setting_of source rules) (tables_of held) s known
       ≡ map event given ++ tree_left (setting_of source rules) (tables_of held') t known
   pub falls : tree_steps t < tree_steps s
-  pub ahead : (rules : Rules) (known : Known) → LeavesAhead given (tree_counts (setting_of source rules) (tables_of held) s known)
+  pub ahead : (rules : Rules) (known : Known)
+      → LeavesAhead given (tree_counts (setting_of source rules) (tables_of held) s known)
       (tree_counts (setting_of source rules) (tables_of held') t known)
 
 -- a step gave this event over this range
-pub record Gives (source : List ℕ) (s t : Arena Item) (held held' : Allocated) (e : Event) (range : Range ℕ) : Type 0 where
-  pub origins : List Origin
-  pub texts : AreFrom source origins (texts_of e)
-  pub went : Went source s t held held' ((event_view e, range, origins) ∷ [])
+pub record Gives (source : List ℕ) (s t : Arena Item) (held held' : Allocated) (e : Event) (range : Range ℕ) : Type 0
+  where
+    pub origins : List Origin
+    pub texts : AreFrom source origins (texts_of e)
+    pub start : StartIsFrom source e
+    pub went : Went source s t held held' ((event_view e, range, origins) ∷ [])
 
 -- a step that was refused memory: it left the tree as it was, and the walk was not over
 pub record IsRefused (s t : Arena Item) : Type 0 where
@@ -90,6 +94,7 @@ pub record IsBefore (s : Arena Item) (first : ℕ) : Type 0 where
   pub cursor : s.cursor ≡ Some first
   pub is_open : is_open (item_at s.nodes first).body ≡ true
 
+-- what a step over the tree gives
 abbrev pub StepGives : List ℕ → Arena Item → Arena Item → Allocated → Allocated → Step → Type 0
 StepGives source s t held held' step.Done = HasEnded s × (t ≡ s) × (held' ≡ held)
 StepGives source s t held held' step.Skip = Went source s t held held' []

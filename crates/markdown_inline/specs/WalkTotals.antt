@@ -35,6 +35,7 @@ abbrev pub one_if : Bool → ℕ
 one_if true = 1
 one_if false = 0
 
+-- 1 where an open item stands
 abbrev pub waits_at : List (Node Item) → Option ℕ → ℕ
 waits_at nodes None = 0
 waits_at nodes (Some ix) = one_if (is_open (item_at nodes ix).body)

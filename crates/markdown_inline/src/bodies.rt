@@ -1,14 +1,14 @@
 //! How an item that is not open begins and ends, by its body.
-ghost use Rattle.std.specs.Prelude.{◌≡◌, ◌<◌, ◌∷◌, [], IfOk, OnErr, Some, false, slice_range, length};
+ghost use Rattle.std.specs.Prelude.{◌≡◌, ◌<◌, ◌∷◌, [], IfOk, IfSome, List, OnErr, Some, false, slice_range, length, ℕ};
 ghost use Rattle.std.specs.Option.{option_map};
 ghost use Rattle.markdown_base.specs.Event.{event_view, tag_view, link, image};
 ghost use Rattle.markdown_base.specs.CowText.{text_of};
 ghost use Rattle.markdown_base.specs.Item.{LiesIn, is_open};
 ghost use Rattle.markdown_spans.specs.Allocations.{HasLink, LeavesEmptyLink};
 ghost use Rattle.markdown_chains.specs.Document.{container_of, math, other_shape, shape_of};
-ghost use Rattle.markdown_chains.specs.Places.{HasSlices};
+ghost use Rattle.markdown_chains.specs.Places.{HasSliceLink, HasSlices};
 ghost use Rattle.markdown_chains.specs.Tables.{NamesEntries, link_at, tables_of};
-ghost use Rattle.markdown_inline.specs.Slices.{texts_of};
+ghost use Rattle.markdown_inline.specs.Slices.{TagIsFrom, texts_of};
 ghost use Rattle.markdown_inline.specs.WalkSteps.{ClosesTo, OpensTo, TakesOnly};
 
 use crate::heading::heading_tag;
@@ -43,7 +43,8 @@ pub fn open_item<'a>(
     requires settled { is_open item.body ≡ false }
     requires named { NamesEntries (tables_of tables.old) item.body }
     requires slices { HasSlices text.now (tables_of tables.old) item.body }
-    ensures opens { IfOk result (OpensTo text.entry.now (shape_of (tables_of tables.old) (slice_range text.entry.now item.start item.end) item.body)) }
+    ensures opens { IfOk result (OpensTo text.entry.now
+        (shape_of (tables_of tables.old) (slice_range text.entry.now item.start item.end) item.body)) }
     ensures taken { IfOk result (λ _. TakesOnly item.body tables.old tables.new) }
     ensures refused { OnErr result (tables.new ≡ tables.old) }
 {
@@ -58,7 +59,8 @@ pub fn open_item<'a>(
 
 /// What its Start opens, of a body that names nothing.
 fn container_tag<'a>(body: ItemBody) -> Option<Tag<'a>>
-    ensures { option_map tag_view result ≡ container_of body }
+    ensures tag { option_map tag_view result ≡ container_of body }
+    ensures from { (source : List ℕ) → IfSome result (TagIsFrom source) }
 {
     match body {
         ItemBody::Paragraph => Some(Tag::Paragraph),
@@ -90,7 +92,8 @@ fn open_other<'a>(text: &'a str, tables: &mut Allocations<'a>, item: Item) -> Op
     requires settled { is_open item.body ≡ false }
     requires named { NamesEntries (tables_of tables.old) item.body }
     requires slices { HasSlices text.now (tables_of tables.old) item.body }
-    ensures opens { OpensTo text.entry.now (other_shape (tables_of tables.old) (slice_range text.entry.now item.start item.end) item.body) result }
+    ensures opens { OpensTo text.entry.now
+        (other_shape (tables_of tables.old) (slice_range text.entry.now item.start item.end) item.body) result }
     ensures taken { TakesOnly item.body tables.old tables.new }
 {
     match item.body {
@@ -125,7 +128,8 @@ fn open_other<'a>(text: &'a str, tables: &mut Allocations<'a>, item: Item) -> Op
 /// The source's text over an item.
 fn slice_of<'a>(text: &'a str, item: Item) -> CowStr<'a>
     requires { LiesIn text.now item }
-    ensures { (slice : _) × (result ≡ CowStr.Borrowed slice) × (slice.now ≡ slice_range text.entry.now item.start item.end) }
+    ensures { (slice : _) × (result ≡ CowStr.Borrowed slice)
+        × (slice.now ≡ slice_range text.entry.now item.start item.end) }
 {
     CowStr::Borrowed(&text[item.start..item.end])
 }
@@ -146,6 +150,7 @@ fn math_event<'a>(display: bool, text: CowStr<'a>) -> Event<'a>
 fn link_tag<'a>(tables: &mut Allocations<'a>, ix: LinkIndex) -> Tag<'a>
     requires { HasLink tables.old ix }
     ensures tag { tag_view result ≡ link (link_at tables.old.links ix.0) }
+    ensures from { (source : List ℕ) → HasSliceLink source (tables_of tables.old) ix.0 → TagIsFrom source result }
     ensures left { LeavesEmptyLink tables.old tables.new ix }
 {
     let (link_type, dest_url, title, id) = tables.take_link(ix);
@@ -161,6 +166,7 @@ fn link_tag<'a>(tables: &mut Allocations<'a>, ix: LinkIndex) -> Tag<'a>
 fn image_tag<'a>(tables: &mut Allocations<'a>, ix: LinkIndex) -> Tag<'a>
     requires { HasLink tables.old ix }
     ensures tag { tag_view result ≡ image (link_at tables.old.links ix.0) }
+    ensures from { (source : List ℕ) → HasSliceLink source (tables_of tables.old) ix.0 → TagIsFrom source result }
     ensures left { LeavesEmptyLink tables.old tables.new ix }
 {
     let (link_type, dest_url, title, id) = tables.take_link(ix);

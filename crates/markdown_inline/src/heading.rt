@@ -1,12 +1,13 @@
 //! The Start of a heading, with what stands in braces behind it. Two headings may name the same attributes, so they
 //! are copied where texts are taken.
-ghost use Rattle.std.specs.Prelude.{◌≡◌, IfOk, IfSome, map};
+ghost use Rattle.std.specs.Prelude.{◌≡◌, IfOk, IfSome, List, map, ℕ};
 ghost use Rattle.std.specs.Option.{option_map};
 ghost use Rattle.markdown_base.specs.CowText.{text_of};
 ghost use Rattle.markdown_base.specs.Event.{attribute_view, heading, tag_view};
 ghost use Rattle.markdown_spans.specs.Allocations.{HasHeading};
 ghost use Rattle.markdown_chains.specs.Document.{heading_of};
 ghost use Rattle.markdown_chains.specs.Tables.{NamesEntries, attributes_for, attributes_view, heading_with, tables_of};
+ghost use Rattle.markdown_inline.specs.Slices.{TagIsFrom};
 
 use markdown_base::block_parts::HeadingAttributes;
 use markdown_base::cow_str::CowStr;
@@ -23,7 +24,8 @@ pub fn heading_tag<'a>(
     body: ItemBody,
 ) -> Result<Option<Tag<'a>>, AllocError>
     requires { NamesEntries (tables_of tables.now) body }
-    ensures { IfOk result (λ tag. option_map tag_view tag ≡ heading_of (tables_of tables.now) body) }
+    ensures tag { IfOk result (λ tag. option_map tag_view tag ≡ heading_of (tables_of tables.now) body) }
+    ensures from { (source : List ℕ) → IfOk result (λ tag. IfSome tag (TagIsFrom source)) }
 {
     match body {
         ItemBody::Heading(level, named) => {
@@ -42,7 +44,9 @@ fn heading_start<'a>(
     named: Option<HeadingIndex>,
 ) -> Result<Tag<'a>, AllocError>
     requires { IfSome named (HasHeading tables.now) }
-    ensures { IfOk result (λ tag. tag_view tag ≡ heading (heading_with level (attributes_for tables.now.headings named))) }
+    ensures tag { IfOk result (λ tag. tag_view tag
+        ≡ heading (heading_with level (attributes_for tables.now.headings named))) }
+    ensures from { (source : List ℕ) → IfOk result (TagIsFrom source) }
 {
     match named {
         None => Ok(Tag::Heading {
@@ -61,7 +65,8 @@ fn heading_copy<'a>(
     level: HeadingLevel,
     attributes: &HeadingAttributes<'a>,
 ) -> Result<Tag<'a>, AllocError>
-    ensures { IfOk result (λ tag. tag_view tag ≡ heading (heading_with level (attributes_view attributes.now))) }
+    ensures tag { IfOk result (λ tag. tag_view tag ≡ heading (heading_with level (attributes_view attributes.now))) }
+    ensures from { (source : List ℕ) → IfOk result (TagIsFrom source) }
 {
     let id = copy_of(alloc, &attributes.id)?;
     let classes = class_copies(alloc, &attributes.classes)?;

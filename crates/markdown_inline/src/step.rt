@@ -52,7 +52,8 @@ pub fn step_at<'a>(
 ) -> Result<Step<'a>, AllocError>
     requires stands { TreeStands text.now (tables_of tables.old) tree.old }
     requires at_ix { tree.old.cursor ≡ Some ix }
-    ensures given { MatchResult result (StepGives text.entry.now tree.old tree.new tables.old tables.new) (λ _. IsRefused tree.old tree.new) }
+    ensures given { MatchResult result (StepGives text.entry.now tree.old tree.new tables.old tables.new)
+        (λ _. IsRefused tree.old tree.new) }
     ensures definitions { tables.new.refdefs ≡ tables.old.refdefs }
 {
     let item = *tree.item(ix);
@@ -84,7 +85,8 @@ pub fn take_step<'a>(
     tree: &mut Tree<Item>,
 ) -> Result<Step<'a>, AllocError>
     requires { TreeStands text.now (tables_of tables.old) tree.old }
-    ensures given { MatchResult result (StepGives text.entry.now tree.old tree.new tables.old tables.new) (λ _. IsRefused tree.old tree.new) }
+    ensures given { MatchResult result (StepGives text.entry.now tree.old tree.new tables.old tables.new)
+        (λ _. IsRefused tree.old tree.new) }
     ensures definitions { tables.new.refdefs ≡ tables.old.refdefs }
 {
     match tree.cur() {

@@ -186,7 +186,8 @@ impl<'input, F: BrokenLinkCallback<'input>> Parser<'input, F> {
     ghost use Rattle.std.specs.Prelude.{◌≡◌, IfOk, IfErr, IfSome};
     ghost use Rattle.markdown_spans.specs.Blocks.{block_text, block_parts};
     ghost use Rattle.markdown_spans.specs.Definitions.{firsts};
-    ghost use Rattle.markdown_inline.specs.ParserLeft.{ReadsText, ReadsBlocks, parser_text, parser_callback, parser_definitions, parser_work, offset_parser};
+    ghost use Rattle.markdown_inline.specs.ParserLeft.{ReadsText, ReadsBlocks, parser_text, parser_callback};
+    ghost use Rattle.markdown_inline.specs.ParserLeft.{parser_definitions, parser_work, offset_parser};
 
     /// A parser of a text, which asks `callback`, where there is one, about each link label that is
     /// defined nowhere.
@@ -213,7 +214,8 @@ impl<'input, F: BrokenLinkCallback<'input>> Parser<'input, F> {
     ) -> Result<Self, Fault>
         ensures left { IfOk result (ReadsBlocks blocks.entry) }
         ensures text { IfOk result (λ p. parser_text p ≡ block_text blocks.entry) }
-        ensures definitions { IfOk result (λ p. parser_definitions p ≡ firsts (block_parts blocks.entry).definitions.items) }
+        ensures definitions { IfOk result (λ p. parser_definitions p
+            ≡ firsts (block_parts blocks.entry).definitions.items) }
         ensures callback { IfOk result (λ p. parser_callback p ≡ callback) }
         ensures refused { IfErr result (λ fault. fault ≡ Fault.Memory) }
     {
@@ -268,6 +270,7 @@ impl<'input, F: BrokenLinkCallback<'input>> OffsetIter<'input, F> {
     ghost use Rattle.markdown_inline.specs.NextGives.{IsPlacedOf};
     ghost use Rattle.markdown_inline.specs.ParserLeft.{parser_callback, parser_definitions, parser_work, offset_parser};
     ghost use Rattle.markdown_inline.specs.Runs.{GaveRest};
+    ghost use Rattle.markdown_inline.specs.WholeRun.{IsWholeFromStart};
 
     /// The definitions that references find, at any moment of the walk.
     pub fn reference_definitions(&self) -> &RefDefs<'input>
@@ -290,7 +293,9 @@ impl<'input, F: BrokenLinkCallback<'input>> OffsetIter<'input, F> {
         alloc: Global,
     ) -> Result<(Vec<(Event<'input>, Range<usize>)>, Option<F>), Fault>
         requires { IfSome (parser_callback (offset_parser self)) F.can_ask }
-        ensures all { IfOk result (λ given. GaveRest IsPlacedOf F.answers (offset_parser self.entry) given.0.items given.1) }
+        ensures all { IfOk result (λ given. GaveRest IsPlacedOf F.answers (offset_parser self.entry) given.0.items
+            given.1) }
+        ensures whole { IfOk result (λ given. IsWholeFromStart (offset_parser self.entry) given.0.items) }
         ensures refused { IfErr result (λ fault. fault ≡ Fault.Memory) }
     {
         let OffsetIter { inner } = self;

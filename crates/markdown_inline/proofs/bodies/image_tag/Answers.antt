@@ -1,8 +1,15 @@
 -- The parts of the tag are those of the link.
 use Rattle.std.proofs.Common.{sym, ap}
 use Rattle.markdown_base.specs.Event.{image}
-use Rattle.markdown_inline.proofs.TakingLemmas.{link_at-read}
+use Rattle.markdown_chains.specs.Tables.{tables_of}
+use Rattle.markdown_inline.proofs.TakingLemmas.{leads_from, link_at-read}
 use Rattle.markdown_inline.proofs.bodies.image_tag.Goals as goal
 
 pub returns-clause-tag : goal.returns-clause-tag
-returns-clause-tag c = ap image (sym (link_at-read c.args.tables.now.links c.args.ix.0 c.take_link-link_type.result c.requires c.take_link-link_type.ensures.taken))
+returns-clause-tag c = ap image (sym (link_at-read c.args.tables.now.links c.args.ix.0 c.take_link-link_type.result c.requires
+    c.take_link-link_type.ensures.taken))
+
+pub returns-clause-from : goal.returns-clause-from
+returns-clause-from c source slices =
+    leads_from source (tables_of c.args.tables.now) c.args.ix.0 c.take_link-link_type.result c.requires c.take_link-link_type.ensures.taken
+    slices

@@ -3,8 +3,12 @@ use Rattle.std.specs.Prelude.{◌-◌}
 use Rattle.markdown_inline.proofs.TakingLemmas.{attributes_at-read, place_within}
 use Rattle.markdown_inline.proofs.heading.heading_start.Goals as goal
 
-pub returns-in-Some : goal.returns-in-Some
-returns-in-Some c =
+pub returns-in-Some-clause-tag : goal.returns-in-Some-clause-tag
+returns-in-Some-clause-tag c =
     let here = rw c.in-Some.is at c.requires in
     let headings = c.args.tables.now.headings in
-    rw (c.in-Some.is, attributes_at-read headings (c.in-Some.ix.0 - 1) c.index.result.now (place_within headings c.in-Some.ix here) c.index.ensures) c.heading_copy.ensures
+    rw (
+      c.in-Some.is,
+      attributes_at-read headings (c.in-Some.ix.0 - 1) c.index.result.now (place_within headings c.in-Some.ix here)
+          c.index.ensures,
+    ) c.heading_copy.ensures.tag

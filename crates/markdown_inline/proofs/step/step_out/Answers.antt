@@ -7,7 +7,8 @@ use Rattle.markdown_inline.proofs.step.step_out.Goals as goal
 pub returns-in-None-close_item : goal.returns-in-None-close_item
 returns-in-None-close_item c =
     let popped = c.in-Some.ensures.goes in
-    went_out_plain c.args.text.now c.args.tree.now c.next_sibling.new.self c.args.tables.now c.in-Some.ix c.item-item.result.now popped.0 c.requires.stands c.requires.at_end popped.1
+    went_out_plain c.args.text.now c.args.tree.now c.next_sibling.new.self c.args.tables.now c.in-Some.ix c.item-item.result.now popped.0
+    c.requires.stands c.requires.at_end popped.1
     (rw popped.2 at (c.item-item.ensures no_item)) c.in-None-close_item.ensures (rw popped.2 at c.next_sibling.ensures.goes)
 
 pub returns-in-Some-close_item : goal.returns-in-Some-close_item
@@ -16,6 +17,8 @@ returns-in-Some-close_item c =
     record {
       origins = [];
       texts = tt;
-      went = went_out_end c.args.text.now c.args.tree.now c.next_sibling.new.self c.args.tables.now c.in-Some.ix c.item-item.result.now popped.0 _ c.requires.stands c.requires.at_end popped.1
+      start = tt;
+      went = went_out_end c.args.text.now c.args.tree.now c.next_sibling.new.self c.args.tables.now c.in-Some.ix c.item-item.result.now
+          popped.0 _ c.requires.stands c.requires.at_end popped.1
           (rw popped.2 at (c.item-item.ensures no_item)) c.in-Some-close_item.ensures (rw popped.2 at c.next_sibling.ensures.goes);
     }

@@ -2,7 +2,8 @@
 use Rattle.markdown_chains.specs.Tables.{tables_of}
 use Rattle.std.proofs.Common.{refl}
 use Rattle.markdown_inline.specs.ParserLeft.{parser_setting}
-use Rattle.markdown_inline.proofs.ParserLemmas.{before_chain, above_chain, stands_chain, moved_give, moved_skip, moved_chain, moved_done, moved_refused, moved_stopped}
+use Rattle.markdown_inline.proofs.ParserLemmas.{before_chain, above_chain, stands_chain, moved_give, moved_skip, moved_chain, moved_done}
+use Rattle.markdown_inline.proofs.ParserLemmas.{moved_refused, moved_stopped}
 use Rattle.markdown_inline.proofs.WalkStepsLemmas.{stands_ended, stopped}
 use Rattle.markdown_inline.proofs.walk.Parser.advance_once.Goals as goal
 
@@ -28,18 +29,26 @@ invariant_of-self-in-Ok g c =
     let h = rw c.in-Ok-Chain.field-0-is at c.in-Ok-Chain.ensures.given in
     let s = c.args.self.now in
     record {
-      stands = rw c.in-Ok.ensures.text (stands_chain g.F.BrokenLinkCallback.answers (parser_setting s) s.tree c.resolve_chain.new.tree s.resolver.tables c.resolve_chain.new.self.tables c.in-Ok-Chain.first
-          s.resolver.limit c.resolve_chain.new.self.limit s.resolver.callback c.resolve_chain.new.self.callback s.resolver.work c.resolve_chain.new.self.work
+      stands = rw c.in-Ok.ensures.text (stands_chain g.F.BrokenLinkCallback.answers (parser_setting s) s.tree c.resolve_chain.new.tree
+          s.resolver.tables c.resolve_chain.new.self.tables c.in-Ok-Chain.first
+          s.resolver.limit c.resolve_chain.new.self.limit s.resolver.callback c.resolve_chain.new.self.callback s.resolver.work
+          c.resolve_chain.new.self.work
           s.stands h.0 (rw (h.1, h.2) at c.in-Ok.ensures.resolves));
     }
 
 pub invariant_of-self-in-Err-resolve_chain : goal.invariant_of-self-in-Err-resolve_chain
 invariant_of-self-in-Err-resolve_chain g c =
-    record { stands = stands_ended c.resolve_chain.new.self.text.now (tables_of c.resolve_chain.new.self.tables) c.stop.new.self (stopped c.resolve_chain.new.tree c.stop.new.self c.stop.ensures) }
+    record {
+      stands = stands_ended c.resolve_chain.new.self.text.now (tables_of c.resolve_chain.new.self.tables) c.stop.new.self
+          (stopped c.resolve_chain.new.tree c.stop.new.self c.stop.ensures);
+    }
 
 pub invariant_of-self-in-Err : goal.invariant_of-self-in-Err
 invariant_of-self-in-Err g c =
-    record { stands = stands_ended c.args.self.now.resolver.text.now (tables_of c.take_step.new.tables) c.stop-in-Err.new.self (stopped c.take_step.new.tree c.stop-in-Err.new.self c.stop-in-Err.ensures) }
+    record {
+      stands = stands_ended c.args.self.now.resolver.text.now (tables_of c.take_step.new.tables) c.stop-in-Err.new.self
+          (stopped c.take_step.new.tree c.stop-in-Err.new.self c.stop-in-Err.ensures);
+    }
 
 pub returns-in-Ok-Done-clause-moves : goal.returns-in-Ok-Done-clause-moves
 returns-in-Ok-Done-clause-moves g c =
@@ -48,25 +57,36 @@ returns-in-Ok-Done-clause-moves g c =
 
 pub returns-in-Ok-Skip-clause-moves : goal.returns-in-Ok-Skip-clause-moves
 returns-in-Ok-Skip-clause-moves g c =
-    moved_skip g.F.BrokenLinkCallback.answers c.args.self.now _ (record { text = refl; options = refl; callback = refl; limit = refl; work = refl })
+    moved_skip g.F.BrokenLinkCallback.answers c.args.self.now _ (record {
+      text = refl;
+      options = refl;
+      callback = refl;
+      limit = refl;
+      work =
+          refl;
+    })
     (rw c.in-Ok-Skip.field-0-is at c.in-Ok-Skip.ensures.given)
 
 pub returns-in-Ok-Give-clause-moves : goal.returns-in-Ok-Give-clause-moves
 returns-in-Ok-Give-clause-moves g c =
-    moved_give c.args.self.now _ c.in-Ok-Give.event c.in-Ok-Give.range (record { text = refl; options = refl; callback = refl; limit = refl; work = refl })
+    moved_give c.args.self.now _ c.in-Ok-Give.event c.in-Ok-Give.range
+    (record { text = refl; options = refl; callback = refl; limit = refl; work = refl })
     (rw c.in-Ok-Give.field-0-is at c.in-Ok-Give.ensures.given)
 
 pub returns-in-Ok-clause-moves : goal.returns-in-Ok-clause-moves
 returns-in-Ok-clause-moves g c =
     let h = rw c.in-Ok-Chain.field-0-is at c.in-Ok-Chain.ensures.given in
-    moved_chain g.F.BrokenLinkCallback.answers c.args.self.now _ c.in-Ok-Chain.first c.in-Ok.ensures.text c.in-Ok.ensures.options c.args.self.now.stands h.0 (rw (h.1, h.2) at c.in-Ok.ensures.resolves)
+    moved_chain g.F.BrokenLinkCallback.answers c.args.self.now _ c.in-Ok-Chain.first c.in-Ok.ensures.text c.in-Ok.ensures.options
+    c.args.self.now.stands h.0 (rw (h.1, h.2) at c.in-Ok.ensures.resolves)
 
 pub returns-in-Err-resolve_chain-clause-moves : goal.returns-in-Err-resolve_chain-clause-moves
 returns-in-Err-resolve_chain-clause-moves g c =
     let h = rw c.in-Ok-Chain.field-0-is at c.in-Ok-Chain.ensures.given in
-    moved_stopped g.F.BrokenLinkCallback.answers c.args.self.now _ c.in-Ok-Chain.first c.args.self.now.stands h.0 (rw (h.1, h.2) at c.in-Err-resolve_chain.ensures.stops)
+    moved_stopped g.F.BrokenLinkCallback.answers c.args.self.now _ c.in-Ok-Chain.first c.args.self.now.stands h.0
+    (rw (h.1, h.2) at c.in-Err-resolve_chain.ensures.stops)
     (stopped c.resolve_chain.new.tree c.stop.new.self c.stop.ensures)
 
 pub returns-in-Err-clause-moves : goal.returns-in-Err-clause-moves
 returns-in-Err-clause-moves g c =
-    moved_refused g.F.BrokenLinkCallback.answers c.args.self.now _ c.take_step.new.tree refl c.in-Err.ensures.given (stopped c.take_step.new.tree c.stop-in-Err.new.self c.stop-in-Err.ensures)
+    moved_refused g.F.BrokenLinkCallback.answers c.args.self.now _ c.take_step.new.tree refl c.in-Err.ensures.given
+    (stopped c.take_step.new.tree c.stop-in-Err.new.self c.stop-in-Err.ensures)

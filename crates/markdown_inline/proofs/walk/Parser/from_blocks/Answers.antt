@@ -8,7 +8,10 @@ pub invariant_of-result : goal.invariant_of-result
 invariant_of-result g c =
     let parts = c.into_parts-tree.result in
     let rules = c.into_parts-tree.ensures.rules in
-    record { stands = rw (c.reset.ensures, tables_held parts.3 c.in_ok-tables.tables c.in_ok-tables.ensures.holds) (starts_stands parts.0.now parts.2.nodes parts.3 rules) }
+    record {
+      stands = rw (c.reset.ensures, tables_held parts.3 c.in_ok-tables.tables c.in_ok-tables.ensures.holds)
+          (starts_stands parts.0.now parts.2.nodes parts.3 rules);
+    }
 
 pub returns-clause-left : goal.returns-clause-left
 returns-clause-left g c answers =

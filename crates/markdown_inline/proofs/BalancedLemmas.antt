@@ -1,0 +1,47 @@
+-- The events of a forest in which no Start and no End stands alone are balanced.
+use Rattle.std.proofs.Common.{◌≡◌, ℕ, List, [], ◌∷◌, ◌++◌, refl, sym, subst, append_assoc, append-nil, arith}
+use Rattle.std.specs.declared.ops.Range.{Range}
+use Rattle.markdown_base.specs.Event.{EventView, start, end, end_of}
+use Rattle.markdown_base.specs.Forest.{Forest, nil, node}
+use Rattle.markdown_chains.specs.Document.{Shape, leaf, enclosed, plain, backslash_break, unresolved, Label}
+use Rattle.markdown_delims.proofs.SumLemmas.{sum_of}
+use Rattle.markdown_inline.specs.Balanced.{Ranged, Awaited, EndsInTurn, AreBalanced, AreBalancedFrom, BalancedLaw}
+use Rattle.markdown_inline.proofs.EndOrderLemmas.{total}
+use Rattle.markdown_inline.proofs.WholeReadingLemmas.{alone, alone_at, alone_event, events_in, opened_events, whole_events, whole_read}
+
+-- an event that is no Start and no End
+lone_turn : (e : EventView) (range : Range ℕ) (awaited : List Awaited) (rest : List Awaited → Type 0) → total (alone_event e) ≡ 0
+    → rest awaited → EndsInTurn e range awaited rest
+lone_turn (start tag) range awaited rest e h = cc e
+lone_turn (end x) range awaited rest e h = cc e
+lone_turn other range awaited rest e h = h
+
+-- before what goes on balanced stand events that keep what is awaited
+abbrev Goes : List Ranged → Type 0
+Goes es = (awaited : List Awaited) (rest : List Ranged) → AreBalancedFrom awaited rest → AreBalancedFrom awaited (es ++ rest)
+
+-- a tree before others
+goes_on : (shape : Shape) (range : Range ℕ) (es fs : List Ranged) → total (alone_at shape) ≡ 0 → Goes es → Goes fs
+    → Goes (opened_events shape range es fs)
+goes_on (leaf e origins) range es fs lone inside after awaited rest h =
+    lone_turn e range awaited (λ awaited. AreBalancedFrom awaited (fs ++ rest)) lone (after awaited rest h)
+goes_on (enclosed tag) range es fs lone inside after awaited rest h =
+    subst (λ xs. AreBalancedFrom ((end_of tag, range) ∷ awaited) xs) (sym (append_assoc es ((end (end_of tag), range) ∷ fs) rest))
+    (inside ((end_of tag, range) ∷ awaited) ((end (end_of tag), range) ∷ (fs ++ rest)) (refl, refl, after awaited rest h))
+goes_on plain range es fs lone inside after awaited rest h =
+    subst (λ xs. AreBalancedFrom awaited xs) (sym (append_assoc es fs rest)) (inside awaited (fs ++ rest) (after awaited rest h))
+goes_on backslash_break range es fs lone inside after awaited rest h = after awaited rest h
+goes_on (unresolved b) range es fs lone inside after awaited rest h = after awaited rest h
+
+-- so are the events of a forest before what goes on balanced
+balanced_in : {A : Type 0} (f : Forest (Label A)) → sum_of alone f ≡ 0 → Goes (events_in f)
+balanced_in nil lone awaited rest h = h
+balanced_in (node a below later) lone awaited rest h =
+    goes_on a.part.shape a.part.range (events_in below) (events_in later) (omega (arith, lone)) (balanced_in below (omega (arith, lone)))
+    (balanced_in later (omega (arith, lone))) awaited rest h
+
+pub balanced-law : BalancedLaw
+balanced-law blocks asks answers =
+    let r = whole_read blocks asks answers in
+    subst AreBalanced (sym (whole_events blocks asks answers)) (subst AreBalanced (append-nil (events_in r.forest))
+    (balanced_in r.forest r.lone [] [] refl))

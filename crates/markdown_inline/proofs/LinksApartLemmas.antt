@@ -1,0 +1,279 @@
+-- Resolving a chain in which no link stands, but autolinks, puts no link into a link: pass one keeps to it by the law of
+-- brackets, and pairing makes no link and moves none into another.
+use Rattle.std.proofs.Common.{◌≡◌, ℕ, Bool, true, false, List, [], ◌∷◌, ◌++◌, Some, None, refl, sym, ◌∙◌, append_assoc, arith}
+use Rattle.std.specs.Prelude.{⊤, slice_range}
+use Rattle.markdown_base.specs.Event.{TagView, link}
+use Rattle.markdown_base.specs.Forest.{Forest, nil, node}
+use Rattle.markdown_chains.specs.Above.{Above}
+use Rattle.markdown_chains.specs.Document.{Tags, Shape, leaf, enclosed, plain, backslash_break, unresolved, Label, shaped, is_unresolved}
+use Rattle.markdown_chains.specs.Document.{text_over}
+use Rattle.markdown_chains.specs.ChainRest.{open_body}
+use Rattle.markdown_chains.specs.Setting.{Setting, Known}
+use Rattle.markdown_chains.specs.Waiting.{text_if, is_quiet}
+use Rattle.markdown_code.specs.AfterLess.{Markup, autolink, html}
+use Rattle.markdown_code.specs.Finds.{Find, SpanText, code_span, code_trees, find, is_escaped, markup, markup_trees, math_span, nothing}
+use Rattle.markdown_code.specs.Finds.{read_tree, read_unless, trees_for}
+use Rattle.markdown_delims.specs.Layers.{enclosed_if, layer_of_one, layer_of_two, marks_of}
+use Rattle.markdown_delims.specs.Pairing.{paired}
+use Rattle.markdown_delims.specs.Quotes.{first_turn, is_closed_later, is_end, kind_of_shape, quotes_after, with_quotes}
+use Rattle.markdown_delims.specs.declared.marks.Marks.{Marks}
+use Rattle.markdown_delims.specs.declared.run.Delimiter.{Delimiter}
+use Rattle.markdown_delims.specs.declared.run.Delimiter.TheVariants.{Star, Underscore, Tilde, Caret}
+use Rattle.markdown_delims.proofs.KeepLemmas.{EachTree, IsReadable, MakesTrees, runs-keep}
+use Rattle.markdown_delims.proofs.LayerLawLemmas.{turn-made}
+use Rattle.markdown_delims.proofs.SumLemmas.{sum_of}
+use Rattle.markdown_brackets.specs.BracketDecision.{Progress}
+use Rattle.markdown_brackets.specs.LeftList.{Entry, done, waits}
+use Rattle.markdown_brackets.specs.NoLinkInLink.{AreFreeTrees, ClosesOverNone, HasMoreTrees, HasNoLinkInLink, HasNoneBelow, IsFreeOfLinks}
+use Rattle.markdown_brackets.specs.NoLinkInLink.{IsNoLink, OpensNoLink, is_autolink}
+use Rattle.markdown_brackets.specs.QuietItems.{all_done}
+use Rattle.markdown_brackets.proofs.NoLinkLemmas.{no_link_in_link}
+use Rattle.markdown_resolver.specs.PassOne.{around, pass_one, read_other}
+use Rattle.markdown_resolver.specs.Resolved.{all_paired, paired_from, paired_if_open, resolved}
+use Rattle.markdown_inline.proofs.EndOrderLemmas.{total, total_ends}
+use Rattle.markdown_inline.proofs.PairedEndsLemmas.{IsNoBracket, NumbersNoMarks, below_within}
+
+-- 1 for a link that is no autolink
+abbrev not_autolink : (is_autolink : Bool) → List ℕ
+not_autolink true = []
+not_autolink false = 1 ∷ []
+
+abbrev link_of : TagView → List ℕ
+link_of (link v) = not_autolink (is_autolink v.kind)
+link_of other = []
+
+abbrev links_at : Shape → List ℕ
+links_at (enclosed tag) = link_of tag
+links_at other = []
+
+-- a forest is free of links where it has none of them
+free_if : (b : Bool) → total (not_autolink b) ≡ 0 → b ≡ true
+free_if true e = refl
+free_if false e = cc e
+
+none_if : (b : Bool) → b ≡ true → total (not_autolink b) ≡ 0
+none_if true e = refl
+none_if false e = cc e
+
+free_tag : (tag : TagView) → total (link_of tag) ≡ 0 → OpensNoLink tag
+free_tag (link v) e = free_if (is_autolink v.kind) e
+free_tag other e = tt
+
+free_shape : (shape : Shape) → total (links_at shape) ≡ 0 → IsNoLink shape
+free_shape (enclosed tag) e = free_tag tag e
+free_shape other e = tt
+
+none_tag : (tag : TagView) → OpensNoLink tag → total (link_of tag) ≡ 0
+none_tag (link v) h = none_if (is_autolink v.kind) h
+none_tag other h = refl
+
+none_shape : (shape : Shape) → IsNoLink shape → total (links_at shape) ≡ 0
+none_shape (enclosed tag) h = none_tag tag h
+none_shape other h = refl
+
+-- what has nothing below it has no link there
+nothing_below : (A : Type 0) (shape : Shape) → HasNoneBelow {A = A} shape nil
+nothing_below A (enclosed (link v)) = tt
+nothing_below A (enclosed other) = tt
+nothing_below A (leaf e origins) = tt
+nothing_below A plain = tt
+nothing_below A backslash_break = tt
+nothing_below A (unresolved b) = tt
+
+-- links alone are counted
+links_numbered : NumbersNoMarks links_at
+links_numbered = record {
+  lone = λ e origins h. refl;
+  mark = λ tag h. no_bracket_no_link tag h;
+}
+  where
+    no_bracket_no_link : (tag : TagView) → IsNoBracket tag → link_of tag ≡ []
+    no_bracket_no_link (link v) h = absurd h
+    no_bracket_no_link other h = refl
+
+module _ {A : Type 0} where
+  abbrev links : Forest (Label A) → ℕ
+  links f = sum_of (λ (a : Label A). total (links_at a.part.shape)) f
+
+  free_from_count : (f : Forest (Label A)) → links f ≡ 0 → IsFreeOfLinks f
+  free_from_count nil e = tt
+  free_from_count (node a below after) e =
+      (free_shape a.part.shape (omega (arith, e)), free_from_count below (omega (arith, e)), free_from_count after (omega (arith, e)))
+
+  count_of_free : (f : Forest (Label A)) → IsFreeOfLinks f → links f ≡ 0
+  count_of_free nil h = refl
+  count_of_free (node a below after) h = omega (arith, none_shape a.part.shape h.0, count_of_free below h.1, count_of_free after h.2)
+
+  -- so pairing the chains of children leaves it free
+  free_below : (s : Setting) (f : Forest (Label A)) → IsFreeOfLinks f → IsFreeOfLinks (paired_if_open s (all_paired s f))
+  free_below s f h =
+      let paired_below : Forest (Label A) = paired_if_open s (all_paired s f) in
+      let within = below_within links_at links_numbered s f [] in
+      free_from_count paired_below (omega (
+        arith,
+        within.sums,
+        total_ends links_at paired_below [],
+        total_ends links_at f [],
+        count_of_free
+            f h,
+      ))
+
+  -- a tree: what a link has below it is free, and so on below
+  abbrev IsApart : Label A → Forest (Label A) → Type 0
+  IsApart a below = HasNoneBelow a.part.shape below × HasNoLinkInLink below
+
+  from_each : (f : Forest (Label A)) → EachTree IsApart f → HasNoLinkInLink f
+  from_each nil h = tt
+  from_each (node a below after) h = (h.0.0, h.0.1, from_each after h.1)
+
+  -- a layer is no link
+  enclosed_apart : (b : Bool) (tag : TagView) (other : Shape) (below : Forest (Label A)) → IsNoBracket tag → HasNoneBelow other below
+      → HasNoneBelow (enclosed_if b tag other) below
+  enclosed_apart true tag other below h k = no_link tag h
+    where
+      no_link : (tag : TagView) → IsNoBracket tag → ClosesOverNone tag below
+      no_link (link v) h = absurd h
+      no_link other h = tt
+  enclosed_apart false tag other below h k = k
+
+  two_apart : (m : Marks) (d : Delimiter) (source : List ℕ) (below : Forest (Label A)) → HasNoneBelow (layer_of_two m d source) below
+  two_apart m Star source below = tt
+  two_apart m Underscore source below = tt
+  two_apart m Tilde source below = enclosed_apart m.strikethrough _ (text_over source) below tt tt
+  two_apart m Caret source below = enclosed_apart m.superscript _ (text_over source) below tt tt
+
+  one_apart : (m : Marks) (d : Delimiter) (source : List ℕ) (below : Forest (Label A)) → HasNoneBelow (layer_of_one m d source) below
+  one_apart m Star source below = tt
+  one_apart m Underscore source below = tt
+  one_apart m Tilde source below = enclosed_apart m.subscript _ _ below tt (enclosed_apart m.strikethrough _ (text_over source) below tt tt)
+  one_apart m Caret source below = enclosed_apart m.superscript _ (text_over source) below tt tt
+
+  makes_apart : (s : Setting) → MakesTrees s (λ (a : Label A). ⊤) IsApart
+  makes_apart s = record {
+    text = λ x h. (nothing_below A x.part.shape, tt);
+    one = λ d x v inside h i. (
+      one_apart (marks_of s.rules.options) d (slice_range s.text x.part.range.start v.part.range.end) inside,
+      from_each inside i,
+    );
+    two = λ d x v inside h i. (
+      two_apart (marks_of s.rules.options) d (slice_range s.text x.part.range.start v.part.range.end) inside,
+      from_each inside i,
+    );
+  }
+
+  closed_apart : (source : List ℕ) (b : Bool) (a : Label A) (below : Forest (Label A)) → HasNoneBelow a.part.shape below
+      → HasNoneBelow (text_if b source a).part.shape below
+  closed_apart source true a below h = tt
+  closed_apart source false a below h = h
+
+  quoted_apart : (s : Setting) (single double : Bool) (chain : Forest (Label A)) → HasNoLinkInLink chain
+      → EachTree (IsReadable (λ (a : Label A). ⊤) IsApart s) (quotes_after single double chain)
+  quoted_apart s single double nil h = tt
+  quoted_apart s single double (node a below after) h =
+      let quoted : Label A = shaped (first_turn a after single double).made a in
+      let made_apart : HasNoneBelow quoted.part.shape below =
+      turn-made (λ shape. HasNoneBelow shape below) (λ c. tt) (kind_of_shape a.part.shape) a.part.shape single double
+      (is_closed_later after) (is_end after) h.0 in (
+        (tt, (closed_apart s.text (is_unresolved quoted.part.shape) quoted below made_apart, h.1)),
+        quoted_apart s
+            (first_turn a after single double).single (first_turn a after single double).double after h.2,
+      )
+
+  -- so pairing puts no link into a link
+  paired_apart : (s : Setting) (chain : Forest (Label A)) → HasNoLinkInLink chain → HasNoLinkInLink (paired s chain)
+  unfolding paired with_quotes
+  paired_apart s chain h = from_each (paired s chain) (runs-keep (λ (a : Label A). ⊤) IsApart s (makes_apart s) (with_quotes chain)
+      (quoted_apart s false false chain h))
+
+  -- chains of children
+  shape_apart : (shape : Shape) (below later : Forest (Label A)) → (IsFreeOfLinks below → IsFreeOfLinks later) → HasNoneBelow shape below
+      → HasNoneBelow shape later
+  shape_apart (enclosed (link v)) below later k h = k h
+  shape_apart (enclosed other) below later k h = tt
+  shape_apart (leaf e origins) below later k h = tt
+  shape_apart plain below later k h = tt
+  shape_apart backslash_break below later k h = tt
+  shape_apart (unresolved b) below later k h = tt
+
+  from_apart : (s : Setting) (is_open : Bool) (a : Label A) (below after later : Forest (Label A)) → HasNoLinkInLink (node a below after)
+      → HasNoLinkInLink later → HasNoLinkInLink (paired_from s is_open a below after later)
+  from_apart s true a below after later h k = paired_apart s (node a below after) h
+  from_apart s false a below after later h k = (h.0, h.1, k)
+
+  if_open_apart : (s : Setting) (f : Forest (Label A)) → HasNoLinkInLink f → HasNoLinkInLink (paired_if_open s f)
+  if_open_apart s nil h = tt
+  if_open_apart s (node a below after) h = from_apart s (is_unresolved a.part.shape) a below after (paired_if_open s after) h
+      (if_open_apart s after h.2)
+
+  -- nor does pairing the chains of children
+  all_apart : (s : Setting) (f : Forest (Label A)) → HasNoLinkInLink f → HasNoLinkInLink (all_paired s f)
+  all_apart s nil h = tt
+  all_apart s (node a below after) h = (
+    shape_apart a.part.shape below (paired_if_open s (all_paired s below)) (free_below s below) h.0,
+    if_open_apart s (all_paired s below)
+        (all_apart s below h.1),
+    all_apart s after h.2,
+  )
+
+  -- what stands for an item is free of links
+  free_code : (s : Setting) (escaped : Bool) (a : Label A) (t : SpanText) (closer : Label A)
+      → IsFreeOfLinks (code_trees s escaped a t closer)
+  free_code s false a t closer = (tt, tt, tt)
+  free_code s true a t closer = (tt, tt, (tt, tt, tt))
+
+  free_markup : (s : Setting) (new : A) (a : Label A) (m : Markup) → IsFreeOfLinks (markup_trees s new a m)
+  free_markup s new a (autolink end uri) = (refl, (tt, tt, tt), tt)
+  free_markup s new a (html end None) = (tt, tt, tt)
+  free_markup s new a (html end (Some bytes)) = (tt, tt, tt)
+
+  free_find : (s : Setting) (new : A) (a : Label A) (found : Find A) → IsFreeOfLinks (trees_for s new a found)
+  free_find s new a (code_span t closer) = free_code s (is_escaped (open_body a.part.shape)) a t closer
+  free_find s new a (math_span display t end) = (tt, tt, tt)
+  free_find s new a (markup m) = free_markup s new a m
+  free_find s new a nothing = (tt, tt, tt)
+
+  free_unless : (quiet : Bool) (s : Setting) (tags : Tags A) (above : Above) (n : ℕ) (a : Label A) (below rest : Forest (Label A))
+      → IsNoLink a.part.shape → IsFreeOfLinks below
+      → IsFreeOfLinks (read_unless quiet s tags above n a below rest).trees
+  free_unless true s tags above n a below rest h i = (h, i, tt)
+  free_unless false s tags above n a below rest h i = free_find s (tags.fresh n) a (find s above a rest)
+
+  -- put onto a left list they stand at its right
+  free_more : (a : Label A) (below : Forest (Label A)) (more : List (Entry A)) → AreFreeTrees more → IsNoLink a.part.shape
+      → IsFreeOfLinks below → AreFreeTrees (more ++ done a below ∷ [])
+  free_more a below [] f h i = (h, i, tt)
+  free_more a below (done b inner ∷ more) f h i = (f.0, f.1, free_more a below more f.2 h i)
+  free_more a below (waits m b ∷ more) f h i = absurd f
+
+  put_more : (trees : Forest (Label A)) (left : List (Entry A)) → IsFreeOfLinks trees → HasMoreTrees left (all_done trees left)
+  put_more nil left h = record { more = []; free = tt; grown = refl }
+  put_more (node a below after) left h =
+      let r = put_more after (done a below ∷ left) h.2 in
+      record {
+        more = r.more ++ done a below ∷ [];
+        free = free_more a below r.more r.free h.0 h.1;
+        grown = r.grown
+            ∙ sym (append_assoc r.more (done a below ∷ []) left);
+      }
+
+  other_free : (s : Setting) (tags : Tags A) (above : Above) (a : Label A) (below rest : Forest (Label A)) (p : Progress A)
+      → IsNoLink a.part.shape → IsFreeOfLinks below
+      → HasMoreTrees p.left (read_other s tags above a below rest p).left
+  unfolding read_tree
+  other_free s tags above a below rest p h i =
+      put_more (read_tree s tags above p.made a below rest).trees p.left (free_unless (is_quiet a.part.shape) s tags above p.made a below
+      rest h i)
+
+  -- nor pass one, by the law of brackets; nor the whole
+  pass_one_apart : (s : Setting) (tags : Tags A) (above : Above) (chain : Forest (Label A)) (known : Known) → IsFreeOfLinks chain
+      → HasNoLinkInLink (pass_one s tags above chain known).forest
+  unfolding pass_one
+  pass_one_apart s tags above chain known h = no_link_in_link (around s above) (read_other s tags above) (other_free s tags above) chain
+      known h
+
+  pub resolved_apart : (s : Setting) (tags : Tags A) (above : Above) (chain : Forest (Label A)) (known : Known) → IsFreeOfLinks chain
+      → HasNoLinkInLink (all_paired s (resolved s tags above chain known).forest)
+  unfolding resolved
+  resolved_apart s tags above chain known h =
+      let f : Forest (Label A) = (pass_one s tags above chain known).forest in
+      all_apart s (paired s f) (paired_apart s f (pass_one_apart s tags above chain known h))

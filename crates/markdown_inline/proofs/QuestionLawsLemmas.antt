@@ -1,0 +1,178 @@
+-- The questions of a reading are those of its chains, and all `]` of a chain stand in its document.
+use Rattle.std.proofs.Common.{◌≡◌, ℕ, ◌+◌, ◌≤◌, Bool, true, false, List, [], ◌∷◌, ◌++◌, length, map, cond, refl, ap, ◌∙◌, arith}
+use Rattle.std.proofs.Common.{length-append}
+use Rattle.std.specs.Prelude.{count_by, slice_range}
+use Rattle.std.proofs.lemmas.List.Sums.{sum_by-append, sum_by-cons}
+use Rattle.markdown_base.specs.BlockTree.{Numbered, tree_of}
+use Rattle.markdown_base.specs.Event.{end, end_of}
+use Rattle.markdown_base.specs.Forest.{Forest, nil, node, preorder, relabelled, roots}
+use Rattle.markdown_base.specs.Questions.{Question}
+use Rattle.markdown_base.specs.WellFormed.{IsWellFormed}
+use Rattle.markdown_base.specs.declared.block_parts.BlockParts.{BlockParts}
+use Rattle.markdown_base.specs.declared.item.Item.{Item}
+use Rattle.markdown_base.specs.declared.item.ItemBody.{ItemBody}
+use Rattle.markdown_base.specs.declared.item.ItemBody.TheVariants as body
+use Rattle.markdown_base.specs.declared.node.Node.{Node}
+use Rattle.markdown_brackets.specs.QuestionEnds.{AsksAtMost, StandInLine, closers_among, closes_bracket}
+use Rattle.markdown_brackets.specs.Reference.{is_closer}
+use Rattle.markdown_chains.specs.Above.{Above, inside_label, no_blocks}
+use Rattle.markdown_chains.specs.ChainRest.{open_body}
+use Rattle.markdown_chains.specs.Document.{Label, Plain, Shape, backslash_break, document, enclosed, label_of, leaf}
+use Rattle.markdown_chains.specs.Document.{plain, plain_tags, shape_of, unresolved}
+use Rattle.markdown_chains.specs.Setting.{Known, Rules, Setting, setting_of}
+use Rattle.markdown_chains.specs.Tables.{Tables}
+use Rattle.markdown_inline.specs.Elements.{Element, Reading, nothing, question, questions_of, then_reads}
+use Rattle.markdown_inline.specs.QuestionLaws.{AsksApart, closers_of, document_reading}
+use Rattle.markdown_inline.specs.Reading.{chain_reading, opened, reading, settled_reading}
+use Rattle.markdown_resolver.specs.ChainQuestions.{EachChain}
+use Rattle.markdown_resolver.specs.PassOne.{Outcome}
+use Rattle.markdown_resolver.specs.Resolved.{all_paired, resolved}
+use Rattle.markdown_resolver.proofs.ChainQuestionsLemmas.{document_in_line, resolved_asks, resolved_ends, resolved_stays_zero}
+
+-- a reading asks so many questions at most, and none at a limit of 0
+record Few (most : ℕ) (r : Reading) : Type 0 where
+  once : (known : Known) → length (questions_of (r known)) ≤ most
+  silent : (known : Known) → known.limit ≡ 0 → questions_of (r known) ≡ []
+
+more_few : (n m : ℕ) (r : Reading) → n ≤ m → Few n r → Few m r
+more_few n m r l h = record { once = λ known. omega (arith, h.once known, l); silent = h.silent }
+
+-- questions, and then what follows
+questions_before : (questions : List Question) (es : List Element)
+    → questions_of (map question questions ++ es) ≡ questions ++ questions_of es
+questions_before [] es = refl
+questions_before (q ∷ questions) es = ap (λ (qs : List Question). q ∷ qs) (questions_before questions es)
+
+-- a settled forest asks nothing
+module _ {A : Type 0} where
+  settled_tree : (a : Label A) (most : ℕ) (inside : Reading → Reading) (after : Reading)
+      → ((inner : Reading) → Few most inner → Few most (inside inner)) → Few most after
+      → (shape : Shape) → Few most (opened shape a.part.range inside after after)
+  settled_tree a most inside after within h (leaf e origins) = record { once = h.once; silent = h.silent }
+  settled_tree a most inside after within h (enclosed tag) =
+      let inner = within (then_reads (end (end_of tag), a.part.range, []) after) (record { once = h.once; silent = h.silent }) in
+      record { once = inner.once; silent = inner.silent }
+  settled_tree a most inside after within h plain = within after h
+  settled_tree a most inside after within h backslash_break = record { once = h.once; silent = h.silent }
+  settled_tree a most inside after within h (unresolved b) = h
+
+  settled_few : (f : Forest (Label A)) (most : ℕ) (after : Reading) → Few most after → Few most (settled_reading f after)
+  settled_few nil most after h = h
+  settled_few (node a below later) most after h =
+      settled_tree a most (λ inner. settled_reading below inner) (settled_reading later after) (λ inner k. settled_few below most inner k)
+      (settled_few later most after h) a.part.shape
+
+-- 1 for a `]`
+abbrev one_closer : {A : Type 0} → Label A → ℕ
+one_closer a = cond (closes_bracket a) 1 0
+
+-- the `]` of a chain stand in its document
+roots_few : {A : Type 0} (f : Forest (Label A)) → closers_among (roots f) ≤ closers_among (preorder f)
+roots_few nil = omega arith
+roots_few (node a below after) =
+    let all = sum_by-cons one_closer a (preorder below ++ preorder after) in
+    let sum = sum_by-append one_closer (preorder below) (preorder after) in
+    let here = sum_by-cons one_closer a (roots after) in
+    let more = roots_few after in
+    omega (arith, all, sum, here, more)
+
+-- of a tree: what is below it asks so many questions at most and what follows so many, or the chain from it on
+opened_few : (a : Plain) (all few : ℕ) (inside : Reading → Reading) (after whole : Reading)
+    → ((inner : Reading) → Few few inner → Few all (inside inner)) → Few few after → few ≤ all → Few all whole
+    → (shape : Shape) → Few all (opened shape a.part.range inside after whole)
+opened_few a all few inside after whole within h l rest (leaf e origins) =
+    let k = more_few few all after l h in record { once = k.once; silent = k.silent }
+opened_few a all few inside after whole within h l rest (enclosed tag) =
+    let inner = within (then_reads (end (end_of tag), a.part.range, []) after) (record { once = h.once; silent = h.silent }) in
+    record { once = inner.once; silent = inner.silent }
+opened_few a all few inside after whole within h l rest plain = within after h
+opened_few a all few inside after whole within h l rest backslash_break =
+    let k = more_few few all after l h in record { once = k.once; silent = k.silent }
+opened_few a all few inside after whole within h l rest (unresolved b) = rest
+
+-- the `]` of a tree, of what is below it, and of what follows
+closers_sum : (a : Plain) (below after : Forest Plain)
+    → closers_among (preorder (node a below after))
+    ≡ one_closer a + (closers_among (preorder below) + closers_among (preorder after))
+closers_sum a below after =
+    sum_by-cons one_closer a (preorder below ++ preorder after)
+    ∙ ap (λ (n : ℕ). one_closer a + n) (sum_by-append one_closer (preorder below) (preorder after))
+
+module _ (s : Setting) where
+  -- a chain, and then what follows
+  chain_few : (above : Above) (chain : Forest Plain) (most : ℕ) (after : Reading) → Few most after
+      → Few (closers_among (preorder chain) + most) (chain_reading s plain_tags above chain after)
+  chain_few above chain most after h = record {
+    once = λ known.
+        let r : Outcome (Unit {0}) = resolved s plain_tags above chain known in
+        let here = (resolved_asks s plain_tags above chain known).once in
+        let later = (settled_few (all_paired s r.forest) most after h).once r.known in
+        let all = ap length (questions_before r.questions (settled_reading (all_paired s r.forest) after r.known)) in
+        let sum = length-append r.questions (questions_of (settled_reading (all_paired s r.forest) after r.known)) in
+        omega (arith, here, later, all, sum, roots_few chain);
+    silent = λ known z.
+        let r : Outcome (Unit {0}) = resolved s plain_tags above chain known in
+        let here = (resolved_asks s plain_tags above chain known).silent z in
+        let zero = resolved_stays_zero s plain_tags above chain known z in
+        let later = (settled_few (all_paired s r.forest) most after h).silent r.known zero in
+        questions_before r.questions (settled_reading (all_paired s r.forest) after r.known) ∙ rw (here, later) refl;
+  }
+
+  reading_few : (f : Forest Plain) (above : Above) (most : ℕ) (after : Reading) → Few most after
+      → Few (closers_among (preorder f) + most) (reading s plain_tags above f after)
+  reading_few nil above most after h = more_few most (0 + most) after (omega arith) h
+  reading_few (node a below later) above most after h =
+      let sum = closers_sum a below later in
+      let all : ℕ = closers_among (preorder (node a below later)) + most in
+      let few : ℕ = closers_among (preorder later) + most in
+      let inside : Reading → Reading = λ inner. reading s plain_tags (inside_label a above) below inner in
+      let within = λ (inner : Reading) (k : Few few inner). more_few (closers_among (preorder below) + few) all (inside inner)
+      (omega (arith, sum)) (reading_few below (inside_label a above) few inner k) in
+      opened_few a all few inside (reading s plain_tags above later after) (chain_reading s plain_tags above (node a below later) after)
+      within (reading_few later above most after h) (omega (arith, sum)) (chain_few above (node a below later) most after h) a.part.shape
+
+-- an item is a `]` where its label is
+closer_seen : (tables : Tables) (source : List ℕ) (b : ItemBody) → is_closer (open_body (shape_of tables source b)) ≡ is_closer b
+closer_seen tables source (body.HardBreak true) = refl
+closer_seen tables source (body.HardBreak false) = refl
+closer_seen tables source other = refl
+
+module _ (source : List ℕ) (tables : Tables) where
+  abbrev seen : Numbered → Plain
+  seen n = label_of source tables n.item
+
+  closers_seen : (f : Forest Numbered)
+      → closers_among (preorder (relabelled seen f)) ≡ count_by (λ (n : Numbered). is_closer n.item.body) (preorder f)
+  closers_seen nil = refl
+  closers_seen (node a below after) =
+      let here = ap {B = ℕ} (λ (b : Bool). cond b 1 0) (closer_seen tables (slice_range source a.item.start a.item.end) a.item.body) in
+      let one : Numbered → ℕ = λ n. cond (is_closer n.item.body) 1 0 in
+      let labels = closers_sum (seen a) (relabelled seen below) (relabelled seen after) in
+      let items = sum_by-cons one a (preorder below ++ preorder after) in
+      let sum = sum_by-append one (preorder below) (preorder after) in
+      let inside = closers_seen below in
+      let behind = closers_seen after in
+      omega (arith, here, labels, items, sum, inside, behind)
+
+pub document_asks : (source : List ℕ) (nodes : List (Node Item)) (tables : Tables) (rules : Rules) (known : Known)
+    → AsksAtMost (closers_of nodes) known.limit (questions_of (document_reading source nodes tables rules known))
+document_asks source nodes tables rules known =
+    let s = setting_of source rules in
+    let none : Few 0 nothing = record { once = λ known. omega arith; silent = λ known z. refl } in
+    let few = reading_few s (document source tables nodes) (no_blocks source) 0 nothing none in
+    record { once = omega (arith, few.once known, closers_seen source tables (tree_of nodes)); silent = few.silent known }
+
+-- what holds of each chain, where one thing follows from another
+each_also : {A : Type 0} (P Q : Forest (Label A) → Type 0) → ((chain : Forest (Label A)) → P chain → Q chain) → (f : Forest (Label A))
+    → EachChain P f → EachChain Q f
+each_also P Q also nil h = tt
+each_also P Q also (node a below after) h =
+    ((λ opens. also (node a below after) (h.0 opens)), each_also P Q also below h.1, each_also P Q also after h.2)
+
+pub document_ends : (source : List ℕ) (nodes : List (Node Item)) (parts : BlockParts) (tables : Tables) (rules : Rules)
+    → IsWellFormed source nodes parts
+    → EachChain (AsksApart (setting_of source rules)) (document source tables nodes)
+document_ends source nodes parts tables rules formed =
+    let s = setting_of source rules in
+    each_also (StandInLine source) (AsksApart s) (λ chain stand above known. resolved_ends s plain_tags above chain known stand)
+    (document source tables nodes) (document_in_line source nodes parts tables formed)

@@ -1,0 +1,44 @@
+-- The events of a whole document are balanced: each End is that of the nearest Start still open, with the same range.
+use Rattle.std.specs.Prelude.{◌≡◌, ℕ, Bool, List, [], ◌∷◌, map}
+use Rattle.std.specs.declared.ops.Range.{Range}
+use Rattle.markdown_base.specs.Event.{EventView, start, end, end_of}
+use Rattle.markdown_base.specs.Questions.{Answers}
+use Rattle.markdown_base.specs.declared.tag.TagEnd.{TagEnd}
+use Rattle.markdown_spans.specs.declared.blocks.Blocks.{Blocks}
+use Rattle.markdown_inline.specs.Elements.{Placed, events_of}
+use Rattle.markdown_inline.specs.ParserLeft.{reading_of}
+
+-- an event with its range
+abbrev pub Ranged : Type 0
+Ranged = EventView × Range ℕ
+
+-- the events of a reading, each with its range alone
+abbrev pub ranged : List Placed → List Ranged
+ranged events = map (λ (e : Placed). (e.0, e.1)) events
+
+-- an End that is awaited, with the range that it must have
+abbrev pub Awaited : Type 0
+Awaited = TagEnd × Range ℕ
+
+-- an event where some Ends are awaited, the nearest first, and what follows it by those that are awaited then: an End
+-- has to be the nearest of them, with its range
+abbrev pub EndsInTurn : EventView → Range ℕ → List Awaited → (rest : List Awaited → Type 0) → Type 0
+EndsInTurn (start tag) range awaited rest = rest ((end_of tag, range) ∷ awaited)
+EndsInTurn (end e) range [] rest = ⊥
+EndsInTurn (end e) range (nearest ∷ awaited) rest = (e ≡ nearest.0) × (range ≡ nearest.1) × rest awaited
+EndsInTurn other range awaited rest = rest awaited
+
+-- at the last event no End is awaited any more
+abbrev pub AreBalancedFrom : List Awaited → List Ranged → Type 0
+AreBalancedFrom awaited [] = awaited ≡ []
+AreBalancedFrom awaited (e ∷ events) =
+    EndsInTurn e.0 e.1 awaited (λ awaited. AreBalancedFrom awaited events)
+
+-- before the first none is
+abbrev pub AreBalanced : List Ranged → Type 0
+AreBalanced events = AreBalancedFrom [] events
+
+-- so is the reading of each block result, whatever is answered
+abbrev pub BalancedLaw : Type 0
+BalancedLaw = (blocks : Blocks) (asks : Bool) (answers : Answers)
+    → AreBalanced (ranged (events_of (reading_of blocks asks answers)))

@@ -1,0 +1,66 @@
+-- References expand to few bytes: the destinations and titles that look-ups of labels found in a whole document, all
+-- but the last, have fewer bytes than the limit at the start.
+use Rattle.std.specs.Prelude.{ℕ, ◌+◌, ◌<◌, Bool, true, false, if◌then◌else◌, List, [], ◌∷◌, ◌++◌}
+use Rattle.markdown_base.specs.Event.{TagView, link, image, LinkView, EventView, start, end}
+use Rattle.markdown_base.specs.Questions.{Answers}
+use Rattle.markdown_base.specs.declared.tag.LinkType.{LinkType}
+use Rattle.markdown_base.specs.declared.tag.LinkType.TheVariants as kind
+use Rattle.markdown_spans.specs.Blocks.{block_text}
+use Rattle.markdown_spans.specs.declared.blocks.Blocks.{Blocks}
+use Rattle.markdown_brackets.specs.Lookup.{size_of}
+use Rattle.markdown_inline.specs.Balanced.{Ranged, ranged}
+use Rattle.markdown_inline.specs.Elements.{events_of}
+use Rattle.markdown_inline.specs.ParserLeft.{expansion_limit, reading_of}
+
+-- the type of a link or an image whose label was looked up
+abbrev pub is_looked_up : LinkType → Bool
+is_looked_up kind.Reference = true
+is_looked_up kind.ReferenceUnknown = true
+is_looked_up kind.Collapsed = true
+is_looked_up kind.CollapsedUnknown = true
+is_looked_up kind.Shortcut = true
+is_looked_up kind.ShortcutUnknown = true
+is_looked_up other = false
+
+-- the bytes of destination and title, where they were looked up
+abbrev pub looked_up_size : LinkView → List ℕ
+looked_up_size v = if is_looked_up v.kind then size_of v ∷ [] else []
+
+-- those of a tag: the expansion of its look-up, if there was one
+abbrev pub tag_expansion : TagView → List ℕ
+tag_expansion (link v) = looked_up_size v
+tag_expansion (image v) = looked_up_size v
+tag_expansion other = []
+
+-- an event where some Starts are open, the nearest first, each with its expansion, and what follows it by those that
+-- are open then: an expansion is listed at its End
+abbrev pub listed_at_ends : EventView → List (List ℕ) → (rest : List (List ℕ) → List ℕ) → List ℕ
+listed_at_ends (start tag) opened rest = rest (tag_expansion tag ∷ opened)
+listed_at_ends (end e) [] rest = rest []
+listed_at_ends (end e) (nearest ∷ opened) rest = nearest ++ rest opened
+listed_at_ends other opened rest = rest opened
+
+-- those of all events, where some Starts are open before the first
+abbrev pub expansions_from : List (List ℕ) → List Ranged → List ℕ
+expansions_from opened [] = []
+expansions_from opened (e ∷ events) = listed_at_ends e.0 opened (λ opened. expansions_from opened events)
+
+-- what was found by looking labels up, in the order of the look-ups: a label is looked up where its link or image ends
+abbrev pub expansions : List Ranged → List ℕ
+expansions events = expansions_from [] events
+
+-- the sum of all numbers but the last
+abbrev pub sum_but_last : List ℕ → ℕ
+sum_but_last [] = 0
+sum_but_last (n ∷ []) = 0
+sum_but_last (n ∷ m ∷ more) = n + sum_but_last (m ∷ more)
+
+-- the expansions of all look-ups but the last are below a limit, all together
+abbrev pub ExpandsBelow : (limit : ℕ) → List Ranged → Type 0
+ExpandsBelow limit events = sum_but_last (expansions events) < limit
+
+-- so it is in the reading of each block result, whatever is answered: the limit is the greater of the text's bytes and
+-- 100,000
+abbrev pub LimitLaw : Type 0
+LimitLaw = (blocks : Blocks) (asks : Bool) (answers : Answers)
+    → ExpandsBelow (expansion_limit (block_text blocks)) (ranged (events_of (reading_of blocks asks answers)))

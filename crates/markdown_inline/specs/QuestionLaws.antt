@@ -1,0 +1,42 @@
+-- What the callback is asked over a whole document: no more questions than there are `]` items, none at a limit of 0,
+-- and no two of one chain that end at the same byte.
+use Rattle.std.specs.Prelude.{ℕ, List, count_by}
+use Rattle.markdown_base.specs.BlockTree.{tree_of}
+use Rattle.markdown_base.specs.Forest.{Forest, preorder}
+use Rattle.markdown_base.specs.WellFormed.{IsWellFormed}
+use Rattle.markdown_base.specs.declared.block_parts.BlockParts.{BlockParts}
+use Rattle.markdown_base.specs.declared.item.Item.{Item}
+use Rattle.markdown_base.specs.declared.node.Node.{Node}
+use Rattle.markdown_brackets.specs.QuestionEnds.{AsksAtMost, EndApart}
+use Rattle.markdown_brackets.specs.Reference.{is_closer}
+use Rattle.markdown_chains.specs.Above.{Above, no_blocks}
+use Rattle.markdown_chains.specs.Document.{Plain, document, plain_tags}
+use Rattle.markdown_chains.specs.Setting.{Known, Rules, Setting, setting_of}
+use Rattle.markdown_chains.specs.Tables.{Tables}
+use Rattle.markdown_inline.specs.Elements.{Element, nothing, questions_of}
+use Rattle.markdown_inline.specs.Reading.{reading}
+use Rattle.markdown_resolver.specs.ChainQuestions.{EachChain}
+use Rattle.markdown_resolver.specs.Resolved.{resolved}
+
+-- how many items of a block result are `]`
+abbrev pub closers_of : List (Node Item) → ℕ
+closers_of nodes = count_by (λ n. is_closer n.item.body) (preorder (tree_of nodes))
+
+-- the reading of a document, by its rules and what is known before it
+abbrev pub document_reading : List ℕ → List (Node Item) → Tables → Rules → Known → List Element
+document_reading source nodes tables rules known =
+    reading (setting_of source rules) plain_tags (no_blocks source) (document source tables nodes) nothing known
+
+-- each `]` asks one question at most, and at a limit of 0 none asks
+abbrev pub DocumentCountLaw : Type 0
+DocumentCountLaw = (source : List ℕ) (nodes : List (Node Item)) (tables : Tables) (rules : Rules) (known : Known)
+    → AsksAtMost (closers_of nodes) known.limit (questions_of (document_reading source nodes tables rules known))
+
+-- no two questions of a chain end at the same byte, whatever blocks are open above it, and whatever is known to it
+abbrev pub AsksApart : Setting → Forest Plain → Type 0
+AsksApart s chain = (above : Above) (known : Known) → EndApart (resolved s plain_tags above chain known).questions
+
+-- so it is of each chain of a well-formed block result
+abbrev pub DocumentEndsLaw : Type 0
+DocumentEndsLaw = (source : List ℕ) (nodes : List (Node Item)) (parts : BlockParts) (tables : Tables) (rules : Rules)
+    → IsWellFormed source nodes parts → EachChain (AsksApart (setting_of source rules)) (document source tables nodes)
