@@ -35,7 +35,8 @@ nones-some (None ∷ q) y rest n e = cc
 nones-some (Some x ∷ q) y rest n e = absurd n
 
 -- items before Nones, and items before a None
-same-fronts : {A : Type 0} (a b : List A) (q r : List (Option A)) → AreNone q → map (λ x. Some x) a ++ q ≡ map (λ x. Some x) b ++ (None ∷ r) → a ≡ b
+same-fronts : {A : Type 0} (a b : List A) (q r : List (Option A)) → AreNone q → map (λ x. Some x) a ++ q ≡ map (λ x. Some x) b ++ (None ∷ r)
+    → a ≡ b
 same-fronts [] [] q r n e = refl
 same-fronts [] (y ∷ b) q r n e = absurd (nones-some q y (map (λ x. Some x) b ++ (None ∷ r)) n e)
 same-fronts (x ∷ a) [] q r n e = absurd (none-some (cons-head e))
@@ -270,16 +271,20 @@ module _ {M S T P : Type 0} (through : P → P → P) (view : Result T Fault →
             record {
               so_far = n.all;
               left = (state t).iter;
-              read = yielded steps (state m).iter (state t).iter n.all (subst (λ rs. Gave steps (state m).iter rs (state t).iter) n.is run.read);
+              read = yielded steps (state m).iter (state t).iter n.all (subst (λ rs. Gave steps (state m).iter rs (state t).iter) n.is
+                  run.read);
               missing = front.missing;
               merges = front.is;
             }
         by_cut (inl c) =
-            let e = ended steps (state m).iter (state t).iter c.before c.after (subst (λ rs. Gave steps (state m).iter rs (state t).iter) c.is run.read) in
+            let e = ended steps (state m).iter (state t).iter c.before c.after (subst (λ rs. Gave steps (state m).iter rs (state t).iter)
+            c.is run.read) in
             let later = map answer c.after in
             let seen : map answer run.answers ≡ map (λ i. Some i) (map view c.before) ++ (None ∷ later) =
-            ap (map answer) c.is ∙ (map-append answer (map (λ x. Some x) c.before) (None ∷ c.after) ∙ ap (λ ys. ys ++ (None ∷ later)) (views-some view c.before)) in
-            let front = front-stretch through (map view c.before) its later tail (ended-nones steps view ends e.last e.end (state t).iter c.after e.ends e.after)
+            ap (map answer) c.is ∙ (map-append answer (map (λ x. Some x) c.before) (None ∷ c.after)
+            ∙ ap (λ ys. ys ++ (None ∷ later)) (views-some view c.before)) in
+            let front = front-stretch through (map view c.before) its later tail (ended-nones steps view ends e.last e.end (state t).iter
+            c.after e.ends e.after)
             (sym (answers-stretch through [] (map view c.before) later) ∙ (ap (merge_answers through []) (sym seen) ∙ all)) in
             record {
               so_far = c.before;
@@ -312,16 +317,20 @@ module _ {M S T P : Type 0} (through : P → P → P) (view : Result T Fault →
 
         by_cut : IsCut run.answers ⊎ HasNoNone run.answers → IsMergeOfAll through view steps (state m).iter xs
         by_cut (inr n) = absurd (none-missing (merged through (map view n.all)) its tail
-            (sym (answers-last through [] (map view n.all)) ∙ (ap (merge_answers through []) (sym (ap (map answer) n.is ∙ views-some view n.all)) ∙ all)))
+            (sym (answers-last through [] (map view n.all))
+            ∙ (ap (merge_answers through []) (sym (ap (map answer) n.is ∙ views-some view n.all)) ∙ all)))
         by_cut (inl c) =
-            let e = ended steps (state m).iter (state u).iter c.before c.after (subst (λ rs. Gave steps (state m).iter rs (state u).iter) c.is run.read) in
+            let e = ended steps (state m).iter (state u).iter c.before c.after (subst (λ rs. Gave steps (state m).iter rs (state u).iter)
+            c.is run.read) in
             let later = map answer c.after in
             let seen : map answer run.answers ≡ map (λ i. Some i) (map view c.before) ++ (None ∷ later) =
-            ap (map answer) c.is ∙ (map-append answer (map (λ x. Some x) c.before) (None ∷ c.after) ∙ ap (λ ys. ys ++ (None ∷ later)) (views-some view c.before)) in
+            ap (map answer) c.is ∙ (map-append answer (map (λ x. Some x) c.before) (None ∷ c.after)
+            ∙ ap (λ ys. ys ++ (None ∷ later)) (views-some view c.before)) in
             record {
               all = c.before;
               read = (e.end, (e.last, e.yields, e.ends));
-              merges = given-stretch through (map view c.before) its later tail (ended-nones steps view ends e.last e.end (state u).iter c.after e.ends e.after)
+              merges = given-stretch through (map view c.before) its later tail (ended-nones steps view ends e.last e.end (state u).iter
+                  c.after e.ends e.after)
                   (sym (answers-stretch through [] (map view c.before) later) ∙ (ap (merge_answers through []) (sym seen) ∙ all));
             }
 

@@ -82,7 +82,8 @@ length-inserted k v [] h = refl
 length-inserted k v (e ∷ es) h = by (name_cmp k e.0) (length-inserted k v es) h
   where
     by : (o : Ordering)
-        → (IsAbsent k es → length (insert_entry name_cmp es k v) ≡ suc (length es)) → cond (is_eq o) (Some e.1) (lookup (is_at (name_cmp k)) es) ≡ None
+        → (IsAbsent k es → length (insert_entry name_cmp es k v) ≡ suc (length es))
+        → cond (is_eq o) (Some e.1) (lookup (is_at (name_cmp k)) es) ≡ None
         → length (match_ordering o ((k, v) ∷ e ∷ es) ((e.0, v) ∷ es)
         (e ∷ insert_entry name_cmp es k v)) ≡ suc (length (e ∷ es))
     by Less rest n = refl
@@ -111,7 +112,8 @@ name_at-other k v i [] h n = ap (λ b. if b then text_of k.text else []) n
 name_at-other k v i (e ∷ es) h n = by (name_cmp k e.0) (λ m. name_at-other k v i es m n) h
   where
     by : (o : Ordering)
-        → (IsAbsent k es → name_at i (insert_entry name_cmp es k v) ≡ name_at i es) → cond (is_eq o) (Some e.1) (lookup (is_at (name_cmp k)) es) ≡ None
+        → (IsAbsent k es → name_at i (insert_entry name_cmp es k v) ≡ name_at i es)
+        → cond (is_eq o) (Some e.1) (lookup (is_at (name_cmp k)) es) ≡ None
         → name_at i (match_ordering o ((k, v) ∷ e ∷ es) ((e.0, v) ∷ es)
         (e ∷ insert_entry name_cmp es k v)) ≡ name_at i (e ∷ es)
     by Less rest m = ap (λ b. if b then text_of k.text else name_at i (e ∷ es)) n

@@ -20,26 +20,30 @@ reference_whole : (name number : List ℕ)
 reference_whole name number = simp append_assoc
 
 definition_whole : (fresh : Bool) (name number : List ℕ)
-    → AreBoth (joined (to_definition_number fresh name)) (joined (number ∷ codes "</sup>" ∷ [])) (joined (definition_parts fresh name number))
+    → AreBoth (joined (to_definition_number fresh name)) (joined (number ∷ codes "</sup>" ∷ []))
+    (joined (definition_parts fresh name number))
 definition_whole fresh name number = simp append_assoc
 
 -- a front of the second part, behind the first
 front_of_last : (old mid new first last whole : List ℕ) → AreBoth first last whole → mid ≡ old ++ first → AppendsFront mid new last
     → AppendsFront old new whole
-front_of_last old mid new first last whole w e f = front-after old mid new first last whole [] e f (ap (λ x. first ++ x) (append-nil last) ∙ w)
+front_of_last old mid new first last whole w e f = front-after old mid new first last whole [] e f (ap (λ x. first ++ x) (append-nil last)
+    ∙ w)
 
 -- ---- a reference
 
 pub reference_first : (old new name number : List ℕ) → AppendsFront old new (joined (to_reference_number name))
     → AppendsFront old new (joined (reference_parts name number))
 reference_first old new name number f =
-    front-first old new (joined (to_reference_number name)) (joined (reference_parts name number)) (joined (number ∷ codes "</a></sup>" ∷ [])) f
+    front-first old new (joined (to_reference_number name)) (joined (reference_parts name number))
+    (joined (number ∷ codes "</a></sup>" ∷ [])) f
     (reference_whole name number)
 
 pub reference_last : (old mid new name number : List ℕ) → mid ≡ old ++ joined (to_reference_number name)
     → AppendsFront mid new (joined (number ∷ codes "</a></sup>" ∷ [])) → AppendsFront old new (joined (reference_parts name number))
 reference_last old mid new name number e f =
-    front_of_last old mid new (joined (to_reference_number name)) (joined (number ∷ codes "</a></sup>" ∷ [])) (joined (reference_parts name number))
+    front_of_last old mid new (joined (to_reference_number name)) (joined (number ∷ codes "</a></sup>" ∷ []))
+    (joined (reference_parts name number))
     (reference_whole name number) e f
 
 -- what is remembered behind it
@@ -58,10 +62,12 @@ definition_stands old mid new fresh name number e n =
     append-more old mid new (joined (to_definition_number fresh name)) (joined (number ∷ codes "</sup>" ∷ [])) e n
     ∙ ap (λ x. old ++ x) (definition_whole fresh name number)
 
-pub definition_first : (old new : List ℕ) (fresh : Bool) (name number : List ℕ) → AppendsFront old new (joined (to_definition_number fresh name))
+pub definition_first : (old new : List ℕ) (fresh : Bool) (name number : List ℕ)
+    → AppendsFront old new (joined (to_definition_number fresh name))
     → AppendsFront old new (joined (definition_parts fresh name number))
 definition_first old new fresh name number f =
-    front-first old new (joined (to_definition_number fresh name)) (joined (definition_parts fresh name number)) (joined (number ∷ codes "</sup>" ∷ [])) f
+    front-first old new (joined (to_definition_number fresh name)) (joined (definition_parts fresh name number))
+    (joined (number ∷ codes "</sup>" ∷ [])) f
     (definition_whole fresh name number)
 
 pub definition_last : (old mid new : List ℕ) (fresh : Bool) (name number : List ℕ) → mid ≡ old ++ joined (to_definition_number fresh name)

@@ -1,8 +1,10 @@
 -- The laws of the merge: runs are maximal, so that no two merged Texts are neighbours.
 use Rattle.std.proofs.Common.{◌≡◌, ◌⊎◌, ℕ, List, [], ◌∷◌, ◌++◌, Ok, Err, Some, None, refl, sym, ap, subst, ◌∙◌, inl, inr}
 use Rattle.std.specs.List.{flat_map}
-use Rattle.markdown_base.specs.Event.{text, start, end, code, inline_math, display_math, html, inline_html, footnote_reference, soft_break, hard_break, rule, task_list_marker}
-use Rattle.markdown_out.specs.Merge.{Item, PlacedText, text_item, text_in, Run, alone, texts, before_runs, runs, last_text, unless_empty, run_items, merged}
+use Rattle.markdown_base.specs.Event.{text, start, end, code, inline_math, display_math, html, inline_html, footnote_reference, soft_break}
+use Rattle.markdown_base.specs.Event.{hard_break, rule, task_list_marker}
+use Rattle.markdown_out.specs.Merge.{Item, PlacedText, text_item, text_in, Run, alone, texts, before_runs, runs, last_text, unless_empty}
+use Rattle.markdown_out.specs.Merge.{run_items, merged}
 use Rattle.markdown_out.specs.OutLaws.{AreApart, HasNoNeighbours}
 use Rattle.markdown_out.proofs.MergeLemmas.{merged-alone, merged-one, merged-lone_text}
 
@@ -36,7 +38,8 @@ AreMaximal (texts t us ∷ texts v vs ∷ rs) = ⊥
 AreMaximal (texts t us ∷ alone x ∷ rs) = AreMaximal (alone x ∷ rs)
 
 -- a longer run of Texts is maximal too
-maximal-longer : {P : Type 0} (t u : PlacedText P) (us : List (PlacedText P)) (rs : List (Run P)) → AreMaximal (texts u us ∷ rs) → AreMaximal (texts t (u ∷ us) ∷ rs)
+maximal-longer : {P : Type 0} (t u : PlacedText P) (us : List (PlacedText P)) (rs : List (Run P)) → AreMaximal (texts u us ∷ rs)
+    → AreMaximal (texts t (u ∷ us) ∷ rs)
 maximal-longer t u us [] m = m
 maximal-longer t u us (alone x ∷ rs) m = m
 maximal-longer t u us (texts v vs ∷ rs) m = m
@@ -46,7 +49,8 @@ maximal-text t [] m = m
 maximal-text t (alone x ∷ rs) m = m
 maximal-text t (texts u us ∷ rs) m = maximal-longer t u us rs m
 
-maximal-more : {P : Type 0} (x : Item P) (rs : List (Run P)) → IsText x ⊎ (text_in x ≡ None) → AreMaximal rs → AreMaximal (before_runs x (text_in x) rs)
+maximal-more : {P : Type 0} (x : Item P) (rs : List (Run P)) → IsText x ⊎ (text_in x ≡ None) → AreMaximal rs
+    → AreMaximal (before_runs x (text_in x) rs)
 maximal-more x rs (inl is) m = subst (λ y. AreMaximal (before_runs y (text_in y) rs)) (sym is.is) (maximal-text is.t rs m)
 maximal-more x rs (inr none) m = subst (λ o. AreMaximal (before_runs x o rs)) (sym none) (none, m)
 
@@ -62,7 +66,8 @@ module _ {P : Type 0} (through : P → P → P) where
   before-no_text x (y ∷ ys) h n = (inl h, n)
 
   -- what a run of Texts gives, before an item that is no Text
-  run-before : (r : List ℕ) (p : P) (y : Item P) (ys : List (Item P)) → text_in y ≡ None → HasNoNeighbours (y ∷ ys) → HasNoNeighbours (unless_empty r p ++ y ∷ ys)
+  run-before : (r : List ℕ) (p : P) (y : Item P) (ys : List (Item P)) → text_in y ≡ None → HasNoNeighbours (y ∷ ys)
+      → HasNoNeighbours (unless_empty r p ++ y ∷ ys)
   run-before [] p y ys h n = n
   run-before (b ∷ bs) p y ys h n = (inr h, n)
 
@@ -77,7 +82,8 @@ module _ {P : Type 0} (through : P → P → P) where
   items-apart (texts t (u ∷ us) ∷ []) m = run-last (flat_map (λ x. x.bytes) (t ∷ u ∷ us)) (through t.place (last_text u us).place)
   items-apart (texts t [] ∷ alone x ∷ rs) m = (inr m.0, items-apart (alone x ∷ rs) m)
   items-apart (texts t (u ∷ us) ∷ alone x ∷ rs) m =
-      run-before (flat_map (λ x. x.bytes) (t ∷ u ∷ us)) (through t.place (last_text u us).place) x (flat_map (run_items through) rs) m.0 (items-apart (alone x ∷ rs) m)
+      run-before (flat_map (λ x. x.bytes) (t ∷ u ∷ us)) (through t.place (last_text u us).place) x (flat_map (run_items through) rs) m.0
+      (items-apart (alone x ∷ rs) m)
   items-apart (texts t us ∷ texts v vs ∷ rs) m = absurd m
 
   -- no two merged Texts are neighbours
@@ -93,7 +99,8 @@ module _ {P : Type 0} (through : P → P → P) where
       by_kind : IsText x ⊎ (text_in x ≡ None) → AreApart x y → merged through (x ∷ y ∷ ys) ≡ x ∷ merged through (y ∷ ys)
       by_kind (inr none) a = merged-alone through x (y ∷ ys) none
       by_kind (inl is) (inl none) = merged-alone through x (y ∷ ys) none
-      by_kind (inl is) (inr none) = subst (λ z. merged through (z ∷ y ∷ ys) ≡ z ∷ merged through (y ∷ ys)) (sym is.is) (merged-lone_text through is.t y ys none)
+      by_kind (inl is) (inr none) = subst (λ z. merged through (z ∷ y ∷ ys) ≡ z ∷ merged through (y ∷ ys)) (sym is.is)
+          (merged-lone_text through is.t y ys none)
 
   -- merging twice is merging once
   pub merged-twice : (xs : List (Item P)) → merged through (merged through xs) ≡ merged through xs

@@ -2,8 +2,10 @@
 use Rattle.std.proofs.Common.{◌≡◌, ℕ, List, [], ◌∷◌, ◌++◌, map, Ok, Err, Option, Some, None, refl, sym, ap, ◌∙◌, append_assoc, append-nil}
 use Rattle.std.specs.List.{flat_map}
 use Rattle.std.proofs.lemmas.List.{map-append}
-use Rattle.markdown_base.specs.Event.{text, start, end, code, inline_math, display_math, html, inline_html, footnote_reference, soft_break, hard_break, rule, task_list_marker}
-use Rattle.markdown_out.specs.Merge.{Item, PlacedText, text_item, text_in, Run, alone, texts, before_runs, runs, last_text, unless_empty, run_items, merged, merge_answers}
+use Rattle.markdown_base.specs.Event.{text, start, end, code, inline_math, display_math, html, inline_html, footnote_reference, soft_break}
+use Rattle.markdown_base.specs.Event.{hard_break, rule, task_list_marker}
+use Rattle.markdown_out.specs.Merge.{Item, PlacedText, text_item, text_in, Run, alone, texts, before_runs, runs, last_text, unless_empty}
+use Rattle.markdown_out.specs.Merge.{run_items, merged, merge_answers}
 
 -- the runs of a list that begins with no Text
 pub runs-alone : {P : Type 0} (x : Item P) (xs : List (Item P)) → text_in x ≡ None → runs (x ∷ xs) ≡ alone x ∷ runs xs
@@ -32,7 +34,8 @@ module _ {P : Type 0} (through : P → P → P) where
   merged-one (Err fault) = refl
 
   -- a lone Text stays where no Text follows it
-  pub merged-lone_text : (t : PlacedText P) (y : Item P) (ys : List (Item P)) → text_in y ≡ None → merged through (text_item t ∷ y ∷ ys) ≡ text_item t ∷ merged through (y ∷ ys)
+  pub merged-lone_text : (t : PlacedText P) (y : Item P) (ys : List (Item P)) → text_in y ≡ None → merged through (text_item t ∷ y ∷ ys)
+      ≡ text_item t ∷ merged through (y ∷ ys)
   merged-lone_text t y ys h =
       ap (λ rs. flat_map (run_items through) (before_runs (text_item t) (Some t) rs)) (runs-alone y ys h)
       ∙ ap (λ rs. text_item t ∷ flat_map (run_items through) rs) (sym (runs-alone y ys h))
@@ -40,7 +43,8 @@ module _ {P : Type 0} (through : P → P → P) where
   -- two Texts at the front count as one of both at the first place and an empty one at the last
   pub merged-two_texts : (t u : PlacedText P) (rest : List (Item P))
       → merged through (text_item t ∷ text_item u ∷ rest)
-      ≡ merged through (text_item (record { bytes = t.bytes ++ u.bytes; place = t.place }) ∷ text_item (record { bytes = []; place = u.place }) ∷ rest)
+      ≡ merged through (text_item (record { bytes = t.bytes ++ u.bytes; place = t.place }) ∷ text_item
+      (record { bytes = []; place = u.place }) ∷ rest)
   merged-two_texts t u rest = by_runs (runs rest)
     where
       both : PlacedText P
@@ -54,14 +58,17 @@ module _ {P : Type 0} (through : P → P → P) where
 
       by_runs : (rs : List (Run P)) → front rs t u ≡ front rs both none
       by_runs [] = ap (λ bytes. unless_empty bytes (through t.place u.place) ++ []) (sym (append_assoc t.bytes u.bytes []))
-      by_runs (alone x ∷ rs) = ap (λ bytes. unless_empty bytes (through t.place u.place) ++ flat_map (run_items through) (alone x ∷ rs)) (sym (append_assoc t.bytes u.bytes []))
+      by_runs (alone x ∷ rs) = ap (λ bytes. unless_empty bytes (through t.place u.place) ++ flat_map (run_items through) (alone x ∷ rs))
+          (sym (append_assoc t.bytes u.bytes []))
       by_runs (texts v vs ∷ rs) =
-          ap (λ bytes. unless_empty bytes (through t.place (last_text v vs).place) ++ flat_map (run_items through) rs) (sym (append_assoc t.bytes u.bytes (flat_map (λ x. x.bytes) (v ∷ vs))))
+          ap (λ bytes. unless_empty bytes (through t.place (last_text v vs).place) ++ flat_map (run_items through) rs)
+          (sym (append_assoc t.bytes u.bytes (flat_map (λ x. x.bytes) (v ∷ vs))))
 
   -- a third Text behind two whose last is empty
   pub merged-three_texts : (t l u : PlacedText P) (rest : List (Item P)) → l.bytes ≡ []
       → merged through (text_item t ∷ text_item l ∷ text_item u ∷ rest)
-      ≡ merged through (text_item (record { bytes = t.bytes ++ u.bytes; place = t.place }) ∷ text_item (record { bytes = []; place = u.place }) ∷ rest)
+      ≡ merged through (text_item (record { bytes = t.bytes ++ u.bytes; place = t.place }) ∷ text_item
+      (record { bytes = []; place = u.place }) ∷ rest)
   merged-three_texts t l u rest e = by_runs (runs rest)
     where
       both : PlacedText P
@@ -74,23 +81,29 @@ module _ {P : Type 0} (through : P → P → P) where
       joined more = ap (λ bytes. t.bytes ++ (bytes ++ (u.bytes ++ more))) e ∙ sym (append_assoc t.bytes u.bytes more)
 
       by_runs : (rs : List (Run P))
-          → flat_map (run_items through) (before_runs (text_item t) (Some t) (before_runs (text_item l) (Some l) (before_runs (text_item u) (Some u) rs)))
+          → flat_map (run_items through) (before_runs (text_item t) (Some t)
+          (before_runs (text_item l) (Some l) (before_runs (text_item u) (Some u) rs)))
           ≡ flat_map (run_items through) (before_runs (text_item both) (Some both) (before_runs (text_item none) (Some none) rs))
       by_runs [] = ap (λ bytes. unless_empty bytes (through t.place u.place) ++ []) (joined [])
-      by_runs (alone x ∷ rs) = ap (λ bytes. unless_empty bytes (through t.place u.place) ++ flat_map (run_items through) (alone x ∷ rs)) (joined [])
+      by_runs (alone x ∷ rs) = ap (λ bytes. unless_empty bytes (through t.place u.place) ++ flat_map (run_items through) (alone x ∷ rs))
+          (joined [])
       by_runs (texts v vs ∷ rs) =
-          ap (λ bytes. unless_empty bytes (through t.place (last_text v vs).place) ++ flat_map (run_items through) rs) (joined (flat_map (λ x. x.bytes) (v ∷ vs)))
+          ap (λ bytes. unless_empty bytes (through t.place (last_text v vs).place) ++ flat_map (run_items through) rs)
+          (joined (flat_map (λ x. x.bytes) (v ∷ vs)))
 
   -- two Texts, the last of them empty, where no Text follows
   pub merged-run_end : (t l : PlacedText P) (y : Item P) (ys : List (Item P)) → l.bytes ≡ [] → text_in y ≡ None
       → merged through (text_item t ∷ text_item l ∷ y ∷ ys) ≡ unless_empty t.bytes (through t.place l.place) ++ merged through (y ∷ ys)
   merged-run_end t l y ys e h =
-      ap (λ rs. flat_map (run_items through) (before_runs (text_item t) (Some t) (before_runs (text_item l) (Some l) rs))) (runs-alone y ys h)
-      ∙ (ap (λ bytes. unless_empty bytes (through t.place l.place) ++ flat_map (run_items through) (alone y ∷ runs ys)) (ap (λ bytes. t.bytes ++ (bytes ++ [])) e ∙ append-nil t.bytes)
+      ap (λ rs. flat_map (run_items through) (before_runs (text_item t) (Some t) (before_runs (text_item l) (Some l) rs)))
+      (runs-alone y ys h)
+      ∙ (ap (λ bytes. unless_empty bytes (through t.place l.place) ++ flat_map (run_items through) (alone y ∷ runs ys))
+      (ap (λ bytes. t.bytes ++ (bytes ++ [])) e ∙ append-nil t.bytes)
       ∙ ap (λ rs. unless_empty t.bytes (through t.place l.place) ++ flat_map (run_items through) rs) (sym (runs-alone y ys h)))
 
   -- the same where nothing follows
-  pub merged-run_last : (t l : PlacedText P) → l.bytes ≡ [] → merged through (text_item t ∷ text_item l ∷ []) ≡ unless_empty t.bytes (through t.place l.place)
+  pub merged-run_last : (t l : PlacedText P) → l.bytes ≡ [] → merged through (text_item t ∷ text_item l ∷ [])
+      ≡ unless_empty t.bytes (through t.place l.place)
   merged-run_last t l e =
       ap (λ bytes. unless_empty bytes (through t.place l.place) ++ []) (ap (λ bytes. t.bytes ++ (bytes ++ [])) e ∙ append-nil t.bytes)
       ∙ append-nil (unless_empty t.bytes (through t.place l.place))

@@ -1,5 +1,6 @@
 -- Calls of an iterator one after another, and what a merge makes of their answers.
-use Rattle.std.proofs.Common.{◌≡◌, ◌+◌, ◌≤◌, List, [], ◌∷◌, ◌++◌, map, Result, Option, Some, None, refl, sym, ap, subst, ◌∙◌, append_assoc, arith}
+use Rattle.std.proofs.Common.{◌≡◌, ◌+◌, ◌≤◌, List, [], ◌∷◌, ◌++◌, map, Result, Option, Some, None, refl, sym, ap, subst, ◌∙◌, append_assoc}
+use Rattle.std.proofs.Common.{arith}
 use Rattle.std.specs.Option.{option_map}
 use Rattle.std.proofs.lemmas.List.{map-append}
 use Rattle.std.specs.Iterator.{Count, size, MakesProgress}
@@ -25,7 +26,8 @@ module _ {S A : Type 0} (steps : S → Option A → S → Type 0) where
 
   module _ {can : S → Type 0} {rest : S → Count} where
     -- after a call an iterator can be merged still
-    pub can_merge-after : {s t : S} (r : Option A) → CanMerge steps can rest s → steps s r t → MakesProgress can rest s r t → CanMerge steps can rest t
+    pub can_merge-after : {s t : S} (r : Option A) → CanMerge steps can rest s → steps s r t → MakesProgress can rest s r t
+        → CanMerge steps can rest t
     can_merge-after {s} {t} None c p m = record {
       callable = (c.goes_on s t c.callable c.ends p).0;
       ends = m.rests c.ends;
@@ -38,18 +40,21 @@ module _ {S A : Type 0} (steps : S → Option A → S → Type 0) where
     }
 
     -- an item takes one of those that are left, and None leaves no more
-    pub fewer-after : {s t : S} (r : Option A) → CanMerge steps can rest s → steps s r t → MakesProgress can rest s r t → answer_count r + size (rest t) ≤ size (rest s)
+    pub fewer-after : {s t : S} (r : Option A) → CanMerge steps can rest s → steps s r t → MakesProgress can rest s r t
+        → answer_count r + size (rest t) ≤ size (rest s)
     fewer-after {s} {t} None c p m = omega (arith, (c.goes_on s t c.callable c.ends p).1)
     fewer-after {s} {t} (Some x) c p m = omega (arith, (m.on c.ends).2)
 
 -- more answers, and those to come
 pub viewed-more : {T P : Type 0} (view : T → Item P) (xs : List (Option T)) (r : Option T) (later : List (Option (Item P)))
     → map (option_map view) (xs ++ r ∷ []) ++ later ≡ map (option_map view) xs ++ (option_map view r ∷ later)
-viewed-more view xs r later = ap (λ x. x ++ later) (map-append (option_map view) xs (r ∷ [])) ∙ append_assoc (map (option_map view) xs) (option_map view r ∷ []) later
+viewed-more view xs r later = ap (λ x. x ++ later) (map-append (option_map view) xs (r ∷ [])) ∙ append_assoc (map (option_map view) xs)
+    (option_map view r ∷ []) later
 
 module _ {S T P : Type 0} (through : P → P → P) (view : T → Item P) (steps : S → Option T → S → Type 0) where
   -- an answer is taken in
-  pub merged-more : {items : List (Item P)} {s t u : S} (now : Held P) (step : Step P) (after : Held P) (r : Option T) (answer : Option (Result (Event × P) Fault))
+  pub merged-more : {items : List (Item P)} {s t u : S} (now : Held P) (step : Step P) (after : Held P) (r : Option T)
+      (answer : Option (Result (Event × P) Fault))
       → IsMerged through view steps items s [] (held_items now) t → steps t r u → option_map placed_view answer ≡ option_map view r
       → TakesIn through (held_items now) answer step after → IsMerged through view steps items s (given_answers step) (held_items after) u
   merged-more {items} {s} {t} {u} now step after r answer m p e takes = record {

@@ -1,5 +1,6 @@
 -- What `push_html` makes of a merge: the HTML of the merge of the events.
-use Rattle.std.proofs.Common.{◌≡◌, ◌⊎◌, ℕ, true, false, List, [], ◌∷◌, ◌++◌, map, Ok, Err, Result, Option, Some, None, refl, sym, ap, subst, ◌∙◌, append_assoc, inl, inr}
+use Rattle.std.proofs.Common.{◌≡◌, ◌⊎◌, ℕ, true, false, List, [], ◌∷◌, ◌++◌, map, Ok, Err, Result, Option, Some, None, refl, sym, ap, subst}
+use Rattle.std.proofs.Common.{◌∙◌, append_assoc, inl, inr}
 use Rattle.std.specs.Bool.{MatchBool}
 use Rattle.std.specs.List.{flat_map}
 use Rattle.std.specs.Iterator.{Count, Yields, Drains}
@@ -11,7 +12,8 @@ use Rattle.markdown_base.specs.declared.fault.Fault.{Fault}
 use Rattle.markdown_base.specs.declared.fault.Fault.TheVariants.{Memory}
 use Rattle.markdown_out.specs.EventHtml.{html_of, open_html}
 use Rattle.markdown_out.specs.HtmlCorrect.{items, IsRendered, StopsAtError}
-use Rattle.markdown_out.specs.Merge.{Item, PlacedText, text_item, text_in, Run, alone, texts, before_runs, runs, last_text, unless_empty, run_items, merged}
+use Rattle.markdown_out.specs.Merge.{Item, PlacedText, text_item, text_in, Run, alone, texts, before_runs, runs, last_text, unless_empty}
+use Rattle.markdown_out.specs.Merge.{run_items, merged}
 use Rattle.markdown_out.specs.MergeNext.{MergeState, PassesOn, item_view}
 use Rattle.markdown_out.specs.Places.{bare, nowhere}
 use Rattle.markdown_out.specs.OutLaws.{event_item, item_events, merged_events, StaysEnded, merge_steps, IsNewMerge}
@@ -40,13 +42,16 @@ abbrev run_source : Run U → List (Item U)
 run_source (alone x) = x ∷ []
 run_source (texts t us) = map text_item (t ∷ us)
 
-source-text : (t : PlacedText U) (rs : List (Run U)) → flat_map run_source (before_runs (text_item t) (Some t) rs) ≡ text_item t ∷ flat_map run_source rs
+source-text : (t : PlacedText U) (rs : List (Run U)) → flat_map run_source (before_runs (text_item t) (Some t) rs)
+    ≡ text_item t ∷ flat_map run_source rs
 source-text t [] = refl
 source-text t (alone x ∷ rs) = refl
 source-text t (texts u us ∷ rs) = refl
 
-source-more : (x : Item U) (rs : List (Run U)) → IsText x ⊎ (text_in x ≡ None) → flat_map run_source (before_runs x (text_in x) rs) ≡ x ∷ flat_map run_source rs
-source-more x rs (inl is) = subst (λ y. flat_map run_source (before_runs y (text_in y) rs) ≡ y ∷ flat_map run_source rs) (sym is.is) (source-text is.t rs)
+source-more : (x : Item U) (rs : List (Run U)) → IsText x ⊎ (text_in x ≡ None) → flat_map run_source (before_runs x (text_in x) rs)
+    ≡ x ∷ flat_map run_source rs
+source-more x rs (inl is) = subst (λ y. flat_map run_source (before_runs y (text_in y) rs) ≡ y ∷ flat_map run_source rs) (sym is.is)
+    (source-text is.t rs)
 source-more x rs (inr none) = ap (λ o. flat_map run_source (before_runs x o rs)) none
 
 -- the runs of a list hold its items
@@ -75,7 +80,8 @@ no_error-runs (alone (Err fault) ∷ rs) h = absurd h
 no_error-runs (texts t [] ∷ rs) h = no_error-runs rs h
 no_error-runs (texts t (u ∷ us) ∷ rs) h =
     no_error-texts (t ∷ u ∷ us) (flat_map run_source rs)
-    (no_error-runs rs (no_error-rest (flat_map (λ x. x.bytes) (t ∷ u ∷ us)) (nowhere t.place (last_text u us).place) (flat_map (run_items nowhere) rs) h))
+    (no_error-runs rs (no_error-rest (flat_map (λ x. x.bytes) (t ∷ u ∷ us)) (nowhere t.place (last_text u us).place)
+    (flat_map (run_items nowhere) rs) h))
 
 no_error-views : (es : List EventView) → HasNoError (map event_item es)
 no_error-views [] = tt
@@ -138,7 +144,8 @@ runs-before x (Some t) [] y more = refl
 runs-before x (Some t) (alone z ∷ rs) y more = refl
 runs-before x (Some t) (texts u us ∷ rs) y more = refl
 
-runs-error : (xs : List (Item U)) (fault : Fault) (ys : List (Item U)) → runs (xs ++ Err fault ∷ ys) ≡ runs xs ++ alone (Err fault) ∷ runs ys
+runs-error : (xs : List (Item U)) (fault : Fault) (ys : List (Item U)) → runs (xs ++ Err fault ∷ ys) ≡ runs xs
+    ++ alone (Err fault) ∷ runs ys
 runs-error [] fault ys = refl
 runs-error (x ∷ xs) fault ys =
     ap (before_runs x (text_in x)) (runs-error xs fault ys) ∙ runs-before x (text_in x) (runs xs) (Err fault) (runs ys)
@@ -290,7 +297,8 @@ module _ {S M : Type 0} (steps : S → Option Raw → S → Type 0) (can : S →
         let n = none-goes-on t r.read.0 (events-go-on m t es begun.goes_on r.read.1.1) r.read.1.2 in
         let g = (gives_the_merge nowhere view steps can rest state ends m begun).all (items es) t r.read.0 r.read.1.1 r.read.1.2 n in
         let given : merged nowhere (map view g.all) ≡ map event_item views = g.merges ∙ views-items es in
-        let no_error = subst HasNoError (runs_of_items (map view g.all)) (no_error-runs (runs (map view g.all)) (subst HasNoError (sym given) (no_error-views views))) in
+        let no_error = subst HasNoError (runs_of_items (map view g.all))
+        (no_error-runs (runs (map view g.all)) (subst HasNoError (sym given) (no_error-views views))) in
         let read = are_events g.all no_error in
         let merges = merges-events read.events views (ap (λ xs. merged nowhere (map view xs)) (sym read.are) ∙ given) in
         record {
@@ -320,12 +328,14 @@ module _ {S M : Type 0} (steps : S → Option Raw → S → Type 0) (can : S →
             → StopsAtErrorMerged steps (state m).iter old new fault ⊎ ((fault ≡ Memory) × IsRefusedMerged steps (state m).iter old new)
         by (inl p) =
             let last : (state r.left).over ≡ false = subst (λ k. (state k).over ≡ false) f.rest.2 p.goes_on in
-            let g = (gives_the_merge nowhere view steps can rest state ends m begun).so_far (items es ++ Err fault ∷ []) r.left r.read last in
+            let g = (gives_the_merge nowhere view steps can rest state ends m begun).so_far (items es ++ Err fault ∷ []) r.left r.read last
+            in
             let seen : map view (items es ++ Err fault ∷ []) ≡ map event_item (map event_view es) ++ Err fault ∷ [] =
             map-append view (items es) (Err fault ∷ []) ∙ ap (λ ys. ys ++ Err fault ∷ []) (views-items es) in
             let s = stopped g.so_far (map event_view es) fault g.missing
             (g.merges ∙ (ap (λ ys. ys ++ g.missing) seen ∙ append_assoc (map event_item (map event_view es)) (Err fault ∷ []) g.missing)) in
-            let y = yields-front steps (state m).iter g.left (items s.events ++ Err fault ∷ []) s.after (subst (λ xs. Yields steps (state m).iter xs g.left) s.is g.read) in
+            let y = yields-front steps (state m).iter g.left (items s.events ++ Err fault ∷ []) s.after
+            (subst (λ xs. Yields steps (state m).iter xs g.left) s.is g.read) in
             inl (record {
               events = s.events;
               left = y.mid;

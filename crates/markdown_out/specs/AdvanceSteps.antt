@@ -7,7 +7,8 @@ use Rattle.markdown_out.specs.MergeNext.{Gave}
 module _ {S T P : Type 0} (through : P → P → P) (view : T → Item P) (steps : S → Option T → S → Type 0) where
   -- from s to t answers were read which, whatever answers follow, make of the items held at first
   -- these answers and then what is left of the items held now
-  pub record IsMerged (held : List (Item P)) (s : S) (given : List (Option (Item P))) (after : List (Item P)) (t : S) : Type 0 where
+  pub record IsMerged (held : List (Item P)) (s : S) (given : List (Option (Item P))) (after : List (Item P)) (t : S)
+      : Type 0 where
     pub answers : List (Option T)
     pub read : Gave steps s answers t
     pub leaves : (later : List (Option (Item P))) → merge_answers through held (map (option_map view) answers ++ later)

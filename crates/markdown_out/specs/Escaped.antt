@@ -1,5 +1,5 @@
--- The byte table that a call of the code names. Only private clauses cite this.
-use Rattle.std.specs.Prelude.{ℕ, List}
+-- The byte tables that a call of the code names. Only private clauses cite this.
+use Rattle.std.specs.Prelude.{◌≡◌, ◌≤◌, ◌<◌, ◌==◌, ◌||◌, ℕ, List, Bool, false, length, slice_index}
 use Rattle.markdown_out.specs.Escapes.{text_byte, attribute_byte}
 use Rattle.markdown_out.specs.declared.escape.Escape.{Escape}
 use Rattle.markdown_out.specs.declared.escape.Escape.TheVariants as escape
@@ -8,3 +8,13 @@ use Rattle.markdown_out.specs.declared.escape.Escape.TheVariants as escape
 abbrev pub escaped_byte : Escape → ℕ → List ℕ
 escaped_byte escape.Text = text_byte
 escaped_byte escape.Attribute = attribute_byte
+
+-- an escape replaces the byte: it is `&`, `<`, `>` or `"`
+abbrev pub may_be_replaced : ℕ → Bool
+may_be_replaced byte = (byte == 38) || ((byte == 60) || ((byte == 62) || (byte == 34)))
+
+-- no escape replaces a byte from one place up to another, which may be the end
+pub record IsBeforeReplaced (bytes : List ℕ) (from to : ℕ) : Type 0 where
+  pub low : from ≤ to
+  pub high : to ≤ length bytes
+  pub kept : (at : ℕ) → from ≤ at → at < to → may_be_replaced (slice_index bytes at) ≡ false

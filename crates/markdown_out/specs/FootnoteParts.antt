@@ -8,8 +8,10 @@ use Rattle.markdown_out.specs.TagHtml.{new_line}
 
 -- a reference up to its number, and a definition
 abbrev pub to_reference_number : List ℕ → List (List ℕ)
-to_reference_number name = codes "<sup class=\"footnote-reference\"><a href=\"#" ∷ attribute_escaped name ∷ codes "\">" ∷ []
+to_reference_number name = codes "<sup class=\"footnote-reference\"><a href=\"#" ∷ attribute_escaped name ∷ codes "\">"
+    ∷ []
 
+-- what is written before the number of a footnote's definition
 abbrev pub to_definition_number : Bool → List ℕ → List (List ℕ)
 to_definition_number fresh name =
     new_line fresh ∷ codes "<div class=\"footnote-definition\" id=\"" ∷ attribute_escaped name

@@ -1,5 +1,6 @@
 -- What a call of `next` of a merge gives, over any iterator.
-use Rattle.std.specs.Prelude.{◌≡◌, ◌⊎◌, ◌+◌, ◌≤◌, ℕ, Bool, true, false, cond, List, [], ◌∷◌, ◌++◌, map, Ok, Err, Result, Option, Some, None}
+use Rattle.std.specs.Prelude.{◌≡◌, ◌⊎◌, ◌+◌, ◌≤◌, ℕ, Bool, true, false, cond, List, [], ◌∷◌, ◌++◌, map, Ok, Err, Result}
+use Rattle.std.specs.Prelude.{Option, Some, None}
 use Rattle.std.specs.Bool.{MatchBool}
 use Rattle.std.specs.Option.{option_map}
 use Rattle.std.specs.Iterator.{Count, IsFinite, size}
@@ -49,13 +50,15 @@ module _ {S T P : Type 0} (through : P → P → P) (view : T → Item P) (steps
   pub record PassesOn (s : MergeState S P) (r : Option T) (t : MergeState S P) : Type 0 where
     pub answers : List (Option T)
     pub read : Gave steps s.iter answers t.iter
-    pub leaves : (later : List (Option (Item P))) → merge_answers through s.held (map (option_map view) answers ++ later)
+    pub leaves : (later : List (Option (Item P)))
+        → merge_answers through s.held (map (option_map view) answers ++ later)
         ≡ option_map view r ∷ merge_answers through t.held later
     pub goes_on : t.over ≡ false
 
 -- one call: the merge passes on what it is to give, or a growth is refused, which is an error item
 -- and the end
-abbrev pub MergesNext : {S T P : Type 0} → (P → P → P) → (Result T Fault → Item P) → (S → Option (Result T Fault) → S → Type 0)
+abbrev pub MergesNext : {S T P : Type 0} → (P → P → P) → (Result T Fault → Item P)
+    → (S → Option (Result T Fault) → S → Type 0)
     → MergeState S P → Option (Result T Fault) → MergeState S P → Type 0
 MergesNext through view steps s r t = MatchBool s.over
     ((r ≡ None) × (t.over ≡ true))
@@ -63,8 +66,10 @@ MergesNext through view steps s r t = MatchBool s.over
 
 -- a call of `next`: beside what it gives, the merge may be called again, after None too, and has no
 -- more items left than before
-pub record CallsMerge {S T P : Type 0} (through : P → P → P) (view : Result T Fault → Item P) (steps : S → Option (Result T Fault) → S → Type 0)
-    (can : S → Type 0) (rest : S → Count) (s : MergeState S P) (r : Option (Result T Fault)) (t : MergeState S P) : Type 0 where
+pub record CallsMerge {S T P : Type 0} (through : P → P → P) (view : Result T Fault → Item P) (steps : S
+    → Option (Result T Fault) → S → Type 0)
+    (can : S → Type 0) (rest : S → Count) (s : MergeState S P) (r : Option (Result T Fault)) (t : MergeState S P) : Type
+    0 where
   pub gives : MergesNext through view steps s r t
   pub again : CanMerge steps can rest t.iter
   pub fewer : left_count rest t ≤ left_count rest s

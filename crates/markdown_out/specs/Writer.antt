@@ -3,8 +3,10 @@ use Rattle.std.specs.Prelude.{◌≤◌, ℕ, ◌+◌, ◌-◌, ◌^◌, List, O
 use Rattle.std.specs.Prelude.{map, min}
 use Rattle.std.specs.Option.{option_map}
 use Rattle.markdown_base.specs.CowText.{text_of}
-use Rattle.markdown_base.specs.Event.{EventView, HeadingView, start, end, table_head, table_row}
-use Rattle.markdown_base.specs.Event.{attribute_view, footnote_reference}
+use Rattle.markdown_base.specs.Event.{EventView, HeadingView, start, end, text, table_head, table_row}
+use Rattle.markdown_base.specs.Event.{attribute_view, footnote_reference, TagView, image, table}
+use Rattle.markdown_base.specs.Event.{footnote_definition, heading, block_quote, indented_code}
+use Rattle.markdown_base.specs.Event.{fenced_code, list, table_cell, link}
 use Rattle.markdown_base.specs.declared.cow_str.CowStr.{CowStr}
 use Rattle.markdown_base.specs.declared.tag.HeadingLevel.{HeadingLevel}
 use Rattle.markdown_base.specs.declared.fault.Fault.{Fault}
@@ -107,3 +109,33 @@ heading_view level id classes attributes = record {
   classes = map text_of classes;
   attributes = map attribute_view attributes;
 }
+
+-- an event that adds to an alt text by itself: no Start, no End, and no reference to a footnote
+abbrev pub AddsAlt : EventView → Type 0
+AddsAlt (start tag) = ⊥
+AddsAlt (end tag) = ⊥
+AddsAlt (footnote_reference name) = ⊥
+AddsAlt e = Unit {0}
+
+-- an event that is written outside images by itself: neither is it a Text
+abbrev pub IsSingle : EventView → Type 0
+IsSingle (text t) = ⊥
+IsSingle e = AddsAlt e
+
+-- a tag that the writer keeps nothing of: no image, no table, and no definition of a footnote
+abbrev pub IsReleased : TagView → Type 0
+IsReleased (image i) = ⊥
+IsReleased (table alignments) = ⊥
+IsReleased (footnote_definition name) = ⊥
+IsReleased tag = Unit {0}
+
+-- a tag that is the same in all texts, but for the line's beginning: neither does it hold anything, nor is it a cell
+abbrev pub IsFixed : TagView → Type 0
+IsFixed (heading h) = ⊥
+IsFixed (block_quote kind) = ⊥
+IsFixed indented_code = ⊥
+IsFixed (fenced_code info) = ⊥
+IsFixed (list first) = ⊥
+IsFixed table_cell = ⊥
+IsFixed (link l) = ⊥
+IsFixed tag = IsReleased tag

@@ -1,11 +1,11 @@
 //! The escapes of HTML. Each copies the longest slices that need none.
 ghost use Rattle.std.specs.Prelude.{◌≡◌, ◌++◌, ◌<◌, ◌≤◌, ◌-◌, OnOk, OnErr, MatchOption, [], ◌∷◌};
 ghost use Rattle.std.specs.Prelude.{take, drop, length};
-ghost use Rattle.std.specs.List.{flat_map};
+ghost use Rattle.std.specs.List.{flat_map, list_any};
 ghost use Rattle.std.specs.Str.{IsCharBoundary};
 ghost use Rattle.std.specs.String.{string_bytes};
 ghost use Rattle.markdown_out.specs.ByteLists.{Appends, AppendsPart};
-ghost use Rattle.markdown_out.specs.Escaped.{escaped_byte};
+ghost use Rattle.markdown_out.specs.Escaped.{escaped_byte, may_be_replaced, IsBeforeReplaced};
 ghost use Rattle.markdown_out.specs.Escapes.{destination_byte, destination_escaped, is_kept_byte};
 
 use percent_encoding::percent_encode_byte;
@@ -45,6 +45,48 @@ fn replacement(escape: Escape, byte: u8) -> Option<&'static str>
     }
 }
 
+/// How many bytes are looked at together, where none of them is replaced: no branch for each.
+const TOGETHER: usize = 16;
+
+/// Whether some escape replaces a byte.
+#[inline(always)]
+fn may_be_replaced(byte: u8) -> bool
+    ensures { result ≡ may_be_replaced byte }
+{
+    byte == b'&' || byte == b'<' || byte == b'>' || byte == b'"'
+}
+
+/// Whether some escape replaces one of the bytes.
+#[inline(always)]
+fn holds_replaced(bytes: &[u8]) -> bool
+    ensures { result ≡ list_any may_be_replaced bytes.now }
+{
+    let mut found = false;
+    for byte in bytes {
+        found |= may_be_replaced(*byte);
+    }
+    found
+}
+
+/// The first place from `from` on whose byte some escape replaces, or the end.
+fn first_replaced(bytes: &[u8], from: usize) -> usize
+    requires { from ≤ length bytes.now }
+    ensures { IsBeforeReplaced bytes.now from result }
+{
+    let mut start = from;
+    'kept: while bytes.len() - start >= TOGETHER
+        && !holds_replaced(&bytes[start..start + TOGETHER])
+    {
+        start += TOGETHER;
+    }
+    for at in start..bytes.len() {
+        if may_be_replaced(bytes[at]) {
+            return at;
+        }
+    }
+    bytes.len()
+}
+
 /// Appends a text, escaped. Where memory runs out, a front of it was appended.
 pub(crate) fn push_escaped(out: &mut String, escape: Escape, text: &str) -> Result<(), AllocError>
     ensures ok { OnOk result (Appends out.old out.new (flat_map (escaped_byte escape) text.now)) }
@@ -53,12 +95,14 @@ pub(crate) fn push_escaped(out: &mut String, escape: Escape, text: &str) -> Resu
 {
     let bytes = text.as_bytes();
     let mut from = 0;
-    for (i, byte) in bytes.iter().enumerate() {
-        if let Some(replacement) = replacement(escape, *byte) {
-            push_any(out, &text[from..i])?;
+    let mut at = first_replaced(bytes, 0);
+    'text: while at < bytes.len() {
+        if let Some(replacement) = replacement(escape, bytes[at]) {
+            push_any(out, &text[from..at])?;
             out.push_str(replacement)?;
-            from = i + 1;
+            from = at + 1;
         }
+        at = first_replaced(bytes, at + 1);
     }
     push_any(out, &text[from..])
 }

@@ -69,22 +69,25 @@ pub fn a_stream_with_offsets_gives_the_merge<
 pub fn a_mapped_iterator_can_be_merged<I: Iterator, B, F: FnMut(I::Item) -> B>(mapped: &Map<I, F>)
     ensures { StaysEnded I.next_gives → CanMerge I.next_gives I.can_next I.remaining (map_source mapped.now)
         → CallableOnAll I.next_gives F.FnMut (map_source mapped.now) (map_callee mapped.now)
-        → CanMerge (map_steps I.next_gives F.FnMut) (λ m. I.can_next (map_source m) × CallableOnAll I.next_gives F.FnMut (map_source m) (map_callee m))
+        → CanMerge (map_steps I.next_gives F.FnMut) (λ m. I.can_next (map_source m)
+        × CallableOnAll I.next_gives F.FnMut (map_source m) (map_callee m))
         (λ m. I.remaining (map_source m)) mapped.now }
 {}
 
 /// What `push_html` makes of such a merge of events: the HTML of the merge of the events; and at an
 /// error, the open HTML of the merge of the events before it, or, where the merge itself was refused
-/// memory, of a front of the merge of those read.
+/// memory, of a prefix of the merge of those read.
 pub fn html_of_a_merge_is_that_of_the_merged_events<
     'a,
     I: Iterator<Item = Result<Event<'a>, Fault>>,
 >(merge: &TextMergeStream<'a, I>)
     ensures whole { StaysEnded I.next_gives → IsNewMerge (stream_state merge.now) → (old new : List ℕ)
-        → IsRendered (merge_steps nowhere (item_view bare) I.next_gives I.can_next I.remaining stream_state) merge.now old new
+        → IsRendered (merge_steps nowhere (item_view bare) I.next_gives I.can_next I.remaining stream_state) merge.now
+        old new
         → IsRenderedMerged I.next_gives (stream_state merge.now).iter old new }
     ensures error { StaysEnded I.next_gives → IsNewMerge (stream_state merge.now) → (old new : List ℕ) (fault : Fault)
-        → StopsAtError (merge_steps nowhere (item_view bare) I.next_gives I.can_next I.remaining stream_state) merge.now old new fault
+        → StopsAtError (merge_steps nowhere (item_view bare) I.next_gives I.can_next I.remaining stream_state) merge.now
+        old new fault
         → StopsAtErrorMerged I.next_gives (stream_state merge.now).iter old new fault
         ⊎ ((fault ≡ Memory) × IsRefusedMerged I.next_gives (stream_state merge.now).iter old new) }
 {}

@@ -5,7 +5,7 @@
 //! error item passes and ends a run. If the iterator gives items after a `None`, each stretch
 //! between its `None`s is merged by itself, and a `None` is passed on only where no item came
 //! before it in its stretch.
-ghost use Rattle.std.specs.Prelude.{◌≡◌, [], false};
+ghost use Rattle.std.specs.Prelude.{◌≡◌, ◌+◌, [], false, None, IfSome, MatchOption};
 ghost use Rattle.markdown_out.specs.MergeState.{stream_state, offset_state};
 
 mod held;
@@ -16,9 +16,25 @@ use markdown_base::event::Event;
 use markdown_base::fault::Fault;
 use merging::{Merging, next_item};
 use std::alloc::Global;
+use std::fmt;
 use std::ops::Range;
 
+/// A bound that is one greater, where it can be.
+fn one_more(bound: Option<usize>) -> Option<usize>
+    ensures { MatchOption bound (result ≡ None) (λ most. IfSome result (λ more. more ≡ most + 1)) }
+{
+    match bound {
+        Some(most) => most.checked_add(1),
+        None => None,
+    }
+}
+
 /// The events of an iterator, with neighbouring texts as one.
+///
+/// ```
+/// let merged = TextMergeStream::new(alloc, Parser::new(alloc, "a [b")?);
+/// // Start(Paragraph), Text("a [b"), End(Paragraph)
+/// ```
 #[derive(Drop)]
 pub struct TextMergeStream<'a, I> {
     merging: Merging<'a, I, ()>,
@@ -50,8 +66,10 @@ impl<'a, I: Iterator<Item = Result<Event<'a>, Fault>>> Iterator for TextMergeStr
 
     ghost remaining = { λ m. at_most (left_count I.remaining (stream_state m)) };
 
+    /// At most one event more than the iterator has left.
     fn size_hint(&self) -> (usize, Option<usize>) {
-        (0, None)
+        let (_, most) = self.merging.iter.size_hint();
+        (0, one_more(most))
     }
 
     /// The next event; an error where the iterator gives one, or where memory is refused, after
@@ -94,13 +112,28 @@ impl<'a, I: Iterator<Item = Result<(Event<'a>, Range<usize>), Fault>>> Iterator
 
     ghost remaining = { λ m. at_most (left_count I.remaining (offset_state m)) };
 
+    /// At most one event more than the iterator has left.
     fn size_hint(&self) -> (usize, Option<usize>) {
-        (0, None)
+        let (_, most) = self.merging.iter.size_hint();
+        (0, one_more(most))
     }
 
     /// The next event with its range; an error where the iterator gives one, or where memory is
     /// refused, after which nothing comes.
     fn next(&mut self) -> Option<Result<(Event<'a>, Range<usize>), Fault>> {
         next_item(&mut self.merging)
+    }
+}
+
+impl<'a, I> fmt::Debug for TextMergeStream<'a, I> {
+    fn fmt<W: fmt::Write>(&self, f: &mut fmt::Formatter<W>) -> fmt::Result {
+        f.debug_struct("TextMergeStream").finish_non_exhaustive()
+    }
+}
+
+impl<'a, I> fmt::Debug for TextMergeWithOffset<'a, I> {
+    fn fmt<W: fmt::Write>(&self, f: &mut fmt::Formatter<W>) -> fmt::Result {
+        f.debug_struct("TextMergeWithOffset")
+            .finish_non_exhaustive()
     }
 }

@@ -1,17 +1,14 @@
 //! The Starts of blocks: headings, block quotes, code blocks and lists.
-ghost use Rattle.std.specs.Prelude.{◌≡◌, ◌++◌, [], ◌∷◌, OnOk, OnErr};
-ghost use Rattle.std.specs.String.{string_bytes};
+ghost use Rattle.std.specs.Prelude.{◌≡◌, OnOk, OnErr};
 ghost use Rattle.markdown_base.specs.Event.{code_block_view, block_quote, list};
 ghost use Rattle.markdown_out.specs.ByteLists.{Appends, AppendsPart, ends_line, joined};
-ghost use Rattle.markdown_out.specs.TagHtml.{new_line, heading_parts, start_parts, quote_class};
+ghost use Rattle.markdown_out.specs.TagHtml.{start_parts, quote_class};
 ghost use Rattle.markdown_out.specs.TagHtml.{language, code_block_parts, numbered_list_parts};
 
-use super::heading::put_heading;
 use super::pieces::{line_break, put};
 use super::{Piece, Writer};
 use itoa::Buffer;
-use markdown_base::cow_str::CowStr;
-use markdown_base::tag::{BlockQuoteKind, CodeBlockKind, HeadingLevel};
+use markdown_base::tag::{BlockQuoteKind, CodeBlockKind};
 use std::alloc::AllocError;
 
 /// The class of a block quote.
@@ -85,34 +82,7 @@ fn put_numbered_list(s: &mut String, fresh: &mut bool, digits: &str) -> Result<(
 }
 
 impl<'a> Writer<'a> {
-    ghost use Rattle.markdown_out.specs.Writer.{view, after_bytes, heading_view};
-
-    /// A heading.
-    pub(super) fn heading(
-        &mut self,
-        s: &mut String,
-        level: HeadingLevel,
-        id: Option<CowStr<'a>>,
-        classes: Vec<CowStr<'a>>,
-        attrs: Vec<(CowStr<'a>, Option<CowStr<'a>>)>,
-    ) -> Result<(), AllocError>
-        ensures ok { OnOk result (Appends s.old s.new (joined (heading_parts self.old.fresh
-            (heading_view level id.entry classes.entry.items attrs.entry.items)))) }
-        ensures state { OnOk result (self.new ≡ after_bytes self.old
-            (joined (heading_parts self.old.fresh (heading_view level id.entry classes.entry.items
-            attrs.entry.items)))) }
-        ensures err { OnErr result (AppendsPart s.old s.new (joined (heading_parts self.old.fresh
-            (heading_view level id.entry classes.entry.items attrs.entry.items)))) }
-    {
-        put_heading(
-            s,
-            &mut self.fresh,
-            level,
-            &id,
-            classes.as_slice(),
-            attrs.as_slice(),
-        )
-    }
+    ghost use Rattle.markdown_out.specs.Writer.{view, after_bytes};
 
     /// A block quote.
     pub(super) fn block_quote(
@@ -145,14 +115,14 @@ impl<'a> Writer<'a> {
     pub(super) fn code_block(
         &mut self,
         s: &mut String,
-        kind: CodeBlockKind<'a>,
+        kind: &CodeBlockKind<'_>,
     ) -> Result<(), AllocError>
         ensures ok { OnOk result (Appends s.old s.new (joined (start_parts (view self.old)
-            (code_block_view kind.entry)))) }
+            (code_block_view kind.now)))) }
         ensures state { OnOk result (self.new ≡ after_bytes self.old
-            (joined (start_parts (view self.old) (code_block_view kind.entry)))) }
+            (joined (start_parts (view self.old) (code_block_view kind.now)))) }
         ensures err { OnErr result (AppendsPart s.old s.new (joined (start_parts (view self.old)
-            (code_block_view kind.entry)))) }
+            (code_block_view kind.now)))) }
     {
         match kind {
             CodeBlockKind::Indented => put_code_block(s, &mut self.fresh, ""),

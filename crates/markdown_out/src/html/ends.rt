@@ -1,18 +1,75 @@
 //! What an End outside images writes.
-ghost use Rattle.std.specs.Prelude.{◌≡◌, ◌++◌, None, OnOk, OnErr};
-ghost use Rattle.std.specs.String.{string_bytes};
+ghost use Rattle.std.specs.Prelude.{◌≡◌, [], ◌∷◌, None, OnOk, OnErr, codes};
 ghost use Rattle.markdown_base.specs.Event.{end as end_event};
 ghost use Rattle.markdown_out.specs.ByteLists.{Appends, AppendsPart, joined};
-ghost use Rattle.markdown_out.specs.TagHtml.{end_parts};
+ghost use Rattle.markdown_out.specs.TagHtml.{end_parts, level_digit};
 
-use super::heading::digit;
-use super::pieces::put;
-use super::{Piece, Writer};
-use markdown_base::tag::TagEnd;
+use super::Writer;
+use markdown_base::tag::{HeadingLevel, TagEnd};
 use std::alloc::AllocError;
+
+/// What ends a heading.
+fn heading_end(level: HeadingLevel) -> &'static str
+    ensures { result.now ≡ joined (codes "</h" ∷ level_digit level ∷ codes ">\n" ∷ []) }
+{
+    match level {
+        HeadingLevel::H1 => "</h1>\n",
+        HeadingLevel::H2 => "</h2>\n",
+        HeadingLevel::H3 => "</h3>\n",
+        HeadingLevel::H4 => "</h4>\n",
+        HeadingLevel::H5 => "</h5>\n",
+        HeadingLevel::H6 => "</h6>\n",
+    }
+}
 
 impl<'a> Writer<'a> {
     ghost use Rattle.markdown_out.specs.Writer.{view, view_after};
+
+    /// What an End outside images writes.
+    fn end_text(&self, tag: TagEnd) -> &'static str
+        ensures { result.now ≡ joined (end_parts (view self.now) tag) }
+    {
+        match tag {
+            TagEnd::Paragraph => "</p>\n",
+            TagEnd::Heading(level) => heading_end(level),
+            TagEnd::BlockQuote(_) => "</blockquote>\n",
+            TagEnd::CodeBlock => "</code></pre>\n",
+            TagEnd::HtmlBlock | TagEnd::Image | TagEnd::MetadataBlock(_) => "",
+            TagEnd::List(true) => "</ol>\n",
+            TagEnd::List(false) => "</ul>\n",
+            TagEnd::Item => "</li>\n",
+            TagEnd::FootnoteDefinition => "</div>\n",
+            TagEnd::DefinitionList => "</dl>\n",
+            TagEnd::DefinitionListTitle => "</dt>\n",
+            TagEnd::DefinitionListDefinition => "</dd>\n",
+            TagEnd::Table => "</tbody></table>\n",
+            TagEnd::TableHead => "</tr></thead><tbody>\n",
+            TagEnd::TableRow => "</tr>\n",
+            TagEnd::TableCell if self.in_head => "</th>",
+            TagEnd::TableCell => "</td>",
+            TagEnd::Emphasis => "</em>",
+            TagEnd::Strong => "</strong>",
+            TagEnd::Strikethrough => "</del>",
+            TagEnd::Superscript => "</sup>",
+            TagEnd::Subscript => "</sub>",
+            TagEnd::Link => "</a>",
+        }
+    }
+
+    /// Remembers what an End outside images tells, but for the bytes that it writes.
+    fn note_end(&mut self, tag: TagEnd)
+        requires { self.old.image ≡ None }
+        ensures view { view self.new
+            ≡ record (view_after (view self.old) (end_event tag)) { fresh = self.old.fresh } }
+        ensures image { self.new.image ≡ None }
+    {
+        match tag {
+            TagEnd::TableHead => self.in_head = false,
+            TagEnd::TableCell => self.column = self.column.saturating_add(1),
+            TagEnd::MetadataBlock(_) => self.in_metadata = false,
+            _ => {}
+        }
+    }
 
     /// An End outside images.
     pub(super) fn end(&mut self, s: &mut String, tag: TagEnd) -> Result<(), AllocError>
@@ -22,46 +79,8 @@ impl<'a> Writer<'a> {
         ensures err { OnErr result (AppendsPart s.old s.new
             (joined (end_parts (view self.old) tag))) }
     {
-        match tag {
-            TagEnd::Paragraph => self.raw(s, "</p>\n"),
-            TagEnd::Heading(level) => {
-                let pieces = [
-                    Piece::Raw("</h"),
-                    Piece::Raw(digit(level)),
-                    Piece::Raw(">\n"),
-                ];
-                put(s, &mut self.fresh, &pieces)
-            }
-            TagEnd::BlockQuote(_) => self.raw(s, "</blockquote>\n"),
-            TagEnd::CodeBlock => self.raw(s, "</code></pre>\n"),
-            TagEnd::HtmlBlock | TagEnd::Image => Ok(()),
-            TagEnd::List(true) => self.raw(s, "</ol>\n"),
-            TagEnd::List(false) => self.raw(s, "</ul>\n"),
-            TagEnd::Item => self.raw(s, "</li>\n"),
-            TagEnd::FootnoteDefinition => self.raw(s, "</div>\n"),
-            TagEnd::DefinitionList => self.raw(s, "</dl>\n"),
-            TagEnd::DefinitionListTitle => self.raw(s, "</dt>\n"),
-            TagEnd::DefinitionListDefinition => self.raw(s, "</dd>\n"),
-            TagEnd::Table => self.raw(s, "</tbody></table>\n"),
-            TagEnd::TableHead => {
-                self.in_head = false;
-                self.raw(s, "</tr></thead><tbody>\n")
-            }
-            TagEnd::TableRow => self.raw(s, "</tr>\n"),
-            TagEnd::TableCell => {
-                self.column = self.column.saturating_add(1);
-                self.raw(s, if self.in_head { "</th>" } else { "</td>" })
-            }
-            TagEnd::Emphasis => self.raw(s, "</em>"),
-            TagEnd::Strong => self.raw(s, "</strong>"),
-            TagEnd::Strikethrough => self.raw(s, "</del>"),
-            TagEnd::Superscript => self.raw(s, "</sup>"),
-            TagEnd::Subscript => self.raw(s, "</sub>"),
-            TagEnd::Link => self.raw(s, "</a>"),
-            TagEnd::MetadataBlock(_) => {
-                self.in_metadata = false;
-                Ok(())
-            }
-        }
+        let text = self.end_text(tag);
+        self.note_end(tag);
+        self.raw(s, text)
     }
 }

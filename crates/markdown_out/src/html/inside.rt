@@ -1,19 +1,34 @@
 //! What an event inside an image adds to its alt text, and the image's end.
-ghost use Rattle.std.specs.Prelude.{◌≡◌, ◌≤◌, ◌+◌, ◌^◌, ◌++◌, ◌∷◌, [], None, Some, OnOk, IfErr};
-ghost use Rattle.std.specs.String.{string_bytes};
-ghost use Rattle.markdown_base.specs.CowText.{text_of};
-ghost use Rattle.markdown_base.specs.Event.{event_view};
+ghost use Rattle.std.specs.Prelude.{◌≡◌, ◌≤◌, ◌+◌, ◌^◌, ◌∷◌, [], None, Some, OnOk, IfErr};
+ghost use Rattle.markdown_base.specs.Event.{event_view, end as end_event};
 ghost use Rattle.markdown_base.specs.declared.fault.Fault.TheVariants.{Memory, Depth};
-ghost use Rattle.markdown_out.specs.ByteLists.{Appends, AppendsPart, ends_line, joined};
+ghost use Rattle.markdown_out.specs.AltText.{alt_parts};
+ghost use Rattle.markdown_out.specs.ByteLists.{Appends, AppendsPart, joined};
 ghost use Rattle.markdown_out.specs.Escapes.{attribute_escaped};
 ghost use Rattle.markdown_out.specs.EventHtml.{event_bytes};
 ghost use Rattle.markdown_out.specs.TagHtml.{image_end};
+ghost use Rattle.markdown_out.specs.Writer.{spelled};
 
 use super::links::put_image_end;
-use super::pieces::put;
+use super::pieces::{alone, put};
 use super::{OpenImage, Piece, Writer};
 use markdown_base::event::Event;
 use markdown_base::fault::Fault;
+use markdown_base::tag::TagEnd;
+
+/// A text that stands alone in an attribute.
+fn escaped(text: &str) -> [Piece<'_>; 3]
+    ensures { spelled result ≡ attribute_escaped text.now }
+{
+    [Piece::Raw(""), Piece::Raw(""), Piece::Attribute(text)]
+}
+
+/// Math, between two marks.
+fn marked<'x>(mark: &'x str, text: &'x str) -> [Piece<'x>; 3]
+    ensures { spelled result ≡ joined (mark.now ∷ attribute_escaped text.now ∷ mark.now ∷ []) }
+{
+    [Piece::Raw(mark), Piece::Attribute(text), Piece::Raw(mark)]
+}
 
 /// Drops what an event held.
 fn discard<T: Drop>(value: T) {
@@ -22,7 +37,7 @@ fn discard<T: Drop>(value: T) {
 
 impl<'a> Writer<'a> {
     ghost use Rattle.markdown_out.specs.Writer.{view, view_in, view_after, after_bytes, with_image};
-    ghost use Rattle.markdown_out.specs.Writer.{spelled, MayRefuse};
+    ghost use Rattle.markdown_out.specs.Writer.{AddsAlt, MayRefuse};
 
     /// Adds pieces to the alt text of an image that stays open.
     fn add(
@@ -44,26 +59,42 @@ impl<'a> Writer<'a> {
         }
     }
 
-    /// Adds math, between two marks.
-    fn add_math<'x>(
+    /// What an event that adds to an alt text by itself is spelled by there.
+    fn alt_pieces<'x>(&self, event: &'x Event<'a>) -> [Piece<'x>; 3]
+        requires { AddsAlt (event_view event.now) }
+        ensures { spelled result ≡ joined (alt_parts (view self.now) (event_view event.now)) }
+    {
+        match event {
+            Event::Text(text) => escaped(text.as_str()),
+            Event::Code(text) => escaped(text.as_str()),
+            Event::InlineHtml(text) => escaped(text.as_str()),
+            Event::InlineMath(text) => marked("$", text.as_str()),
+            Event::DisplayMath(text) => marked("$$", text.as_str()),
+            Event::Html(_) => alone(""),
+            Event::SoftBreak | Event::HardBreak | Event::Rule => alone(" "),
+            Event::TaskListMarker(true) => alone("[x]"),
+            Event::TaskListMarker(false) => alone("[ ]"),
+            _ => unreachable!(),
+        }
+    }
+
+    /// An event that adds to the alt text by itself.
+    fn single_inside(
         &mut self,
         s: &mut String,
         image: OpenImage<'a>,
-        mark: &'x str,
-        text: &'x str,
+        event: &Event<'a>,
     ) -> Result<(), Fault>
-        ensures ok { OnOk result (Appends s.old s.new (joined (mark.now ∷ attribute_escaped text.now
-            ∷ mark.now ∷ []))) }
-        ensures state { OnOk result (self.new ≡ with_image (after_bytes self.old
-            (joined (mark.now ∷ attribute_escaped text.now ∷ mark.now ∷ []))) image.entry) }
+        requires { AddsAlt (event_view event.now) }
+        ensures ok { OnOk result (Appends s.old s.new
+            (event_bytes (view_in self.old image.entry) (event_view event.now))) }
+        ensures told { OnOk result
+            (view self.new ≡ view_after (view_in self.old image.entry) (event_view event.now)) }
         ensures err { IfErr result (λ fault. (fault ≡ Memory) × AppendsPart s.old s.new
-            (joined (mark.now ∷ attribute_escaped text.now ∷ mark.now ∷ []))) }
+            (event_bytes (view_in self.old image.entry) (event_view event.now))) }
     {
-        self.add(
-            s,
-            image,
-            &[Piece::Raw(mark), Piece::Attribute(text), Piece::Raw(mark)],
-        )
+        let pieces = self.alt_pieces(event);
+        self.add(s, image, &pieces)
     }
 
     /// A Start inside an image.
@@ -80,6 +111,27 @@ impl<'a> Writer<'a> {
             title: image.title,
         });
         Ok(())
+    }
+
+    /// An End inside an image: that of a Start inside, or the image's own.
+    fn end_inside(&mut self, s: &mut String, image: OpenImage<'a>, tag: TagEnd) -> Result<(), Fault>
+        requires { self.old.image ≡ None }
+        ensures ok { OnOk result (Appends s.old s.new
+            (event_bytes (view_in self.old image.entry) (end_event tag))) }
+        ensures told { OnOk result
+            (view self.new ≡ view_after (view_in self.old image.entry) (end_event tag)) }
+        ensures err { IfErr result (λ fault. (fault ≡ Memory) × AppendsPart s.old s.new
+            (event_bytes (view_in self.old image.entry) (end_event tag))) }
+    {
+        let _ = tag;
+        if image.starts > 0 {
+            self.image = Some(OpenImage {
+                starts: image.starts - 1,
+                title: image.title,
+            });
+            return Ok(());
+        }
+        self.finish_image(s, image.title.as_str())
     }
 
     /// An event inside an image.
@@ -104,33 +156,13 @@ impl<'a> Writer<'a> {
                 discard(tag);
                 self.start_inside(image)
             }
-            Event::End(_) => {
-                if image.starts > 0 {
-                    self.image = Some(OpenImage {
-                        starts: image.starts - 1,
-                        title: image.title,
-                    });
-                    return Ok(());
-                }
-                self.finish_image(s, image.title.as_str())
-            }
-            Event::Text(text) => self.add(s, image, &[Piece::Attribute(text.as_str())]),
-            Event::Code(text) => self.add(s, image, &[Piece::Attribute(text.as_str())]),
-            Event::InlineHtml(text) => self.add(s, image, &[Piece::Attribute(text.as_str())]),
-            Event::InlineMath(text) => self.add_math(s, image, "$", text.as_str()),
-            Event::DisplayMath(text) => self.add_math(s, image, "$$", text.as_str()),
-            Event::Html(_) => {
-                self.image = Some(image);
-                Ok(())
-            }
+            Event::End(tag) => self.end_inside(s, image, tag),
             Event::FootnoteReference(name) => self.add_reference(s, image, name),
-            Event::SoftBreak | Event::HardBreak | Event::Rule => self.add(
-                s,
-                image,
-                &[Piece::Raw(" ")],
-            ),
-            Event::TaskListMarker(true) => self.add(s, image, &[Piece::Raw("[x]")]),
-            Event::TaskListMarker(false) => self.add(s, image, &[Piece::Raw("[ ]")]),
+            single => {
+                let done = self.single_inside(s, image, &single);
+                discard(single);
+                done
+            }
         }
     }
 

@@ -99,8 +99,8 @@ impl<'a> FootnoteNames<'a> {
         }
     }
 
-    /// The number of a name: one more than its place among the names, of which it is the last where it is new. The map is
-    /// searched once.
+    /// The number of a name: one more than its place among the names, of which it is the last where it is new. The map
+    /// is searched once.
     pub(super) fn number_of(&mut self, name: Name<'a>) -> Result<usize, AllocError>
         ensures number { IfOk result (λ number. number ≡ place (text_of name.entry.text) self.old + 1) }
         ensures known { OnOk result (self.new ≡ with_name (text_of name.entry.text) self.old) }

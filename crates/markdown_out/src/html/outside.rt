@@ -1,63 +1,16 @@
 //! What an event outside images writes.
-ghost use Rattle.std.specs.Prelude.{◌≡◌, ◌++◌, ◌∷◌, [], None, OnOk, OnErr, codes};
-ghost use Rattle.std.specs.String.{string_bytes};
-ghost use Rattle.markdown_base.specs.Event.{event_view, text, task_list_marker};
-ghost use Rattle.markdown_out.specs.ByteLists.{Appends, AppendsPart, ends_line, joined};
-ghost use Rattle.markdown_out.specs.Escapes.{text_escaped, attribute_escaped};
+ghost use Rattle.std.specs.Prelude.{◌≡◌, None, OnOk, OnErr};
+ghost use Rattle.markdown_base.specs.Event.{event_view, text};
+ghost use Rattle.markdown_out.specs.ByteLists.{Appends, AppendsPart, joined};
 ghost use Rattle.markdown_out.specs.EventHtml.{outside_parts};
 
-use super::pieces::put;
+use super::pieces::{alone, put, put_text};
 use super::{Piece, Writer};
 use markdown_base::event::Event;
 use std::alloc::AllocError;
 
-/// Appends a code span.
-fn put_code(s: &mut String, fresh: &mut bool, text: &str) -> Result<(), AllocError>
-    ensures ok { OnOk result (Appends s.old s.new (joined (codes "<code>" ∷ text_escaped text.now ∷
-        codes "</code>" ∷ []))) }
-    ensures fresh { OnOk result (fresh.new ≡ ends_line fresh.old
-        (joined (codes "<code>" ∷ text_escaped text.now ∷ codes "</code>" ∷ []))) }
-    ensures err { OnErr result (AppendsPart s.old s.new
-        (joined (codes "<code>" ∷ text_escaped text.now ∷ codes "</code>" ∷ []))) }
-{
-    put(
-        s,
-        fresh,
-        &[
-            Piece::Raw("<code>"),
-            Piece::Text(text),
-            Piece::Raw("</code>"),
-        ],
-    )
-}
-
-/// Appends a math span, by the tag that begins it.
-fn put_math<'x>(
-    s: &mut String,
-    fresh: &mut bool,
-    tag: &'x str,
-    text: &'x str,
-) -> Result<(), AllocError>
-    ensures ok { OnOk result (Appends s.old s.new (joined (tag.now ∷ attribute_escaped text.now ∷
-        codes "</span>" ∷ []))) }
-    ensures fresh { OnOk result (fresh.new ≡ ends_line fresh.old
-        (joined (tag.now ∷ attribute_escaped text.now ∷ codes "</span>" ∷ []))) }
-    ensures err { OnErr result (AppendsPart s.old s.new
-        (joined (tag.now ∷ attribute_escaped text.now ∷ codes "</span>" ∷ []))) }
-{
-    put(
-        s,
-        fresh,
-        &[
-            Piece::Raw(tag),
-            Piece::Attribute(text),
-            Piece::Raw("</span>"),
-        ],
-    )
-}
-
 impl<'a> Writer<'a> {
-    ghost use Rattle.markdown_out.specs.Writer.{view, view_after};
+    ghost use Rattle.markdown_out.specs.Writer.{view, view_after, spelled, IsSingle};
 
     /// A Text outside images; in metadata it writes nothing.
     fn text(&mut self, s: &mut String, words: &str) -> Result<(), AllocError>
@@ -74,24 +27,57 @@ impl<'a> Writer<'a> {
         if words.is_empty() {
             self.fresh = false;
         }
-        put(s, &mut self.fresh, &[Piece::Text(words)])
+        put_text(s, &mut self.fresh, words)
     }
 
-    /// The box of a task, checked where it is done.
-    fn task_list_marker(&mut self, s: &mut String, done: bool) -> Result<(), AllocError>
-        requires { self.old.image ≡ None }
-        ensures ok { OnOk result (Appends s.old s.new (joined (outside_parts (view self.old)
-            (task_list_marker done)))) }
-        ensures told { OnOk result (view self.new ≡ view_after (view self.old)
-            (task_list_marker done)) }
-        ensures err { OnErr result (AppendsPart s.old s.new (joined (outside_parts (view self.old)
-            (task_list_marker done)))) }
+    /// What an event that is written by itself is spelled by.
+    fn single_pieces<'x>(&self, event: &'x Event<'a>) -> [Piece<'x>; 3]
+        requires { IsSingle (event_view event.now) }
+        ensures { spelled result ≡ joined (outside_parts (view self.now) (event_view event.now)) }
     {
-        if done {
-            self.raw(s, "<input disabled=\"\" type=\"checkbox\" checked=\"\"/>\n")
-        } else {
-            self.raw(s, "<input disabled=\"\" type=\"checkbox\"/>\n")
+        match event {
+            Event::Code(text) => [
+                Piece::Raw("<code>"),
+                Piece::Text(text.as_str()),
+                Piece::Raw("</code>"),
+            ],
+            Event::InlineMath(text) => [
+                Piece::Raw("<span class=\"math math-inline\">"),
+                Piece::Attribute(text.as_str()),
+                Piece::Raw("</span>"),
+            ],
+            Event::DisplayMath(text) => [
+                Piece::Raw("<span class=\"math math-display\">"),
+                Piece::Attribute(text.as_str()),
+                Piece::Raw("</span>"),
+            ],
+            Event::Html(html) => alone(html.as_str()),
+            Event::InlineHtml(html) => alone(html.as_str()),
+            Event::SoftBreak => alone("\n"),
+            Event::HardBreak => alone("<br />\n"),
+            Event::Rule if self.fresh => alone("<hr />\n"),
+            Event::Rule => alone("\n<hr />\n"),
+            Event::TaskListMarker(true) => {
+                alone("<input disabled=\"\" type=\"checkbox\" checked=\"\"/>\n")
+            }
+            Event::TaskListMarker(false) => alone("<input disabled=\"\" type=\"checkbox\"/>\n"),
+            _ => unreachable!(),
         }
+    }
+
+    /// An event outside images that is written by itself.
+    fn single(&mut self, s: &mut String, event: &Event<'a>) -> Result<(), AllocError>
+        requires outside { self.old.image ≡ None }
+        requires single { IsSingle (event_view event.now) }
+        ensures ok { OnOk result (Appends s.old s.new (joined (outside_parts (view self.old)
+            (event_view event.now)))) }
+        ensures told { OnOk result (view self.new ≡ view_after (view self.old)
+            (event_view event.now)) }
+        ensures err { OnErr result (AppendsPart s.old s.new (joined (outside_parts (view self.old)
+            (event_view event.now)))) }
+    {
+        let pieces = self.single_pieces(event);
+        put(s, &mut self.fresh, &pieces)
     }
 
     /// An event outside images.
@@ -108,30 +94,12 @@ impl<'a> Writer<'a> {
             Event::Start(tag) => self.start(s, tag),
             Event::End(tag) => self.end(s, tag),
             Event::Text(text) => self.text(s, text.as_str()),
-            Event::Code(text) => put_code(s, &mut self.fresh, text.as_str()),
-            Event::InlineMath(text) => {
-                put_math(
-                    s,
-                    &mut self.fresh,
-                    "<span class=\"math math-inline\">",
-                    text.as_str(),
-                )
-            }
-            Event::DisplayMath(text) => {
-                put_math(
-                    s,
-                    &mut self.fresh,
-                    "<span class=\"math math-display\">",
-                    text.as_str(),
-                )
-            }
-            Event::Html(html) => self.raw(s, html.as_str()),
-            Event::InlineHtml(html) => self.raw(s, html.as_str()),
             Event::FootnoteReference(name) => self.footnote_reference(s, name),
-            Event::SoftBreak => self.raw(s, "\n"),
-            Event::HardBreak => self.raw(s, "<br />\n"),
-            Event::Rule => self.line(s, "<hr />\n"),
-            Event::TaskListMarker(done) => self.task_list_marker(s, done),
+            single => {
+                let done = self.single(s, &single);
+                drop(single);
+                done
+            }
         }
     }
 }

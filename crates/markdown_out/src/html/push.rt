@@ -68,13 +68,19 @@ impl<'a> Writer<'a> {
 /// Appends the HTML of the events up to the first `None`. The line counts as fresh at the
 /// beginning, whatever the string holds. Nothing is appended but this HTML.
 ///
+/// ```
+/// let mut html = String::new(alloc);
+/// push_html(alloc, &mut html, Parser::new(alloc, "*a*")?)?;
+/// // <p><em>a</em></p>
+/// ```
+///
 /// # Errors
 ///
 /// - The fault of an item that is one: the HTML of the events before it stands appended, without
 ///   what closes an image whose End did not come.
 /// - `Memory`, where an allocation is refused: the same, of the events before the one that was being
-///   written, and a front of its bytes; or, where an image was to be closed behind all events, of
-///   them all, and a front of what closes it.
+///   written, and a prefix of its bytes; or, where an image was to be closed behind all events, of
+///   them all, and a prefix of what closes it.
 /// - `Depth`, where more than 2^64 - 1 Starts in one image have no End yet: the same, of the events
 ///   read.
 pub fn push_html<'a, I>(alloc: Global, s: &mut String, iter: I) -> Result<(), Fault>

@@ -1,18 +1,19 @@
 //! What a Start outside images writes.
 ghost use Rattle.std.specs.Prelude.{◌≡◌, ◌++◌, [], ◌∷◌, None, OnOk, OnErr};
-ghost use Rattle.std.specs.String.{string_bytes};
 ghost use Rattle.markdown_base.specs.Event.{tag_view, start as start_event};
-ghost use Rattle.markdown_out.specs.ByteLists.{Appends, AppendsPart, ends_line, joined};
-ghost use Rattle.markdown_out.specs.TagHtml.{new_line, start_parts};
+ghost use Rattle.markdown_out.specs.ByteLists.{Appends, AppendsPart, joined};
+ghost use Rattle.markdown_out.specs.TagHtml.{image_parts, new_line, start_parts};
 
+use super::heading::put_heading;
 use super::links::{put_image, put_link};
-use super::pieces::{line_break, put};
+use super::pieces::{line_break, put, put_raw};
 use super::{OpenImage, Piece, Writer};
+use markdown_base::cow_str::CowStr;
 use markdown_base::tag::Tag;
 use std::alloc::AllocError;
 
 impl<'a> Writer<'a> {
-    ghost use Rattle.markdown_out.specs.Writer.{view, view_after, after_bytes};
+    ghost use Rattle.markdown_out.specs.Writer.{view, view_after, after_bytes, with_image, IsFixed, IsReleased};
 
     /// Appends a text as it is.
     pub(super) fn raw(&mut self, s: &mut String, text: &str) -> Result<(), AllocError>
@@ -20,7 +21,7 @@ impl<'a> Writer<'a> {
         ensures state { OnOk result (self.new ≡ after_bytes self.old text.now) }
         ensures err { OnErr result (AppendsPart s.old s.new text.now) }
     {
-        put(s, &mut self.fresh, &[Piece::Raw(text)])
+        put_raw(s, &mut self.fresh, text)
     }
 
     /// Appends a text at the beginning of a line.
@@ -36,6 +37,120 @@ impl<'a> Writer<'a> {
         put(s, &mut self.fresh, &[Piece::Raw(first), Piece::Raw(text)])
     }
 
+    /// What the Start of a tag that is the same in all texts writes outside images.
+    fn fixed_start(&self, tag: &Tag<'a>) -> (&'static str, &'static str)
+        requires { IsFixed (tag_view tag.now) }
+        ensures { result.0.now ++ result.1.now ≡ joined (start_parts (view self.now) (tag_view tag.now)) }
+    {
+        let first = line_break(self.fresh);
+        match tag {
+            Tag::Paragraph => (first, "<p>"),
+            Tag::HtmlBlock | Tag::MetadataBlock(_) => ("", ""),
+            Tag::Item => (first, "<li>"),
+            Tag::DefinitionList => (first, "<dl>\n"),
+            Tag::DefinitionListTitle => (first, "<dt>"),
+            Tag::DefinitionListDefinition => (first, "<dd>"),
+            Tag::TableHead => ("", "<thead><tr>"),
+            Tag::TableRow => ("", "<tr>"),
+            Tag::Emphasis => ("", "<em>"),
+            Tag::Strong => ("", "<strong>"),
+            Tag::Strikethrough => ("", "<del>"),
+            Tag::Superscript => ("", "<sup>"),
+            Tag::Subscript => ("", "<sub>"),
+            _ => unreachable!(),
+        }
+    }
+
+    /// Remembers what such a Start outside images tells, but for the bytes that it writes.
+    fn note_start(&mut self, tag: &Tag<'a>)
+        requires outside { self.old.image ≡ None }
+        requires fixed { IsFixed (tag_view tag.now) }
+        ensures view { view self.new
+            ≡ record (view_after (view self.old) (start_event (tag_view tag.now))) { fresh = self.old.fresh } }
+        ensures image { self.new.image ≡ None }
+    {
+        match tag {
+            Tag::TableHead => {
+                self.in_head = true;
+                self.column = 0;
+            }
+            Tag::TableRow => self.column = 0,
+            Tag::MetadataBlock(_) => self.in_metadata = true,
+            _ => {}
+        }
+    }
+
+    /// Such a Start outside images.
+    fn start_fixed(&mut self, s: &mut String, tag: &Tag<'a>) -> Result<(), AllocError>
+        requires outside { self.old.image ≡ None }
+        requires fixed { IsFixed (tag_view tag.now) }
+        ensures ok { OnOk result (Appends s.old s.new (joined (start_parts (view self.old)
+            (tag_view tag.now)))) }
+        ensures told { OnOk result (view self.new ≡ view_after (view self.old)
+            (start_event (tag_view tag.now))) }
+        ensures err { OnErr result (AppendsPart s.old s.new (joined (start_parts (view self.old)
+            (tag_view tag.now)))) }
+    {
+        let (first, text) = self.fixed_start(tag);
+        self.note_start(tag);
+        put(s, &mut self.fresh, &[Piece::Raw(first), Piece::Raw(text)])
+    }
+
+    /// A Start outside images of which nothing is kept.
+    fn start_released(&mut self, s: &mut String, tag: &Tag<'a>) -> Result<(), AllocError>
+        requires outside { self.old.image ≡ None }
+        requires released { IsReleased (tag_view tag.now) }
+        ensures ok { OnOk result (Appends s.old s.new (joined (start_parts (view self.old)
+            (tag_view tag.now)))) }
+        ensures told { OnOk result (view self.new ≡ view_after (view self.old)
+            (start_event (tag_view tag.now))) }
+        ensures err { OnErr result (AppendsPart s.old s.new (joined (start_parts (view self.old)
+            (tag_view tag.now)))) }
+    {
+        match tag {
+            Tag::Heading {
+                level,
+                id,
+                classes,
+                attrs,
+            } => put_heading(s, &mut self.fresh, *level, id, classes, attrs),
+            Tag::BlockQuote(kind) => self.block_quote(s, *kind),
+            Tag::CodeBlock(kind) => self.code_block(s, kind),
+            Tag::List(first) => self.list(s, *first),
+            Tag::TableCell => self.cell(s),
+            Tag::Link {
+                link_type,
+                dest_url,
+                title,
+                ..
+            } => put_link(
+                s,
+                &mut self.fresh,
+                *link_type,
+                dest_url.as_str(),
+                title.as_str(),
+            ),
+            _ => self.start_fixed(s, tag),
+        }
+    }
+
+    /// An image's Start outside images: its title is kept for its end.
+    fn open_image(
+        &mut self,
+        s: &mut String,
+        destination: &str,
+        title: CowStr<'a>,
+    ) -> Result<(), AllocError>
+        ensures ok { OnOk result (Appends s.old s.new (joined (image_parts destination.now))) }
+        ensures state { OnOk result (self.new
+            ≡ with_image (after_bytes self.old (joined (image_parts destination.now)))
+            (record { starts = 0; title = title.entry })) }
+        ensures err { OnErr result (AppendsPart s.old s.new (joined (image_parts destination.now))) }
+    {
+        self.image = Some(OpenImage { starts: 0, title });
+        put_image(s, &mut self.fresh, destination)
+    }
+
     /// A Start outside images.
     pub(super) fn start(&mut self, s: &mut String, tag: Tag<'a>) -> Result<(), AllocError>
         requires { self.old.image ≡ None }
@@ -47,56 +162,17 @@ impl<'a> Writer<'a> {
             (tag_view tag.entry)))) }
     {
         match tag {
-            Tag::Paragraph => self.line(s, "<p>"),
-            Tag::Heading {
-                level,
-                id,
-                classes,
-                attrs,
-            } => self.heading(s, level, id, classes, attrs),
-            Tag::BlockQuote(kind) => self.block_quote(s, kind),
-            Tag::CodeBlock(kind) => self.code_block(s, kind),
-            Tag::HtmlBlock => Ok(()),
-            Tag::List(first) => self.list(s, first),
-            Tag::Item => self.line(s, "<li>"),
-            Tag::FootnoteDefinition(name) => self.footnote_definition(s, name),
-            Tag::DefinitionList => self.line(s, "<dl>\n"),
-            Tag::DefinitionListTitle => self.line(s, "<dt>"),
-            Tag::DefinitionListDefinition => self.line(s, "<dd>"),
-            Tag::Table(alignments) => self.table(s, alignments),
-            Tag::TableHead => self.table_head(s),
-            Tag::TableRow => self.table_row(s),
-            Tag::TableCell => self.cell(s),
-            Tag::Emphasis => self.raw(s, "<em>"),
-            Tag::Strong => self.raw(s, "<strong>"),
-            Tag::Strikethrough => self.raw(s, "<del>"),
-            Tag::Superscript => self.raw(s, "<sup>"),
-            Tag::Subscript => self.raw(s, "<sub>"),
-            Tag::Link {
-                link_type,
-                dest_url,
-                title,
-                ..
-            } => {
-                put_link(
-                    s,
-                    &mut self.fresh,
-                    link_type,
-                    dest_url.as_str(),
-                    title.as_str(),
-                )
-            }
             Tag::Image {
                 dest_url,
                 title,
                 ..
-            } => {
-                self.image = Some(OpenImage { starts: 0, title });
-                put_image(s, &mut self.fresh, dest_url.as_str())
-            }
-            Tag::MetadataBlock(_) => {
-                self.in_metadata = true;
-                Ok(())
+            } => self.open_image(s, dest_url.as_str(), title),
+            Tag::Table(alignments) => self.table(s, alignments),
+            Tag::FootnoteDefinition(name) => self.footnote_definition(s, name),
+            released => {
+                let done = self.start_released(s, &released);
+                drop(released);
+                done
             }
         }
     }

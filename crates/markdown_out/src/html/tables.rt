@@ -1,9 +1,8 @@
 //! What the Starts of tables, of their heads and rows and of cells write.
 ghost use Rattle.std.specs.Prelude.{◌≡◌, ◌++◌, None, OnOk, OnErr};
 ghost use Rattle.std.specs.Option.{option_copied};
-ghost use Rattle.std.specs.String.{string_bytes};
-ghost use Rattle.markdown_base.specs.Event.{start as start_event, table, table_head, table_row, table_cell};
-ghost use Rattle.markdown_out.specs.ByteLists.{Appends, AppendsPart, ends_line, joined};
+ghost use Rattle.markdown_base.specs.Event.{start as start_event, table, table_cell};
+ghost use Rattle.markdown_out.specs.ByteLists.{Appends, AppendsPart, joined};
 ghost use Rattle.markdown_out.specs.TagHtml.{cell_style, start_parts};
 
 use super::pieces::put;
@@ -44,29 +43,12 @@ impl<'a> Writer<'a> {
         self.raw(s, "<table>")
     }
 
-    /// The Start of a table's head outside images.
-    pub(super) fn table_head(&mut self, s: &mut String) -> Result<(), AllocError>
-        requires { self.old.image ≡ None }
-        ensures ok { OnOk result (Appends s.old s.new (joined (start_parts (view self.old) table_head))) }
-        ensures told { OnOk result (view self.new ≡ view_after (view self.old) (start_event table_head)) }
-        ensures err { OnErr result (AppendsPart s.old s.new (joined (start_parts (view self.old)
-            table_head))) }
+    /// How a cell begins: by whether it is one of a head, and by its column.
+    fn cell_start(&self) -> (&'static str, &'static str)
+        ensures { result.0.now ++ result.1.now ≡ joined (start_parts (view self.now) table_cell) }
     {
-        self.in_head = true;
-        self.column = 0;
-        self.raw(s, "<thead><tr>")
-    }
-
-    /// The Start of a row of a table's body outside images.
-    pub(super) fn table_row(&mut self, s: &mut String) -> Result<(), AllocError>
-        requires { self.old.image ≡ None }
-        ensures ok { OnOk result (Appends s.old s.new (joined (start_parts (view self.old) table_row))) }
-        ensures told { OnOk result (view self.new ≡ view_after (view self.old) (start_event table_row)) }
-        ensures err { OnErr result (AppendsPart s.old s.new (joined (start_parts (view self.old)
-            table_row))) }
-    {
-        self.column = 0;
-        self.raw(s, "<tr>")
+        let name = if self.in_head { "<th" } else { "<td" };
+        (name, style_of(self.alignments.as_slice().get(self.column)))
     }
 
     /// A cell's Start.
@@ -78,8 +60,7 @@ impl<'a> Writer<'a> {
         ensures err { OnErr result (AppendsPart s.old s.new
             (joined (start_parts (view self.old) table_cell))) }
     {
-        let name = if self.in_head { "<th" } else { "<td" };
-        let style = style_of(self.alignments.as_slice().get(self.column));
+        let (name, style) = self.cell_start();
         put(s, &mut self.fresh, &[Piece::Raw(name), Piece::Raw(style)])
     }
 }

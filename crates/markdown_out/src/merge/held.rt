@@ -147,7 +147,10 @@ fn after_item<'a, P: Place>(
                 let given = Ok((Event::Text(first.0), first.1));
                 Ok((Step::Give(Some(given)), hold(answer)))
             }
-            Ok(last) => Ok((Step::Again, Held::Texts(join(alloc, first, last)?))),
+            Ok(last) => {
+                let texts = join(alloc, first, last)?;
+                Ok((Step::Again, Held::Texts(texts)))
+            }
         },
     }
 }
@@ -162,7 +165,10 @@ fn after_texts<'a, P: Place>(
 {
     match text_or(answer) {
         Err(answer) => Ok((close(texts), hold(answer))),
-        Ok(last) => Ok((Step::Again, Held::Texts(append(texts, last)?))),
+        Ok(last) => {
+            let texts = append(texts, last)?;
+            Ok((Step::Again, Held::Texts(texts)))
+        }
     }
 }
 

@@ -41,9 +41,9 @@ returns-in-Err-text_or-clause-takes g c =
       needs = omega arith;
     }
 
-pub returns-in_ok-join-in-Ok-text_or-clause-takes : goal.returns-in_ok-join-in-Ok-text_or-clause-takes
-returns-in_ok-join-in-Ok-text_or-clause-takes g c =
-    let made = c.in_ok-join-in-Ok-text_or.ensures in
+pub returns-in_ok-texts-in-Ok-text_or-clause-takes : goal.returns-in_ok-texts-in-Ok-text_or-clause-takes
+returns-in_ok-texts-in-Ok-text_or-clause-takes g c =
+    let made = c.in_ok-texts-in-Ok-text_or.ensures in
     let count : answer_count c.args.answer ≡ 1 =
     sym (answer_count-mapped placed_view c.args.answer) ∙ ap answer_count c.in-Ok-text_or.ensures in
     record {

@@ -30,10 +30,10 @@ returns-in-Err-clause-takes g c =
       needs = omega (arith, again_count-most c.close.result);
     }
 
-pub returns-in_ok-append-in-Ok-clause-takes : goal.returns-in_ok-append-in-Ok-clause-takes
-returns-in_ok-append-in-Ok-clause-takes g c =
+pub returns-in_ok-texts-in-Ok-clause-takes : goal.returns-in_ok-texts-in-Ok-clause-takes
+returns-in_ok-texts-in-Ok-clause-takes g c =
     let t = c.args.texts in
-    let made = c.in_ok-append-in-Ok.ensures in
+    let made = c.in_ok-texts-in-Ok.ensures in
     let count : answer_count c.args.answer ≡ 1 =
     sym (answer_count-mapped placed_view c.args.answer) ∙ ap answer_count c.in-Ok.ensures in
     record {

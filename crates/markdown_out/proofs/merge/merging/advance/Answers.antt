@@ -17,7 +17,8 @@ returns-in-Give-clause-passes g c =
     c.reading.invariant.merged c.next.ensures.steps c.parted-answer.ensures.view c.in_ok-step.ensures.takes in
     let given : given_answers c.in_ok-step.step ≡ option_map view c.rebuilt.result ∷ [] =
     ap given_answers c.in-Give.is ∙ ap (λ x. x ∷ []) (sym c.rebuilt.ensures.view) in
-    subst (λ given. IsMerged through view steps (held_items c.args.held) c.args.iter.now given (held_items after) c.next.new.self) given more
+    subst (λ given. IsMerged through view steps (held_items c.args.held) c.args.iter.now given (held_items after) c.next.new.self) given
+    more
 
 pub reading-preserved : goal.reading-preserved
 reading-preserved g c =
@@ -30,7 +31,15 @@ reading-preserved g c =
     c.reading.invariant.merged c.next.ensures.steps c.parted-answer.ensures.view c.in_ok-step.ensures.takes in
     let given : given_answers c.in_ok-step.step ≡ [] = ap given_answers c.in-Again.is in
     record {
-      merged = subst (λ given. IsMerged through view steps (held_items c.args.held) c.args.iter.now given (held_items after) c.next.new.self) given more;
+      merged = subst (λ given. IsMerged through view steps (held_items c.args.held) c.args.iter.now given (held_items after)
+          c.next.new.self) given more;
       can_merge = can_merge-after steps c.next.result can c.next.ensures.steps c.next.ensures.goes;
-      fewer = omega (arith, c.reading.invariant.fewer, c.in_ok-step.ensures.takes.counts, c.parted-answer.ensures.count, fewer-after steps c.next.result can c.next.ensures.steps c.next.ensures.goes);
+      fewer = omega (
+        arith,
+        c.reading.invariant.fewer,
+        c.in_ok-step.ensures.takes.counts,
+        c.parted-answer.ensures.count,
+        fewer-after steps
+            c.next.result can c.next.ensures.steps c.next.ensures.goes,
+      );
     }
