@@ -1,10 +1,10 @@
 -- What `push_html` makes of a merge over a parser is the HTML of the merge of the events that were left.
-use Rattle.std.proofs.Common.{◌≡◌, ℕ, List, [], Option, false, ap, subst}
+use Rattle.std.proofs.Common.{◌≡◌, ℕ, List, [], map, Option, false, ap, subst}
 use Rattle.std.specs.Iterator.{Count}
+use Rattle.markdown_base.specs.Event.{event_view}
 use Rattle.markdown_base.specs.Questions.{Question, Answer}
 use Rattle.markdown_inline.specs.NextGives.{NextGives, IsEventOf}
 use Rattle.markdown_inline.specs.declared.walk.Parser.{Parser}
-use Rattle.markdown_inline.proofs.RunLemmas.{drained}
 use Rattle.markdown_out.specs.HtmlCorrect.{IsRendered}
 use Rattle.markdown_out.specs.MergeNext.{MergeState, item_view}
 use Rattle.markdown_out.specs.MergeState.{stream_state}
@@ -13,6 +13,7 @@ use Rattle.markdown_out.specs.Places.{bare, nowhere}
 use Rattle.markdown_out.specs.declared.merge.TextMergeStream.{TextMergeStream}
 use Rattle.markdown_out.proofs.RenderedMergeLemmas.{rendered-merged}
 use Rattle.markdown_render.specs.Merged.{IsMergedHtmlOf}
+use Rattle.markdown_render.proofs.RenderingLemmas.{drained}
 
 -- a parser stays ended
 stays_ended : {F : Type 0} (step : F → Question → Option Answer → F → Type 0) → StaysEnded (NextGives step IsEventOf)
@@ -20,17 +21,19 @@ stays_ended step s t u r none next = (next.stays none.gives.over).0
 
 -- the HTML of a merge of all events that a parser gave
 of_events : {F : Type 0} (step : F → Question → Option Answer → F → Type 0) (p : Parser F) (old html : List ℕ) → old ≡ []
-    → IsRenderedMerged (NextGives step IsEventOf) p old html → IsMergedHtmlOf p html
-of_events step p old html empty r =
-    let all = drained step p r.events r.read in
-    record { answers = all.0; merged = λ later. rw (all.1 later) (rw empty at r.stands) }
+    → IsRenderedMerged (NextGives step IsEventOf) p old html → IsMergedHtmlOf step p html
+of_events step p old html empty r = record {
+  events = map event_view r.events;
+  left = drained step p r.events r.read;
+  merged = rw empty at r.stands;
+}
 
 -- the HTML of a new merge over a parser
 pub merged : {F : Type 0} (step : F → Question → Option Answer → F → Type 0) (can : Parser F → Type 0) (rest : Parser F → Count)
     (m : TextMergeStream (Parser F)) (p : Parser F) (old html : List ℕ)
     → stream_state m ≡ record { iter = p; held = []; over = false } → old ≡ []
     → IsRendered (merge_steps nowhere (item_view bare) (NextGives step IsEventOf) can rest stream_state) m old html
-    → IsMergedHtmlOf p html
+    → IsMergedHtmlOf step p html
 merged {F} step can rest m p old html new empty r =
     let begun : IsNewMerge (stream_state m) = record {
       holds = ap (λ (s : MergeState (Parser F) (Unit {0})). s.held) new;

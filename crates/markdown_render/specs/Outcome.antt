@@ -13,8 +13,8 @@ status_of (Ok done) = 0
 status_of (Err failure) = 1
 
 module _ {W : Type 0} (contents : W → Option (List ℕ)) (read : Option (List ℕ)) (options : Options) (old new : W) where
-  -- Where nothing failed the writer has the HTML of the bytes read with these options, as far as they are known. Where writing
-  -- failed, or memory was refused, nothing is said of it. Else nothing was written.
+  -- Where nothing failed the writer has the HTML of the bytes read with these options, as far as they are known. Where
+  -- writing failed, or memory was refused, nothing is said of it. Else nothing was written.
   abbrev pub Leaves : Result (Unit {0}) Failure → Type 0
   Leaves (Ok done) = IfSome read (λ bytes.
       (html : List ℕ) × IsRenderingOf bytes options html × Appends (contents old) (contents new) html)

@@ -1,22 +1,42 @@
--- What the program prints: the HTML of the reading of its input.
-use Rattle.std.specs.Prelude.{◌≡◌, ℕ, false, List, map}
+-- What rendering gives: the HTML of the reading of a text, for the answers that a callback gave.
+use Rattle.std.specs.Prelude.{◌≡◌, ℕ, false, List, ◌++◌, map, Option, is_some}
 use Rattle.std.specs.Str.{IsUtf8}
-use Rattle.markdown_base.specs.Questions.{Answers}
+use Rattle.markdown_base.specs.Questions.{Question, Answer, Answers}
 use Rattle.markdown_base.specs.Event.{EventView}
 use Rattle.markdown_base.specs.declared.options.Options.{Options}
 use Rattle.markdown_spans.specs.Blocks.{IsOfText}
+use Rattle.markdown_spans.specs.Callback.{Asks}
 use Rattle.markdown_spans.specs.declared.blocks.Blocks.{Blocks}
-use Rattle.markdown_inline.specs.Elements.{events_of}
+use Rattle.markdown_inline.specs.Elements.{Element, events_of, questions_of}
 use Rattle.markdown_inline.specs.ParserLeft.{reading_of}
 use Rattle.markdown_out.specs.EventHtml.{html_of}
 
--- the events of a block result's reading, where there is nobody to ask
-abbrev pub events_read : Blocks → Answers → List EventView
-events_read blocks answers = map (λ e. e.0) (events_of (reading_of blocks false answers))
+-- the events among these elements
+abbrev pub views_of : List Element → List EventView
+views_of elements = map (λ e. e.0) (events_of elements)
 
--- the input is text, and this is the HTML of the events of a block result of it with these options
+-- These are the events of what is read, for the answers that the callback, if there is one, gave to exactly the
+-- questions in it, in order; whatever answers would follow.
+pub record AreEventsFor {F : Type 0} (step : F → Question → Option Answer → F → Type 0) (callback : Option F)
+    (read : Answers → List Element) (events : List EventView) : Type 0 where
+  pub answers : Answers
+  pub after : Option F
+  pub asked : Asks step callback (questions_of (read answers)) answers after
+  pub are : (later : Answers) → views_of (read (answers ++ later)) ≡ events
+
+-- this is the HTML of the events of a block result of the text with these options, read with the callback's answers
+pub record IsRenderingFor {F : Type 0} (step : F → Question → Option Answer → F → Type 0) (callback : Option F)
+    (text : List ℕ) (options : Options) (html : List ℕ) : Type 0 where
+  pub blocks : Blocks
+  pub of_text : IsOfText text options blocks
+  pub events : List EventView
+  pub read : AreEventsFor step callback (reading_of blocks (is_some callback)) events
+  pub rendered : html ≡ html_of events
+
+-- the input is text, and this is the HTML of the events of a block result of it with these options, read with nobody
+-- to ask
 pub record IsRenderingOf (bytes : List ℕ) (options : Options) (html : List ℕ) : Type 0 where
   pub is_text : IsUtf8 bytes
   pub blocks : Blocks
   pub of_text : IsOfText bytes options blocks
-  pub rendered : (answers : Answers) → html ≡ html_of (events_read blocks answers)
+  pub rendered : (answers : Answers) → html ≡ html_of (views_of (reading_of blocks false answers))

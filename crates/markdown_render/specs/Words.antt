@@ -12,6 +12,7 @@ option_words =
     ∷ (codes "pluses", 256) ∷ (codes "math", 1024) ∷ (codes "gfm", 2048) ∷ (codes "definitions", 4096)
     ∷ (codes "superscript", 8192) ∷ (codes "subscript", 16384) ∷ (codes "wikilinks", 32768) ∷ []
 
+-- the options of these bits
 abbrev pub of_bits : ℕ → Options
 of_bits bits = record { 0 = bits }
 
@@ -24,6 +25,7 @@ option_beside ((name, bits) ∷ more) word = if bytes_eq word name then Some (of
 abbrev pub option_of : List ℕ → Option Options
 option_of word = option_beside option_words word
 
+-- a word's option, and then those of the words after it
 abbrev pub then_on : Option Options → (Options → Option Options) → Options → Option Options
 then_on None rest on = None
 then_on (Some option) rest on = rest (of_bits (bit_or on.0 option.0))

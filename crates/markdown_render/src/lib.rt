@@ -2,5 +2,10 @@
 #![tactic(auto)]
 
 pub mod merged;
+mod pushed;
+pub mod rendering;
 pub mod run;
 mod words;
+
+pub use merged::merged_html;
+pub use rendering::render;

@@ -7,8 +7,8 @@ ghost use Rattle.markdown_out.specs.MergeNext.{CanMerge};
 ghost use Rattle.markdown_out.specs.OutLaws.{StaysEnded};
 ghost use Rattle.markdown_render.specs.Merged.{IsMergedHtmlOf};
 
+use crate::pushed::push_items;
 use markdown_inline::walk::{OffsetIter, Parser};
-use markdown_out::html::push_html;
 use markdown_out::merge::TextMergeStream;
 use markdown_spans::blocks::Fault;
 use markdown_spans::defs::BrokenLinkCallback;
@@ -37,10 +37,14 @@ pub fn offsets_can_be_merged<'input, F: BrokenLinkCallback<'input>>(iter: &Offse
 /// # Errors
 ///
 /// `Memory` where an allocation is refused, and `Depth` as `push_html` answers it.
-pub fn merged_html(alloc: Global, parser: Parser<'_>) -> Result<String, Fault>
-    ensures { IfOk result (λ html. IsMergedHtmlOf parser.entry (string_bytes html)) }
+pub fn merged_html<'input, F: BrokenLinkCallback<'input>>(
+    alloc: Global,
+    parser: Parser<'input, F>,
+) -> Result<String, Fault>
+    requires { IfSome (parser_callback parser) F.can_ask }
+    ensures { IfOk result (λ html. IsMergedHtmlOf F.answers parser.entry (string_bytes html)) }
 {
     let mut html = String::new(alloc);
-    push_html(alloc, &mut html, TextMergeStream::new(alloc, parser))?;
+    push_items(alloc, &mut html, TextMergeStream::new(alloc, parser))?;
     Ok(html)
 }

@@ -10,11 +10,11 @@ ghost use Rattle.markdown_render.specs.Words.{turned_on};
 ghost use Rattle.markdown_render.specs.Outcome.{status_of, Leaves};
 ghost use Rattle.markdown_render.specs.declared.run.Failure.{Failure};
 
+use crate::rendering::render;
 use crate::words::options_of;
 use markdown_base::options::Options;
-use markdown_inline::walk::Parser;
-use markdown_out::html::push_html;
 use markdown_spans::blocks::Fault;
+use markdown_spans::defs::DefaultBrokenLinkCallback;
 use std::alloc::Global;
 use std::io::{self, ErrorKind, Read, Write};
 
@@ -81,15 +81,12 @@ fn read_text<R: Read>(alloc: Global, input: &mut R) -> Result<String, Failure>
     }
 }
 
-/// The HTML of a text with these options.
+/// The HTML of a text with these options, where nobody is asked.
 fn rendered(alloc: Global, text: &str, options: Options) -> Result<String, Failure>
     ensures html { IfOk result (λ html. IsRenderingOf text.now options (string_bytes html)) }
     ensures failed { IfErr result (λ failure. (fault : Fault) × (failure ≡ Failure.Fault fault)) }
 {
-    let mut html = String::new(alloc);
-    let parser = Parser::new_ext(alloc, text, options)?;
-    push_html(alloc, &mut html, parser)?;
-    Ok(html)
+    Ok(render(alloc, text, options, None::<DefaultBrokenLinkCallback>)?)
 }
 
 /// Writes all of it at once.
@@ -157,7 +154,8 @@ pub fn run<R: Read, W: Write, E: Write>(
         → (result ≡ 2) × (out.new ≡ out.old) × (input.new ≡ input.old) }
 
     // Without one the status follows from what came of reading, rendering and writing.
-    ensures outcome { IfSome (turned_on (map string_bytes words.now) no_options) (λ options. (outcome : Result (Unit {0}) Failure)
+    ensures outcome { IfSome (turned_on (map string_bytes words.now) no_options)
+        (λ options. (outcome : Result (Unit {0}) Failure)
         × (result ≡ status_of outcome) × Leaves W.contents (R.remaining input.old) options out.old out.new outcome) }
     ensures status { IfSome (turned_on (map string_bytes words.now) no_options) (λ options. result ≤ 1) }
     ensures not_text { IfSome (turned_on (map string_bytes words.now) no_options) (λ options.

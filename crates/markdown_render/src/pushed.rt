@@ -1,0 +1,55 @@
+//! `push_html` for callers with a callback of any type, whose bound names the lifetime of the text. Where the callee
+//! has a lifetime of its own beside that bound the borrow checker writes no proof of the call; here it has none.
+ghost use Rattle.std.specs.Prelude.{OnOk, IfErr, string_bytes};
+ghost use Rattle.std.specs.Iterator.{IsFinite};
+
+use markdown_base::event::Event;
+use markdown_base::fault::Fault;
+use markdown_out::html::push_html;
+use std::alloc::Global;
+
+/// What is written as HTML where an iterator gives it: an event, whatever the lifetime of its texts.
+pub trait Pushed<I: Iterator> {
+    ghost use Rattle.std.specs.Prelude.{ℕ, List};
+    ghost use Rattle.markdown_base.specs.declared.fault.Fault.{Fault};
+
+    /// The HTML of all that the iterator gives stands behind the old text.
+    ghost is_pushed: { I → List ℕ → List ℕ → Type 0 };
+
+    /// Writing ends by this fault: what stands behind the old text then.
+    ghost is_stopped: { I → List ℕ → List ℕ → Fault → Type 0 };
+
+    fn push_all(alloc: Global, s: &mut String, iter: I) -> Result<(), Fault>
+        requires can { I.can_next iter }
+        requires ends { IsFinite (I.remaining iter) }
+        ensures ok { OnOk result (is_pushed iter (string_bytes s.old) (string_bytes s.new)) }
+        ensures err { IfErr result (λ fault. is_stopped iter (string_bytes s.old) (string_bytes s.new) fault) };
+}
+
+impl<'a, I: Iterator<Item = Result<Event<'a>, Fault>>> Pushed<I> for Event<'a> {
+    ghost use Rattle.std.specs.Prelude.{◌⊎◌};
+    ghost use Rattle.markdown_out.specs.HtmlCorrect.{IsOwnFault, IsRendered, StopsAtError};
+
+    ghost is_pushed = { IsRendered I.next_gives };
+
+    ghost is_stopped = { λ it old new fault.
+        StopsAtError I.next_gives it old new fault ⊎ IsOwnFault I.next_gives it old new fault };
+
+    fn push_all(alloc: Global, s: &mut String, iter: I) -> Result<(), Fault> {
+        push_html(alloc, s, iter)
+    }
+}
+
+/// Appends the HTML of the items up to the first `None`, as `push_html` does.
+pub fn push_items<E: Pushed<I>, I: Iterator<Item = Result<E, Fault>>>(
+    alloc: Global,
+    s: &mut String,
+    iter: I,
+) -> Result<(), Fault>
+    requires can { I.can_next iter }
+    requires ends { IsFinite (I.remaining iter) }
+    ensures ok { OnOk result (E.is_pushed iter (string_bytes s.old) (string_bytes s.new)) }
+    ensures err { IfErr result (λ fault. E.is_stopped iter (string_bytes s.old) (string_bytes s.new) fault) }
+{
+    E::push_all(alloc, s, iter)
+}
