@@ -1,8 +1,10 @@
-//! An example of the library: where the links of a text lead, and the text's HTML.
+//! An example of the library: where the links of a text lead, which of them lead nowhere, and the text's HTML.
 #![tactic(auto)]
 
-use markdown_inline::{Event, Fault, Parser, Tag};
-use markdown_out::{TextMergeStream, push_html};
+use markdown_inline::{
+    BrokenLink, BrokenLinkCallback, Closure, CowStr, Event, Fault, Flags, Options, Parser, Tag,
+};
+use markdown_render::render;
 use std::alloc::Global;
 use std::process::ExitCode;
 
@@ -25,19 +27,53 @@ fn note_links(alloc: Global, source: &str, notes: &mut String) -> Result<(), Fau
     Ok(())
 }
 
-/// The HTML of a text, with neighbouring texts merged.
-fn render(alloc: Global, source: &str) -> Result<String, Fault> {
-    let mut html = String::new(alloc);
-    let parser = Parser::new(alloc, source)?;
-    push_html(alloc, &mut html, TextMergeStream::new(alloc, parser))?;
-    Ok(html)
+/// Counts the labels that are defined nowhere.
+#[derive(Drop)]
+struct Undefined {
+    labels: u64,
 }
 
-/// What is said of a text.
+impl<'a> BrokenLinkCallback<'a> for Undefined {
+    ghost can_ask = { λ _. Unit {0} };
+
+    ghost answers = { λ old question answer new. Unit {0} };
+
+    fn handle_broken_link(&mut self, link: BrokenLink<'a>) -> Option<(CowStr<'a>, CowStr<'a>)> {
+        drop(link);
+        self.labels = self.labels.saturating_add(1);
+        None
+    }
+}
+
+/// How many labels of a text are defined nowhere.
+fn count_undefined(alloc: Global, source: &str) -> Result<u64, Fault> {
+    let parser = Parser::new_with_broken_link_callback(
+        alloc,
+        source,
+        Options::empty(),
+        Some(Undefined { labels: 0 }),
+    )?;
+    let (events, callback) = parser.into_offset_iter().into_events(alloc)?;
+    drop(events);
+    match callback {
+        Some(undefined) => Ok(undefined.labels),
+        None => Ok(0),
+    }
+}
+
+/// A label that is defined nowhere leads to the page of that name.
+fn page<'a>(link: BrokenLink<'a>) -> Option<(CowStr<'a>, CowStr<'a>)> {
+    Some((link.reference, CowStr::Borrowed("")))
+}
+
+/// What is said of a text, and its HTML.
 fn report(alloc: Global, source: &str) -> Result<String, Fault> {
     let mut notes = String::new(alloc);
     note_links(alloc, source, &mut notes)?;
-    let html = render(alloc, source)?;
+    let undefined = count_undefined(alloc, source)?;
+    let note = format!(in alloc; "undefined: {undefined}\n")?;
+    notes.push_str(note.as_str())?;
+    let html = render(alloc, source, Options::empty(), Some(Closure::new(page)))?;
     notes.push_str(html.as_str())?;
     Ok(notes)
 }
