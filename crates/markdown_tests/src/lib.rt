@@ -1,5 +1,5 @@
-//! Tests of what no clause says of block results and what stands below them: a module for each topic, and the builders of
-//! trees. They stand apart from the libraries, so that no library is proved a second time with its tests.
+//! Tests of what no clause says of block results and what stands below them: a module for each topic, and the builders
+//! of trees. They stand apart from the libraries, so that no library is proved a second time with its tests.
 #![tactic(auto)]
 
 #[cfg(test)]

@@ -2,9 +2,11 @@
 use markdown_base::block_parts::LinkDef;
 use markdown_base::cow_str::CowStr;
 use markdown_base::event::Event;
+use markdown_base::fault::Fault;
 use markdown_base::inline_str::InlineStr;
-use markdown_base::tag::{Tag, TagEnd};
+use markdown_base::tag::{HeadingLevel, LinkType, Tag, TagEnd};
 use std::alloc::{AllocError, Global};
+use std::convert::AsStr;
 use std::hash::{DefaultHasher, Hash, Hasher};
 use std::ops::Range;
 use std::test::Fail;
@@ -121,6 +123,75 @@ fn texts_are_copied(rt: HostRuntime) -> Result<(), Fail> {
 fn texts_are_printed(rt: HostRuntime) -> Result<(), Fail> {
     let printed = format!(in rt.alloc(); "{} {:?}", CowStr::from("b"), CowStr::from("c"))?;
     assert_eq!(rt; printed.as_str(), "b \"c\"");
+    assert_eq!(rt; lent_bytes(&CowStr::from("bc")), 2);
+    Ok(())
+}
+
+/// How many bytes are lent.
+fn lent_bytes<T: AsStr>(text: &T) -> usize {
+    text.as_str().len()
+}
+
+#[test]
+fn faults_say_what_failed(rt: HostRuntime) -> Result<(), Fail> {
+    let said = format!(in rt.alloc(); "{}; {}; {}", Fault::Memory, Fault::Blocks, Fault::Depth)?;
+    assert_eq!(rt;
+        said.as_str(),
+        "out of memory; bad block result; image nested too deeply"
+    );
+    Ok(())
+}
+
+/// A link's Start that outlives the text from which it was made.
+fn outliving_link(alloc: Global, destination: &str) -> Result<Event<'static>, Fault> {
+    let source = String::from_str(alloc, destination)?;
+    let link = Event::Start(Tag::Link {
+        link_type: LinkType::Inline,
+        dest_url: CowStr::from(source.as_str()),
+        title: CowStr::from("t"),
+        id: CowStr::from(""),
+    });
+    link.into_static(alloc)
+}
+
+/// A heading's Start that outlives the text from which it was made.
+fn outliving_heading(alloc: Global, name: &str) -> Result<Event<'static>, Fault> {
+    let source = String::from_str(alloc, name)?;
+    let heading = Event::Start(Tag::Heading {
+        level: HeadingLevel::H2,
+        id: Some(CowStr::from(source.as_str())),
+        classes: vec![in alloc; CowStr::from(source.as_str()), CowStr::from("b")]?,
+        attrs: vec![in alloc; (CowStr::from("c"), Some(CowStr::from(source.as_str())))]?,
+    });
+    heading.into_static(alloc)
+}
+
+/// An event and a copy of it, as they are printed.
+fn printed_twice(alloc: Global, event: Result<Event<'static>, Fault>) -> Result<String, Fault> {
+    let event = event?;
+    let copy = event.try_clone(alloc)?;
+    let printed = format!(in alloc; "{event:?}; {copy:?}")?;
+    drop(event);
+    drop(copy);
+    Ok(printed)
+}
+
+#[test]
+fn events_outlive_their_text(rt: HostRuntime) -> Result<(), Fail> {
+    let alloc = rt.alloc();
+    let link = printed_twice(alloc, outliving_link(alloc, "/a"))?;
+    let link_start = "Start(Link { link_type: Inline, dest_url: \"/a\", title: \"t\", id: \"\" })";
+    assert_eq!(rt;
+        link.as_str(),
+        format!(in alloc; "{link_start}; {link_start}")?.as_str()
+    );
+    let heading = printed_twice(alloc, outliving_heading(alloc, "a"))?;
+    let heading_start =
+        "Start(Heading { level: H2, id: Some(\"a\"), classes: [\"a\", \"b\"], attrs: [(\"c\", Some(\"a\"))] })";
+    assert_eq!(rt;
+        heading.as_str(),
+        format!(in alloc; "{heading_start}; {heading_start}")?.as_str()
+    );
     Ok(())
 }
 
