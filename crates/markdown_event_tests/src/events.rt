@@ -45,3 +45,18 @@ pub fn link<'a>(link_type: LinkType, destination: &'a str, title: &'a str) -> It
 pub fn is_nothing<T: Drop>(answer: Option<T>) -> bool {
     answer.is_none()
 }
+
+/// Whether it is a soft break.
+pub fn is_soft_break(event: &Event<'_>) -> bool {
+    matches!(event, Event::SoftBreak)
+}
+
+/// A soft break as a hard one, and all else as it is.
+pub fn harden<'a>(item: Item<'a>) -> Item<'a> {
+    let event = item?;
+    if is_soft_break(&event) {
+        drop(event);
+        return Ok(Event::HardBreak);
+    }
+    Ok(event)
+}

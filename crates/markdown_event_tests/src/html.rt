@@ -1,11 +1,10 @@
 //! What `push_html` writes, with ample memory.
-use crate::events::{Item, end, image, link, reference, start, text};
+use crate::events::{Item, harden};
+use crate::signs::{Sign, items_behind, items_of};
 use markdown_base::cow_str::CowStr;
-use markdown_base::event::Event;
 use markdown_base::fault::Fault;
 use markdown_base::tag::{
-    Alignment, BlockQuoteKind, CodeBlockKind, HeadingLevel, LinkType, MetadataBlockKind, Tag,
-    TagEnd,
+    Alignment, BlockQuoteKind, HeadingLevel, LinkType, MetadataBlockKind, Tag, TagEnd,
 };
 use markdown_out::html::push_html;
 use markdown_out::merge::TextMergeStream;
@@ -25,53 +24,41 @@ fn ends_with<'a>(
 }
 
 /// Whether the events append this HTML.
-fn writes<'a>(alloc: Global, events: Vec<Item<'a>>, html: &str) -> Result<bool, Fail> {
-    ends_with(alloc, events, html, None)
+fn writes(alloc: Global, signs: &[Sign], html: &str) -> Result<bool, Fail> {
+    ends_with(alloc, items_of(alloc, signs)?, html, None)
 }
 
-fn heading<'a>(alloc: Global, level: HeadingLevel) -> Item<'a> {
-    start(Tag::Heading {
-        level,
-        id: None,
-        classes: Vec::new(alloc),
-        attrs: Vec::new(alloc),
-    })
-}
+static BLOCKS: [Sign; 17] = [
+    Sign::Open(TagEnd::Paragraph),
+    Sign::Open(TagEnd::Heading(HeadingLevel::H1)),
+    Sign::Open(TagEnd::Heading(HeadingLevel::H6)),
+    Sign::Open(TagEnd::BlockQuote(None)),
+    Sign::Open(TagEnd::BlockQuote(Some(BlockQuoteKind::Note))),
+    Sign::Open(TagEnd::BlockQuote(Some(BlockQuoteKind::Tip))),
+    Sign::Open(TagEnd::BlockQuote(Some(BlockQuoteKind::Important))),
+    Sign::Open(TagEnd::BlockQuote(Some(BlockQuoteKind::Warning))),
+    Sign::Open(TagEnd::BlockQuote(Some(BlockQuoteKind::Caution))),
+    Sign::Open(TagEnd::CodeBlock),
+    Sign::Fenced("rs x"),
+    Sign::Open(TagEnd::HtmlBlock),
+    Sign::Open(TagEnd::Item),
+    Sign::Open(TagEnd::DefinitionList),
+    Sign::Open(TagEnd::DefinitionListTitle),
+    Sign::Open(TagEnd::DefinitionListDefinition),
+    Sign::Definition("n"),
+];
 
-fn fenced<'a>(info: &'a str) -> Item<'a> {
-    start(Tag::CodeBlock(CodeBlockKind::Fenced(CowStr::Borrowed(info))))
-}
-
-fn quote<'a>(kind: BlockQuoteKind) -> Item<'a> {
-    start(Tag::BlockQuote(Some(kind)))
-}
-
-fn definition<'a>(name: &'a str) -> Item<'a> {
-    start(Tag::FootnoteDefinition(CowStr::Borrowed(name)))
-}
+static LISTS: [Sign; 5] = [
+    Sign::Open(TagEnd::List(false)),
+    Sign::Open(TagEnd::List(true)),
+    Sign::Ordered(0),
+    Sign::Ordered(7),
+    Sign::Ordered(18446744073709551615),
+];
 
 #[test]
 fn starts_of_blocks(rt: HostRuntime) -> Result<(), Fail> {
     let alloc = rt.alloc();
-    let blocks = vec![in alloc;
-        start(Tag::Paragraph),
-        heading(alloc, HeadingLevel::H1),
-        heading(alloc, HeadingLevel::H6),
-        start(Tag::BlockQuote(None)),
-        quote(BlockQuoteKind::Note),
-        quote(BlockQuoteKind::Tip),
-        quote(BlockQuoteKind::Important),
-        quote(BlockQuoteKind::Warning),
-        quote(BlockQuoteKind::Caution),
-        start(Tag::CodeBlock(CodeBlockKind::Indented)),
-        fenced("rs x"),
-        start(Tag::HtmlBlock),
-        start(Tag::Item),
-        start(Tag::DefinitionList),
-        start(Tag::DefinitionListTitle),
-        start(Tag::DefinitionListDefinition),
-        definition("n"),
-    ]?;
     let html = "<p>\n<h1>\n<h6>\n<blockquote>\n\
         <blockquote class=\"markdown-alert-note\">\n\
         <blockquote class=\"markdown-alert-tip\">\n\
@@ -82,308 +69,348 @@ fn starts_of_blocks(rt: HostRuntime) -> Result<(), Fail> {
         <li>\n<dl>\n<dt>\n<dd>\n\
         <div class=\"footnote-definition\" id=\"n\">\
         <sup class=\"footnote-definition-label\">1</sup>";
-    assert!(rt; writes(alloc, blocks, html)?);
-    let code = vec![in alloc;
-        fenced("rust ignore"),
-        end(TagEnd::CodeBlock),
-        fenced(" rust"),
-    ]?;
+    assert!(rt; writes(alloc, &BLOCKS, html)?);
+    let code = [
+        Sign::Fenced("rust ignore"),
+        Sign::Close(TagEnd::CodeBlock),
+        Sign::Fenced(" rust"),
+    ];
     let html = "<pre><code class=\"language-rust\"></code></pre>\n<pre><code>";
-    assert!(rt; writes(alloc, code, html)?);
-    let lists = vec![in alloc;
-        start(Tag::List(None)),
-        start(Tag::List(Some(1))),
-        start(Tag::List(Some(0))),
-        start(Tag::List(Some(7))),
-        start(Tag::List(Some(18446744073709551615))),
-    ]?;
+    assert!(rt; writes(alloc, &code, html)?);
     let html =
         "<ul>\n<ol>\n<ol start=\"0\">\n<ol start=\"7\">\n<ol start=\"18446744073709551615\">\n";
-    assert!(rt; writes(alloc, lists, html)?);
+    assert!(rt; writes(alloc, &LISTS, html)?);
     Ok(())
 }
+
+static MARKUP: [Sign; 8] = [
+    Sign::Open(TagEnd::Emphasis),
+    Sign::Open(TagEnd::Strong),
+    Sign::Open(TagEnd::Strikethrough),
+    Sign::Open(TagEnd::Subscript),
+    Sign::Open(TagEnd::Superscript),
+    Sign::Link(LinkType::Inline, "/a b", "t\""),
+    Sign::Link(LinkType::Email, "a@b.c", ""),
+    Sign::Image("u", "t"),
+];
 
 #[test]
 fn starts_of_inline_markup(rt: HostRuntime) -> Result<(), Fail> {
-    let alloc = rt.alloc();
-    let markup = vec![in alloc;
-        start(Tag::Emphasis),
-        start(Tag::Strong),
-        start(Tag::Strikethrough),
-        start(Tag::Subscript),
-        start(Tag::Superscript),
-        link(LinkType::Inline, "/a b", "t\""),
-        link(LinkType::Email, "a@b.c", ""),
-        image("u", "t"),
-    ]?;
     let html = "<em><strong><del><sub><sup><a href=\"/a%20b\" title=\"t&quot;\">\
         <a href=\"mailto:a@b.c\"><img src=\"u\" alt=\"\" title=\"t\" />";
-    assert!(rt; writes(alloc, markup, html)?);
+    assert!(rt; writes(rt.alloc(), &MARKUP, html)?);
     Ok(())
 }
 
+static ENDS: [Sign; 25] = [
+    Sign::Close(TagEnd::Paragraph),
+    Sign::Close(TagEnd::Heading(HeadingLevel::H4)),
+    Sign::Close(TagEnd::BlockQuote(Some(BlockQuoteKind::Tip))),
+    Sign::Close(TagEnd::CodeBlock),
+    Sign::Close(TagEnd::List(true)),
+    Sign::Close(TagEnd::List(false)),
+    Sign::Close(TagEnd::Item),
+    Sign::Close(TagEnd::DefinitionList),
+    Sign::Close(TagEnd::DefinitionListTitle),
+    Sign::Close(TagEnd::DefinitionListDefinition),
+    Sign::Close(TagEnd::TableCell),
+    Sign::Close(TagEnd::TableHead),
+    Sign::Close(TagEnd::TableCell),
+    Sign::Close(TagEnd::TableRow),
+    Sign::Close(TagEnd::Table),
+    Sign::Close(TagEnd::Emphasis),
+    Sign::Close(TagEnd::Strong),
+    Sign::Close(TagEnd::Strikethrough),
+    Sign::Close(TagEnd::Subscript),
+    Sign::Close(TagEnd::Superscript),
+    Sign::Close(TagEnd::Link),
+    Sign::Close(TagEnd::FootnoteDefinition),
+    Sign::Close(TagEnd::Image),
+    Sign::Close(TagEnd::HtmlBlock),
+    Sign::Close(TagEnd::MetadataBlock(MetadataBlockKind::PlusesStyle)),
+];
+
 #[test]
 fn ends(rt: HostRuntime) -> Result<(), Fail> {
-    let alloc = rt.alloc();
-    let ends = vec![in alloc;
-        end(TagEnd::Paragraph),
-        end(TagEnd::Heading(HeadingLevel::H4)),
-        end(TagEnd::BlockQuote(Some(BlockQuoteKind::Tip))),
-        end(TagEnd::CodeBlock),
-        end(TagEnd::List(true)),
-        end(TagEnd::List(false)),
-        end(TagEnd::Item),
-        end(TagEnd::DefinitionList),
-        end(TagEnd::DefinitionListTitle),
-        end(TagEnd::DefinitionListDefinition),
-        end(TagEnd::TableCell),
-        end(TagEnd::TableHead),
-        end(TagEnd::TableCell),
-        end(TagEnd::TableRow),
-        end(TagEnd::Table),
-        end(TagEnd::Emphasis),
-        end(TagEnd::Strong),
-        end(TagEnd::Strikethrough),
-        end(TagEnd::Subscript),
-        end(TagEnd::Superscript),
-        end(TagEnd::Link),
-        end(TagEnd::FootnoteDefinition),
-        end(TagEnd::Image),
-        end(TagEnd::HtmlBlock),
-        end(TagEnd::MetadataBlock(MetadataBlockKind::PlusesStyle)),
-    ]?;
     let html = "</p>\n</h4>\n</blockquote>\n</code></pre>\n</ol>\n</ul>\n</li>\n\
         </dl>\n</dt>\n</dd>\n</th></tr></thead><tbody>\n</td></tr>\n</tbody></table>\n\
         </em></strong></del></sub></sup></a></div>\n";
-    assert!(rt; writes(alloc, ends, html)?);
+    assert!(rt; writes(rt.alloc(), &ENDS, html)?);
     Ok(())
 }
+
+static OTHERS: [Sign; 11] = [
+    Sign::Code("a<\""),
+    Sign::InlineMath("b<\""),
+    Sign::DisplayMath("c"),
+    Sign::Html("<d>"),
+    Sign::InlineHtml("<e>"),
+    Sign::SoftBreak,
+    Sign::HardBreak,
+    Sign::Rule,
+    Sign::Reference("f\""),
+    Sign::Task(true),
+    Sign::Task(false),
+];
 
 #[test]
 fn other_events(rt: HostRuntime) -> Result<(), Fail> {
     let alloc = rt.alloc();
-    assert!(rt; writes(alloc, Vec::new(alloc), "")?);
-    let others = vec![in alloc;
-        Ok(Event::Code(CowStr::Borrowed("a<\""))),
-        Ok(Event::InlineMath(CowStr::Borrowed("b<\""))),
-        Ok(Event::DisplayMath(CowStr::Borrowed("c"))),
-        Ok(Event::Html(CowStr::Borrowed("<d>"))),
-        Ok(Event::InlineHtml(CowStr::Borrowed("<e>"))),
-        Ok(Event::SoftBreak),
-        Ok(Event::HardBreak),
-        Ok(Event::Rule),
-        reference("f\""),
-        Ok(Event::TaskListMarker(true)),
-        Ok(Event::TaskListMarker(false)),
-    ]?;
+    assert!(rt; writes(alloc, &[], "")?);
     let html = "<code>a&lt;\"</code><span class=\"math math-inline\">b&lt;&quot;</span>\
         <span class=\"math math-display\">c</span><d><e>\n<br />\n<hr />\n\
         <sup class=\"footnote-reference\"><a href=\"#f&quot;\">1</a></sup>\
         <input disabled=\"\" type=\"checkbox\" checked=\"\"/>\n\
         <input disabled=\"\" type=\"checkbox\"/>\n";
-    assert!(rt; writes(alloc, others, html)?);
+    assert!(rt; writes(alloc, &OTHERS, html)?);
     Ok(())
 }
+
+static METADATA: [Sign; 6] = [
+    Sign::Open(TagEnd::MetadataBlock(MetadataBlockKind::YamlStyle)),
+    Sign::Words("a"),
+    Sign::Words(""),
+    Sign::Html("<i>"),
+    Sign::Close(TagEnd::MetadataBlock(MetadataBlockKind::YamlStyle)),
+    Sign::Words("b"),
+];
+
+static FOOTNOTES: [Sign; 8] = [
+    Sign::Reference("A"),
+    Sign::Image("u", ""),
+    Sign::Reference("i"),
+    Sign::Close(TagEnd::Image),
+    Sign::Definition("a"),
+    Sign::Close(TagEnd::FootnoteDefinition),
+    Sign::Reference("A"),
+    Sign::Reference("a"),
+];
 
 #[test]
 fn look_backs(rt: HostRuntime) -> Result<(), Fail> {
     let alloc = rt.alloc();
-    let after_empty = vec![in alloc; text(""), Ok(Event::Rule)]?;
-    assert!(rt; writes(alloc, after_empty, "\n<hr />\n")?);
-    let out_of_order = vec![in alloc; text("a"), end(TagEnd::Image), Ok(Event::Rule)]?;
-    assert!(rt; writes(alloc, out_of_order, "a\n<hr />\n")?);
-    let kind = MetadataBlockKind::YamlStyle;
-    let metadata = vec![in alloc;
-        start(Tag::MetadataBlock(kind)),
-        text("a"),
-        text(""),
-        Ok(Event::Html(CowStr::Borrowed("<i>"))),
-        end(TagEnd::MetadataBlock(kind)),
-        text("b"),
-    ]?;
-    assert!(rt; writes(alloc, metadata, "<i>b")?);
-    let footnotes = vec![in alloc;
-        reference("A"),
-        image("u", ""),
-        reference("i"),
-        end(TagEnd::Image),
-        definition("a"),
-        end(TagEnd::FootnoteDefinition),
-        reference("A"),
-        reference("a"),
-    ]?;
+    let after_empty = [Sign::Words(""), Sign::Rule];
+    assert!(rt; writes(alloc, &after_empty, "\n<hr />\n")?);
+    let out_of_order = [Sign::Words("a"), Sign::Close(TagEnd::Image), Sign::Rule];
+    assert!(rt; writes(alloc, &out_of_order, "a\n<hr />\n")?);
+    assert!(rt; writes(alloc, &METADATA, "<i>b")?);
     let html = "<sup class=\"footnote-reference\"><a href=\"#A\">1</a></sup>\
         <img src=\"u\" alt=\"[2]\" />\n\
         <div class=\"footnote-definition\" id=\"a\">\
         <sup class=\"footnote-definition-label\">3</sup></div>\n\
         <sup class=\"footnote-reference\"><a href=\"#A\">1</a></sup>\
         <sup class=\"footnote-reference\"><a href=\"#a\">3</a></sup>";
-    assert!(rt; writes(alloc, footnotes, html)?);
+    assert!(rt; writes(alloc, &FOOTNOTES, html)?);
     Ok(())
 }
+
+static IMAGE: [Sign; 10] = [
+    Sign::Image("c", "t"),
+    Sign::Words("a "),
+    Sign::Open(TagEnd::Emphasis),
+    Sign::Words("b"),
+    Sign::Close(TagEnd::Emphasis),
+    Sign::SoftBreak,
+    Sign::InlineMath("x"),
+    Sign::Task(true),
+    Sign::Close(TagEnd::Image),
+    Sign::SoftBreak,
+];
 
 #[test]
 fn images(rt: HostRuntime) -> Result<(), Fail> {
     let alloc = rt.alloc();
-    let open = vec![in alloc; image("u", ""), text("a\"b")]?;
-    assert!(rt; writes(alloc, open, "<img src=\"u\" alt=\"a&quot;b\" />")?);
-    let whole = vec![in alloc;
-        image("c", "t"),
-        text("a "),
-        start(Tag::Emphasis),
-        text("b"),
-        end(TagEnd::Emphasis),
-        Ok(Event::SoftBreak),
-        Ok(Event::InlineMath(CowStr::Borrowed("x"))),
-        Ok(Event::TaskListMarker(true)),
-        end(TagEnd::Image),
-        Ok(Event::SoftBreak),
-    ]?;
+    let open = [Sign::Image("u", ""), Sign::Words("a\"b")];
+    assert!(rt; writes(alloc, &open, "<img src=\"u\" alt=\"a&quot;b\" />")?);
     let html = "<img src=\"c\" alt=\"a b $x$[x]\" title=\"t\" />\n";
-    assert!(rt; writes(alloc, whole, html)?);
+    assert!(rt; writes(alloc, &IMAGE, html)?);
     Ok(())
+}
+
+static TABLE: [Sign; 21] = [
+    Sign::Open(TagEnd::TableHead),
+    Sign::Open(TagEnd::TableCell),
+    Sign::Words("a"),
+    Sign::Close(TagEnd::TableCell),
+    Sign::Open(TagEnd::TableCell),
+    Sign::Close(TagEnd::TableCell),
+    Sign::Close(TagEnd::TableHead),
+    Sign::Open(TagEnd::TableRow),
+    Sign::Open(TagEnd::TableCell),
+    Sign::Words("b"),
+    Sign::Close(TagEnd::TableCell),
+    Sign::Open(TagEnd::TableCell),
+    Sign::Close(TagEnd::TableCell),
+    Sign::Open(TagEnd::TableCell),
+    Sign::Close(TagEnd::TableCell),
+    Sign::Open(TagEnd::TableCell),
+    Sign::Close(TagEnd::TableCell),
+    Sign::Open(TagEnd::TableCell),
+    Sign::Close(TagEnd::TableCell),
+    Sign::Close(TagEnd::TableRow),
+    Sign::Close(TagEnd::Table),
+];
+
+/// Whether a tag's Start, and then the events, append this HTML.
+fn tag_writes<'a>(alloc: Global, tag: Tag<'a>, signs: &[Sign], html: &str) -> Result<bool, Fail> {
+    ends_with(alloc, items_behind(alloc, tag, signs)?, html, None)
+}
+
+fn alignments_of(alloc: Global) -> Result<Vec<Alignment>, Fail> {
+    Ok(vec![in alloc;
+        Alignment::Left,
+        Alignment::None,
+        Alignment::Center,
+        Alignment::Right,
+    ]?)
 }
 
 #[test]
 fn tables(rt: HostRuntime) -> Result<(), Fail> {
     let alloc = rt.alloc();
-    let alignments = vec![in alloc;
-        Alignment::Left,
-        Alignment::None,
-        Alignment::Center,
-        Alignment::Right,
-    ]?;
-    let table = vec![in alloc;
-        start(Tag::Table(alignments)),
-        start(Tag::TableHead),
-        start(Tag::TableCell),
-        text("a"),
-        end(TagEnd::TableCell),
-        start(Tag::TableCell),
-        end(TagEnd::TableCell),
-        end(TagEnd::TableHead),
-        start(Tag::TableRow),
-        start(Tag::TableCell),
-        text("b"),
-        end(TagEnd::TableCell),
-        start(Tag::TableCell),
-        end(TagEnd::TableCell),
-        start(Tag::TableCell),
-        end(TagEnd::TableCell),
-        start(Tag::TableCell),
-        end(TagEnd::TableCell),
-        start(Tag::TableCell),
-        end(TagEnd::TableCell),
-        end(TagEnd::TableRow),
-        end(TagEnd::Table),
-    ]?;
     let html = "<table><thead><tr><th style=\"text-align: left\">a</th><th></th>\
         </tr></thead><tbody>\n<tr><td style=\"text-align: left\">b</td><td></td>\
         <td style=\"text-align: center\"></td><td style=\"text-align: right\"></td><td></td></tr>\n\
         </tbody></table>\n";
-    assert!(rt; writes(alloc, table, html)?);
-    let left = vec![in alloc; Alignment::Left]?;
-    let no_row = vec![in alloc;
-        start(Tag::Table(left)),
-        start(Tag::TableCell),
-        end(TagEnd::TableCell),
-        start(Tag::TableCell),
-    ]?;
-    let html = "<table><th style=\"text-align: left\"></th><th>";
-    assert!(rt; writes(alloc, no_row, html)?);
+    assert!(rt; tag_writes(alloc, Tag::Table(alignments_of(alloc)?), &TABLE, html)?);
     Ok(())
 }
 
+static NO_ROW: [Sign; 3] = [
+    Sign::Open(TagEnd::TableCell),
+    Sign::Close(TagEnd::TableCell),
+    Sign::Open(TagEnd::TableCell),
+];
+
+fn one_alignment(alloc: Global) -> Result<Vec<Alignment>, Fail> {
+    Ok(vec![in alloc; Alignment::Left]?)
+}
+
 #[test]
-fn headings(rt: HostRuntime) -> Result<(), Fail> {
+fn a_table_without_rows(rt: HostRuntime) -> Result<(), Fail> {
     let alloc = rt.alloc();
-    let classes = vec![in alloc; CowStr::Borrowed("a"), CowStr::Borrowed("b\"")]?;
-    let attrs = vec![in alloc;
+    let html = "<table><th style=\"text-align: left\"></th><th>";
+    assert!(rt; tag_writes(alloc, Tag::Table(one_alignment(alloc)?), &NO_ROW, html)?);
+    Ok(())
+}
+
+fn classes_of<'a>(alloc: Global) -> Result<Vec<CowStr<'a>>, Fail> {
+    Ok(vec![in alloc; CowStr::Borrowed("a"), CowStr::Borrowed("b\"")]?)
+}
+
+fn attributes_of<'a>(alloc: Global) -> Result<Vec<(CowStr<'a>, Option<CowStr<'a>>)>, Fail> {
+    Ok(vec![in alloc;
         (CowStr::Borrowed("k"), Some(CowStr::Borrowed("v"))),
         (CowStr::Borrowed("x"), None),
-    ]?;
-    let heading = Tag::Heading {
+    ]?)
+}
+
+/// The Start of a heading with an identifier, two classes, an attribute with a value and one without.
+fn full_heading<'a>(alloc: Global) -> Result<Tag<'a>, Fail> {
+    let classes = classes_of(alloc)?;
+    let attrs = attributes_of(alloc)?;
+    Ok(Tag::Heading {
         level: HeadingLevel::H2,
         id: Some(CowStr::Borrowed("i")),
         classes,
         attrs,
-    };
-    let events = vec![in alloc;
-        start(heading),
-        text("t"),
-        end(TagEnd::Heading(HeadingLevel::H2)),
-    ]?;
+    })
+}
+
+static HEADING: [Sign; 2] = [
+    Sign::Words("t"),
+    Sign::Close(TagEnd::Heading(HeadingLevel::H2)),
+];
+
+#[test]
+fn headings(rt: HostRuntime) -> Result<(), Fail> {
+    let alloc = rt.alloc();
     let html = "<h2 id=\"i\" class=\"a b&quot;\" k=\"v\" x=\"\">t</h2>\n";
-    assert!(rt; writes(alloc, events, html)?);
+    assert!(rt; tag_writes(alloc, full_heading(alloc)?, &HEADING, html)?);
     Ok(())
 }
+
+/// Whether the events append this HTML before they fail so.
+fn fails(alloc: Global, signs: &[Sign], html: &str, fault: Fault) -> Result<bool, Fail> {
+    ends_with(alloc, items_of(alloc, signs)?, html, Some(fault))
+}
+
+static AT_ONCE: [Sign; 3] = [
+    Sign::Words("a"),
+    Sign::Refused(Fault::Memory),
+    Sign::Words("b"),
+];
 
 #[test]
 fn errors(rt: HostRuntime) -> Result<(), Fail> {
     let alloc = rt.alloc();
-    let at_once = vec![in alloc; text("a"), Err(Fault::Memory), text("b")]?;
-    assert!(rt; ends_with(alloc, at_once, "a", Some(Fault::Memory))?);
+    assert!(rt; fails(alloc, &AT_ONCE, "a", Fault::Memory)?);
     for fault in [Fault::Blocks, Fault::Depth, Fault::Memory] {
-        let in_image = vec![in alloc; image("u", "t"), text("a"), Err(fault)]?;
-        let open = "<img src=\"u\" alt=\"a";
-        assert!(rt; ends_with(alloc, in_image, open, Some(fault))?);
+        let in_image = [
+            Sign::Image("u", "t"),
+            Sign::Words("a"),
+            Sign::Refused(fault),
+        ];
+        assert!(rt; fails(alloc, &in_image, "<img src=\"u\" alt=\"a", fault)?);
     }
     Ok(())
 }
 
 /// Whether the merge of the events appends this HTML, and the call ends so.
-fn merged_ends_with<'a>(
+fn merged_ends_with(
     alloc: Global,
-    events: Vec<Item<'a>>,
+    signs: &[Sign],
     html: &str,
     fault: Option<Fault>,
 ) -> Result<bool, Fail> {
     let mut s = String::new(alloc);
+    let events = items_of(alloc, signs)?;
     let merge = TextMergeStream::new(alloc, events.into_iter());
     let answer = push_html(alloc, &mut s, merge).err();
     Ok(answer == fault && s.as_str() == html)
 }
 
+static RUNS: [Sign; 5] = [
+    Sign::Words("a"),
+    Sign::Words("<b"),
+    Sign::Image("u", ""),
+    Sign::Words("c"),
+    Sign::Words("\""),
+];
+
 #[test]
 fn html_of_merges(rt: HostRuntime) -> Result<(), Fail> {
     let alloc = rt.alloc();
-    let whole = vec![in alloc;
-        text("a"),
-        text("<b"),
-        image("u", ""),
-        text("c"),
-        text("\""),
-    ]?;
     let html = "a&lt;b<img src=\"u\" alt=\"c&quot;\" />";
-    assert!(rt; merged_ends_with(alloc, whole, html, None)?);
-    let at_once = vec![in alloc; text("a"), Err(Fault::Memory)]?;
-    assert!(rt; merged_ends_with(alloc, at_once, "a", Some(Fault::Memory))?);
-    let in_image = vec![in alloc; image("u", "t"), text("c"), Err(Fault::Memory)]?;
+    assert!(rt; merged_ends_with(alloc, &RUNS, html, None)?);
+    let at_once = [Sign::Words("a"), Sign::Refused(Fault::Memory)];
+    assert!(rt; merged_ends_with(alloc, &at_once, "a", Some(Fault::Memory))?);
+    let in_image = [
+        Sign::Image("u", "t"),
+        Sign::Words("c"),
+        Sign::Refused(Fault::Memory),
+    ];
     let open = "<img src=\"u\" alt=\"c";
-    assert!(rt; merged_ends_with(alloc, in_image, open, Some(Fault::Memory))?);
+    assert!(rt; merged_ends_with(alloc, &in_image, open, Some(Fault::Memory))?);
     Ok(())
 }
 
-/// A soft break as a hard one, and all else as it is.
-fn harden<'a>(item: Item<'a>) -> Item<'a> {
-    match item {
-        Ok(Event::SoftBreak) => Ok(Event::HardBreak),
-        other => other,
-    }
-}
+static SOFT: [Sign; 4] = [
+    Sign::Open(TagEnd::Paragraph),
+    Sign::Words("a"),
+    Sign::SoftBreak,
+    Sign::Words("b"),
+];
 
 #[test]
 fn html_of_mapped_events(rt: HostRuntime) -> Result<(), Fail> {
     let alloc = rt.alloc();
-    let events = vec![in alloc;
-        start(Tag::Paragraph),
-        text("a"),
-        Ok(Event::SoftBreak),
-        text("b"),
-    ]?;
-    let mut s = String::new(alloc);
-    let done = push_html(alloc, &mut s, events.into_iter().map(harden));
-    assert_eq!(rt; done, Ok(()));
-    assert_eq!(rt; s.as_str(), "<p>a<br />\nb");
+    let mut html = String::new(alloc);
+    push_html(
+        alloc,
+        &mut html,
+        items_of(alloc, &SOFT)?.into_iter().map(harden),
+    )?;
+    assert_eq!(rt; html.as_str(), "<p>a<br />\nb");
     Ok(())
 }

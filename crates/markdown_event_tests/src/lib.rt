@@ -18,3 +18,7 @@ mod merges;
 mod parser;
 #[cfg(test)]
 mod program;
+#[cfg(test)]
+mod signs;
+#[cfg(test)]
+mod whole_runs;

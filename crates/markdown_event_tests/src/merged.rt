@@ -1,6 +1,7 @@
 //! Parsers under merges and adapters, and what is written of them.
 ghost use Rattle.std.specs.Iterator.{IsFinite};
 
+use crate::events::{harden, is_soft_break};
 use markdown_base::cow_str::CowStr;
 use markdown_base::event::Event;
 use markdown_base::fault::Fault;
@@ -15,14 +16,6 @@ use std::ops::Range;
 use std::test::Fail;
 
 type Placed<'a> = Result<(Event<'a>, Range<usize>), Fault>;
-
-/// A soft break as a hard one, and all else as it is.
-fn harden<'a>(item: Result<Event<'a>, Fault>) -> Result<Event<'a>, Fault> {
-    match item {
-        Ok(Event::SoftBreak) => Ok(Event::HardBreak),
-        other => other,
-    }
-}
 
 /// The HTML of the events of an iterator.
 fn html_of<'a, I: Iterator<Item = Result<Event<'a>, Fault>>>(
@@ -59,10 +52,12 @@ fn html_of_a_merge(rt: HostRuntime) -> Result<(), Fail> {
 
 /// A soft break as a text of one space, and all else as it is.
 fn soften<'a>(placed: Placed<'a>) -> Placed<'a> {
-    match placed {
-        Ok((Event::SoftBreak, range)) => Ok((Event::Text(CowStr::Borrowed(" ")), range)),
-        other => other,
+    let (event, range) = placed?;
+    if is_soft_break(&event) {
+        drop(event);
+        return Ok((Event::Text(CowStr::Borrowed(" ")), range));
     }
+    Ok((event, range))
 }
 
 #[test]
@@ -82,6 +77,11 @@ fn ranges_of_merged_parsers(rt: HostRuntime) -> Result<(), Fail> {
     let alloc = rt.alloc();
     let iter = Parser::new(alloc, "a\nb")?.into_offset_iter();
     let events = "<p>0..3 [a]0..1 /1..2 [b]2..3 </p>0..3 ";
+    let notes = notes_of(alloc, TextMergeWithOffset::new(alloc, iter))?;
+    assert_eq!(rt; notes.as_str(), events);
+    let code = "\n    first line\n    second line\n";
+    let iter = Parser::new(alloc, code)?.into_offset_iter();
+    let events = "?5..32 [first line\nsecond line\n]5..32 ?5..32 ";
     let notes = notes_of(alloc, TextMergeWithOffset::new(alloc, iter))?;
     assert_eq!(rt; notes.as_str(), events);
     Ok(())

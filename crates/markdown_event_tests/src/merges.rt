@@ -10,27 +10,31 @@ use std::ops::Range;
 use std::test::Fail;
 
 /// Writes an item down: a text in brackets, a rule as a dash, an error as `!`.
-fn push_item<'a>(notes: &mut String, item: Item<'a>) -> Result<(), Fail> {
+fn push_item<'a>(notes: &mut String, item: &Item<'a>) -> Result<(), Fail> {
     match item {
         Ok(Event::Text(text)) => {
             notes.push('[')?;
             notes.push_str(text.as_str())?;
             notes.push(']')?;
         }
-        Ok(other) => {
-            drop(other);
-            notes.push('-')?;
-        }
+        Ok(_) => notes.push('-')?,
         Err(_) => notes.push('!')?,
     }
     Ok(())
+}
+
+/// Writes an item down, which then goes.
+fn push_and_drop<'a>(notes: &mut String, item: Item<'a>) -> Result<(), Fail> {
+    let done = push_item(notes, &item);
+    drop(item);
+    done
 }
 
 /// The merge of these items up to its first None, written down.
 fn merged<'a>(alloc: Global, items: Vec<Item<'a>>) -> Result<String, Fail> {
     let mut notes = String::new(alloc);
     for item in TextMergeStream::new(alloc, items.into_iter()) {
-        push_item(&mut notes, item)?;
+        push_and_drop(&mut notes, item)?;
     }
     Ok(notes)
 }
@@ -80,7 +84,7 @@ fn ranged<'a>(event: Event<'a>, range: Range<usize>) -> Ranged<'a> {
 /// Writes an item down as `push_item` does, and then its range.
 fn push_ranged<'a>(alloc: Global, notes: &mut String, item: Ranged<'a>) -> Result<(), Fail> {
     let (event, range) = item?;
-    push_item(notes, Ok(event))?;
+    push_and_drop(notes, Ok(event))?;
     let place = format!(in alloc; "{}..{} ", range.start, range.end)?;
     notes.push_str(place.as_str())?;
     Ok(())
@@ -139,23 +143,33 @@ impl<'a> Iterator for Answers<'a> {
 
 /// Whether an answer is this text.
 fn is_text<'a>(answer: Option<Item<'a>>, words: &str) -> bool {
-    match answer {
-        Some(Ok(Event::Text(text))) => text.as_str() == words,
-        _ => false,
+    let is = matches!(&answer, Some(Ok(Event::Text(text))) if text.as_str() == words);
+    drop(answer);
+    is
+}
+
+/// A text of the letter, or None for any other sign; the last sign comes first.
+fn answers_of<'a>(alloc: Global, signs: &str) -> Result<Vec<Option<Item<'a>>>, Fail> {
+    let mut answers = Vec::new(alloc);
+    for sign in signs.chars() {
+        answers.push(answer_of(sign))?;
+    }
+    Ok(answers)
+}
+
+fn answer_of<'a>(sign: char) -> Option<Item<'a>> {
+    match sign {
+        'a' => Some(text("a")),
+        'b' => Some(text("b")),
+        'c' => Some(text("c")),
+        _ => None,
     }
 }
 
 #[test]
 fn stretches_between_nones(rt: HostRuntime) -> Result<(), Fail> {
     let alloc = rt.alloc();
-    let left = vec![in alloc;
-        None,
-        None,
-        Some(text("c")),
-        Some(text("b")),
-        None,
-        Some(text("a")),
-    ]?;
+    let left = answers_of(alloc, "..cb.a")?;
     let mut merge = TextMergeStream::new(alloc, Answers { left });
     assert!(rt; is_text(merge.next(), "a"));
     assert!(rt; is_text(merge.next(), "bc"));

@@ -29,6 +29,9 @@ fn texts(rt: HostRuntime) -> Result<(), Fail> {
         ("", ""),
         ("hello world", "<p>0..11 [hello world]0..11 </p>0..11 "),
         ("a\nb", "<p>0..3 [a]0..1 /1..2 [b]2..3 </p>0..3 "),
+        ("<", "<p>0..1 [<]0..1 </p>0..1 "),
+        ("#", "?0..1 ?0..1 "),
+        ("###\n", "?0..4 ?0..4 "),
     ];
     for (source, events) in rows {
         let iter = Parser::new_ext(alloc, source, Options::ENABLE_GFM)?.into_offset_iter();
@@ -91,9 +94,11 @@ fn is_nothing<T: Drop>(answer: Option<T>) -> bool {
 #[test]
 fn a_walk_that_changes_hands(rt: HostRuntime) -> Result<(), Fail> {
     let alloc = rt.alloc();
-    let mut parser = Parser::new(alloc, "a\nb")?;
-    assert!(rt; !is_nothing(parser.next()));
-    let events = "[a]0..1 /1..2 [b]2..3 </p>0..3 ";
+    let mut parser = Parser::new(alloc, "*hello* world")?;
+    for _ in 0..3 {
+        assert!(rt; !is_nothing(parser.next()));
+    }
+    let events = "</em>0..7 [ world]7..13 </p>0..13 ";
     assert_eq!(rt;
         notes_of(alloc, parser.into_offset_iter())?.as_str(),
         events

@@ -106,12 +106,41 @@ fn words_turn_options_on(rt: HostRuntime) -> Result<(), Fail> {
         ("superscript", "a^b^", "0 <p>a<sup>b</sup></p>\n"),
         ("subscript", "a~b~", "0 <p>a<sub>b</sub></p>\n"),
         ("wikilinks", "[[a]]", "0 <p><a href=\"a\">a</a></p>\n"),
-        ("footnotes", "a[^b]", "0 <p>a[^b]</p>\n"),
+        (
+            "footnotes",
+            "a[^b]\n\n[^b]: c",
+            "0 <p>a<sup class=\"footnote-reference\"><a href=\"#b\">1</a></sup></p>\n<div class=\"footnote-definition\" id=\"b\"><sup class=\"footnote-definition-label\">1</sup>\n<p>c</p>\n</div>\n",
+        ),
         (
             "old-footnotes",
             "a[^b]",
             "0 <p>a<sup class=\"footnote-reference\"><a href=\"#b\">1</a></sup></p>\n",
         ),
+    ];
+    for (word, input, wanted) in rows {
+        let found = with_word(rt.alloc(), word, input)?;
+        assert_eq!(rt; found.as_str(), wanted, "{word}");
+        let plain = printed(rt.alloc(), &[], &mut input.as_bytes())?;
+        assert_ne!(rt; plain.as_str(), wanted, "{word}");
+    }
+    Ok(())
+}
+
+/// These options are read, and no item is made of them.
+#[test]
+fn words_that_change_no_text(rt: HostRuntime) -> Result<(), Fail> {
+    let rows = [
+        ("tables", "| a |\n| - |", "0 <p>| a |\n| - |</p>\n"),
+        ("tasklists", "- [x] a", "0 <ul>\n<li>[x] a</li>\n</ul>\n"),
+        ("heading-attributes", "# a {#b}", "0 <h1>a {#b}</h1>\n"),
+        ("yaml", "---\na: b\n---", "0 <hr />\n<h2>a: b</h2>\n"),
+        ("pluses", "+++\na = 1\n+++", "0 <p>+++\na = 1\n+++</p>\n"),
+        (
+            "gfm",
+            "> [!NOTE]\n> a",
+            "0 <blockquote>\n<p>[!NOTE]\na</p>\n</blockquote>\n",
+        ),
+        ("definitions", "a\n: b", "0 <p>a\n: b</p>\n"),
     ];
     for (word, input, wanted) in rows {
         let found = with_word(rt.alloc(), word, input)?;
