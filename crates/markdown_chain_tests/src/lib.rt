@@ -1,5 +1,5 @@
-//! Tests of what no clause says of chains of inline items, through parsers: a module for each topic. They stand apart from
-//! the libraries, so that no library is proved a second time with its tests.
+//! Tests of what no clause says of chains of inline items, through parsers: a module for each topic. They stand apart
+//! from the libraries, so that no library is proved a second time with its tests.
 #![tactic(auto)]
 
 #[cfg(test)]

@@ -1,5 +1,5 @@
-//! References (CommonMark 6.3 and 6.4): what they find, what they expand to, and what is asked about those that are defined
-//! nowhere.
+//! References (CommonMark 6.3 and 6.4): what they find, what they expand to, and what is asked about those that are
+//! defined nowhere.
 ghost use Rattle.std.specs.Prelude.{◌≡◌, ◌+◌, ◌%◌, ◌^◌, None};
 
 use crate::rows::{compare_plain, compare_whole};
