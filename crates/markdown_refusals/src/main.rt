@@ -8,6 +8,7 @@ mod tables;
 mod texts;
 mod trees;
 mod tries;
+mod wikilinks;
 
 use std::process::ExitCode;
 

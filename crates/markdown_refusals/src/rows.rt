@@ -1,9 +1,9 @@
 //! Each promise with whether it holds.
 use crate::tables::{Call, answers_again};
-use crate::{lists, tables, texts, trees};
+use crate::{lists, tables, texts, trees, wikilinks};
 use std::alloc::Global;
 
-pub fn all(alloc: Global) -> [(&'static str, bool); 24] {
+pub fn all(alloc: Global) -> [(&'static str, bool); 27] {
     [
         (
             "a slice is copied without memory",
@@ -54,6 +54,18 @@ pub fn all(alloc: Global) -> [(&'static str, bool); 24] {
         (
             "the old text stands, and then a beginning of the HTML of any events",
             lists::renders_mixed_events(alloc),
+        ),
+        (
+            "the events of wikilinks are a beginning, and then an error ends them",
+            wikilinks::walks(alloc),
+        ),
+        (
+            "all events are given or none is",
+            wikilinks::collects(alloc),
+        ),
+        (
+            "a text is rendered whole or memory is refused",
+            wikilinks::renders(alloc),
         ),
         (
             "a look-up finds its definition, also after a refusal",

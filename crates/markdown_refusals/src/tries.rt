@@ -69,6 +69,18 @@ fn is_same<T: PartialEq + Drop>(wanted: Option<T>, found: T) -> bool {
     }
 }
 
+/// Whether these are the items of a list, in order.
+pub fn is_all_of<L: Listed>(items: Vec<L::Item>, list: L) -> bool {
+    let mut at = 0usize;
+    for item in items.into_iter() {
+        if !is_same(list.item(at), item) {
+            return false;
+        }
+        at = at.saturating_add(1);
+    }
+    is_nothing(list.item(at))
+}
+
 /// Whether None comes three times.
 fn stays_over<T: Drop, I: Iterator<Item = T>>(items: &mut I) -> bool
     requires { (left : I) → I.can_next left }
