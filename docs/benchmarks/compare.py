@@ -1,0 +1,63 @@
+"""The program beside `cmark` and `pulldown-cmark` on the same texts, as a table: `compare.py PROGRAM`.
+
+Instructions are counted by valgrind; seconds are the best of seven runs, memory the most of one.
+"""
+import os
+import re
+import subprocess
+import sys
+import tempfile
+import time
+
+HERE = os.path.dirname(os.path.abspath(__file__))
+TEXTS = {
+    "10 MB of prose": ["prose.py", "10000000"],
+    "10 MB of mixed documents": ["mixed.py", "10000000"],
+    "1 MB of links": ["hostile.py", "links", "1000000"],
+}
+
+
+def instructions(program, text):
+    counted = ["valgrind", "--tool=callgrind", "--callgrind-out-file=/dev/null", *program]
+    with open(text) as given:
+        said = subprocess.run(counted, stdin=given, stdout=subprocess.DEVNULL, stderr=subprocess.PIPE, text=True, check=True)
+    return int(re.search(r"Collected : (\d+)", said.stderr)[1])
+
+
+def seconds(program, text):
+    best = float("inf")
+    for _ in range(7):
+        with open(text) as given:
+            start = time.monotonic()
+            subprocess.run(program, stdin=given, stdout=subprocess.DEVNULL, check=True)
+            best = min(best, time.monotonic() - start)
+    return best
+
+
+def memory(program, text):
+    """Bytes."""
+    with open(text) as given:
+        ran = subprocess.Popen(program, stdin=given, stdout=subprocess.DEVNULL)
+        _, status, used = os.wait4(ran.pid, 0)
+    assert status == 0
+    return used.ru_maxrss * 1024
+
+
+def main():
+    programs = {"ours": [sys.argv[1]], "`cmark`": ["cmark", "--unsafe"], "`pulldown-cmark`": ["pulldown-cmark"]}
+    print("| Text | Program | Instructions in millions | Ours to it | Seconds | Memory to the text |")
+    print("|---|---|---|---|---|---|")
+    with tempfile.TemporaryDirectory() as room:
+        text = os.path.join(room, "text.md")
+        for name, (script, *words) in TEXTS.items():
+            with open(text, "w") as made:
+                subprocess.run([sys.executable, os.path.join(HERE, script), *words], stdout=made, check=True)
+            ours = instructions(programs["ours"], text)
+            for program, words in programs.items():
+                count = instructions(words, text)
+                most = memory(words, text) / os.path.getsize(text)
+                cells = [name, program, f"{count / 1e6:.0f}", f"{ours / count:.2f}", f"{seconds(words, text):.2f}", f"{most:.1f}"]
+                print(f"| {' | '.join(cells)} |", flush=True)
+
+
+main()
