@@ -230,7 +230,8 @@ fn cell_html(alloc: Global, source: &str, items: &[(usize, Item)]) -> Result<Str
     let mut parts = no_parts(alloc);
     parts.alignments.push(Vec::new(alloc))?;
     let blocks = Blocks::checked(alloc, source, Options::empty(), tree, parts)?;
-    Ok(merged_html(alloc, Parser::from_blocks(alloc, blocks, None)?)?)
+    let parser: Parser<'_> = Parser::from_blocks(alloc, blocks, None)?;
+    Ok(merged_html(alloc, parser)?)
 }
 
 #[test]
