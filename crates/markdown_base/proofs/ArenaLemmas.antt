@@ -1,19 +1,11 @@
 -- Laws of an arena's nodes: what a write and a new node leave as it was.
-use Rattle.std.proofs.Common.{◌≡◌, ℕ, zero, suc, ◌+◌, ◌<◌, ◌≤◌, List, [], ◌∷◌, ◌++◌, Option, Some, None, length, get_or, set, refl, ap}
-use Rattle.std.proofs.Common.{subst, arith}
+use Rattle.std.proofs.Common.{◌≡◌, ℕ, zero, suc, ◌+◌, ◌<◌, ◌≤◌, List, [], ◌∷◌, ◌++◌, Option, Some, None, length, refl, ap, arith}
 use Rattle.std.specs.Prelude.{IfSome}
 use Rattle.std.specs.List.{AllByRecursion}
 use Rattle.std.proofs.lemmas.List.{length-append}
 use Rattle.markdown_base.specs.declared.node.Node.{Node}
 use Rattle.markdown_base.specs.Arena.{Arena, child_of, sibling_of, innermost, changed_at, led_to}
 use Rattle.markdown_base.specs.ArenaBounds.{LeadsBelow, IsWithin}
-
--- a node that is read, changed and written back
-pub set-changed_at : {T : Type 0} (nodes : List (Node T)) (ix : ℕ) (n : Node T) (change : Node T → Node T)
-    → ix < length nodes → n ≡ get_or nodes ix n → set nodes ix (change n) ≡ changed_at ix change nodes
-set-changed_at [] ix n change l e = absurd (omega (arith, l))
-set-changed_at (m ∷ nodes) zero n change l e = ap (λ x. change x ∷ nodes) e
-set-changed_at (m ∷ nodes) (suc ix) n change l e = ap (λ x. m ∷ x) (set-changed_at nodes ix n change (omega (arith, l)) e)
 
 -- a change keeps the count
 pub length-changed_at : {T : Type 0} (ix : ℕ) (change : Node T → Node T) (nodes : List (Node T)) → length (changed_at ix change nodes)
@@ -115,14 +107,3 @@ pub innermost_within : (size : ℕ) (spine : List ℕ) → 0 < size → AllByRec
 innermost_within size [] r h = r
 innermost_within size (x ∷ []) r h = h.0
 innermost_within size (x ∷ y ∷ spine) r h = innermost_within size (y ∷ spine) r h.1
-
--- the nodes of an arena, where one is read, changed and written back
-pub arena_changed : {T : Type 0} (s : Arena T) (nodes : List (Node T)) (spine : List ℕ) (cursor : Option ℕ) (ix : ℕ) (n : Node T)
-    (change : Node T → Node T)
-    → record { nodes = nodes; spine = spine; cursor = cursor } ≡ s → ix < length s.nodes → n ≡ get_or nodes ix n
-    → record { nodes = set nodes ix (change n); spine = spine; cursor = cursor } ≡ record s { nodes = changed_at ix change s.nodes }
-arena_changed {T} s nodes spine cursor ix n change v l e =
-    let P : Arena T → Type 0 = λ a. ix < length a.nodes → record { nodes = set nodes ix (change n); spine = spine; cursor = cursor }
-    ≡ record a { nodes = changed_at ix change a.nodes } in
-    subst P v (λ m. ap (λ (ns : List (Node T)). record { nodes = ns; spine = spine; cursor = cursor })
-    (set-changed_at nodes ix n change m e)) l

@@ -1,4 +1,6 @@
+pub mod ByteListLemmas
 pub mod ArenaLemmas
+mod StoredNodesLemmas
 pub mod ArenaForestLemmas
 pub mod ForestLemmas
 pub mod WellFormedLemmas

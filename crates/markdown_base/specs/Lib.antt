@@ -13,6 +13,7 @@ pub mod FaultText
 -- facts of a representation
 pub mod InlineText
 pub mod ArenaBounds
+pub mod StoredNodes
 pub mod ArenaForest
 pub mod ArenaWalk
 pub mod ArenaRules

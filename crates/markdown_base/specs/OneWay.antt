@@ -50,8 +50,8 @@ IsReachedOnce-prop nodes =
 bytes-prop : (xs ys : List ℕ) → IsProp (xs ≡ ys)
 bytes-prop xs ys = Coded-set (coded_list coded_ℕ) xs ys
 
--- that an item stands over its markup
-StandsOverMarkup-prop : (source : List ℕ) (b : ItemBody) → IsProp (StandsOverMarkup source b)
+-- that an item stands over its markup, here and wherever else the rule is kept
+pub StandsOverMarkup-prop : (source : List ℕ) (b : ItemBody) → IsProp (StandsOverMarkup source b)
 StandsOverMarkup-prop source (body.MaybeMath opens closes context) = bytes-prop source _
 StandsOverMarkup-prop source (body.MaybeSmartQuote quote opens closes) = hlevel (props, bytes-prop)
 StandsOverMarkup-prop source (body.MaybeCode count escaped) = hlevel (props, bytes-prop)
@@ -85,8 +85,8 @@ RunGoesOn-prop text a (suc zero) opens closes next = hlevel props
 RunGoesOn-prop text a (suc (suc count)) opens closes None = hlevel
 RunGoesOn-prop text a (suc (suc count)) opens closes (Some b) = GoesOn-prop text a b (suc count) opens closes
 
--- that an item stands in a run as the rules ask
-StandsInRun-prop : (text : List ℕ) (a : Numbered) (next : Option Numbered) (c : RunCharacter)
+-- that an item stands in a run as the rules ask, likewise
+pub StandsInRun-prop : (text : List ℕ) (a : Numbered) (next : Option Numbered) (c : RunCharacter)
     → IsProp (StandsInRun text a next c)
 StandsInRun-prop text a next c =
     let goes_on = RunGoesOn-prop text a c.count c.can_open c.can_close next in

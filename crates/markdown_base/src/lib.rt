@@ -12,5 +12,6 @@ pub mod inline_str;
 pub mod item;
 pub mod node;
 pub mod options;
+mod stored_node;
 pub mod tag;
 pub mod tree;

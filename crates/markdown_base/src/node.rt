@@ -1,4 +1,4 @@
-//! A node of a tree.
+//! A node of a tree, as contracts speak of it.
 
 /// An item with the numbers of its first child and its next sibling.
 #[derive(Debug, Drop)]

@@ -6,14 +6,14 @@ ghost use Rattle.markdown_base.specs.Arena.{led_to, appended};
 ghost use Rattle.markdown_base.specs.declared.item.ItemBody.TheVariants as body;
 
 use crate::item::{Item, ItemBody};
-use crate::node::Node;
+use crate::stored_node::{Link, StoredNode};
 use std::alloc::{AllocError, Global};
 use std::marker::Model;
 
 /// Nodes by number, from the root, node 0, on. New nodes are put where the cursor stands.
 #[derive(Drop)]
 pub struct Tree<T> {
-    nodes: Vec<Node<T>>,
+    nodes: Vec<StoredNode<T>>,
     spine: Vec<usize>,
     cur: Option<usize>,
 }
@@ -21,12 +21,17 @@ pub struct Tree<T> {
 impl<T> Model for Tree<T> {
     ghost use Rattle.markdown_base.specs.Arena.{Arena};
     ghost use Rattle.markdown_base.specs.ArenaBounds.{IsWithin};
+    ghost use Rattle.markdown_base.specs.StoredNodes.{nodes_of};
 
     ghost Value = { Arena T };
 
-    ghost view = { λ t. record { nodes = t.nodes.items; spine = t.spine.items; cursor = t.cur } };
+    ghost view = { λ t. record { nodes = nodes_of t.nodes.items; spine = t.spine.items; cursor = t.cur } };
 
-    ghost invariant = { λ t. IsWithin (record { nodes = t.nodes.items; spine = t.spine.items; cursor = t.cur }) };
+    ghost invariant = { λ t. IsWithin (record {
+      nodes = nodes_of t.nodes.items;
+      spine = t.spine.items;
+      cursor = t.cur;
+    }) };
 }
 
 impl Tree<Item> {
@@ -46,10 +51,10 @@ impl Tree<Item> {
             body: ItemBody::Root,
         };
         let mut nodes = Vec::new(alloc);
-        nodes.push(Node {
+        nodes.push(StoredNode {
             item,
-            child: None,
-            next: None,
+            child: Link::to(None),
+            next: Link::to(None),
         })?;
         Ok(Tree {
             nodes,
@@ -91,7 +96,7 @@ impl<T: Drop> Tree<T> {
         ensures value { result ≡ child_of self.now.nodes ix }
         ensures within { IfSome result (λ below. below < length self.now.nodes) }
     {
-        self.nodes[ix].child
+        self.nodes[ix].child.target()
     }
 
     /// The next sibling of a node.
@@ -100,7 +105,7 @@ impl<T: Drop> Tree<T> {
         ensures value { result ≡ sibling_of self.now.nodes ix }
         ensures within { IfSome result (λ after. after < length self.now.nodes) }
     {
-        self.nodes[ix].next
+        self.nodes[ix].next.target()
     }
 
     /// The node gone into last.
@@ -131,9 +136,12 @@ impl<T: Drop> Tree<T> {
     pub fn set_child(&mut self, ix: usize, child: Option<usize>)
         requires node { ix < length self.old.nodes }
         requires child { IfSome child (λ below. below < length self.old.nodes) }
-        ensures { self.new ≡ record self.old { nodes = changed_at ix (λ n. record n { child = child }) self.old.nodes } }
+        ensures { self.new
+            ≡ record self.old { nodes = changed_at ix (λ n. record n { child = child }) self.old.nodes } }
     {
-        self.nodes[ix].child = child;
+        // a link holds any number that a node has
+        let _nodes = self.len();
+        self.nodes[ix].child = Link::to(child);
     }
 
     /// Lets a node's next sibling be another.
@@ -142,7 +150,9 @@ impl<T: Drop> Tree<T> {
         requires next { IfSome next (λ after. after < length self.old.nodes) }
         ensures { self.new ≡ record self.old { nodes = changed_at ix (λ n. record n { next = next }) self.old.nodes } }
     {
-        self.nodes[ix].next = next;
+        // a link holds any number that a node has
+        let _nodes = self.len();
+        self.nodes[ix].next = Link::to(next);
     }
 
     /// A new node without children, before a node that is there or none.
@@ -156,10 +166,10 @@ impl<T: Drop> Tree<T> {
         ensures refused { OnErr result (self.new ≡ self.old) }
     {
         let ix = self.nodes.len();
-        self.nodes.push(Node {
+        self.nodes.push(StoredNode {
             item,
-            child: None,
-            next,
+            child: Link::to(None),
+            next: Link::to(next),
         })?;
         Ok(ix)
     }
@@ -242,7 +252,7 @@ impl<T: Drop> Tree<T> {
     {
         let ix = self.cur.unwrap();
         self.spine.push(ix)?;
-        self.cur = self.nodes[ix].child;
+        self.cur = self.child(ix);
         Ok(ix)
     }
 
@@ -265,7 +275,7 @@ impl<T: Drop> Tree<T> {
         ensures value { result ≡ sibling_of self.old.nodes ix }
         ensures goes { self.new ≡ record self.old { cursor = sibling_of self.old.nodes ix } }
     {
-        self.cur = self.nodes[ix].next;
+        self.cur = self.next(ix);
         self.cur()
     }
 
@@ -274,7 +284,7 @@ impl<T: Drop> Tree<T> {
         ensures { self.new ≡ record self.old { spine = []; cursor = child_of self.old.nodes 0 } }
     {
         self.spine.clear();
-        self.cur = self.nodes[0].child;
+        self.cur = self.child(0);
     }
 
     /// Goes nowhere more: no node is in focus, and none is gone into.
