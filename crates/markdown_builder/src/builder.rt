@@ -71,7 +71,8 @@ impl<'a> Builder<'a> {
 
     /// Nothing is made yet.
     pub fn new(alloc: Global, text: &'a str) -> Result<Builder<'a>, AllocError>
-        ensures { IfOk result (λ made. made ≡ record { text = text.now; at = 0; blocks = []; leaf = false; run = None }) }
+        ensures { IfOk result (λ made.
+            made ≡ record { text = text.now; at = 0; blocks = []; leaf = false; run = None }) }
     {
         Ok(Builder {
             text,

@@ -39,7 +39,8 @@ fn take_indent(line: &mut LineStart<'_>, indent: usize) -> bool
 
 /// Takes the part of a block: whether it is found.
 fn take_block(line: &mut LineStart<'_>, block: ItemBody, gfm_footnotes: bool) -> bool
-    ensures { (if result then Some (line_left line.new) else None) ≡ past_block gfm_footnotes block (line_left line.old) }
+    ensures { (if result then Some (line_left line.new) else None)
+        ≡ past_block gfm_footnotes block (line_left line.old) }
 {
     match block {
         ItemBody::BlockQuote(_) => take_quote(line),

@@ -27,7 +27,7 @@ use Rattle.markdown_delims.proofs.PairLemmas.{CutSomewhere}
 abbrev pub numbers_of : Forest Numbered → Forest ℕ
 numbers_of f = relabelled (λ a. a.number) f
 
--- what is spelled stands with its items, and the other way round
+-- what is spelled stands with its items
 pub holds_spelled : (nodes : List (Node Item)) (l : Option ℕ) (f : Forest ℕ) → Spells (links_of nodes) l f
     → Holds (view_of nodes) l (chain_of nodes f)
 holds_spelled nodes l nil s = s
@@ -40,6 +40,7 @@ holds_spelled nodes l (node ix below after) s = (
       (sibling_of nodes ix) after s.3,
 )
 
+-- what stands with its items is spelled by its numbers
 pub spelled_holds : (nodes : List (Node Item)) (l : Option ℕ) (f : Forest Numbered) → Holds (view_of nodes) l f
     → Spells (links_of nodes) l (numbers_of f)
 spelled_holds nodes l nil h = h

@@ -49,7 +49,7 @@ module _ (opener : Characters) (closer : Run) where
       failed_by_flags _ (both opener.run) (both closer) (lengths_agree opener.run.length closer.length) (opener.run.length == closer.length)
       b (rw n at h) s
 
-  -- and the other way round
+  -- one that is out of step with a closer, or can do both where the closer cannot, may not pair with it
   pub may_pair-fails : IsOutOfStep closer.delimiter (closer.length % 3) opener → (both closer ≡ false → IsOfBoth closer.delimiter opener)
       → may_pair opener.run closer ≡ false
   may_pair-fails l b =

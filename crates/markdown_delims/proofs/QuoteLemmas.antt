@@ -11,7 +11,8 @@ use Rattle.markdown_delims.specs.declared.quotes.Kind.{Kind}
 use Rattle.markdown_delims.specs.declared.quotes.Kind.TheVariants as kind
 use Rattle.markdown_delims.specs.Entries.{read_back}
 use Rattle.markdown_delims.specs.Enclosing.{AllTouched}
-use Rattle.markdown_delims.specs.QuoteBodies.{left_single, right_single, left_double, right_double, backslash, kind_of, is_closed_later}
+use Rattle.markdown_delims.specs.QuoteBodies.{left_single, right_single, left_double, right_double, shown_backslash}
+use Rattle.markdown_delims.specs.QuoteBodies.{kind_of, is_closed_later}
 use Rattle.markdown_delims.specs.QuoteBodies.{turn_of, is_nil, with_body, quoted_after}
 use Rattle.markdown_delims.specs.Quotes.{closes_later}
 use Rattle.markdown_delims.specs.Quoting.{IsRoot, left_quoted, remembered_as, quoted_from, QuotesStand, QuotesOn, WroteBody}
@@ -149,17 +150,19 @@ module _ (begun : Forest Numbered) (a : Numbered) (below after : Forest Numbered
   turn_other single double low = stays single double a.item.body low
 
   pub turn_break : (single : Option ℕ) (double : Bool) → IfSome single (λ x. x < a.number) → is_nil after ≡ true
-      → quoted_from single double (node (with_body backslash a) below begun) after ≡ turned single double kind.Break
+      → quoted_from single double (node (with_body shown_backslash a) below begun) after ≡ turned single double kind.Break
   turn_break single double low e =
-      stays single double backslash low
-      ∙ ap (λ l. read_back (node (with_body (if l then backslash else a.item.body) a) below (remembered_as single (is_closed_later after)
+      stays single double shown_backslash low
+      ∙ ap (λ l. read_back (node (with_body (if l then shown_backslash else a.item.body) a) below
+      (remembered_as single (is_closed_later after)
       begun)) (quoted_after (is_some single) double after)) (sym e)
 
   pub turn_no_break : (single : Option ℕ) (double : Bool) → IfSome single (λ x. x < a.number) → is_nil after ≡ false
       → quoted_from single double (node a below begun) after ≡ turned single double kind.Break
   turn_no_break single double low e =
       stays single double a.item.body low
-      ∙ ap (λ l. read_back (node (with_body (if l then backslash else a.item.body) a) below (remembered_as single (is_closed_later after)
+      ∙ ap (λ l. read_back (node (with_body (if l then shown_backslash else a.item.body) a) below
+      (remembered_as single (is_closed_later after)
       begun)) (quoted_after (is_some single) double after)) (sym e)
 
   pub turn_double_closes : (single : Option ℕ) (opens : Bool) → IfSome single (λ x. x < a.number)

@@ -25,8 +25,8 @@ abbrev pub right_double : ItemBody
 right_double = body.SynthesizeChar 8221
 
 -- a backslash
-abbrev pub backslash : ItemBody
-backslash = body.SynthesizeChar 92
+abbrev pub shown_backslash : ItemBody
+shown_backslash = body.SynthesizeChar 92
 
 -- what a body is to the reading of quotes
 abbrev pub kind_of : ItemBody → Kind
@@ -60,7 +60,7 @@ turn_of (kind.Double opens closes) b single double later last =
     if double && closes then record { made = right_double; single = single; double = false }
     else record { made = left_double; single = single; double = opens || double }
 turn_of kind.Break b single double later last = record {
-  made = if last then backslash else b;
+  made = if last then shown_backslash else b;
   single = single;
   double =
       double;

@@ -30,8 +30,8 @@ abbrev pub right_double : Shape
 right_double = synthesized 8221
 
 -- a backslash
-abbrev pub backslash : Shape
-backslash = synthesized 92
+abbrev pub shown_backslash : Shape
+shown_backslash = synthesized 92
 
 -- what a shape is to the reading of quotes: a `'` or a `"` with whether it can open and can close, a hard break by a
 -- backslash, or another
@@ -92,7 +92,7 @@ turn_by (kind.Single opens closes) shape single double later last =
     single_turn (single && closes) opens single double later
 turn_by (kind.Double opens closes) shape single double later last = double_turn (double && closes) opens single double
 turn_by kind.Break shape single double later last =
-    record { made = if last then backslash else shape; single = single; double = double }
+    record { made = if last then shown_backslash else shape; single = single; double = double }
 turn_by kind.Other shape single double later last = record { made = shape; single = single; double = double }
 
 -- the turn of a chain's first tree

@@ -1,3 +1,4 @@
+//! Below which places no open run may pair with a closer: what earlier searches have learned.
 ghost use Rattle.std.specs.Prelude.{◌≡◌};
 ghost use Rattle.markdown_delims.specs.Bounds.{bound_for, raised_for, lowered, no_bounds, zero_bounds};
 ghost use Rattle.markdown_delims.specs.Bounds.{character_bound_for, character_raised_for, character_lowered};

@@ -103,8 +103,8 @@ pub fn pair_chain(
     ensures pairs { OnOk result ((rules : Rules) → rules.options ≡ options
         → PairsChain (setting_of text.now rules) first tree.old.nodes tree.new.nodes) }
     ensures place { OnOk result (tree.new ≡ record tree.old { nodes = tree.new.nodes }) }
-    ensures examined { OnOk result (
-        ExaminesAtMost (10 * delimiters_of (trees_at tree.old.nodes (Some first))) work.old.examined work.new.examined) }
+    ensures examined { OnOk result (ExaminesAtMost
+        (10 * delimiters_of (trees_at tree.old.nodes (Some first))) work.old.examined work.new.examined) }
     ensures found { OnOk result ((rules : Rules) (tables : Tables) → rules.options ≡ options
         → RisesAtLeast (finds_in (setting_of text.now rules) (trees_from text.now tables tree.old.nodes (Some first)))
         work.old.examined work.new.examined) }

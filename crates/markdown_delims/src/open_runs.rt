@@ -1,3 +1,4 @@
+//! The delimiter runs that are still open, and the search for the nearest one with which a closer may pair.
 ghost use Rattle.std.specs.Prelude.{false, ◌≡◌, ℕ, ◌+◌, ◌^◌, ◌<◌, ◌≤◌, [], ◌∷◌, IfSome, IfNone, OnOk, OnErr};
 ghost use Rattle.std.specs.Prelude.{slice_index_or, vec_len};
 ghost use Rattle.markdown_delims.specs.MayPair.{may_pair, nearest, dropped_by};

@@ -1,3 +1,4 @@
+//! Delimiter runs (CommonMark 6.2), and the characters of one that are not paired yet.
 ghost use Rattle.std.specs.Prelude.{◌≡◌};
 ghost use Rattle.markdown_delims.specs.MayPair.{may_pair, both, same_delimiter};
 

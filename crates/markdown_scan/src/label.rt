@@ -96,7 +96,8 @@ pub fn scan_link_label<'t, R: LineRule>(
     ensures value { IfOk result (λ found. option_map (λ p. (p.0, text_of p.1)) found
         ≡ link_label (R.skipped rule.now) in_table text.now) }
     // What did not change is a slice of the source, and takes no memory.
-    ensures borrowed { IfOk result (λ found. IfSome found (λ p. text_of p.1 ≡ take (p.0 - 1) text.now → IsBorrowed p.1)) }
+    ensures borrowed { IfOk result (λ found. IfSome found (λ p.
+        text_of p.1 ≡ take (p.0 - 1) text.now → IsBorrowed p.1)) }
     ensures unchanged { (n : ℕ) → link_label (R.skipped rule.now) in_table text.now ≡ Some (n + 1, take n text.now)
         → IsOk result }
     ensures refused { link_label (R.skipped rule.now) in_table text.now ≡ None → IsOk result }

@@ -1,7 +1,7 @@
 -- Each kind of tree.
 use Rattle.std.proofs.Common.{sym, ◌∙◌}
 use Rattle.markdown_delims.specs.declared.quotes.Kind.TheVariants as kind
-use Rattle.markdown_delims.specs.QuoteBodies.{backslash}
+use Rattle.markdown_delims.specs.QuoteBodies.{shown_backslash}
 use Rattle.markdown_delims.proofs.QuoteLemmas.{turn_break, turn_no_break, turn_other, remembered_low, put_here, put_on, stay_on}
 use Rattle.markdown_delims.proofs.quotes.quote_tree.Goals as goal
 
@@ -9,9 +9,10 @@ pub returns-then-last : goal.returns-then-last
 returns-then-last c =
     record {
       quotes = λ h begun a below after st e n.
-          put_on h c.args.tree.now begun c.args.single c.args.ix a below after st c.put_body.new.tree backslash kind.Break c.args.double
+          put_on h c.args.tree.now begun c.args.single c.args.ix a below after st c.put_body.new.tree
+          shown_backslash kind.Break c.args.double
           c.args.single c.args.double c.put_body.ensures (sym c.in-Break.is ∙ e)
-          (put_here h c.args.tree.now begun c.args.single c.args.ix a below after st c.put_body.new.tree backslash
+          (put_here h c.args.tree.now begun c.args.single c.args.ix a below after st c.put_body.new.tree shown_backslash
           c.put_body.ensures).remembered
           (turn_break begun a below after c.args.single c.args.double (remembered_low h c.args.tree.now begun c.args.single c.args.ix a
           below after st) (sym n ∙ c.if-last.true));
