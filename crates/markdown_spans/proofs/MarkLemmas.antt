@@ -117,14 +117,14 @@ below_unmarked zero x h = cc
 below_unmarked (suc n) zero h = omega arith
 below_unmarked (suc n) (suc x) h = omega (arith, below_unmarked n x h)
 
--- numbers are fresh for n marks none of which is set just where they are below n, and distinct
+-- numbers that are fresh for n marks, none of which is set, are below n and distinct
 pub AreNamedOnce-from_Fresh : (n : ℕ) (xs : List ℕ) → Fresh (unmarked n) xs → AreNamedOnce n xs
 AreNamedOnce-from_Fresh n xs h = record {
   within = All-weaker (λ x. get_or (unmarked n) x true ≡ false) (λ x. x < n) (λ x. below_unmarked n x) xs (Fresh-unset (unmarked n) xs h);
   once = Fresh-distinct (unmarked n) xs h;
 }
 
--- and the other way round
+-- numbers below n that are distinct are fresh for n marks, none of which is set
 pub Fresh-from_AreNamedOnce : (n : ℕ) (xs : List ℕ) → AreNamedOnce n xs → Fresh (unmarked n) xs
 Fresh-from_AreNamedOnce n xs o =
     distinct-Fresh (unmarked n) xs (All-weaker (λ x. x < n) (λ x. get_or (unmarked n) x true ≡ false) (λ x. unmarked_below n x) xs o.within)

@@ -108,24 +108,24 @@ tells_all nodes first link kinds w e =
       any_tight = sym (or-none kinds.any_tight) ∙ (sym (ap (λ c. kinds.any_tight || has_tight_paragraph c) none) ∙ w.any_tight);
     }
 
--- what a link begins is nothing just where it leads to nothing
+-- where a link leads to nothing it begins nothing
 none-trees_at : (nodes : List (Node Item)) (link : Option ℕ) → link ≡ None
     → trees_at nodes link ≡ nil
 none-trees_at nodes link e = ap (trees_at nodes) e ∙ trees_at-none nodes
 
--- and the other way round
+-- where a link begins nothing it leads to nothing
 trees_at-nil : (nodes : List (Node Item)) (link : Option ℕ) → LeadsOn nodes link
     → trees_at nodes link ≡ nil → link ≡ None
 trees_at-nil nodes None l e = refl
 trees_at-nil nodes (Some ix) l e = cc (sym (opens_at nodes ix l).here ∙ e)
 
--- it leads to nothing just where it is tested to be none
+-- where a link is tested to be none it leads to nothing
 none_tested : (link : Option ℕ) (b : Bool) → is_some link ≡ not b → IsTrue b → link ≡ None
 none_tested None b e h = refl
 none_tested (Some ix) true e h = cc
 none_tested (Some ix) false e h = cc
 
--- and the other way round
+-- where it leads to nothing the test says so
 tested_none : (link : Option ℕ) (b : Bool) → is_some link ≡ not b → link ≡ None → IsTrue b
 tested_none None true e h = refl
 tested_none None false e h = cc

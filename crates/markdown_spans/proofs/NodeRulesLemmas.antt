@@ -111,7 +111,7 @@ IsWellFormed-from_IsTested text nodes parts order w e t =
       each_alignments_once = (rw (names_of-all_named Alignments nodes order e) at t.alignments).once;
     }
 
--- and the other way round
+-- where a block result is well formed its nodes pass
 pub IsTested-from_IsWellFormed : (text : List ℕ) (nodes : List (Node Item)) (parts : BlockParts) (order : List ℕ)
     → order ≡ preorder (numbers_below nodes)
     → IsWellFormed text nodes parts → IsTested text nodes parts order

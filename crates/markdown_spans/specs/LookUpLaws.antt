@@ -6,7 +6,6 @@ use Rattle.markdown_base.specs.declared.cow_str.CowStr.{CowStr}
 use Rattle.markdown_spans.specs.Definitions.{Labelled, look_up}
 use Rattle.markdown_spans.specs.Folding.{Matches, is_match}
 use Rattle.markdown_spans.specs.Footnotes.{footnote_at, unused, unused_at}
-use Rattle.markdown_spans.specs.declared.defs.footnotes.FootnoteDef.{FootnoteDef}
 use Rattle.markdown_spans.specs.declared.defs.footnotes.FootnoteDefs.{FootnoteDefs}
 
 -- no label matches the key

@@ -29,7 +29,8 @@ pub struct Blocks<'a> {
     options: Options,
     tree: Tree<Item>,
     parts: BlockParts<'a>,
-    pub ghost well_formed: { IsWellFormed text.now tree.nodes parts } by { IsWellFormed-prop text.now tree.nodes parts },
+    pub ghost well_formed: { IsWellFormed text.now tree.nodes parts } by { IsWellFormed-prop
+        text.now tree.nodes parts },
 }
 
 impl<'a> Blocks<'a> {

@@ -1,6 +1,8 @@
 -- What is tested, is what the rules ask.
 use Rattle.markdown_spans.proofs.blocks.rules.is_well_formed.Goals.{then-not-top_is_closed-via-then-not-top_is_closed}
-use Rattle.markdown_spans.proofs.blocks.rules.is_well_formed.Goals.{then-not-top_is_closed-via-else-not-top_is_closed+then-not-all_keep_rules}
+use Rattle.markdown_spans.proofs.blocks.rules.is_well_formed.Goals.{
+  then-not-top_is_closed-via-else-not-top_is_closed+then-not-all_keep_rules,
+}
 use Rattle.std.proofs.lemmas.Result.{IfOk-weaker}
 use Rattle.markdown_spans.proofs.NodeRulesLemmas.{reachable_below, there_below, IsWellFormed-from_IsTested, IsTested-from_IsWellFormed}
 use Rattle.markdown_spans.proofs.blocks.rules.is_well_formed.Goals as goal

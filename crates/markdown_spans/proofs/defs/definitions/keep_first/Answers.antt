@@ -15,6 +15,9 @@ returns-then-contains_key-clause-kept c =
     let asked = rw text at (sym (rw c.as_str-2.ensures.value at c.contains_key.ensures) ∙ c.if-contains_key.true) in
     left_out c.args.kept.now.items c.args.entry (ap is_some (sym (c.requires (case_folding (text_of c.args.entry.0)))) ∙ asked)
 
+pub returns-then-contains_key-clause-indexed : goal.returns-then-contains_key-clause-indexed
+returns-then-contains_key-clause-indexed c = c.requires
+
 pub returns-clause-kept : goal.returns-clause-kept
 returns-clause-kept c =
     let text : string_bytes c.in_ok-folded.folded ≡ folded_text (text_of c.args.entry.0) = c.in_ok-folded.ensures.folded
