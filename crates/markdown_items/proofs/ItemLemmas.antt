@@ -1,18 +1,18 @@
 -- Where the bytes that begin items end: between characters.
-use Rattle.std.proofs.Common.{◌≡◌, ◌≢◌, ℕ, zero, suc, ◌+◌, ◌-◌, ◌<◌, ◌≤◌, List, true, false, Option, Some, length, get_or, length-take-le}
-use Rattle.std.proofs.Common.{length-drop, drop, sym, ap, subst, ◌∙◌, arith, slice_range, slice_index}
+use Rattle.std.proofs.Common.{◌≡◌, ◌≢◌, ℕ, zero, suc, ◌+◌, ◌-◌, ◌<◌, ◌≤◌, List, true, false, Option, Some, length, get_or}
+use Rattle.std.proofs.Common.{sym, ap, subst, ◌∙◌, arith, slice_range, slice_index}
 use Rattle.std.proofs.lemmas.Bool.Decides.{nat_tests}
-use Rattle.std.proofs.lemmas.List.{get_or-take, get_or-drop}
 use Rattle.std.proofs.lemmas.List.Sums.{prefix_len_is}
 use Rattle.std.proofs.lemmas.Str.{IsCharBoundary-after_ascii}
 use Rattle.std.specs.Prelude.{IfSome, ◌==◌}
 use Rattle.std.specs.List.{prefix_len}
 use Rattle.std.specs.Str.{IsUtf8, IsCharBoundary}
+use Rattle.markdown_base.proofs.ByteListLemmas.{byte_of_part, part_length}
 use Rattle.markdown_scan.specs.Beginnings.{StandsBetween}
 use Rattle.markdown_scan.specs.Entity.{entity}
 use Rattle.markdown_scan.specs.ScanLaws.{EntityBeginsAndEnds}
 use Rattle.markdown_items.specs.Found.{next_after}
-use Rattle.markdown_items.specs.FoundFits.{IsAtSpecial, FoundFits, GoesOn}
+use Rattle.markdown_items.specs.FoundFits.{IsAtSpecial, FoundFits, LiesFurther}
 use Rattle.markdown_items.specs.LineItems.{is_special, IsWholeRun, run_end}
 use Rattle.markdown_items.specs.declared.found.Found.{Found}
 use Rattle.markdown_items.specs.declared.found.Found.TheVariants as found
@@ -44,10 +44,6 @@ past_run text line at stop u here whole =
     let n : (stop - 1) + 1 ≡ stop = omega (arith, more) in
     rw n at cut
 
--- a byte of a part of a text is the text's
-pub byte_of_part : (text : List ℕ) (at end k : ℕ) → k < end - at → get_or (slice_range text at end) k 0 ≡ get_or text (at + k) 0
-byte_of_part text at end k h = get_or-take (end - at) (drop at text) k 0 h ∙ get_or-drop at text k 0
-
 -- an entity has a byte
 entity_some : (part : List ℕ) (count : ℕ) → StandsBetween 38 59 part count → 0 < count
 entity_some part zero between = let e : 38 ≡ 59 = sym between.0 ∙ between.1 in omega (arith, e)
@@ -65,16 +61,12 @@ past_entity text at end count u more within between le =
     let n : (at + (count - 1)) + 1 ≡ at + count = omega (arith, some) in
     (some, rw n at cut)
 
--- a part of a text has no more bytes than it was asked for
-pub part_length : (text : List ℕ) (at end : ℕ) → end ≤ length text → length (slice_range text at end) ≡ end - at
-part_length text at end h = length-take-le (end - at) (drop at text) (omega (arith, length-drop at text))
-
 -- an entity that was read fits the line's content
 pub entity_fits : (text : List ℕ) (line : Line) (at count character : ℕ) → IsUtf8 text → IsAtSpecial text line at
     → EntityBeginsAndEnds (slice_range text at line.end)
     → Some (count, character) ≡ entity (slice_range text at line.end)
     → count ≤ length (slice_range text at line.end)
-    → GoesOn line.end at (at + count) × IsCharBoundary text (at + count)
+    → LiesFurther line.end at (at + count) × IsCharBoundary text (at + count)
 entity_fits text line at count character u here law value le =
     let part = slice_range text at line.end in
     let end = here.end in
@@ -116,7 +108,7 @@ run_end_is text at end stop le whole =
 
 -- reading goes on behind what was found
 pub goes_on : (text : List ℕ) (end at : ℕ) (found : Found) → at < end → FoundFits text end at found
-    → GoesOn end at (next_after at found)
+    → LiesFurther end at (next_after at found)
 goes_on text end at (found.Text next) more fits = fits
 goes_on text end at found.Escape more fits = record { past = omega arith; within = omega (arith, fits.0) }
 goes_on text end at (found.Mark body) more fits = record { past = omega arith; within = omega (arith, more) }

@@ -1,36 +1,73 @@
 -- Bytes that are looked at together.
-use Rattle.std.proofs.Common.{◌≡◌, ℕ, zero, suc, ◌+◌, ◌-◌, ◌<◌, ◌≤◌, List, [], ◌∷◌, Bool, true, false, length, get_or, refl, sym, ap, ◌∙◌}
-use Rattle.std.proofs.Common.{arith, slice_range, slice_index, ⊎_elim}
+use Rattle.std.proofs.Common.{◌≡◌, ℕ, ◌+◌, ◌-◌, ◌<◌, ◌≤◌, List, [], ◌∷◌, Bool, true, false, length, get_or, refl, sym, ap, ◌∙◌}
+use Rattle.std.proofs.Common.{arith, slice_range, slice_index, ⊎_elim, inl, inr}
 use Rattle.std.proofs.lemmas.Bool.{cases_lt}
-use Rattle.std.specs.Prelude.{◌||◌}
-use Rattle.std.specs.List.{list_any}
-use Rattle.markdown_items.specs.LineItems.{is_special}
-use Rattle.markdown_items.proofs.ItemLemmas.{byte_of_part, part_length}
+use Rattle.std.proofs.lemmas.Bool.Decides.{eqb_tells}
+use Rattle.std.specs.Prelude.{◌||◌, ◌&&◌, ◌==◌, not, codes, min}
+use Rattle.std.specs.List.{list_all, list_any}
+use Rattle.markdown_base.proofs.ByteListLemmas.{byte_of_part, part_length}
+use Rattle.markdown_items.specs.LineItems.{is_special, is_plain, IsFirstSpecial}
 
--- neither of two tests passes, where one of them or the other does not
-neither : (x y : Bool) → (x || y) ≡ false → (x ≡ false) × (y ≡ false)
-neither true y h = cc
-neither false y h = (refl, h)
+both_pass : (x y : Bool) → (x && y) ≡ true → (x ≡ true) × (y ≡ true)
+both_pass true y h = (refl, h)
+both_pass false y h = cc
 
--- where no element passes a test, the one at a place does not
-none_at : (test : ℕ → Bool) (xs : List ℕ) (k : ℕ) → k < length xs → list_any test xs ≡ false
-    → test (get_or xs k 0) ≡ false
-none_at test [] k h e = absurd (omega (arith, h))
-none_at test (x ∷ xs) zero h e = let both = neither (test x) (list_any test xs) e in both.0
-none_at test (x ∷ xs) (suc k) h e =
-    let both = neither (test x) (list_any test xs) e in none_at test xs k (omega (arith, h)) both.1
+-- a byte that passes a test is none of those that fail it
+never : (test : ℕ → Bool) (marks : List ℕ) (byte : ℕ) → list_all (λ b. not (test b)) marks ≡ true → test byte ≡ true
+    → list_any (λ b. b == byte) marks ≡ false
+never test [] byte all h = refl
+never test (m ∷ ms) byte all h =
+    let both = both_pass (not (test m)) (list_all (λ b. not (test b)) ms) all in
+    elim (eqb_tells m byte) [
+      | inl same ↦ cc (both.0, ap not (ap test same.1 ∙ h))
+      | inr other ↦ rw other.0 (never test ms byte both.1 h)
+    ]
 
--- some bytes more are not special
-pub plain_further : (bytes : List ℕ) (from start stop : ℕ) → start ≤ stop → stop ≤ length bytes
-    → ((p : ℕ) → from ≤ p → p < start → is_special (slice_index bytes p) ≡ false)
-    → false ≡ list_any is_special (slice_range bytes start stop)
-    → (p : ℕ) → from ≤ p → p < stop → is_special (slice_index bytes p) ≡ false
-plain_further bytes from start stop order le before none p low high =
-    ⊎_elim (λ (h : p < start). before p low h)
-    (λ (h : start ≤ p).
-    let here = none_at is_special (slice_range bytes start stop) (p - start)
-    (omega (arith, part_length bytes start stop le, h, high)) (sym none) in
-    let n : start + (p - start) ≡ p = omega (arith, h) in
-    let same = byte_of_part bytes start stop (p - start) (omega (arith, h, high)) ∙ ap (λ k. get_or bytes k 0) n in
+-- a plain byte is not special
+plain_is : (byte : ℕ) → is_plain byte ≡ true → is_special byte ≡ false
+plain_is byte h = never is_plain (codes "!\"$&'*<[\\]^_`~") byte refl h
+
+none_of_two : (x y : Bool) → x ≡ false → y ≡ false → (x || y) ≡ false
+none_of_two x y p q = rw (p, q) refl
+
+-- among plain bytes none is special
+pub none_special : (bytes : List ℕ) → list_all is_plain bytes ≡ true → list_any is_special bytes ≡ false
+none_special [] h = refl
+none_special (b ∷ bs) h =
+    let both = both_pass (is_plain b) (list_all is_plain bs) h in
+    none_of_two (is_special b) (list_any is_special bs) (plain_is b both.0) (none_special bs both.1)
+
+-- where no byte is special up to a part, and so many of the part are not, none is up to there
+pub plain_through : (bytes : List ℕ) (from start stop before : ℕ) → start ≤ stop → stop ≤ length bytes
+    → ((at : ℕ) → from ≤ at → at < start → is_special (slice_index bytes at) ≡ false)
+    → IsFirstSpecial (slice_range bytes start stop) 0 (length (slice_range bytes start stop)) before
+    → (at : ℕ) → from ≤ at → at < start + before → is_special (slice_index bytes at) ≡ false
+plain_through bytes from start stop before order within earlier first at low high =
+    ⊎_elim (λ (h : at < start). earlier at low h)
+    (λ (h : start ≤ at).
+    let few = first.high in
+    let inside : at - start < stop - start = omega (arith, h, high, few, part_length bytes start stop within) in
+    let here = first.plain (at - start) (omega arith) (omega (arith, h, high)) in
+    let place : start + (at - start) ≡ at = omega (arith, h) in
+    let same = byte_of_part bytes start stop (at - start) inside ∙ ap (λ k. get_or bytes k 0) place in
     ap is_special (sym same) ∙ here)
-    (cases_lt p start)
+    (cases_lt at start)
+
+-- what is found in a part, where no byte is special before it, is the first special byte, or the end if it is behind it
+pub first_special_in : (bytes : List ℕ) (from end start stop before found : ℕ) → from ≤ start → start ≤ stop
+    → stop ≤ length bytes → start ≤ end
+    → ((at : ℕ) → from ≤ at → at < start → is_special (slice_index bytes at) ≡ false)
+    → IsFirstSpecial (slice_range bytes start stop) 0 (length (slice_range bytes start stop)) before
+    → (start + before < end → before < stop - start) → found ≡ min end (start + before) → IsFirstSpecial bytes from end found
+first_special_in bytes from end start stop before found begun order within ahead earlier first inside is =
+    record {
+      low = omega (arith, begun, ahead, is);
+      high = omega (arith, is);
+      plain = λ at low high. plain_through bytes from start stop before order within earlier first at low (omega (arith, is, high));
+      stops = λ (h : found < end).
+          let place : found ≡ start + before = omega (arith, is, h) in
+          let inner : before < stop - start = inside (omega (arith, place, h)) in
+          ap (λ at. is_special (get_or bytes at 0)) place
+          ∙ (ap is_special (sym (byte_of_part bytes start stop before inner))
+          ∙ first.stops (omega (arith, inner, part_length bytes start stop within)));
+    }

@@ -18,22 +18,22 @@ pub record IsAtSpecial (text : List ℕ) (line : Line) (at : ℕ) : Type 0 where
   pub special : is_special (slice_index text at) ≡ true
 
 -- something goes on from a place up to another, in a line's content that stops before `end`
-pub record GoesOn (end at next : ℕ) : Type 0 where
+pub record LiesFurther (end at next : ℕ) : Type 0 where
   pub past : at < next
   pub within : next ≤ end
 
 -- what a builder asks of the item that is found at a place in a line's content that stops before `end`
 abbrev pub FoundFits : List ℕ → ℕ → ℕ → Found → Type 0
-FoundFits text end at (found.Text next) = GoesOn end at next
+FoundFits text end at (found.Text next) = LiesFurther end at next
 FoundFits text end at found.Escape = (at + 1 < end) × IsCharBoundary text (at + 1)
 FoundFits text end at (found.Mark body) = mark_byte body ≡ Some (slice_index text at)
 FoundFits text end at found.Image = (at + 1 < end) × (slice_index text at ≡ 33) × (slice_index text (at + 1) ≡ 91)
-FoundFits text end at (found.Backticks stop) = GoesOn end at stop × IsRunOf 96 text at stop
+FoundFits text end at (found.Backticks stop) = LiesFurther end at stop × IsRunOf 96 text at stop
 FoundFits text end at (found.EscapedBackticks stop) =
-    GoesOn end (at + 1) stop × IsRunOf 96 text (at + 1) stop × IsCharBoundary text (at + 1)
+    LiesFurther end (at + 1) stop × IsRunOf 96 text (at + 1) stop × IsCharBoundary text (at + 1)
 FoundFits text end at (found.Run stop flags) =
-    GoesOn end at stop × IsRunOf (slice_index text at) text at stop × (is_delimiter (slice_index text at) ≡ true)
-FoundFits text end at (found.Entity stop character) = GoesOn end at stop × IsCharBoundary text stop
+    LiesFurther end at stop × IsRunOf (slice_index text at) text at stop × (is_delimiter (slice_index text at) ≡ true)
+FoundFits text end at (found.Entity stop character) = LiesFurther end at stop × IsCharBoundary text stop
 
 -- the run that was appended last, once there is text up to a place: none, if there is any text
 abbrev pub run_after_text : BuilderView → ℕ → Option ℕ

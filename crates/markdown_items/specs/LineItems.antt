@@ -32,6 +32,11 @@ is_escaped text start at = nat_lt start at && (slice_index text (at - 1) == 92)
 abbrev pub is_special : ℕ → Bool
 is_special byte = list_any (λ b. b == byte) (codes "!\"$&'*<[\\]^_`~")
 
+-- bytes of which most text is made: none of them is special
+abbrev pub is_plain : ℕ → Bool
+is_plain byte =
+    nat_le byte 32 || (nat_le 43 byte && nat_le byte 90 && not (byte == 60)) || (nat_le 97 byte && not (byte == 126))
+
 -- `found` is the first place from `from` on whose byte may begin something else than text, or `end`
 pub record IsFirstSpecial (text : List ℕ) (from end found : ℕ) : Type 0 where
   pub low : from ≤ found

@@ -1,7 +1,7 @@
 //! The bytes that may begin something else than text.
-ghost use Rattle.std.specs.Prelude.{◌≡◌, ◌≤◌, length};
+ghost use Rattle.std.specs.Prelude.{◌≡◌, ◌≤◌, true, false, length};
 ghost use Rattle.std.specs.List.{list_any};
-ghost use Rattle.markdown_items.specs.LineItems.{is_special, IsFirstSpecial};
+ghost use Rattle.markdown_items.specs.LineItems.{is_special, is_plain, IsFirstSpecial};
 
 const T: bool = true;
 
@@ -20,7 +20,7 @@ static SPECIALS: [bool; 256] = [
 ];
 
 /// How many bytes are looked at together, where none of them is special: no branch for each.
-const TOGETHER: usize = 8;
+const TOGETHER: usize = 16;
 
 /// Whether a byte may begin something else than text.
 #[inline(always)]
@@ -30,32 +30,64 @@ fn is_special(byte: u8) -> bool
     SPECIALS[byte as usize]
 }
 
-/// Whether one of the bytes may begin something else than text.
+/// Whether a byte is one of those of which most text is made, by few comparisons, without a table.
 #[inline(always)]
-fn holds_special(bytes: &[u8]) -> bool
-    ensures { result ≡ list_any is_special bytes.now }
+fn is_plain(byte: u8) -> bool
+    ensures { result ≡ is_plain byte }
 {
-    let mut found = false;
-    for byte in bytes {
-        found |= is_special(*byte);
-    }
-    found
+    (byte <= b' ')
+        | ((byte >= b'+') & (byte <= b'Z') & (byte != b'<'))
+        | ((byte >= b'a') & (byte != b'~'))
 }
 
-/// The first place from `from` on whose byte may begin something else than text, or `end`.
+/// Whether all bytes are of those: then none of them is special.
+#[inline(always)]
+fn are_plain(bytes: &[u8]) -> bool
+    ensures { result ≡ true → list_any is_special bytes.now ≡ false }
+{
+    let mut plain = true;
+    for byte in bytes {
+        plain &= is_plain(*byte);
+    }
+    plain
+}
+
+/// How many of the bytes stand before the first one that may begin something else than text, or how many there are.
+#[inline(always)]
+fn length_before_special(bytes: &[u8]) -> usize
+    ensures { IsFirstSpecial bytes.now 0 (length bytes.now) result }
+{
+    for at in 0..bytes.len() {
+        if is_special(bytes[at]) {
+            return at;
+        }
+    }
+    bytes.len()
+}
+
+/// The first place from `from` on whose byte may begin something else than text, or `end`. Bytes that are looked at
+/// together may stand behind `end`.
 pub fn first_special(bytes: &[u8], from: usize, end: usize) -> usize
     requires ordered { from ≤ end }
     requires within { end ≤ length bytes.now }
     ensures { IsFirstSpecial bytes.now from end result }
 {
+    // bytes are looked at together where so many are left
+    let last = end.min(bytes.len().saturating_sub(TOGETHER - 1));
     let mut start = from;
-    'plain: while end - start >= TOGETHER && !holds_special(&bytes[start..start + TOGETHER]) {
+    'plain: while start < last {
+        let together = &bytes[start..start + TOGETHER];
+        if !are_plain(together) {
+            let before = length_before_special(together);
+            if before < TOGETHER {
+                return end.min(start + before);
+            }
+        }
         start += TOGETHER;
     }
-    for at in start..end {
-        if is_special(bytes[at]) {
-            return at;
-        }
+    if start < end {
+        start + length_before_special(&bytes[start..end])
+    } else {
+        end
     }
-    end
 }
