@@ -1,6 +1,6 @@
 pub mod LinesLemmas
-pub mod LineEndingLemmas
 pub mod LineBytesLemmas
+pub mod PlacesLemmas
 pub mod AtxHeadingsLemmas
 pub mod CodeFencesLemmas
 pub mod ListMarkersLemmas

@@ -11,6 +11,7 @@ use Rattle.markdown_lines.specs.LineBytes.{without_end}
 abbrev pub run_of : ℕ → List ℕ → ℕ
 run_of byte bytes = prefix_len (λ b. b == byte) bytes
 
+-- a byte is a backtick
 abbrev pub is_backtick : ℕ → Bool
 is_backtick byte = byte == 96
 

@@ -1,12 +1,9 @@
--- How HTML blocks of each kind end (CommonMark 4.6), and parts of how they begin, by the bytes of a line.
-use Rattle.std.specs.Prelude.{ℕ, Bool, true, false, ◌==◌, ◌&&◌, ◌||◌, nat_le, List, [], ◌∷◌, length, take, map, codes}
-use Rattle.std.specs.Prelude.{if◌then◌else◌}
-use Rattle.std.specs.Char.{is_ascii_alphanumeric, to_ascii_lowercase}
-use Rattle.std.specs.List.{prefix_len}
+-- How HTML blocks of each kind end (CommonMark 4.6), by the bytes of a line.
+use Rattle.std.specs.Prelude.{ℕ, Bool, true, false, ◌&&◌, ◌||◌, nat_le, List, [], ◌∷◌, length, take, map, codes}
+use Rattle.std.specs.Char.{to_ascii_lowercase}
 use Rattle.std.specs.Str.{bytes_eq}
 use Rattle.markdown_lines.specs.declared.html_kind.HtmlKind.{HtmlKind}
 use Rattle.markdown_lines.specs.declared.html_kind.HtmlKind.TheVariants as kind
-use Rattle.markdown_lines.specs.Lines.{is_space_or_tab}
 
 -- bytes begin with others, the case of letters aside
 abbrev pub begins_with : List ℕ → List ℕ → Bool
@@ -35,17 +32,3 @@ ends_in kind.Instruction line = holds line (codes "?>")
 ends_in kind.Declaration line = holds line (codes ">")
 ends_in kind.CharacterData line = holds line (codes "]]>")
 ends_in other line = false
-
--- the name that bytes begin with: letters and digits
-abbrev pub tag_name : List ℕ → List ℕ
-tag_name bytes = take (prefix_len is_ascii_alphanumeric bytes) bytes
-
--- a space, a tab, a `>` or nothing comes next
-abbrev pub is_after_name : List ℕ → Bool
-is_after_name [] = true
-is_after_name (byte ∷ bytes) = is_space_or_tab byte || (byte == 62)
-
--- bytes without the slash that they begin with, if they do
-abbrev pub behind_slash : List ℕ → List ℕ
-behind_slash [] = []
-behind_slash (byte ∷ bytes) = if byte == 47 then bytes else byte ∷ bytes

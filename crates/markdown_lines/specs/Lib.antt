@@ -2,9 +2,11 @@
 pub mod Lines
 pub mod LineBytes
 pub mod LineBreaks
+pub mod Places
 -- what a line's content begins
 pub mod AtxHeadings
 pub mod CodeFences
+pub mod HtmlBeginnings
 pub mod HtmlKinds
 pub mod ListMarkers
 pub mod ThematicBreaks

@@ -14,8 +14,8 @@ abbrev pub is_line_ending : ℕ → Bool
 is_line_ending byte = (byte == 10) || (byte == 13)
 
 -- one of the bytes that blank lines are made of
-abbrev pub is_blank : ℕ → Bool
-is_blank byte = is_space_or_tab byte || is_line_ending byte
+abbrev pub is_in_blank_line : ℕ → Bool
+is_in_blank_line byte = is_space_or_tab byte || is_line_ending byte
 
 -- each byte from one place up to another passes a test
 abbrev pub AllPass : (ℕ → Bool) → List ℕ → ℕ → ℕ → Type 0
@@ -38,8 +38,8 @@ pub record IsRunBefore (test : ℕ → Bool) (text : List ℕ) (from stop start 
 
 -- the first byte from `from` on that stands in no blank line, or nothing where all are blank
 abbrev pub IsNextContent : List ℕ → ℕ → Option ℕ → Type 0
-IsNextContent text from None = AllPass is_blank text from (length text)
-IsNextContent text from (Some found) = (found < length text) × IsFirstOther is_blank text from found
+IsNextContent text from None = AllPass is_in_blank_line text from (length text)
+IsNextContent text from (Some found) = (found < length text) × IsFirstOther is_in_blank_line text from found
 
 -- `found` is the first place from `from` on whose byte begins a line ending, or the end
 pub record IsLineEnd (text : List ℕ) (from found : ℕ) : Type 0 where

@@ -26,6 +26,7 @@ ordered_marker_of digits (byte ∷ rest) count =
     if (count == 0) || nat_lt 9 count || not (is_delimiter byte) then None
     else Some (record { character = byte; first = decimal digits; width = count + 1 })
 
+-- that of the digits with which bytes begin
 abbrev pub ordered_marker : List ℕ → Option ListMarker
 ordered_marker bytes =
     let count = prefix_len is_ascii_digit bytes in ordered_marker_of (take count bytes) (drop count bytes) count

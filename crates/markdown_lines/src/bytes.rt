@@ -1,5 +1,5 @@
 //! The bytes of a text, by place: what stands outside the text is nothing.
-ghost use Rattle.std.specs.Prelude.{◌≡◌, ◌≤◌, ◌+◌, ◌==◌, length, slice_get, slice_range};
+ghost use Rattle.std.specs.Prelude.{◌≡◌, ◌≤◌, ◌+◌, ◌==◌, length, drop, slice_get, slice_range};
 ghost use Rattle.std.specs.List.{list_all, prefix_len};
 ghost use Rattle.markdown_lines.specs.LineBytes.{IsPartOf, is_parted};
 ghost use Rattle.markdown_lines.specs.Lines.{is_space_or_tab};
@@ -24,6 +24,17 @@ pub fn bytes_of(text: &str, from: usize, to: usize) -> &[u8]
     let end = to.min(bytes.len());
     let start = from.min(end);
     &bytes[start..end]
+}
+
+/// The bytes from a number on.
+pub fn bytes_from(bytes: &[u8], from: usize) -> &[u8]
+    ensures { result.now ≡ drop from bytes.now }
+{
+    if from < bytes.len() {
+        bytes.split_at(from).1
+    } else {
+        &[]
+    }
 }
 
 /// The text from one place up to another, both between characters.

@@ -1,9 +1,10 @@
 //! The kinds of HTML blocks, by how they begin and end (CommonMark 4.6).
-ghost use Rattle.std.specs.Prelude.{◌≡◌, ◌≤◌, length};
-ghost use Rattle.markdown_lines.specs.HtmlKinds.{begins_with, behind_slash, ends_at_blank, ends_in, holds};
-ghost use Rattle.markdown_lines.specs.HtmlKinds.{is_after_name, tag_name};
+ghost use Rattle.std.specs.Prelude.{◌≡◌, ◌≤◌, length, IfOk};
+ghost use Rattle.std.specs.List.{list_any};
+ghost use Rattle.markdown_lines.specs.HtmlKinds.{begins_with, ends_at_blank, ends_in, holds};
+ghost use Rattle.markdown_lines.specs.HtmlBeginnings as spec;
 
-use crate::bytes::{bytes_of, is_white, part_of};
+use crate::bytes::{bytes_from, is_white};
 use crate::line::is_space_or_tab;
 use markdown_raw_html::html_tag::scan_html_tag;
 use markdown_scan::line_rule::OneLine;
@@ -147,19 +148,43 @@ const BLOCK_TAGS: [&str; 62] = [
     "ul",
 ];
 
+/// Whether two names are the same, the case of letters aside.
+#[tactic(auto, unfolding(crate::specs::HtmlBeginnings::is_same_name))]
+fn is_same_name(name: &[u8], known: &str) -> bool
+    ensures { result ≡ spec.is_same_name name.now known.now }
+{
+    name.eq_ignore_ascii_case(known.as_bytes())
+}
+
 /// Whether a name is one of some, the case of letters aside.
-fn is_one_of(name: &[u8], names: &[&str]) -> bool {
+fn is_one_of(name: &[u8], names: &[&str]) -> bool
+    ensures { result ≡ list_any (λ known. spec.is_same_name name.now known.now) names.now }
+{
     for known in names {
-        if name.eq_ignore_ascii_case(known.as_bytes()) {
+        if is_same_name(name, known) {
             return true;
         }
     }
     false
 }
 
+/// Whether a block that begins with a tag of this name ends with a line that holds such a closing tag.
+fn is_verbatim_tag(name: &[u8]) -> bool
+    ensures { result ≡ spec.is_one_of name.now spec.verbatim_tags }
+{
+    is_one_of(name, &VERBATIM)
+}
+
+/// Whether a name is that of a block's tag.
+fn is_block_tag(name: &[u8]) -> bool
+    ensures { result ≡ spec.is_one_of name.now spec.block_tags }
+{
+    is_one_of(name, &BLOCK_TAGS)
+}
+
 /// The name that bytes begin with: letters and digits.
 fn tag_name(bytes: &[u8]) -> &[u8]
-    ensures value { result.now ≡ tag_name bytes.now }
+    ensures value { result.now ≡ spec.tag_name bytes.now }
     ensures within { length result.now ≤ length bytes.now }
 {
     for at in 0..bytes.len() {
@@ -172,7 +197,7 @@ fn tag_name(bytes: &[u8]) -> &[u8]
 
 /// Whether a space, a tab, a `>` or nothing comes next.
 fn is_after_name(rest: &[u8]) -> bool
-    ensures { result ≡ is_after_name rest.now }
+    ensures { result ≡ spec.is_after_name rest.now }
 {
     match rest.first() {
         None => true,
@@ -180,8 +205,17 @@ fn is_after_name(rest: &[u8]) -> bool
     }
 }
 
+/// Whether a space, a tab, a `>`, a `/>` or nothing comes next.
+fn is_after_block_name(rest: &[u8]) -> bool
+    ensures { result ≡ spec.is_after_block_name rest.now }
+{
+    is_after_name(rest) || rest.starts_with(b"/>")
+}
+
 /// The kind of a block that begins with `<!`, by what follows.
-fn declared_kind(rest: &[u8]) -> Option<HtmlKind> {
+fn declared_kind(rest: &[u8]) -> Option<HtmlKind>
+    ensures { result ≡ spec.declared_kind rest.now }
+{
     if rest.starts_with(b"--") {
         Some(HtmlKind::Comment)
     } else if rest.starts_with(b"[CDATA[") {
@@ -194,39 +228,39 @@ fn declared_kind(rest: &[u8]) -> Option<HtmlKind> {
     }
 }
 
-/// The kind of a block that begins with a tag of a known name, by what follows the `<`.
-fn named_kind(rest: &[u8]) -> Option<HtmlKind> {
-    let named = behind_slash(rest);
-    let closing = named.len() < rest.len();
-    let name = tag_name(named);
-    let behind = &named[name.len()..];
-    if is_one_of(name, &VERBATIM) {
-        return if !closing && is_after_name(behind) {
-            Some(HtmlKind::Verbatim)
-        } else {
-            None
-        };
-    }
-    if is_one_of(name, &BLOCK_TAGS) && (is_after_name(behind) || behind.starts_with(b"/>")) {
-        return Some(HtmlKind::BlockTag);
-    }
-    None
+/// Whether a block of the first kind begins, by what follows the `<`.
+fn begins_verbatim(rest: &[u8]) -> bool
+    ensures { result ≡ spec.begins_verbatim rest.now }
+{
+    let name = tag_name(rest);
+    is_verbatim_tag(name) && is_after_name(bytes_from(rest, name.len()))
 }
 
-/// Whether a tag stands alone in what is left of a line, which is no tag of a name that begins a block of
-/// the first kind.
-fn is_lone_tag(alloc: Global, text: &str, at: usize, stop: usize) -> Result<bool, AllocError> {
-    let line = part_of(text, at, stop);
-    let Some(tag) = scan_html_tag(alloc, line, 0, &OneLine)? else {
-        return Ok(false);
-    };
-    let name = tag_name(behind_slash(bytes_of(line, 1, line.len())));
-    Ok(!is_one_of(name, &VERBATIM) && is_white(bytes_of(line, tag.end, line.len())))
+/// Whether a block begins with a block's tag, by what follows the `<`.
+fn begins_block_tag(rest: &[u8]) -> bool
+    ensures { result ≡ spec.begins_block_tag rest.now }
+{
+    let named = behind_slash(rest);
+    let name = tag_name(named);
+    is_block_tag(name) && is_after_block_name(bytes_from(named, name.len()))
+}
+
+/// The kind of a block that begins with a tag of a known name, by what follows the `<`.
+fn named_kind(rest: &[u8]) -> Option<HtmlKind>
+    ensures { result ≡ spec.named_kind rest.now }
+{
+    if begins_verbatim(rest) {
+        Some(HtmlKind::Verbatim)
+    } else if begins_block_tag(rest) {
+        Some(HtmlKind::BlockTag)
+    } else {
+        None
+    }
 }
 
 /// Bytes without the slash that they begin with, if they do.
 fn behind_slash(bytes: &[u8]) -> &[u8]
-    ensures { result.now ≡ behind_slash bytes.now }
+    ensures { result.now ≡ spec.behind_slash bytes.now }
 {
     match bytes.split_first() {
         Some((b'/', rest)) => rest,
@@ -234,25 +268,43 @@ fn behind_slash(bytes: &[u8]) -> &[u8]
     }
 }
 
-/// The kind of the HTML block whose `<` stands at `at` in a line, of which the content stops before `stop`.
-/// A block of the last kind interrupts no paragraph.
-pub fn html_kind(
-    alloc: Global,
-    text: &str,
-    at: usize,
-    stop: usize,
-    in_paragraph: bool,
-) -> Result<Option<HtmlKind>, AllocError> {
-    let rest = bytes_of(text, at.saturating_add(1), stop);
-    let known = match rest.split_first() {
+/// The kind of a block, but for the last kind, by what follows the `<`.
+fn known_kind(rest: &[u8]) -> Option<HtmlKind>
+    ensures { result ≡ spec.known_kind rest.now }
+{
+    match rest.split_first() {
         Some((b'?', _)) => Some(HtmlKind::Instruction),
         Some((b'!', declared)) => declared_kind(declared),
         _ => named_kind(rest),
-    };
-    if known.is_some() || in_paragraph {
-        return Ok(known);
     }
-    if is_lone_tag(alloc, text, at, stop)? {
+}
+
+/// Whether a tag stands alone in a line's content, which is no tag of a name that begins a block of the first
+/// kind.
+fn is_lone_tag(alloc: Global, line: &str) -> Result<bool, AllocError>
+    ensures { IfOk result (λ lone. lone ≡ spec.is_lone_tag line.now) }
+{
+    let bytes = line.as_bytes();
+    let Some(tag) = scan_html_tag(alloc, line, 0, &OneLine)? else {
+        return Ok(false);
+    };
+    let name = tag_name(behind_slash(bytes_from(bytes, 1)));
+    Ok(!is_verbatim_tag(name) && is_white(bytes_from(bytes, tag.end)))
+}
+
+/// The kind of the HTML block that begins with a line's content, whose first byte is a `<`. A block of the last
+/// kind interrupts no paragraph.
+pub fn html_kind(
+    alloc: Global,
+    line: &str,
+    in_paragraph: bool,
+) -> Result<Option<HtmlKind>, AllocError>
+    ensures { IfOk result (λ found. found ≡ spec.html_kind_of line.now in_paragraph) }
+{
+    if let Some(known) = known_kind(bytes_from(line.as_bytes(), 1)) {
+        return Ok(Some(known));
+    }
+    if !in_paragraph && is_lone_tag(alloc, line)? {
         Ok(Some(HtmlKind::LoneTag))
     } else {
         Ok(None)

@@ -12,4 +12,5 @@ pub mod line;
 pub mod line_break;
 pub mod list_marker;
 pub mod place;
+pub mod space;
 pub mod thematic_break;

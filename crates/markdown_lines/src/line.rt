@@ -1,8 +1,8 @@
 //! The lines of a text: where they end, and where their content begins and ends (CommonMark 2.1, 2.2).
-ghost use Rattle.std.specs.Prelude.{◌≡◌, ◌<◌, ◌≤◌, ◌==◌, length};
+ghost use Rattle.std.specs.Prelude.{◌≡◌, ◌<◌, ◌≤◌, ◌==◌, true, false, length};
 ghost use Rattle.std.specs.Str.{IsCharBoundary};
 ghost use Rattle.std.specs.List.{list_any};
-ghost use Rattle.markdown_lines.specs.Lines.{is_space_or_tab, is_line_ending, is_blank, ending_length};
+ghost use Rattle.markdown_lines.specs.Lines.{is_space_or_tab, is_line_ending, is_in_blank_line, ending_length};
 ghost use Rattle.markdown_lines.specs.Lines.{IsRunBefore, IsNextContent, IsLineEnd, IsLineFrom};
 
 use markdown_scan::line_end::scan_line_ending;
@@ -23,8 +23,8 @@ pub fn is_space_or_tab(byte: u8) -> bool
 }
 
 /// Whether a byte is one of those that blank lines are made of.
-fn is_blank(byte: u8) -> bool
-    ensures { result ≡ is_blank byte }
+fn is_in_blank_line(byte: u8) -> bool
+    ensures { result ≡ is_in_blank_line byte }
 {
     is_space_or_tab(byte) || begins_line_ending(byte)
 }
@@ -40,16 +40,31 @@ fn begins_line_ending(byte: u8) -> bool
     byte == b'\n' || byte == b'\r'
 }
 
-/// Whether one of the bytes begins a line ending.
+/// Whether all bytes are behind the carriage return in the order of codes, as those of most lines are: one comparison
+/// for each, and then none of them begins a line ending.
 #[inline(always)]
-fn holds_line_ending(bytes: &[u8]) -> bool
-    ensures { result ≡ list_any is_line_ending bytes.now }
+fn are_behind_endings(bytes: &[u8]) -> bool
+    ensures { result ≡ true → list_any is_line_ending bytes.now ≡ false }
 {
-    let mut found = false;
+    let mut behind = true;
     for byte in bytes {
-        found |= begins_line_ending(*byte);
+        behind &= *byte > b'\r';
     }
-    found
+    behind
+}
+
+/// How many of the bytes stand before the first one that begins a line ending, or how many there are.
+#[inline(always)]
+fn length_before_ending(bytes: &[u8]) -> usize
+    ensures { IsLineEnd bytes.now 0 result }
+{
+    for at in 0..bytes.len() {
+        // most bytes take one comparison
+        if bytes[at] <= b'\r' && begins_line_ending(bytes[at]) {
+            return at;
+        }
+    }
+    bytes.len()
 }
 
 /// The first place from `from` on whose byte begins a line ending, or the end.
@@ -58,17 +73,17 @@ fn first_line_ending(bytes: &[u8], from: usize) -> usize
     ensures { IsLineEnd bytes.now from result }
 {
     let mut start = from;
-    'content: while bytes.len() - start >= TOGETHER
-        && !holds_line_ending(&bytes[start..start + TOGETHER])
-    {
+    'content: while bytes.len() - start >= TOGETHER {
+        let together = &bytes[start..start + TOGETHER];
+        if !are_behind_endings(together) {
+            let before = length_before_ending(together);
+            if before < TOGETHER {
+                return start + before;
+            }
+        }
         start += TOGETHER;
     }
-    for at in start..bytes.len() {
-        if begins_line_ending(bytes[at]) {
-            return at;
-        }
-    }
-    bytes.len()
+    start + length_before_ending(&bytes[start..bytes.len()])
 }
 
 /// How many bytes the line ending takes that some bytes begin with: none where they begin with none.
@@ -104,7 +119,7 @@ pub fn next_content(text: &str, from: usize) -> Option<usize>
 {
     let bytes = text.as_bytes();
     for i in from..bytes.len() {
-        if !is_blank(bytes[i]) {
+        if !is_in_blank_line(bytes[i]) {
             return Some(i);
         }
     }

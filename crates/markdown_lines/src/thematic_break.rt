@@ -45,7 +45,9 @@ fn count_of(bytes: &[u8], byte: u8) -> usize
 /// spaces and tabs between and behind them. Else how many bytes from its beginning on are of that kind: no
 /// thematic break begins at any of them.
 pub fn thematic_break(content: &[u8]) -> Result<(), usize>
-    ensures { MatchResult result (λ _. is_thematic_break content.now ≡ true) (λ length. IsBrokenOff content.now length) }
+    ensures { MatchResult result
+        (λ _. is_thematic_break content.now ≡ true)
+        (λ length. IsBrokenOff content.now length) }
 {
     let Some(first) = content.first() else {
         return Err(0);

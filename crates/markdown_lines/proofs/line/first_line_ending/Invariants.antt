@@ -12,6 +12,3 @@ invariant-content l = record {
 
 abbrev pub decreases-content : goal.decreases-content
 decreases-content l = length l.bytes - l.start
-
-abbrev pub invariant-loop-at : goal.invariant-loop-at
-invariant-loop-at l = (p : ℕ) → l.from ≤ p → p < l.at → is_line_ending (slice_index l.bytes p) ≡ false
