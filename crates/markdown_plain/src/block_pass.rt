@@ -13,12 +13,13 @@ use markdown_base::item::Item;
 use markdown_base::options::Options;
 use markdown_base::tree::Tree;
 use markdown_lines::atx_heading::atx_heading;
-use markdown_lines::bytes::{byte_at, bytes_of, content_start, is_white};
+use markdown_lines::bytes::{byte_at, bytes_of, content_start, is_white, part_of};
 use markdown_lines::fence::opening_fence;
 use markdown_lines::html_kind::html_kind;
-use markdown_lines::line::{Line, line_from};
+use markdown_lines::line::{Line, is_space_or_tab, line_from};
 use markdown_lines::list_marker::list_marker;
-use markdown_lines::place::{Place, Space, read_space};
+use markdown_lines::place::Place;
+use markdown_lines::space::{Space, read_space};
 use markdown_lines::thematic_break::{setext_underline, thematic_break};
 use std::alloc::{AllocError, Global};
 
@@ -45,43 +46,61 @@ fn may_begin_block(byte: u8) -> bool {
     }
 }
 
-/// Whether what the open containers left of a line is no block's beginning, as its first byte tells: most lines.
-fn is_text(text: &str, reached: Reached) -> bool {
-    reached.place.owed == 0
-        && reached.place.at == reached.content
-        && match byte_at(text, reached.content) {
-            Some(byte) => !may_begin_block(byte),
+/// Whether a place in a line has a byte that is no white space and begins no other block than a paragraph: in most
+/// lines the first one is a letter.
+fn begins_text(text: &str, at: usize, stop: usize) -> bool {
+    at < stop
+        && match byte_at(text, at) {
+            Some(byte) if byte.is_ascii_alphabetic() => true,
+            Some(byte) => !is_space_or_tab(byte) && !may_begin_block(byte),
             None => false,
         }
 }
 
 impl<'a> Pass<'a> {
-    /// Reads a line.
+    /// Reads a line. Outside of all blocks most lines are text, as their first byte tells.
     fn read_line(&mut self, line: Line) -> Result<(), AllocError>
+        ensures { IfOk result (λ _. self.new.placing.builder.text ≡ self.old.placing.builder.text) }
+    {
+        if !self.placing.open_blocks().is_empty()
+            || !begins_text(self.placing.text(), line.start, line.stop)
+        {
+            return self.read_any_line(line);
+        }
+        self.add_text(line, line.start, 0)?;
+        self.see_content(line);
+        Ok(())
+    }
+
+    /// A line was read that is not blank for the innermost blocks that go on in it.
+    fn see_content(&mut self, line: Line)
+        ensures { self.new.placing ≡ self.old.placing }
+    {
+        self.placed = line.next;
+        self.looseness.see_content();
+    }
+
+    /// Reads a line, whatever blocks go on or begin in it.
+    #[inline(never)]
+    fn read_any_line(&mut self, line: Line) -> Result<(), AllocError>
         ensures { IfOk result (λ _. self.new.placing.builder.text ≡ self.old.placing.builder.text) }
     {
         let reached = reach(self, line);
         if reached.all && self.placing.is_in_leaf() && self.goes_on(line, reached)? {
-            self.placed = line.next;
-            self.looseness.see_content();
+            self.see_content(line);
             return Ok(());
         }
         if reached.content >= line.stop {
             return self.read_blank(line, reached);
         }
-        if is_text(self.placing.text(), reached) {
-            self.add_text(line, reached.content, reached.depth)?;
-        } else {
-            self.read_rest(Rest {
-                line,
-                place: reached.place,
-                depth: reached.depth,
-                unbroken: 0,
-                in_paragraph: reached.all && self.has_paragraph(),
-            })?;
-        }
-        self.placed = line.next;
-        self.looseness.see_content();
+        self.read_rest(Rest {
+            line,
+            place: reached.place,
+            depth: reached.depth,
+            unbroken: 0,
+            in_paragraph: reached.all && self.has_paragraph(),
+        })?;
+        self.see_content(line);
         Ok(())
     }
 
@@ -133,19 +152,23 @@ impl<'a> Pass<'a> {
     fn read_rest(&mut self, rest: Rest) -> Result<(), AllocError>
         ensures { IfOk result (λ _. self.new.placing.builder.text ≡ self.old.placing.builder.text) }
     {
-        let mut here = Some(rest);
+        let mut here = rest;
         // each container takes a byte of the line, and what is left behind the last one is read too
         'blocks: for _ in rest.line.start..rest.line.next.saturating_add(1) {
-            let Some(inside) = here else {
+            if here.place.owed == 0
+                && begins_text(self.placing.text(), here.place.at, here.line.stop)
+            {
+                return self.add_text(here.line, here.place.at, here.depth);
+            }
+            if !self.read_block(&mut here)? {
                 break;
-            };
-            here = self.read_block(inside)?;
+            }
         }
         Ok(())
     }
 
-    /// Reads the block that begins here. Answers what is left of the line inside it, if it is a container.
-    fn read_block(&mut self, rest: Rest) -> Result<Option<Rest>, AllocError>
+    /// Reads the block that begins here. Answers whether it is a container, which leaves the rest of the line.
+    fn read_block(&mut self, rest: &mut Rest) -> Result<bool, AllocError>
         ensures { IfOk result (λ _. self.new.placing.builder.text ≡ self.old.placing.builder.text) }
     {
         let text = self.placing.text();
@@ -154,30 +177,30 @@ impl<'a> Pass<'a> {
         let at = before.behind.at;
         if content_start(text, at, stop) == stop {
             self.placing.step_to(rest.line.next);
-            return Ok(None);
+            return Ok(false);
         }
         if before.columns == 4 {
-            self.read_indented(rest, before)?;
-            return Ok(None);
+            self.read_indented(*rest, before)?;
+            return Ok(false);
         }
         match byte_at(text, at).unwrap_or(0) {
             b'>' => self.read_quote(rest, before),
-            b'#' => self.read_atx(rest, at),
-            b'`' | b'~' => self.read_fence(rest, before),
-            b'<' => self.read_html(rest, before),
+            b'#' => self.read_atx(*rest, at),
+            b'`' | b'~' => self.read_fence(*rest, before),
+            b'<' => self.read_html(*rest, before),
             b'[' => self.read_bracket(rest, before),
             b'=' | b'-' | b'_' | b'*' | b'+' => self.read_line_of_marks(rest, before),
             b'0'..=b'9' => self.read_item(rest, before),
-            _ => self.read_text(rest, at),
+            _ => self.read_text(*rest, at),
         }
     }
 
     /// Reads a line that is no other block's beginning.
-    fn read_text(&mut self, rest: Rest, at: usize) -> Result<Option<Rest>, AllocError>
+    fn read_text(&mut self, rest: Rest, at: usize) -> Result<bool, AllocError>
         ensures { IfOk result (λ _. self.new.placing.builder.text ≡ self.old.placing.builder.text) }
     {
         self.add_text(rest.line, at, rest.depth)?;
-        Ok(None)
+        Ok(false)
     }
 
     /// Reads a line that is indented: code, but in a paragraph.
@@ -192,28 +215,25 @@ impl<'a> Pass<'a> {
         self.open_indented(rest.line, before.behind)
     }
 
-    /// What is left of the line from a place on, inside the container opened last.
-    fn inside(&self, rest: Rest, place: Place) -> Option<Rest> {
-        Some(Rest {
-            line: rest.line,
-            place,
-            depth: self.depth(),
-            unbroken: rest.unbroken,
-            in_paragraph: false,
-        })
+    /// Goes to a place inside the container opened last.
+    fn go_inside(&self, rest: &mut Rest, place: Place) {
+        rest.place = place;
+        rest.depth = self.depth();
+        rest.in_paragraph = false;
     }
 
     /// Reads the marker of a block quote.
-    fn read_quote(&mut self, rest: Rest, before: Space) -> Result<Option<Rest>, AllocError>
+    fn read_quote(&mut self, rest: &mut Rest, before: Space) -> Result<bool, AllocError>
         ensures { IfOk result (λ _. self.new.placing.builder.text ≡ self.old.placing.builder.text) }
     {
         self.make_room(rest.depth)?;
         let place = self.open_quote(rest.line, before.behind)?;
-        Ok(self.inside(rest, place))
+        self.go_inside(rest, place);
+        Ok(true)
     }
 
     /// Reads a line that begins with a `#`.
-    fn read_atx(&mut self, rest: Rest, at: usize) -> Result<Option<Rest>, AllocError>
+    fn read_atx(&mut self, rest: Rest, at: usize) -> Result<bool, AllocError>
         ensures { IfOk result (λ _. self.new.placing.builder.text ≡ self.old.placing.builder.text) }
     {
         let Some(heading) = atx_heading(self.placing.text(), at, rest.line.stop) else {
@@ -221,11 +241,11 @@ impl<'a> Pass<'a> {
         };
         self.make_room(rest.depth)?;
         self.add_heading(rest.line, at, heading)?;
-        Ok(None)
+        Ok(false)
     }
 
     /// Reads a line that begins with a backtick or a tilde.
-    fn read_fence(&mut self, rest: Rest, before: Space) -> Result<Option<Rest>, AllocError>
+    fn read_fence(&mut self, rest: Rest, before: Space) -> Result<bool, AllocError>
         ensures { IfOk result (λ _. self.new.placing.builder.text ≡ self.old.placing.builder.text) }
     {
         let text = self.placing.text();
@@ -237,88 +257,85 @@ impl<'a> Pass<'a> {
         };
         self.make_room(rest.depth)?;
         self.open_fenced(rest.line, at, opening)?;
-        Ok(None)
+        Ok(false)
     }
 
     /// Reads a line that begins with a `<`.
-    fn read_html(&mut self, rest: Rest, before: Space) -> Result<Option<Rest>, AllocError>
+    fn read_html(&mut self, rest: Rest, before: Space) -> Result<bool, AllocError>
         ensures { IfOk result (λ _. self.new.placing.builder.text ≡ self.old.placing.builder.text) }
     {
-        let text = self.placing.text();
         let at = before.behind.at;
+        let content = part_of(self.placing.text(), at, rest.line.stop);
         // also where the paragraph would go on lazily
         let in_paragraph = self.has_paragraph();
-        let Some(kind) = html_kind(self.alloc, text, at, rest.line.stop, in_paragraph)? else {
+        let Some(kind) = html_kind(self.alloc, content, in_paragraph)? else {
             return self.read_text(rest, at);
         };
         self.make_room(rest.depth)?;
         self.open_html(rest.line, rest.place, kind)?;
-        Ok(None)
+        Ok(false)
     }
 
     /// Reads a line that begins with a `[`.
-    fn read_bracket(&mut self, rest: Rest, before: Space) -> Result<Option<Rest>, AllocError>
+    fn read_bracket(&mut self, rest: &mut Rest, before: Space) -> Result<bool, AllocError>
         ensures { IfOk result (λ _. self.new.placing.builder.text ≡ self.old.placing.builder.text) }
     {
         let here = before.behind;
         match self.open_footnote(rest.line, here, rest.depth)? {
-            Some(place) => Ok(self.inside(rest, place)),
-            None => self.read_text(rest, here.at),
+            Some(place) => {
+                self.go_inside(rest, place);
+                Ok(true)
+            }
+            None => self.read_text(*rest, here.at),
         }
     }
 
     /// Reads a line that begins with a character of underlines, thematic breaks and bullet list markers.
-    fn read_line_of_marks(&mut self, rest: Rest, before: Space) -> Result<Option<Rest>, AllocError>
+    fn read_line_of_marks(&mut self, rest: &mut Rest, before: Space) -> Result<bool, AllocError>
         ensures { IfOk result (λ _. self.new.placing.builder.text ≡ self.old.placing.builder.text) }
     {
-        if !rest.in_paragraph {
-            return self.read_break(rest, before);
+        if rest.in_paragraph {
+            let content = bytes_of(self.placing.text(), before.behind.at, rest.line.stop);
+            if let Some(level) = setext_underline(content) {
+                if self.end_paragraph(Some((level, rest.line)))? {
+                    return Ok(false);
+                }
+                rest.in_paragraph = false;
+            }
         }
-        let content = bytes_of(self.placing.text(), before.behind.at, rest.line.stop);
-        let Some(level) = setext_underline(content) else {
-            return self.read_break(rest, before);
-        };
-        if self.end_paragraph(Some((level, rest.line)))? {
-            return Ok(None);
-        }
-        let mut rest = rest;
-        rest.in_paragraph = false;
         self.read_break(rest, before)
     }
 
     /// Reads a line that may be a thematic break, and else may begin with a list marker.
-    fn read_break(&mut self, rest: Rest, before: Space) -> Result<Option<Rest>, AllocError>
+    fn read_break(&mut self, rest: &mut Rest, before: Space) -> Result<bool, AllocError>
         ensures { IfOk result (λ _. self.new.placing.builder.text ≡ self.old.placing.builder.text) }
     {
         let at = before.behind.at;
-        if at < rest.unbroken {
-            return self.read_item(rest, before);
-        }
-        match thematic_break(bytes_of(self.placing.text(), at, rest.line.stop)) {
-            Ok(()) => {
-                self.make_room(rest.depth)?;
-                self.add_thematic_break(rest.line, at)?;
-                Ok(None)
-            }
-            Err(length) => {
-                let mut rest = rest;
-                rest.unbroken = at.saturating_add(length);
-                self.read_item(rest, before)
+        if at >= rest.unbroken {
+            match thematic_break(bytes_of(self.placing.text(), at, rest.line.stop)) {
+                Ok(()) => {
+                    self.make_room(rest.depth)?;
+                    self.add_thematic_break(rest.line, at)?;
+                    return Ok(false);
+                }
+                Err(length) => rest.unbroken = at.saturating_add(length),
             }
         }
+        self.read_item(rest, before)
     }
 
     /// Reads a line that may begin with a list marker.
-    fn read_item(&mut self, rest: Rest, before: Space) -> Result<Option<Rest>, AllocError>
+    fn read_item(&mut self, rest: &mut Rest, before: Space) -> Result<bool, AllocError>
         ensures { IfOk result (λ _. self.new.placing.builder.text ≡ self.old.placing.builder.text) }
     {
         let at = before.behind.at;
         let found = list_marker(self.placing.text(), at, rest.line.stop, rest.in_paragraph);
         let Some(marker) = found else {
-            return self.read_text(rest, at);
+            return self.read_text(*rest, at);
         };
         let place = self.open_item(rest.line, before, marker, rest.depth)?;
-        Ok(self.inside(rest, place))
+        self.go_inside(rest, place);
+        Ok(true)
     }
 
     /// Reads the lines of the text.

@@ -10,7 +10,8 @@ use markdown_lines::fence::{Fence, OpeningFence, is_closing_fence};
 use markdown_lines::held_line::HeldLine;
 use markdown_lines::html_kind::HtmlKind;
 use markdown_lines::line::Line;
-use markdown_lines::place::{Place, read_space};
+use markdown_lines::place::Place;
+use markdown_lines::space::read_space;
 use markdown_scan::unescape::unescape;
 use std::alloc::AllocError;
 
