@@ -1,6 +1,6 @@
 -- What becomes of small chains of brackets, by the definitions.
 use Rattle.std.proofs.Common.{◌≡◌, ℕ, ◌+◌, ◌-◌, Bool, true, false, ◌==◌, List, [], ◌∷◌, ◌++◌, Option, Some, None, length, nat_lt, refl}
-use Rattle.std.specs.Prelude.{codes, bytes_eq}
+use Rattle.std.specs.Prelude.{codes, bytes_eq, map}
 use Rattle.markdown_base.specs.Event.{TagView, EventView, text, link, image, footnote_reference}
 use Rattle.markdown_base.specs.Forest.{Forest, nil, node}
 use Rattle.markdown_base.specs.Questions.{Answer, Answers}
@@ -109,171 +109,130 @@ wikilinks = 32768
 abbrev answer : List ℕ → List ℕ → Option Answer
 answer destination title = Some (record { destination = destination; title = title })
 
+-- tables of sources, each with what is shown of it, its trees' ranges, or how many questions are asked where each is refused
+abbrev Shows : (options : ℕ) → List (List ℕ × List ℕ) → Type 0
+Shows options rows = map (λ row. read_with options row.0) rows ≡ map (λ row. row.1) rows
+
+abbrev HasRanges : (options : ℕ) → List (List ℕ × List (ℕ × ℕ)) → Type 0
+HasRanges options rows = map (λ row. ranges (forest_of (progress options false 100 [] row.0))) rows ≡ map (λ row. row.1) rows
+
+abbrev Asks : List (List ℕ × ℕ) → Type 0
+Asks rows = map (λ row. length (progress 0 true 100 [] row.0).asked) rows ≡ map (λ row. row.1) rows
+
 -- inline links and images; no link stands in a link, but an image does, and a link in an image
-a_link : ranges (forest_of (progress 0 false 100 [] (codes "a [b](c) d"))) ≡ (0, 2) ∷ (2, 8) ∷ (3, 4) ∷ (8, 10) ∷ []
+links_and_images : Shows 0 (
+    (codes "a [b](c) d", codes "a {c:b} d")
+    ∷ (codes "[a [b](c) d](e)", codes "[a {c:b} d](e)")
+    ∷ (codes "![a *b*](c \"t\")", codes "!{ct:a *b*}")
+    ∷ (codes "[![a](b)](c)", codes "{c:!{b:a}}")
+    ∷ (codes "![[a](b)](c)", codes "!{c:{b:a}}")
+    -- no opener
+    ∷ (codes "a](b)", codes "a](b)")
+    -- no wikilink without the option
+    ∷ (codes "[[foo]]", codes "[[foo]]")
+    ∷ [])
 unfolding read_chain closed decided
-a_link = refl
+links_and_images = refl
 
-a_link_shown : read_with 0 (codes "a [b](c) d") ≡ codes "a {c:b} d"
+link_ranges : HasRanges 0 ((codes "a [b](c) d", (0, 2) ∷ (2, 8) ∷ (3, 4) ∷ (8, 10) ∷ []) ∷ [])
 unfolding read_chain closed decided
-a_link_shown = refl
+link_ranges = refl
 
-no_link_in_a_link : read_with 0 (codes "[a [b](c) d](e)") ≡ codes "[a {c:b} d](e)"
+-- footnotes, as GitHub writes them (4): what is one is defined, takes no `[]` after it, and no opener before it opens a link
+footnotes : Shows 4 (
+    (codes "this![^a] out", codes "this!^{a} out")
+    ∷ (codes "a[^b]", codes "a[^b]")
+    ∷ (codes "[^a][]", codes "^{a}[]")
+    ∷ (codes "[b[^a]](c)", codes "[b^{a}](c)")
+    ∷ [])
 unfolding read_chain closed decided
-no_link_in_a_link = refl
+footnotes = refl
 
-an_image : read_with 0 (codes "![a *b*](c \"t\")") ≡ codes "!{ct:a *b*}"
+-- in the old style (516) what is not defined is one too
+old_footnotes : Shows 516 ((codes "a[^b]", codes "a^{b}") ∷ [])
 unfolding read_chain closed decided
-an_image = refl
+old_footnotes = refl
 
-an_image_in_a_link : read_with 0 (codes "[![a](b)](c)") ≡ codes "{c:!{b:a}}"
+-- an image's mark before a footnote is a text
+footnote_ranges : HasRanges 4 ((codes "this![^a] out", (0, 4) ∷ (4, 5) ∷ (5, 9) ∷ (9, 13) ∷ []) ∷ [])
 unfolding read_chain closed decided
-an_image_in_a_link = refl
+footnote_ranges = refl
 
-a_link_in_an_image : read_with 0 (codes "![[a](b)](c)") ≡ codes "!{c:{b:a}}"
+-- uses are counted
+used_twice : (progress 4 false 100 [] (codes "[^a] [^a]")).known.uses ≡ used_once_more (codes "a") (used_once_more (codes "a") (λ name. 0))
 unfolding read_chain closed decided
-a_link_in_an_image = refl
+used_twice = refl
 
-no_opener : read_with 0 (codes "a](b)") ≡ codes "a](b)"
+-- wikilinks, without a pipe and with one
+many_wikilinks : Shows wikilinks (
+    (codes "[[foo]] [[bar|baz]]", codes "{foo:foo} {bar:baz}")
+    -- no name
+    ∷ (codes "[[|b]]", codes "[[|b]]")
+    -- an escape in the shown text stays one
+    ∷ (codes "[[a|\\*b]]", codes "{a:*b}")
+    -- what was found leaves no opener inside it
+    ∷ (codes "![[a]] b](c)", codes "!{a:a} b](c)")
+    ∷ (codes "[[ ![p ![q ]] r](z) tail", codes "{ ![p ![q : ![p ![q } r](z) tail")
+    -- an opener whose second bracket became a link opens no wikilink
+    ∷ (codes "![[a](b) c]]", codes "![{b:a} c]]")
+    ∷ [])
 unfolding read_chain closed decided
-no_opener = refl
+many_wikilinks = refl
+
+wikilink_ranges : HasRanges wikilinks (
+    (codes "[[foo]] [[bar|baz]]", (0, 7) ∷ (2, 5) ∷ (7, 8) ∷ (8, 19) ∷ (14, 17) ∷ [])
+    -- nothing is shown
+    ∷ (codes "[[a|]]", (0, 6) ∷ (4, 4) ∷ [])
+    ∷ [])
+unfolding read_chain closed decided
+wikilink_ranges = refl
+
+-- none is asked twice for one bracket
+questions : Asks (
+    (codes "[g][crate::g].", 1)
+    ∷ (codes "[g][crate::g][].", 1)
+    ∷ (codes "[one] and [two]", 2)
+    ∷ [])
+unfolding read_chain closed decided
+questions = refl
 
 -- an escaped bracket opens no label: both are shortcuts
 escaped_bracket : shown (forest_of (progress 0 true 100 (answer (codes "u") [] ∷ None ∷ []) (codes "[a]\\[b]"))) ≡ codes "{u:a}[b]"
 unfolding read_chain closed decided
 escaped_bracket = refl
 
+-- without footnotes the label is a link's
+no_footnotes : shown (forest_of (progress 0 true 100 (answer (codes "yolo") [] ∷ []) (codes "a [^a]"))) ≡ codes "a {yolo:^a}"
+unfolding read_chain closed decided
+no_footnotes = refl
+
 -- a reference in full: its range ends with its label, and who is asked is told the form
 abbrev asks_world : Progress (Unit {0})
 asks_world = progress 0 true 100 (answer (codes "YOLO") (codes "SWAG") ∷ []) (codes "no def: [hello][world]")
 
-full_asked : asks_world.asked ≡ record { span = record { start = 8; end = 22 }; link_type = kind.Reference; reference = codes "world" } ∷ []
+full_reference : (asks_world.asked
+    ≡ record { span = record { start = 8; end = 22 }; link_type = kind.Reference; reference = codes "world" } ∷ [])
+    × (shown (forest_of asks_world) ≡ codes "no def: {YOLOSWAG:hello}")
+    × (ranges (forest_of asks_world) ≡ (0, 8) ∷ (8, 22) ∷ (9, 14) ∷ [])
 unfolding read_chain closed decided
-full_asked = refl
-
-full_shown : shown (forest_of asks_world) ≡ codes "no def: {YOLOSWAG:hello}"
-unfolding read_chain closed decided
-full_shown = refl
-
-full_ranges : ranges (forest_of asks_world) ≡ (0, 8) ∷ (8, 22) ∷ (9, 14) ∷ []
-unfolding read_chain closed decided
-full_ranges = refl
+full_reference = (refl, refl, refl)
 
 -- the range of a collapsed one ends before its `[]`
 abbrev asks_foo : Progress (Unit {0})
 asks_foo = progress 0 true 100 (answer (codes "u") [] ∷ []) (codes "[foo][]")
 
-collapsed_asked : asks_foo.asked ≡ record { span = record { start = 0; end = 5 }; link_type = kind.Collapsed; reference = codes "foo" } ∷ []
+collapsed_reference : (asks_foo.asked
+    ≡ record { span = record { start = 0; end = 5 }; link_type = kind.Collapsed; reference = codes "foo" } ∷ [])
+    × (ranges (forest_of asks_foo) ≡ (0, 5) ∷ (1, 4) ∷ [])
 unfolding read_chain closed decided
-collapsed_asked = refl
-
-collapsed_ranges : ranges (forest_of asks_foo) ≡ (0, 5) ∷ (1, 4) ∷ []
-unfolding read_chain closed decided
-collapsed_ranges = refl
-
--- how many questions are asked where each is refused: none twice for one bracket
-abbrev questions : List ℕ → ℕ
-questions source = length (progress 0 true 100 [] source).asked
-
-one_for_two_labels : questions (codes "[g][crate::g].") ≡ 1
-unfolding read_chain closed decided
-one_for_two_labels = refl
-
-one_for_all : questions (codes "[g][crate::g][].") ≡ 1
-unfolding read_chain closed decided
-one_for_all = refl
-
-one_for_each : questions (codes "[one] and [two]") ≡ 2
-unfolding read_chain closed decided
-one_for_each = refl
+collapsed_reference = (refl, refl)
 
 -- a target may be longer than what is left of the limit, but then nobody is asked any more
 abbrev asks_two : Progress (Unit {0})
 asks_two = progress 0 true 3 (answer (codes "long") [] ∷ answer (codes "v") [] ∷ []) (codes "[a] [b]")
 
-second_is_text : shown (forest_of asks_two) ≡ codes "{long:a} [b]"
+second_is_text : (shown (forest_of asks_two) ≡ codes "{long:a} [b]")
+    × (length asks_two.asked ≡ 1)
+    × (asks_two.known.answers ≡ answer (codes "v") [] ∷ [])
 unfolding read_chain closed decided
-second_is_text = refl
-
-second_is_not_asked : length asks_two.asked ≡ 1
-unfolding read_chain closed decided
-second_is_not_asked = refl
-
-second_answer_is_left : asks_two.known.answers ≡ answer (codes "v") [] ∷ []
-unfolding read_chain closed decided
-second_answer_is_left = refl
-
--- footnotes, as GitHub writes them (4) and in the old style (516); without them the label is a link's
-a_footnote : read_with 4 (codes "this![^a] out") ≡ codes "this!^{a} out"
-unfolding read_chain closed decided
-a_footnote = refl
-
-a_footnote_in_two_parts : ranges (forest_of (progress 4 false 100 [] (codes "this![^a] out"))) ≡ (0, 4) ∷ (4, 5) ∷ (5, 9) ∷ (9, 13) ∷ []
-unfolding read_chain closed decided
-a_footnote_in_two_parts = refl
-
-not_defined : read_with 4 (codes "a[^b]") ≡ codes "a[^b]"
-unfolding read_chain closed decided
-not_defined = refl
-
-not_defined_old : read_with 516 (codes "a[^b]") ≡ codes "a^{b}"
-unfolding read_chain closed decided
-not_defined_old = refl
-
-no_footnotes : shown (forest_of (progress 0 true 100 (answer (codes "yolo") [] ∷ []) (codes "a [^a]"))) ≡ codes "a {yolo:^a}"
-unfolding read_chain closed decided
-no_footnotes = refl
-
--- it never takes a `[]` after it, no opener before it opens a link, and its uses are counted
-no_pair_after_it : read_with 4 (codes "[^a][]") ≡ codes "^{a}[]"
-unfolding read_chain closed decided
-no_pair_after_it = refl
-
-no_link_around_it : read_with 4 (codes "[b[^a]](c)") ≡ codes "[b^{a}](c)"
-unfolding read_chain closed decided
-no_link_around_it = refl
-
-used_twice : (progress 4 false 100 [] (codes "[^a] [^a]")).known.uses ≡ used_once_more (codes "a") (used_once_more (codes "a") (λ name. 0))
-unfolding read_chain closed decided
-used_twice = refl
-
--- wikilinks, without a pipe and with one
-two_wikilinks : ranges (forest_of (progress wikilinks false 100 [] (codes "[[foo]] [[bar|baz]]")))
-    ≡ (0, 7) ∷ (2, 5) ∷ (7, 8) ∷ (8, 19) ∷ (14, 17) ∷ []
-unfolding read_chain closed decided
-two_wikilinks = refl
-
-two_wikilinks_shown : read_with wikilinks (codes "[[foo]] [[bar|baz]]") ≡ codes "{foo:foo} {bar:baz}"
-unfolding read_chain closed decided
-two_wikilinks_shown = refl
-
-not_without_the_option : read_with 0 (codes "[[foo]]") ≡ codes "[[foo]]"
-unfolding read_chain closed decided
-not_without_the_option = refl
-
-nothing_shown : ranges (forest_of (progress wikilinks false 100 [] (codes "[[a|]]"))) ≡ (0, 6) ∷ (4, 4) ∷ []
-unfolding read_chain closed decided
-nothing_shown = refl
-
-no_name : read_with wikilinks (codes "[[|b]]") ≡ codes "[[|b]]"
-unfolding read_chain closed decided
-no_name = refl
-
--- an escape in the shown text stays one
-escaped_in_it : read_with wikilinks (codes "[[a|\\*b]]") ≡ codes "{a:*b}"
-unfolding read_chain closed decided
-escaped_in_it = refl
-
--- what was found leaves no opener inside it
-image_wikilink : read_with wikilinks (codes "![[a]] b](c)") ≡ codes "!{a:a} b](c)"
-unfolding read_chain closed decided
-image_wikilink = refl
-
-openers_go_with_it : read_with wikilinks (codes "[[ ![p ![q ]] r](z) tail") ≡ codes "{ ![p ![q : ![p ![q } r](z) tail"
-unfolding read_chain closed decided
-openers_go_with_it = refl
-
--- an opener whose second bracket became a link opens no wikilink
-second_bracket_taken : read_with wikilinks (codes "![[a](b) c]]") ≡ codes "![{b:a} c]]"
-unfolding read_chain closed decided
-second_bracket_taken = refl
+second_is_text = (refl, refl, refl)

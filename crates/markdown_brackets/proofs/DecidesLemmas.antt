@@ -104,8 +104,8 @@ module _ {C : Type 0} (step : C → Question → Option Answer → C → Type 0)
           openers = by taken m (nearest opens_bracket t.left_then) (top_bracket t.left_then) (splits_at opens_bracket t.left_then);
         }
       where
-        by : (taken : Option (Opener × Bool)) → MatchOption taken ((old ≡ []) × (new ≡ [])) (λ t. old ≡ record { opener = t.0; is_live = t.1 }
-            ∷ new)
+        by : (taken : Option (Opener × Bool))
+            → MatchOption taken ((old ≡ []) × (new ≡ [])) (λ t. old ≡ record { opener = t.0; is_live = t.1 } ∷ new)
             → (o : Option (Split ℕ)) → TopBracket t.left_then o → IfSome o (SplitsAt t.left_then) → AreTaken nodes taken o
         by None m None top splits = tt
         by None m (Some o) top splits = let a = sym m.0 ∙ (old_is ∙ (sym t.brackets ∙ top)) in cc

@@ -356,7 +356,8 @@ finished nodes (Link opener target end next) brackets wikilinks brackets' wikili
       f.0 ∙ ap (λ (at : Opener). openers.before_link at brackets) is.0 ∙ ap (openers.before_link (opener_of o)) eb
           ∙ link_brackets nodes closer left c s rises o split o.mark.is_image,
       f.1 ∙ ap (λ (at : Opener). openers.before_link at (without_second nodes at.node (before at.node wikilinks))) is.0
-          ∙ ap (λ (held : List Waiting). openers.before_link (opener_of o) (without_second nodes o.opener.tag (before o.opener.tag held))) ew
+          ∙ ap (λ (held : List Waiting). openers.before_link (opener_of o) (without_second nodes o.opener.tag (before o.opener.tag held)))
+          ew
           ∙ link_wikilinks nodes closer left c s rises o split o.mark.is_image,
     )
 finished nodes (Footnote opener label) brackets wikilinks brackets' wikilinks' f w c closer left (a_footnote o name) p s rises split is eb

@@ -14,6 +14,7 @@ pub mod QuestionEndsLemmas
 pub mod ClosingBracketLemmas
 pub mod NoLinkLemmas
 pub mod BracketWeightLemmas
+pub mod KeptLabelsLemmas
 pub mod KeptShapesLemmas
 pub mod BracketTagLemmas
 pub mod ChainBeginsLemmas

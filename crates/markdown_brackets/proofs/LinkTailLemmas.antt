@@ -56,6 +56,39 @@ module _ (in_table : Bool) (skipped : List ℕ → Option ℕ) (starts : ℕ →
       ∙ ap (after_destination skipped starts text (past_separator skipped text (at + 1))) e in
       subst Reads (sym here) (titled next (title_at starts text next) part)
 
+-- where nothing closes it, no tail stands there
+module _ (in_table : Bool) (skipped : List ℕ → Option ℕ) (starts : ℕ → Option ℕ) (text : List ℕ) (at close : ℕ) (written : List ℕ)
+    (title : CowStr) (none : (slice_index text close == 41) ≡ false) where
+  unclosed : (i : ℕ) (title_text : List ℕ) (joined : Bool) → IsTitleText in_table i close title_text joined title
+      → closed_at text i written title_text joined ≡ None
+  unclosed i title_text joined h =
+      ap (λ (b : Bool). cond b (Some (record { ends = i + 1; destination = written; title = title_text; is_joined = joined })) None)
+      (subst (λ n. (slice_index text n == 41) ≡ false) h.ends none)
+
+  untitled : (next : ℕ) (t : Option Title) → IsTitlePart skipped in_table text next t close title
+      → after_title skipped text next written t ≡ None
+  untitled next None h = unclosed next [] false h
+  untitled next (Some t) h = unclosed (past_separator skipped text t.ends) t.text t.is_joined h
+
+  pub tail_open : (length : ℕ) → (slice_index text at == 40) ≡ true
+      → destination max_nesting (drop (past_separator skipped text (at + 1)) text) ≡ Some (length, written)
+      → IsTitlePart skipped in_table text (past_separator skipped text (past_separator skipped text (at + 1) + length))
+      (title_at starts text (past_separator skipped text (past_separator skipped text (at + 1) + length))) close title
+      → link_tail skipped starts text at ≡ None
+  tail_open length opens e part =
+      let next : ℕ = past_separator skipped text (past_separator skipped text (at + 1) + length) in
+      ap (λ b. cond b (after_destination skipped starts text (past_separator skipped text (at + 1))
+      (destination max_nesting (drop (past_separator skipped text (at + 1)) text))) None) opens
+      ∙ ap (after_destination skipped starts text (past_separator skipped text (at + 1))) e
+      ∙ untitled next (title_at starts text next) part
+
+-- so it is where nothing begins
+pub tail_closed : (skipped : List ℕ → Option ℕ) (starts : ℕ → Option ℕ) (text : List ℕ) (at : ℕ) → (slice_index text at == 40) ≡ false
+    → link_tail skipped starts text at ≡ None
+tail_closed skipped starts text at e =
+    ap (λ b. cond b (after_destination skipped starts text (past_separator skipped text (at + 1))
+    (destination max_nesting (drop (past_separator skipped text (at + 1)) text))) None) e
+
 -- no tail stands past the text's end
 pub tail_past_end : (skipped : List ℕ → Option ℕ) (starts : ℕ → Option ℕ) (text : List ℕ) (at : ℕ) → length text ≤ at
     → link_tail skipped starts text at ≡ None

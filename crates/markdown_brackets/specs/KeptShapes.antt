@@ -18,11 +18,15 @@ abbrev pub PassesBelow : {A : Type 0} → (Shape → Bool) → Forest (Label A) 
 PassesBelow test nil = ⊤
 PassesBelow test (node a below after) = PassesAll test below × PassesBelow test after
 
--- so does all of a left list that is read, and what is below its openers
+-- each label of a left list, and each below
+abbrev pub EachLeft : {A : Type 0} → (Label A → Type 0) → List (Entry A) → Type 0
+EachLeft p [] = ⊤
+EachLeft p (done a below ∷ left) = p a × Each p below × EachLeft p left
+EachLeft p (waits m a ∷ left) = p a × EachLeft p left
+
+-- all of a left list that is read passes, and what is below its openers
 abbrev pub PassesLeft : {A : Type 0} → (Shape → Bool) → List (Entry A) → Type 0
-PassesLeft test [] = ⊤
-PassesLeft test (done a below ∷ left) = (test a.part.shape ≡ true) × PassesAll test below × PassesLeft test left
-PassesLeft test (waits m a ∷ left) = (test a.part.shape ≡ true) × PassesLeft test left
+PassesLeft test left = EachLeft (λ a. test a.part.shape ≡ true) left
 
 -- of a test that each event passes and each enclosing tag
 abbrev pub KeptShapesLaw : Type 0 → Type 0

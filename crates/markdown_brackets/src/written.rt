@@ -154,7 +154,8 @@ fn read_form<'t, R: LineRule>(
     requires some { EndsBehind 0 (form_view form) }
     requires small { (item_at tree.now.nodes closer).end + 2 < 2 ^ 64 }
     ensures { IfOk result (λ found. (in_table : Bool) → IsRead in_table
-        (reference_at tree.now.nodes place.now (R.skipped rule.now) closer could_be start (form_view form.entry)) found) }
+        (reference_at tree.now.nodes place.now (R.skipped rule.now) closer could_be start (form_view form.entry))
+        found) }
 {
     let end = tree.item(closer).end;
     let (link_type, next) = match form {
