@@ -6,7 +6,7 @@ use Rattle.std.proofs.Math.Path.{fun_ext}
 use Rattle.std.proofs.lemmas.List.{length-drop, length-take}
 use Rattle.std.specs.Prelude.{Result, Ok, Err, IfErr, IfOk, is_some, slice_range}
 use Rattle.std.specs.Str.{IsUtf8}
-use Rattle.markdown_base.specs.Arena.{Arena, sibling_of}
+use Rattle.markdown_base.specs.Arena.{Arena}
 use Rattle.markdown_base.specs.BlockTree.{item_at}
 use Rattle.markdown_base.specs.Questions.{Question, Answer}
 use Rattle.markdown_base.specs.WellFormed.{StandsOverMarkup}
@@ -24,27 +24,28 @@ use Rattle.markdown_brackets.specs.Openers.{Waiting}
 use Rattle.markdown_brackets.specs.SpentEnds.{is_spent}
 use Rattle.markdown_brackets.specs.StandsAt.{CanTry}
 use Rattle.markdown_brackets.specs.WikilinkNodes.{CanFindWikilink}
+use Rattle.markdown_brackets.specs.declared.chain_openers.ChainOpeners.{ChainOpeners}
 use Rattle.markdown_brackets.specs.declared.closing_bracket.ClosedBracket.{ClosedBracket}
 use Rattle.markdown_brackets.specs.declared.spent_ends.SpentEnds.{SpentEnds}
 use Rattle.markdown_brackets.specs.declared.written.BracketPlace.{BracketPlace}
 use Rattle.markdown_chains.specs.Above.{Above, above_cursor}
 use Rattle.markdown_chains.specs.ChainRest.{end_of}
 use Rattle.markdown_chains.specs.Setting.{Rules, rules_from, setting_of, uses_of}
-use Rattle.markdown_chains.specs.Stages.{items_from, stage}
 use Rattle.markdown_chains.specs.Tables.{Tables, tables_of}
 use Rattle.markdown_code.specs.Finds.{gfm_footnotes, prefix_below}
 use Rattle.markdown_code.specs.PrefixView.{length_by}
-use Rattle.markdown_code.specs.SpanClosers.{HoldsFrom, Learned}
-use Rattle.markdown_code.specs.declared.span_text.SpanKind.{SpanKind}
 use Rattle.markdown_code.specs.declared.prefixes.ContainerPrefix.{ContainerPrefix}
 use Rattle.markdown_resolver.specs.ChainPlace.{CanReadOn, IsPlaceOf}
 use Rattle.markdown_resolver.specs.Chains.{CanResolve}
-use Rattle.markdown_resolver.specs.Closes.{ClosesAt, PutsClosed}
+use Rattle.markdown_resolver.specs.Closes.{ClosesAt, PutsClosed, closing_at}
 use Rattle.markdown_resolver.specs.PassOne.{around}
-use Rattle.markdown_resolver.specs.ReadOn.{IsOpener, ReadsOn, StandsTo, StopsOn}
+use Rattle.markdown_resolver.specs.ReadOn.{IsOpener, ReadsOn, StandsTo}
+use Rattle.markdown_resolver.specs.ReadsBracket.{CanReadBracket, DecidesClosing, ReadsBracket, StopsAtBracket, WasReadTo}
+use Rattle.markdown_resolver.specs.ReadsBracket.{setting_by, stage_by}
 use Rattle.markdown_resolver.specs.declared.chain_place.ChainPlace.{ChainPlace}
+use Rattle.markdown_resolver.specs.declared.resolver.Resolver.{Resolver}
 use Rattle.markdown_resolver.proofs.ChainPlaceLemmas.{prefix_is}
-use Rattle.markdown_resolver.proofs.CloserOnLemmas.{closing_at, reads_on_closer, stops_at_closer}
+use Rattle.markdown_resolver.proofs.CloserOnLemmas.{reads_on_closer, stops_at_closer}
 use Rattle.markdown_resolver.proofs.DecidedLeftLemmas.{decided_stands}
 use Rattle.markdown_resolver.proofs.EndsWellLemmas.{ends_well}
 use Rattle.markdown_resolver.proofs.FollowersLemmas.{opens_chain}
@@ -53,6 +54,7 @@ use Rattle.markdown_resolver.proofs.LeftTreesLemmas.{each_bracket, each_wikilink
 use Rattle.markdown_resolver.proofs.StandsToLemmas.{stands_rest}
 use Rattle.markdown_resolver.proofs.WaitingOpenerLemmas.{StandsOpen, can_find, can_try, each_follows, each_open}
 use Rattle.markdown_spans.specs.Allocations.{Allocated}
+use Rattle.markdown_spans.specs.declared.defs.footnotes.FootnoteDefs.{FootnoteDefs}
 
 -- the place of a chain, as its brackets ask about it, and the prefix of its lines
 pub record AsksAbout (place : ChainPlace) (bracket : BracketPlace) (prefix : ContainerPrefix) (tree : Arena Item) (options : Options) : Type
@@ -190,148 +192,163 @@ may_close step source rules above tables nodes first ix left could_be limit limi
       };
     }
 
--- the decision, as the rules of pass one have it
-pub decides_here : {C : Type 0} (step : C → Question → Option Answer → C → Type 0) (place : ChainPlace) (bracket : BracketPlace)
-    (prefix : ContainerPrefix) (tree : Arena Item) (source : List ℕ) (options : Options)
-    (inside held : Allocated) (limit limit' : ℕ) (uses' : List ℕ → ℕ) (spent spent' : SpentEnds) (callback callback' : Option C)
-    (brackets wikilinks brackets' wikilinks' : List Waiting) (found : ClosedBracket)
-    (first ix : ℕ) (left : List (Entry ℕ)) (could_be : Bool) → inside ≡ held → place.text.now ≡ source
-    → place.gfm_footnotes ≡ gfm_footnotes options → AsksAbout place bracket prefix tree options
-    → CanReadOn place tree held brackets wikilinks first ix left → (item_at tree.nodes ix).body ≡ body.MaybeLinkClose could_be
-    → ((bodies : List ItemBody) (left : List (Entry ℕ)) (c : Closing ℕ) → StandsBefore tree.nodes ix left c
+-- the decision, as the rules of pass one have it, unless memory was refused
+pub decides_here : {C E : Type 0} (step : C → Question → Option Answer → C → Type 0) (place : ChainPlace) (bracket : BracketPlace)
+    (prefix : ContainerPrefix) (tree : Arena Item) (options : Options) (inside held held' : Allocated) (limit limit' : ℕ)
+    (spent spent' : SpentEnds) (callback callback' : Option C) (openers openers' : ChainOpeners) (ix : ℕ) (could_be : Bool)
+    (r : Result ClosedBracket E) → inside ≡ held → place.gfm_footnotes ≡ gfm_footnotes options
+    → AsksAbout place bracket prefix tree options → (item_at tree.nodes ix).body ≡ body.MaybeLinkClose could_be
+    → IfOk r (λ found. (bodies : List ItemBody) (left : List (Entry ℕ)) (c : Closing ℕ) → StandsBefore tree.nodes ix left c
     → c.could_be_reference ≡ (could_be && not (is_spent spent (end_of c.label)))
-    → brackets ≡ brackets_of left → wikilinks ≡ wikilinks_of left
+    → openers.brackets ≡ brackets_of left → openers.wikilinks ≡ wikilinks_of left
     → Decides step (around_at bracket (λ rest. Some (length_by prefix rest)) bodies inside.refdefs inside.footdefs (is_some callback)) c
-    left limit limit' (uses_of inside.footdefs) uses'
-    spent spent' callback callback' brackets' wikilinks' found)
-    → Decides step (around (setting_of source (rules_from options held (is_some callback))) (above_cursor source tree))
-    (closing_at source (tables_of held) tree.nodes spent could_be ix) left
-    limit limit' (uses_of held.footdefs) uses' spent spent' callback callback' brackets' wikilinks' found
-decides_here step place bracket prefix tree source options inside held limit limit' uses' spent spent' callback callback' brackets wikilinks
-    brackets' wikilinks' found first ix left could_be view same gfm about can is decides =
-    let c = closing_at source (tables_of held) tree.nodes spent could_be ix in
-    let bodies = (above_cursor source tree).bodies in
-    let stands : StandsTo source (tables_of held) tree.nodes first (Some ix) left = rw (← same) can.so_far in
-    let before = stands_before source (tables_of held) tree.nodes first ix left c could_be stands refl refl is in
-    let d = decides bodies left c before refl can.openers.brackets_are can.openers.wikilinks_are in
-    let viewed = subst (λ (h : Allocated). Decides step (around_at bracket (λ rest. Some (length_by prefix rest)) bodies h.refdefs
-    h.footdefs (is_some callback)) c left limit limit' (uses_of h.footdefs) uses'
-    spent spent' callback callback' brackets' wikilinks' found) view d in
-    subst (λ (w : Around). Decides step w c left limit limit' (uses_of held.footdefs) uses' spent spent' callback callback' brackets'
-    wikilinks' found)
-    (around_is place bracket prefix tree source options held (is_some callback) same gfm can.stands about) viewed
+    left limit limit' (uses_of inside.footdefs) (uses_of held'.footdefs) spent spent' callback callback' openers'.brackets
+    openers'.wikilinks found)
+    → IfOk r (λ found. DecidesClosing step place place.text.now options tree ix could_be held held' limit limit' spent spent' callback
+    callback' openers openers' found)
+decides_here step place bracket prefix tree options inside held held' limit limit' spent spent' callback callback' openers openers' ix
+    could_be (Ok found) view gfm about is decides = record {
+      decides = λ first left can.
+          let source = place.text.now in
+          let c = closing_at source (tables_of held) tree.nodes spent could_be ix in
+          let before = stands_before source (tables_of held) tree.nodes first ix left c could_be can.so_far refl refl is in
+          let d = decides (above_cursor source tree).bodies left c before refl can.openers.brackets_are can.openers.wikilinks_are in
+          let viewed = subst (λ (h : Allocated). Decides step (around_at bracket (λ rest. Some (length_by prefix rest))
+          (above_cursor source tree).bodies h.refdefs h.footdefs (is_some callback)) c left limit limit' (uses_of h.footdefs)
+          (uses_of held'.footdefs) spent spent' callback callback' openers'.brackets openers'.wikilinks found) view d in
+          subst (λ (w : Around). Decides step w c left limit limit' (uses_of held.footdefs) (uses_of held'.footdefs) spent spent' callback
+          callback' openers'.brackets openers'.wikilinks found)
+          (around_is place bracket prefix tree source options held (is_some callback) refl gfm can.stands about) viewed;
+    }
+decides_here step place bracket prefix tree options inside held held' limit limit' spent spent' callback callback' openers openers' ix
+    could_be (Err fault) view gfm about is decides = tt
 
--- it was decided, and then put, or memory was refused
-module _ {C : Type 0} (step : C → Question → Option Answer → C → Type 0) (place : ChainPlace) (source : List ℕ) (rules : Rules)
-    (old new : Arena Item) (held : Allocated) (mid : Tables) (held' : Allocated) (limit limit' : ℕ)
-    (callback callback' : Option C) (spent spent' : SpentEnds) (brackets wikilinks brackets1 wikilinks1 brackets' wikilinks' : List Waiting)
-    (found : ClosedBracket) (ix : ℕ) (could_be : Bool)
-    (same : place.text.now ≡ source) (utf8 : IsUtf8 source) (is : (item_at old.nodes ix).body ≡ body.MaybeLinkClose could_be) (tables : mid
-    ≡ tables_of held) where
+-- a resolver has decided what a `]` becomes
+module _ {C : Type 0} (step : C → Question → Option Answer → C → Type 0) (place : ChainPlace) (tree : Arena Item) (old : Resolver C)
+    (held1 : Allocated) (limit1 : ℕ) (spent1 : SpentEnds) (callback1 : Option C) (openers1 : ChainOpeners) (found : ClosedBracket) (ix : ℕ)
+    (could_be : Bool) (can : CanReadBracket place tree old ix) (text_is : IsUtf8 place.text.now)
+    (is : (item_at tree.nodes ix).body ≡ body.MaybeLinkClose could_be) (kept : held1 ≡ record old.tables { footdefs = held1.footdefs })
+    (decision : DecidesClosing step place place.text.now old.options tree ix could_be old.tables held1 old.limit limit1 old.spent spent1
+    old.callback callback1 old.openers openers1 found) where
+  abbrev pub mid : Resolver C
+  mid = record old { tables = held1; limit = limit1; spent = spent1; callback = callback1; openers = openers1 }
+
+  utf8 : IsUtf8 old.text.now
+  utf8 = subst IsUtf8 can.text text_is
+
+  tables : tables_of mid.tables ≡ tables_of old.tables
+  tables = ap (λ (h : Allocated). tables_of h) kept
+
+  decides : DecidesClosing step place old.text.now old.options tree ix could_be old.tables mid.tables old.limit mid.limit old.spent
+      mid.spent old.callback mid.callback old.openers mid.openers found
+  decides = subst (λ (t : List ℕ). DecidesClosing step place t old.options tree ix could_be old.tables held1 old.limit limit1 old.spent
+      spent1 old.callback callback1 old.openers openers1 found) can.text decision
+
   abbrev around_here : Around
-  around_here = around (setting_of source rules) (above_cursor source old)
+  around_here = around (setting_by old) (above_cursor old.text.now tree)
 
   abbrev closing_here : Closing ℕ
-  closing_here = closing_at source (tables_of held) old.nodes spent could_be ix
+  closing_here = closing_at old.text.now (tables_of old.tables) tree.nodes old.spent could_be ix
 
-  -- the decision at any left list that stands there
-  abbrev pub DecidesEach : (List ℕ → ℕ) → Type 0
-  DecidesEach uses' = (first : ℕ) (left : List (Entry ℕ)) → CanReadOn place old held brackets wikilinks first ix left
-      → Decides step around_here closing_here left limit limit' (uses_of held.footdefs) uses' spent spent' callback callback' brackets1
-      wikilinks1 found
+  here_stands : (first : ℕ) (left : List (Entry ℕ)) → WasReadTo place tree old first ix left
+      → StandsTo old.text.now (tables_of old.tables) tree.nodes first (Some ix) left
+  here_stands first left was_read = rw (← can.text) was_read.so_far
 
-  -- what is put there, whatever was decided
-  abbrev pub PutsEach : Option ℕ → Type 0
-  PutsEach next = (source : List ℕ) (first : ℕ) (left : List (Entry ℕ)) (w : Around) (c : Closing ℕ) (becomes : Becomes ℕ)
-      → ClosesAt source mid old.nodes first ix left w c becomes
-      → IsBecome w becomes found → PutsClosed source first ix next left w c becomes old.nodes new.nodes mid (tables_of held')
+  closes_here : (first : ℕ) (left : List (Entry ℕ)) (was_read : WasReadTo place tree old first ix left)
+      → (let d = decides.decides first left was_read in
+      MayClose old.text.now (tables_of old.tables) tree.nodes first ix around_here closing_here d.left_then d.becomes)
+  closes_here first left was_read =
+      may_close step old.text.now (rules_from old.options old.tables (is_some old.callback)) (above_cursor old.text.now tree)
+      (tables_of old.tables) tree.nodes first ix left could_be old.limit mid.limit (uses_of old.tables.footdefs)
+      (uses_of mid.tables.footdefs) old.spent mid.spent old.callback mid.callback mid.openers.brackets mid.openers.wikilinks found utf8
+      (here_stands first left was_read) is (decides.decides first left was_read)
 
-  -- and what the stacks hold then
-  abbrev pub FinishesEach : Type 0
-  FinishesEach = (w : Around) (c : Closing ℕ) (closer : ℕ) (left : List (Entry ℕ)) (becomes : Becomes ℕ) (p : Progress ℕ)
-      → StandsBefore old.nodes closer left c → LeftRises left → SplitsAs left becomes
-      → IsBecome w becomes found → brackets1 ≡ brackets_of left → wikilinks1 ≡ wikilinks_of left → p.left ≡ left
-      → (brackets' ≡ brackets_of (put w c becomes p).left) × (wikilinks' ≡ wikilinks_of (put w c becomes p).left)
+  closes_there : (first : ℕ) (left : List (Entry ℕ)) (was_read : WasReadTo place tree old first ix left)
+      → (let d = decides.decides first left was_read in
+      ClosesAt old.text.now (tables_of mid.tables) tree.nodes first ix d.left_then around_here closing_here d.becomes)
+  closes_there first left was_read =
+      let d = decides.decides first left was_read in
+      subst (λ (t : Tables). ClosesAt old.text.now t tree.nodes first ix d.left_then around_here closing_here d.becomes) (sym tables)
+      (closes_here first left was_read).closes
 
-  here_stands : (first : ℕ) (left : List (Entry ℕ)) → CanReadOn place old held brackets wikilinks first ix left
-      → StandsTo source (tables_of held) old.nodes first (Some ix) left
-  here_stands first left can = rw (← same) can.so_far
+  -- it may be put: the openers that are left are nodes
+  pub record MayPut : Type 0 where
+    pub within : EachOpener (λ n. n < length tree.nodes) mid.openers.wikilinks
+    pub left_then : List (Entry ℕ)
+    pub becomes : Becomes ℕ
+    pub closes : ClosesAt old.text.now (tables_of mid.tables) tree.nodes can.first ix left_then around_here closing_here becomes
+    pub is_become : IsBecome around_here becomes found
 
-  closes_here : (uses' : List ℕ → ℕ) (first : ℕ) (left : List (Entry ℕ)) → CanReadOn place old held brackets wikilinks first ix left
-      → (d : Decides step around_here closing_here left limit limit' (uses_of held.footdefs) uses' spent spent' callback callback' brackets1
-      wikilinks1 found)
-      → MayClose source (tables_of held) old.nodes first ix around_here closing_here d.left_then d.becomes
-  closes_here uses' first left can d =
-      may_close step source rules (above_cursor source old) (tables_of held) old.nodes first ix left could_be limit limit'
-      (uses_of held.footdefs) uses' spent spent' callback callback' brackets1 wikilinks1 found
-      utf8 (here_stands first left can) is d
+  pub may_put : MayPut
+  may_put =
+      let d = decides.decides can.first can.left can.was_read in
+      record {
+        within = subst (λ (w : List Waiting). EachOpener (λ n. n < length tree.nodes) w) (sym d.wikilinks_are)
+            (each_follows (IsOpener old.text.now tree.nodes) (λ n. n < length tree.nodes) (wikilinks_of d.left_then) (λ n o. o.within)
+            (each_wikilink (IsOpener old.text.now tree.nodes) d.left_then (closes_here can.first can.left can.was_read).stands.waiting));
+        left_then = d.left_then;
+        becomes = d.becomes;
+        closes = closes_there can.first can.left can.was_read;
+        is_become = d.is;
+      }
 
-  -- the openers that are left are nodes
-  pub within_each : (uses' : List ℕ → ℕ) (first : ℕ) (left : List (Entry ℕ)) → CanReadOn place old held brackets wikilinks first ix left
-      → (d : Decides step around_here closing_here left limit limit' (uses_of held.footdefs) uses' spent spent' callback callback' brackets1
-      wikilinks1 found)
-      → EachOpener (λ n. n < length old.nodes) wikilinks1
-  within_each uses' first left can d =
-      subst (λ (w : List Waiting). EachOpener (λ n. n < length old.nodes) w) (sym d.wikilinks_are)
-      (each_follows (IsOpener source old.nodes) (λ n. n < length old.nodes) (wikilinks_of d.left_then) (λ n o. o.within)
-      (each_wikilink (IsOpener source old.nodes) d.left_then (closes_here uses' first left can d).stands.waiting))
+  -- and then it was put, or memory was refused
+  module _ (tree' : Arena Item) (held : Allocated) (openers : ChainOpeners) where
+    -- what is put there, whatever was decided
+    abbrev pub PutsEach : Option ℕ → Type 0
+    PutsEach next = (source : List ℕ) (first : ℕ) (left : List (Entry ℕ)) (w : Around) (c : Closing ℕ) (becomes : Becomes ℕ)
+        → ClosesAt source (tables_of mid.tables) tree.nodes first ix left w c becomes → IsBecome w becomes found
+        → PutsClosed source first ix next left w c becomes tree.nodes tree'.nodes (tables_of mid.tables) (tables_of held)
 
-  pub closes_there : (uses' : List ℕ → ℕ) (first : ℕ) (left : List (Entry ℕ)) → CanReadOn place old held brackets wikilinks first ix left
-      → (d : Decides step around_here closing_here left limit limit' (uses_of held.footdefs) uses' spent spent' callback callback' brackets1
-      wikilinks1 found)
-      → ClosesAt source mid old.nodes first ix d.left_then around_here closing_here d.becomes
-  closes_there uses' first left can d =
-      subst (λ (t : Tables). ClosesAt source t old.nodes first ix d.left_then around_here closing_here d.becomes) (sym tables)
-      (closes_here uses' first left can d).closes
+    -- and what the stacks hold then
+    abbrev pub FinishesEach : Type 0
+    FinishesEach = (w : Around) (c : Closing ℕ) (closer : ℕ) (left : List (Entry ℕ)) (becomes : Becomes ℕ) (p : Progress ℕ)
+        → StandsBefore tree.nodes closer left c → LeftRises left → SplitsAs left becomes → IsBecome w becomes found
+        → mid.openers.brackets ≡ brackets_of left → mid.openers.wikilinks ≡ wikilinks_of left → p.left ≡ left
+        → (openers.brackets ≡ brackets_of (put w c becomes p).left) × (openers.wikilinks ≡ wikilinks_of (put w c becomes p).left)
 
-  puts_here : (uses' : List ℕ → ℕ) (next : Option ℕ) (first : ℕ) (left : List (Entry ℕ))
-      → CanReadOn place old held brackets wikilinks first ix left
-      → (d : Decides step around_here closing_here left limit limit' (uses_of held.footdefs) uses' spent spent' callback callback' brackets1
-      wikilinks1 found) → PutsEach next
-      → PutsClosed source first ix next d.left_then around_here closing_here d.becomes old.nodes new.nodes (tables_of held)
-      (tables_of held')
-  puts_here uses' next first left can d puts =
-      subst (λ (t : Tables). PutsClosed source first ix next d.left_then around_here closing_here d.becomes old.nodes new.nodes t
-      (tables_of held')) tables
-      (puts source first d.left_then around_here closing_here d.becomes (closes_there uses' first left can d) d.is)
+    abbrev pub put_then : Resolver C
+    put_then = record mid { tables = held; openers = openers }
 
-  module _ {E : Type 0} where
-    pub ok_fewer : (uses' : List ℕ → ℕ) (r : Result (Option ℕ) E) (first : ℕ) (left : List (Entry ℕ))
-        → CanReadOn place old held brackets wikilinks first ix left → DecidesEach uses' → IfOk r PutsEach
-        → IfOk r (λ next. items_from new.nodes next < items_from old.nodes (Some ix))
-    ok_fewer uses' (Ok next) first left can decides puts = (puts_here uses' next first left can (decides first left can) puts).fewer
-    ok_fewer uses' (Err fault) first left can decides puts = tt
+    puts_here : (next : Option ℕ) (first : ℕ) (left : List (Entry ℕ)) (was_read : WasReadTo place tree old first ix left) → PutsEach next
+        → (let d = decides.decides first left was_read in
+        PutsClosed old.text.now first ix next d.left_then around_here closing_here d.becomes tree.nodes tree'.nodes (tables_of old.tables)
+        (tables_of held))
+    puts_here next first left was_read puts =
+        let d = decides.decides first left was_read in
+        subst (λ (t : Tables). PutsClosed old.text.now first ix next d.left_then around_here closing_here d.becomes tree.nodes tree'.nodes t
+        (tables_of held)) tables
+        (puts old.text.now first d.left_then around_here closing_here d.becomes (closes_there first left was_read) d.is)
 
-    pub ok_holds : (uses' : List ℕ → ℕ) (r : Result (Option ℕ) E) (first : ℕ) (left : List (Entry ℕ))
-        → CanReadOn place old held brackets wikilinks first ix left → DecidesEach uses' → IfOk r PutsEach
-        → IfOk r (λ next. (kind : SpanKind) (learned : Learned) → HoldsFrom kind learned old.nodes (sibling_of old.nodes ix)
-        → HoldsFrom kind learned new.nodes next)
-    ok_holds uses' (Ok next) first left can decides puts = (puts_here uses' next first left can (decides first left can) puts).holds
-    ok_holds uses' (Err fault) first left can decides puts = tt
+    pub reads_closed : {E : Type 0} (r : Result (Option ℕ) E) → held.footdefs ≡ mid.tables.footdefs → FinishesEach → IfOk r PutsEach
+        → IfOk r (λ next. tree' ≡ record tree { nodes = tree'.nodes })
+        → IfOk r (λ next. ReadsBracket step place ix next tree tree' old put_then)
+    reads_closed (Ok next) footdefs finishes puts place_is =
+        let here = puts_here next can.first can.left can.was_read puts in
+        record {
+          reads = λ first left was_read.
+              let d = decides.decides first left was_read in
+              let m = closes_here first left was_read in
+              subst (λ (f : FootnoteDefs). ReadsOn step (setting_by old) (above_cursor old.text.now tree) first (Some ix) next left
+              (stage_by tree old) (record (stage_by tree' put_then) { uses = uses_of f }) old.spent mid.spent openers.brackets
+              openers.wikilinks) (sym footdefs)
+              (reads_on_closer step (setting_by old) (above_cursor old.text.now tree) first ix left could_be (stage_by tree old)
+              (record (stage_by tree' put_then) { uses = uses_of mid.tables.footdefs }) old.spent mid.spent mid.openers.brackets
+              mid.openers.wikilinks found next openers.brackets openers.wikilinks d (here_stands first left was_read) is
+              (puts_here next first left was_read puts)
+              (record {
+                holds = λ q e. finishes around_here closing_here ix d.left_then d.becomes q m.before m.rises d.splits d.is d.brackets_are
+                    d.wikilinks_are e;
+              }));
+          fewer = here.fewer;
+          place_is = place_is;
+          holds = here.holds;
+        }
+    reads_closed (Err fault) footdefs finishes puts place_is = tt
 
-    pub ok_reads : (r : Result (Option ℕ) E) → DecidesEach (uses_of held'.footdefs) → FinishesEach → IfOk r PutsEach
-        → IfOk r (λ next. (first : ℕ) (left : List (Entry ℕ)) → CanReadOn place old held brackets wikilinks first ix left
-        → ReadsOn step (setting_of source rules) (above_cursor source old) first (Some ix) next left (stage old held limit callback)
-        (stage new held' limit' callback') spent spent' brackets' wikilinks')
-    ok_reads (Ok next) decides finishes puts = λ first left can.
-        let d = decides first left can in
-        let m = closes_here (uses_of held'.footdefs) first left can d in
-        let p = puts_here (uses_of held'.footdefs) next first left can d puts in
-        reads_on_closer step (setting_of source rules) (above_cursor source old) first ix left could_be (stage old held limit callback)
-        (stage new held' limit' callback') spent spent' brackets1 wikilinks1 found
-        next brackets' wikilinks' d (here_stands first left can) is p
-        (record {
-          holds = λ q e. finishes around_here closing_here ix d.left_then d.becomes q m.before m.rises d.splits d.is d.brackets_are
-              d.wikilinks_are e;
-        })
-    ok_reads (Err fault) decides finishes puts = tt
-
-    pub err_stops : (uses' : List ℕ → ℕ) (r : Result (Option ℕ) E) → DecidesEach uses'
-        → IfErr r (λ fault. (first : ℕ) (left : List (Entry ℕ)) → CanReadOn place old held brackets wikilinks first ix left
-        → StopsOn step (setting_of source rules) (above_cursor source old) (Some ix) left (stage old held limit callback) spent callback')
-    err_stops uses' (Ok next) decides = tt
-    err_stops uses' (Err fault) decides = λ first left can.
-        stops_at_closer step (setting_of source rules) (above_cursor source old) first ix left could_be (stage old held limit callback)
-        (record { nodes = old.nodes; tables = tables_of held; limit = limit'; uses = uses'; callback = callback' }) spent spent' brackets1
-        wikilinks1 found
-        (decides first left can) (here_stands first left can) is
+  pub stops_decided : {E : Type 0} (r : Result (Option ℕ) E) → IfErr r (λ fault. StopsAtBracket step place ix tree old mid.callback)
+  stops_decided (Ok next) = tt
+  stops_decided (Err fault) = λ first left was_read.
+      stops_at_closer step (setting_by old) (above_cursor old.text.now tree) first ix left could_be (stage_by tree old)
+      (stage_by tree mid) old.spent mid.spent mid.openers.brackets mid.openers.wikilinks found (decides.decides first left was_read)
+      (here_stands first left was_read) is

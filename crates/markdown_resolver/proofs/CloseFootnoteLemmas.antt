@@ -21,15 +21,17 @@ use Rattle.markdown_brackets.specs.declared.closing_bracket.ClosedBracket.TheVar
 use Rattle.markdown_brackets.specs.declared.openers.Opener.{Opener}
 use Rattle.markdown_chains.specs.ChainRest.{start_of, end_of}
 use Rattle.markdown_chains.specs.Document.{Label, Plain, label_of, leaf, made}
-use Rattle.markdown_chains.specs.Tables.{Named, Tables, number_of, size_for, some_alignments, some_link, some_text, text_at}
+use Rattle.markdown_chains.specs.Tables.{Named, Tables, number_of, size_for, some_alignments, some_link, some_text, tables_of}
+use Rattle.markdown_chains.specs.Tables.{text_at}
 use Rattle.markdown_chains.specs.Totals.{times_named}
 use Rattle.markdown_resolver.specs.ClosedOver.{CanClose, CanPutMark, CanPutOver, PutsOver, after_mark, in_place_of}
 use Rattle.markdown_resolver.specs.Closes.{ClosesAt, PutsClosed}
 use Rattle.markdown_resolver.specs.Rewritten.{CanPut}
 use Rattle.markdown_resolver.proofs.CloseLemmas.{OpenerAt, can_close, opener_at, opener_before, puts_closed}
-use Rattle.markdown_resolver.proofs.CodeSpanLemmas.{PutsText, same_below}
+use Rattle.markdown_resolver.proofs.CodeSpanLemmas.{PutsText, same_below, text_put}
 use Rattle.markdown_resolver.proofs.SplitLemmas.{inside_numbers, opens_numbered}
 use Rattle.markdown_resolver.proofs.StandsToLemmas.{footnote_stands}
+use Rattle.markdown_spans.specs.Allocations.{Allocated, with_cow}
 
 -- what becomes a footnote reference
 pub record BecomesFootnote (becomes : Becomes ℕ) (opener : Opener) (name : List ℕ) : Type 0 where
@@ -119,7 +121,7 @@ closer_byte source tables nodes first closer left w c o name closes at =
     omega (arith, size, length-take (item.end - item.start) (drop item.start source), length-drop item.start source)
 
 -- what may be put over an opener `[`
-pub record CanFootnote (source : List ℕ) (tables tables' : Tables) (nodes : List (Node Item)) (closer : ℕ) (o : Split ℕ) (opener : Opener)
+record CanFootnote (source : List ℕ) (tables tables' : Tables) (nodes : List (Node Item)) (closer : ℕ) (o : Split ℕ) (opener : Opener)
     (number : CowIndex) : Type 0 where
   pub close : CanClose source tables nodes opener.node closer (inside_numbers o) (item_at nodes closer).end
   pub over : CanPutOver source tables tables' nodes opener.node (footnote_over number (item_at nodes opener.node).start
@@ -128,7 +130,7 @@ pub record CanFootnote (source : List ℕ) (tables tables' : Tables) (nodes : Li
       ((item_at nodes opener.node).start + 1))
       (footnote_over number ((item_at nodes opener.node).start + 1) (item_at nodes closer).end)
 
-pub can_footnote : (source : List ℕ) (tables tables' : Tables) (nodes : List (Node Item)) (first closer : ℕ) (left : List (Entry ℕ))
+can_footnote : (source : List ℕ) (tables tables' : Tables) (nodes : List (Node Item)) (first closer : ℕ) (left : List (Entry ℕ))
     (w : Around) (c : Closing ℕ) (o : Split ℕ) (opener : Opener)
     (number : CowIndex) (name : List ℕ) → ClosesAt source tables nodes first closer left w c (a_footnote o name) → opener ≡ opener_of o
     → PutsText tables tables' number name
@@ -163,6 +165,38 @@ can_footnote source tables tables' nodes first closer left w c o opener number n
       };
     })
 
+-- a footnote reference may be put over the bytes from its opener's start to the `]`, once its name is held: in place of an opener
+-- `[`, or behind a Text over the `!` of an opener `![`
+pub record MayRefer (source : List ℕ) (tables tables' : Tables) (nodes : List (Node Item)) (closer : ℕ) (o : Split ℕ) (opener : Opener)
+    (number : CowIndex) (name : List ℕ) (start end : ℕ) : Type 0 where
+  pub put : PutsText tables tables' number name
+  pub starts : start ≡ (item_at nodes opener.node).start
+  pub ends : end ≡ (item_at nodes closer).end
+  pub ordered : start + 1 ≤ end
+  pub close : CanClose source tables nodes opener.node closer (inside_numbers o) end
+  pub over : CanPutOver source tables tables' nodes opener.node (footnote_over number start end) end
+  pub mark : (mark : Item) → mark ≡ text_item_over start (start + 1)
+      → CanPutMark source tables tables' nodes opener.node closer mark (footnote_over number (start + 1) end)
+
+pub may_refer : {source : List ℕ} {nodes : List (Node Item)} {first closer : ℕ} {left : List (Entry ℕ)} {w : Around} {c : Closing ℕ}
+    {o : Split ℕ} {opener : Opener} (held held' : Allocated) (name : CowStr) (number : CowIndex) (begin last : Item)
+    → ClosesAt source (tables_of held) nodes first closer left w c (a_footnote o (text_of name)) → opener ≡ opener_of o
+    → held' ≡ with_cow held name → number.0 ≡ length held.cows → begin ≡ item_at nodes opener.node → last ≡ item_at nodes closer
+    → MayRefer source (tables_of held) (tables_of held') nodes closer o opener number (text_of name) begin.start last.end
+may_refer {source} {nodes} {first} {closer} {left} {w} {c} {o} {opener} held held' name number begin last closes is put new begins ends =
+    let there = text_put held held' name number (text_of name) put new refl in
+    let can = can_footnote source (tables_of held) (tables_of held') nodes first closer left w c o opener number (text_of name) closes is
+    there in
+    rw (begins, ends) (record {
+      put = there;
+      starts = refl;
+      ends = refl;
+      ordered = can.mark.puts.lies.ordered;
+      close = can.close;
+      over = can.over;
+      mark = λ mark e. rw e can.mark;
+    })
+
 -- what is put, of an opener `[` and of an opener `![`
 one_onto : (w : Around) (c : Closing ℕ) (is_image : Bool) (opener : Label ℕ) (name : List ℕ) (left : List (Entry ℕ)) → is_image ≡ false
     → footnote_onto w c is_image opener name left ≡ all_done (node (footnote_from opener name (start_of opener) (end_of c.label)) nil nil)
@@ -178,7 +212,7 @@ two_onto w c true opener name left e = refl
 two_onto w c false opener name left e = cc e
 
 -- so it stands in the left list
-pub footnote_closed : (source : List ℕ) (tables tables' : Tables) (old new : List (Node Item)) (first closer : ℕ) (next : Option ℕ)
+footnote_closed : (source : List ℕ) (tables tables' : Tables) (old new : List (Node Item)) (first closer : ℕ) (next : Option ℕ)
     (left : List (Entry ℕ)) (w : Around) (c : Closing ℕ) (o : Split ℕ)
     (opener : Opener) (number : CowIndex) (name : List ℕ) → ClosesAt source tables old first closer left w c (a_footnote o name)
     → opener ≡ opener_of o → opener.is_image ≡ false
@@ -208,7 +242,7 @@ footnote_closed source tables tables' old new first closer next left w c o opene
     (record { left_is = λ p e. one_onto w c o.mark.is_image o.opener name (before_footnote o.before) mark; goes = λ p. ap Some ends }) reads
     (refl, refl, tt, tt) (λ a i. refl) here
 
-pub image_footnote_closed : (source : List ℕ) (tables tables' : Tables) (old new : List (Node Item)) (first closer : ℕ) (next : Option ℕ)
+image_footnote_closed : (source : List ℕ) (tables tables' : Tables) (old new : List (Node Item)) (first closer : ℕ) (next : Option ℕ)
     (left : List (Entry ℕ)) (w : Around) (c : Closing ℕ)
     (o : Split ℕ)
     (opener : Opener) (number : CowIndex) (name : List ℕ) → ClosesAt source tables old first closer left w c (a_footnote o name)
@@ -248,3 +282,29 @@ image_footnote_closed source tables tables' old new first closer next left w c o
     (footnote_stands source tables old first (Some o.opener.tag) o.before at.stands)
     (record { left_is = λ p e. two_onto w c o.mark.is_image o.opener name (before_footnote o.before) mark; goes = λ p. ap Some ends }) reads
     (refl, refl, tt, (refl, refl, tt, tt)) (λ a i. refl) here
+
+-- so it does over those bytes
+pub reference_closed : {source : List ℕ} {tables tables' : Tables} {old new : List (Node Item)} {first closer : ℕ} {next : Option ℕ}
+    {left : List (Entry ℕ)} {w : Around} {c : Closing ℕ} {o : Split ℕ} {opener : Opener} {number : CowIndex} {name : List ℕ}
+    {start end : ℕ} → ClosesAt source tables old first closer left w c (a_footnote o name) → opener ≡ opener_of o
+    → opener.is_image ≡ false → MayRefer source tables tables' old closer o opener number name start end
+    → PutsOver source opener.node closer (inside_numbers o) (in_place_of source tables' (footnote_over number start end)) end
+    (opener.node ∷ []) next old new tables tables'
+    → PutsClosed source first closer next left w c (a_footnote o name) old new tables tables'
+reference_closed {source} {tables} {tables'} {old} {new} {first} {closer} {next} {left} {w} {c} {o} {opener} {number} {name} closes is plain
+    r over =
+    footnote_closed source tables tables' old new first closer next left w c o opener number name closes is plain r.put
+    (rw (r.starts, r.ends) at over)
+
+pub image_reference_closed : {source : List ℕ} {tables tables' : Tables} {old new : List (Node Item)} {first closer : ℕ} {next : Option ℕ}
+    {left : List (Entry ℕ)} {w : Around} {c : Closing ℕ} {o : Split ℕ} {opener : Opener} {number : CowIndex} {name : List ℕ}
+    {start end : ℕ} {mark : Item} → ClosesAt source tables old first closer left w c (a_footnote o name) → opener ≡ opener_of o
+    → opener.is_image ≡ true → MayRefer source tables tables' old closer o opener number name start end
+    → mark ≡ text_item_over start (start + 1)
+    → PutsOver source opener.node closer (inside_numbers o) (after_mark source tables' mark (footnote_over number (start + 1) end)) end
+    (opener.node ∷ closer ∷ []) next old new tables tables'
+    → PutsClosed source first closer next left w c (a_footnote o name) old new tables tables'
+image_reference_closed {source} {tables} {tables'} {old} {new} {first} {closer} {next} {left} {w} {c} {o} {opener} {number} {name} closes is
+    image r e over =
+    image_footnote_closed source tables tables' old new first closer next left w c o opener number name closes is image r.put
+    (rw (e, r.starts, r.ends) at over)

@@ -1,5 +1,5 @@
 -- A link or an image, put where its opener stands: what may be put there, and what it reads as.
-use Rattle.std.proofs.Common.{◌≡◌, ℕ, ◌<◌, ◌≤◌, Bool, true, false, List, [], ◌∷◌, Option, Some, None, refl, sym, ap, subst, arith}
+use Rattle.std.proofs.Common.{◌≡◌, ℕ, ◌<◌, ◌≤◌, Bool, true, false, List, [], ◌∷◌, length, Option, Some, None, refl, sym, ap, subst, arith}
 use Rattle.std.proofs.Common.{if◌then◌else◌}
 use Rattle.std.specs.Prelude.{IsCharBoundary}
 use Rattle.markdown_base.specs.BlockTree.{item_at}
@@ -7,6 +7,7 @@ use Rattle.markdown_base.specs.Event.{LinkView, image, link}
 use Rattle.markdown_base.specs.Forest.{Forest, nil, node}
 use Rattle.markdown_base.specs.declared.index.LinkIndex.{LinkIndex}
 use Rattle.markdown_base.specs.declared.item.Item.{Item}
+use Rattle.markdown_base.specs.declared.item.ItemBody.{ItemBody}
 use Rattle.markdown_base.specs.declared.item.ItemBody.TheVariants as body
 use Rattle.markdown_base.specs.declared.node.Node.{Node}
 use Rattle.markdown_brackets.specs.BracketDecision.{Around, Becomes, Closing, a_footnote, a_link, a_text, a_wikilink}
@@ -19,8 +20,9 @@ use Rattle.markdown_brackets.specs.declared.look_up.Target.{Target}
 use Rattle.markdown_brackets.specs.declared.openers.Opener.{Opener}
 use Rattle.markdown_chains.specs.ChainRest.{start_of, end_of}
 use Rattle.markdown_chains.specs.Document.{Label, Plain, enclosed, label_of}
-use Rattle.markdown_chains.specs.Origins.{IsLinkFrom, Origin, destination_origin, made}
-use Rattle.markdown_chains.specs.Tables.{Named, Tables, link_at, number_of, size_for, some_alignments, some_link, some_text}
+use Rattle.markdown_chains.specs.Origins.{IsLinkFrom, Origin, destination_origin, made, origin_of}
+use Rattle.markdown_chains.specs.Tables.{Named, Tables, link_at, link_view, number_of, size_for, some_alignments, some_link, some_text}
+use Rattle.markdown_chains.specs.Tables.{tables_of}
 use Rattle.markdown_chains.specs.Totals.{times_named}
 use Rattle.markdown_resolver.specs.ClosedOver.{CanClose, CanPutOver, PutsOver, over_inside}
 use Rattle.markdown_resolver.specs.Closes.{ClosesAt, PutsClosed}
@@ -28,9 +30,10 @@ use Rattle.markdown_resolver.specs.PutsTrees.{numbered_label, without_numbers}
 use Rattle.markdown_resolver.specs.Rewritten.{CanPut}
 use Rattle.markdown_resolver.proofs.CloseLemmas.{OpenerAt, can_close, opener_at, opener_before, puts_closed, quiet_inside}
 use Rattle.markdown_resolver.proofs.CodeSpanLemmas.{same_below}
-use Rattle.markdown_resolver.proofs.MarkupItemLemmas.{PutsLink}
+use Rattle.markdown_resolver.proofs.MarkupItemLemmas.{PutsLink, link_put}
 use Rattle.markdown_resolver.proofs.SplitLemmas.{inside_numbers, opens_numbered}
 use Rattle.markdown_resolver.proofs.StandsToLemmas.{link_stands}
+use Rattle.markdown_spans.specs.Allocations.{Allocated, LinkParts, with_link}
 
 -- what becomes a link or an image
 pub record BecomesLink (becomes : Becomes ℕ) (opener : Opener) (view : LinkView) (end next : ℕ) : Type 0 where
@@ -54,8 +57,17 @@ link_over is_image number start end = record { start = start; end = end; body = 
 abbrev pub link_from : List (Node Item) → Opener → LinkIndex → (end : ℕ) → Item
 link_from nodes opener number end = link_over opener.is_image number (item_at nodes opener.node).start end
 
+-- an item over bytes; and the one that is made of the start of an opener's item and of a link's body
+abbrev pub item_over : (start end : ℕ) → ItemBody → Item
+item_over start end b = record { start = start; end = end; body = b }
+
+pub link_item : (nodes : List (Node Item)) (opener : Opener) (number : LinkIndex) (end : ℕ) (begin : Item) (b : ItemBody)
+    → begin ≡ item_at nodes opener.node → b ≡ (if opener.is_image then body.Image number else body.Link number)
+    → item_over begin.start end b ≡ link_from nodes opener number end
+link_item nodes opener number end begin b begins is = rw (begins, is) refl
+
 -- its destination may have been made, unless it is an autolink or a wikilink
-pub made_link : (source : List ℕ) (origin : Origin) (view : LinkView) → destination_origin view.kind ≡ made → IsLinkFrom source origin view
+made_link : (source : List ℕ) (origin : Origin) (view : LinkView) → destination_origin view.kind ≡ made → IsLinkFrom source origin view
 made_link source origin view other slice = cc (other, slice)
 
 -- it may be put, where it lies in the text
@@ -114,12 +126,6 @@ linked_label source tables tables' nodes o number view end is put =
     link_label source tables' o.opener.tag o.mark.is_image number view (item_at nodes o.opener.tag).start (start_of o.opener) end
     (sym (ap (λ (a : Label ℕ). start_of a) is)) put.found
 
--- what may be put over an opener, up to a byte
-pub record CanLink (source : List ℕ) (tables tables' : Tables) (nodes : List (Node Item)) (closer : ℕ) (o : Split ℕ) (opener : Opener)
-    (number : LinkIndex) (end byte : ℕ) : Type 0 where
-  pub close : CanClose source tables nodes opener.node closer (inside_numbers o) byte
-  pub over : CanPutOver source tables tables' nodes opener.node (link_from nodes opener number end) byte
-
 -- a link that ends between characters, at the `]` or later
 pub link_over_opener : (source : List ℕ) (tables tables' : Tables) (nodes : List (Node Item)) (first closer : ℕ) (o : Split ℕ)
     (number : LinkIndex) (view : LinkView) (end byte : ℕ)
@@ -139,37 +145,56 @@ link_over_opener source tables tables' nodes first closer o number view end byte
       ends = le;
     }
 
-pub can_link : (source : List ℕ) (tables tables' : Tables) (nodes : List (Node Item)) (first closer : ℕ) (left : List (Entry ℕ))
-    (w : Around) (c : Closing ℕ) (o : Split ℕ) (opener : Opener)
-    (number : LinkIndex) (view : LinkView) (end byte : ℕ) → ClosesAt source tables nodes first closer left w c (a_link o view end byte)
-    → opener ≡ opener_of o → PutsLink source tables tables' number view
-    → CanLink source tables tables' nodes closer o opener number end byte
-can_link source tables tables' nodes first closer left w c o opener number view end byte closes is put =
+-- it may be put in place of an opener, up to a byte, once its entry is held
+pub record MayLink (source : List ℕ) (tables tables' : Tables) (nodes : List (Node Item)) (closer : ℕ) (o : Split ℕ) (opener : Opener)
+    (number : LinkIndex) (view : LinkView) (end byte : ℕ) (item : Item) : Type 0 where
+  pub put : PutsLink source tables tables' number view
+  pub is : item ≡ link_from nodes opener number end
+  pub close : CanClose source tables nodes opener.node closer (inside_numbers o) byte
+  pub over : CanPutOver source tables tables' nodes opener.node item byte
+
+pub may_link : {source : List ℕ} {nodes : List (Node Item)} {first closer : ℕ} {left : List (Entry ℕ)} {w : Around} {c : Closing ℕ}
+    {o : Split ℕ} {opener : Opener} {view : LinkView} {end byte : ℕ} (held held' : Allocated) (parts : LinkParts) (number : LinkIndex)
+    (begin : Item) (b : ItemBody) → ClosesAt source (tables_of held) nodes first closer left w c (a_link o view end byte)
+    → opener ≡ opener_of o → held' ≡ with_link held parts → number.0 ≡ length held.links → link_view parts ≡ view
+    → begin ≡ item_at nodes opener.node → b ≡ (if opener.is_image then body.Image number else body.Link number)
+    → MayLink source (tables_of held) (tables_of held') nodes closer o opener number view end byte (item_over begin.start end b)
+may_link {source} {nodes} {first} {closer} {left} {w} {c} {o} {opener} {view} {end} {byte} held held' parts number begin b closes is put
+    last same begins body_is =
+    let tables = tables_of held in
+    let tables' = tables_of held' in
+    let there = link_put source held held' parts number view put last (made_link source (origin_of parts.1) view closes.ends.4) same in
     let at = opener_at source tables nodes first closer left o closes.stands closes.splits in
-    let goes = closes.ends.0 in
     let behind : (item_at nodes closer).end ≤ end = subst (λ (a : Label ℕ). end_of a ≤ end) closes.label_is closes.ends.2 in
-    rw is (record {
-      close = can_close source tables nodes first closer left w c (a_link o view end byte) o byte closes at goes;
-      over = link_over_opener source tables tables' nodes first closer o number view end byte at put closes.ends.1 behind closes.ends.3;
-    })
+    let item : item_over begin.start end b ≡ link_from nodes opener number end = link_item nodes opener number end begin b begins body_is in
+    record {
+      put = there;
+      is = item;
+      close = rw is (can_close source tables nodes first closer left w c (a_link o view end byte) o byte closes at closes.ends.0);
+      over = subst (λ (i : Item). CanPutOver source tables tables' nodes opener.node i byte) (sym item)
+          (subst (λ (x : Opener). CanPutOver source tables tables' nodes x.node (link_from nodes x number end) byte) (sym is)
+          (link_over_opener source tables tables' nodes first closer o number view end byte at there closes.ends.1 behind closes.ends.3));
+    }
 
 -- so it stands in the left list
-pub link_closed : (source : List ℕ) (tables tables' : Tables) (old new : List (Node Item)) (first closer : ℕ) (next : Option ℕ)
-    (left : List (Entry ℕ)) (w : Around) (c : Closing ℕ) (o : Split ℕ)
-    (opener : Opener) (number : LinkIndex) (view : LinkView) (end byte : ℕ)
-    → ClosesAt source tables old first closer left w c (a_link o view end byte) → opener ≡ opener_of o
-    → PutsLink source tables tables' number view
-    → PutsOver source opener.node closer (inside_numbers o) (over_inside source tables' (link_from old opener number end)) byte
-    (opener.node ∷ []) next old new tables tables'
+pub link_closed : {source : List ℕ} {tables tables' : Tables} {old new : List (Node Item)} {first closer : ℕ} {next : Option ℕ}
+    {left : List (Entry ℕ)} {w : Around} {c : Closing ℕ} {o : Split ℕ} {opener : Opener} {number : LinkIndex} {view : LinkView}
+    {end byte : ℕ} {item : Item} → ClosesAt source tables old first closer left w c (a_link o view end byte) → opener ≡ opener_of o
+    → MayLink source tables tables' old closer o opener number view end byte item
+    → PutsOver source opener.node closer (inside_numbers o) (over_inside source tables' item) byte (opener.node ∷ []) next old new tables
+    tables'
     → PutsClosed source first closer next left w c (a_link o view end byte) old new tables tables'
-link_closed source tables tables' old new first closer next left w c o opener number view end byte closes is put over =
+link_closed {source} {tables} {tables'} {old} {new} {first} {closer} {next} {left} {w} {c} {o} {opener} {number} {view} {end} {byte} {item}
+    closes is r over =
     let at = opener_at source tables old first closer left o closes.stands closes.splits in
     let what : Forest (Label ℕ) = node (linked o view end) (inside o) nil in
+    let there = subst (λ (i : Item). PutsOver source opener.node closer (inside_numbers o) (over_inside source tables' i) byte
+    (opener.node ∷ []) next old new tables tables') r.is over in
     let here = subst (λ (x : Opener). PutsOver source x.node closer (inside_numbers o)
     (over_inside source tables' (link_from old x number end)) byte (x.node ∷ []) next old new tables tables') is
-    over in
+    there in
     let reads = ap (λ (a : Plain). node a (without_numbers (inside o)) nil) (linked_label source tables tables' old o number view end
-    at.around.label_is put) in
+    at.around.label_is r.put) in
     puts_closed source first closer next left w c (a_link o view end byte) o old new tables tables' (before_link o.mark.is_image o.before)
     (over_inside source tables' (link_from old (opener_of o) number end)) what
     byte (o.opener.tag ∷ []) closes at (link_stands source tables old first (Some o.opener.tag) o.before at.stands o.mark.is_image)

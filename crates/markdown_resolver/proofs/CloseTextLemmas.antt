@@ -75,5 +75,5 @@ text_closed source tables old new first closer next left w c closes puts =
       wikilinks = λ q e. wikilinks_done b.standing left ∙ ap wikilinks_of (sym e);
       rest_is = λ q e. b.rest_is ∙ ap (λ (g : Option ℕ). past g rest) (sym e);
       fewer = puts.leaves.fewer;
-      holds = λ kind learned. holds_put kind learned source closer (settled source) None next old new tables tables ready puts;
+      holds = λ kind learned. holds_put kind learned ready puts;
     }

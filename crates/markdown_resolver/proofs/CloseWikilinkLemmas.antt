@@ -9,6 +9,8 @@ use Rattle.markdown_base.specs.BlockTree.{item_at}
 use Rattle.markdown_base.specs.Forest.{Forest, nil, node, relabelled, roots}
 use Rattle.markdown_base.specs.declared.index.LinkIndex.{LinkIndex}
 use Rattle.markdown_base.specs.declared.item.Item.{Item}
+use Rattle.markdown_base.specs.declared.item.ItemBody.{ItemBody}
+use Rattle.markdown_base.specs.declared.item.ItemBody.TheVariants as body
 use Rattle.markdown_base.specs.declared.node.Node.{Node}
 use Rattle.markdown_base.specs.declared.tag.LinkType.TheVariants as kind
 use Rattle.markdown_brackets.specs.BracketDecision.{Around, Becomes, Closing, Wikilink, a_footnote, a_link, a_text, a_wikilink, past_second}
@@ -34,7 +36,7 @@ use Rattle.markdown_resolver.specs.PutsTrees.{numbered_from, numbered_label, wit
 use Rattle.markdown_resolver.specs.Rewritten.{CanPut, first_past}
 use Rattle.markdown_resolver.proofs.CloseFootnoteLemmas.{can_put_text, text_item_over, text_label}
 use Rattle.markdown_resolver.proofs.CloseLemmas.{OpenerAt, can_close, none_open, opener_at, puts_closed, quiet_inside}
-use Rattle.markdown_resolver.proofs.CloseLinkLemmas.{link_from, link_over_opener, linked_label}
+use Rattle.markdown_resolver.proofs.CloseLinkLemmas.{item_over, link_from, link_item, link_over_opener, linked_label}
 use Rattle.markdown_resolver.proofs.MarkupItemLemmas.{PutsLink, link_put}
 use Rattle.markdown_resolver.proofs.PutsTreesLemmas.{first_joined, relabelled_first}
 use Rattle.markdown_resolver.proofs.SplitLemmas.{inside_numbers}
@@ -174,12 +176,12 @@ shown_at source tables nodes at first (node n under g) e = by (nat_le (item_at n
         })
 
 -- what may be put over the opener of a wikilink
-pub record CanWikilink (source : List ℕ) (tables tables' : Tables) (nodes : List (Node Item)) (closer : ℕ) (o : Split ℕ) (opener : Opener)
+record CanWikilink (source : List ℕ) (tables tables' : Tables) (nodes : List (Node Item)) (closer : ℕ) (o : Split ℕ) (opener : Opener)
     (number : LinkIndex) (end : ℕ) : Type 0 where
   pub close : CanClose source tables nodes opener.node closer (inside_numbers o) end
   pub over : CanPutOver source tables tables' nodes opener.node (link_from nodes opener number end) end
 
-pub can_wikilink : (source : List ℕ) (tables tables' : Tables) (nodes : List (Node Item)) (first closer : ℕ) (left : List (Entry ℕ))
+can_wikilink : (source : List ℕ) (tables tables' : Tables) (nodes : List (Node Item)) (first closer : ℕ) (left : List (Entry ℕ))
     (w : Around) (c : Closing ℕ) (o : Split ℕ) (opener : Opener)
     (number : LinkIndex) (v : Wikilink ℕ) (end : ℕ) → ClosesAt source tables nodes first closer left w c (a_wikilink o v end)
     → opener ≡ opener_of o
@@ -204,25 +206,35 @@ name_from : (source : List ℕ) (origin : Origin) (v : Wikilink ℕ) → origin 
     → IsLinkFrom source origin (wikilink_target v)
 name_from source origin v is stands e = record { destination = rw is stands; no_title = refl; no_label = refl }
 
--- what becomes a wikilink may be put there, once its entry is held
-pub record ReadyWikilink (source : List ℕ) (tables tables' : Tables) (nodes : List (Node Item)) (first closer : ℕ) (left : List (Entry ℕ))
-    (w : Around) (c : Closing ℕ) (becomes : Becomes ℕ)
-    (opener : Opener)
-    (shown : ShownNodes) (number : LinkIndex) (end : ℕ) : Type 0 where
+-- its opener is a node
+pub opener_there : {source : List ℕ} {tables : Tables} {nodes : List (Node Item)} {first closer : ℕ} {left : List (Entry ℕ)} {w : Around}
+    {c : Closing ℕ} {becomes : Becomes ℕ} (opener : Opener) (name : Bor (List ℕ)) (has_pothole : Bool) (shown : ShownNodes) (end : ℕ)
+    → ClosesAt source tables nodes first closer left w c becomes → IsBecome w becomes (Wikilinked opener name has_pothole shown end)
+    → opener.node < length nodes
+opener_there {source} {tables} {nodes} {first} {closer} {left} {w} {c} {becomes} opener name has_pothole shown end closes h =
+    let i = wikilink_is w becomes opener name has_pothole shown end h in
+    let so = subst (ClosesAt source tables nodes first closer left w c) i.is closes in
+    rw i.opener_is (opener_at source tables nodes first closer left i.split so.stands so.splits).opener.within
+
+-- what becomes a wikilink may be put there, as an item, once its entry is held
+pub record MayShow (source : List ℕ) (tables tables' : Tables) (nodes : List (Node Item)) (first closer : ℕ) (left : List (Entry ℕ))
+    (w : Around) (c : Closing ℕ) (becomes : Becomes ℕ) (opener : Opener) (shown : ShownNodes) (number : LinkIndex) (end : ℕ)
+    (item : Item) : Type 0 where
   pub split : Split ℕ
   pub found : Wikilink ℕ
   pub is : becomes ≡ a_wikilink split found end
   pub opener_is : opener ≡ opener_of split
   pub closes : ClosesAt source tables nodes first closer left w c (a_wikilink split found end)
   pub put : PutsLink source tables tables' number (wikilink_target found)
-  pub can : CanWikilink source tables tables' nodes closer split opener number end
+  pub item_is : item ≡ link_from nodes opener number end
+  pub close : CanClose source tables nodes opener.node closer (inside_numbers split) end
+  pub over : CanPutOver source tables tables' nodes opener.node item end
   pub shown_is : shown_of w (past_second (inside split)) shown ≡ found.children
   pub first_is : link_to found.children ≡ Some (first_shown shown)
 
-pub ready_wikilink : (source : List ℕ) (held held' : Allocated) (nodes : List (Node Item)) (first closer : ℕ) (left : List (Entry ℕ))
-    (w : Around) (c : Closing ℕ) (becomes : Becomes ℕ)
-    (opener : Opener)
-    (name : Bor (List ℕ)) (has_pothole : Bool) (shown : ShownNodes) (number : LinkIndex) (end : ℕ) (link : LinkParts)
+pub may_show : {source : List ℕ} {nodes : List (Node Item)} {first closer : ℕ} {left : List (Entry ℕ)} {w : Around} {c : Closing ℕ}
+    {becomes : Becomes ℕ} (held held' : Allocated) (opener : Opener) (name : Bor (List ℕ)) (has_pothole : Bool) (shown : ShownNodes)
+    (end : ℕ) (link : LinkParts) (number : LinkIndex) (begin : Item) (b : ItemBody)
     → ClosesAt source (tables_of held) nodes first closer left w c becomes
     → IsBecome w becomes (Wikilinked opener name has_pothole shown end) → held' ≡ with_link held link → number.0 ≡ length held.links
     → origin_of link.1 ≡ sliced → link_view link ≡ record {
@@ -231,15 +243,20 @@ pub ready_wikilink : (source : List ℕ) (held held' : Allocated) (nodes : List 
       title = [];
       label =
           [];
-    }
-    → ReadyWikilink source (tables_of held) (tables_of held') nodes first closer left w c becomes opener shown number end
-ready_wikilink source held held' nodes first closer left w c becomes opener name has_pothole shown number end link closes h put last origin
-    view =
+    } → begin ≡ item_at nodes opener.node → b ≡ (if opener.is_image then body.Image number else body.Link number)
+    → MayShow source (tables_of held) (tables_of held') nodes first closer left w c becomes opener shown number end
+    (item_over begin.start end b)
+may_show {source} {nodes} {first} {closer} {left} {w} {c} {becomes} held held' opener name has_pothole shown end link number begin b closes
+    h put last origin view begins body_is =
+    let tables = tables_of held in
+    let tables' = tables_of held' in
     let i = wikilink_is w becomes opener name has_pothole shown end h in
-    let so = subst (ClosesAt source (tables_of held) nodes first closer left w c) i.is closes in
+    let so = subst (ClosesAt source tables nodes first closer left w c) i.is closes in
     let there = link_put source held held' link number (wikilink_target i.found) put last (name_from source (origin_of link.1) i.found
     origin so.ends.2)
     (view ∙ target_is has_pothole name.now i.found i.pothole_is i.name_is) in
+    let can = can_wikilink source tables tables' nodes first closer left w c i.split opener number i.found end so i.opener_is there in
+    let item : item_over begin.start end b ≡ link_from nodes opener number end = link_item nodes opener number end begin b begins body_is in
     record {
       split = i.split;
       found = i.found;
@@ -247,8 +264,9 @@ ready_wikilink source held held' nodes first closer left w c becomes opener name
       opener_is = i.opener_is;
       closes = so;
       put = there;
-      can = can_wikilink source (tables_of held) (tables_of held') nodes first closer left w c i.split opener number i.found end so
-          i.opener_is there;
+      item_is = item;
+      close = can.close;
+      over = subst (λ (i : Item). CanPutOver source tables tables' nodes opener.node i end) (sym item) can.over;
       shown_is = i.shown_is;
       first_is = i.first_is;
     }
@@ -283,7 +301,7 @@ second_numbers (node b under rest) a below after first e tag = (
       ∙ ap (λ (n : ℕ). b.tag ∷ n ∷ roots (numbers_of after)) tag,
 )
 
-pub can_name : (source : List ℕ) (tables tables' : Tables) (nodes : List (Node Item)) (first closer : ℕ) (left : List (Entry ℕ))
+can_name : (source : List ℕ) (tables tables' : Tables) (nodes : List (Node Item)) (first closer : ℕ) (left : List (Entry ℕ))
     (w : Around) (c : Closing ℕ) (o : Split ℕ) (v : Wikilink ℕ)
     (end n from to : ℕ) → ClosesAt source tables nodes first closer left w c (a_wikilink o v end)
     → shown_of w (past_second (inside o)) (Over n from to) ≡ v.children → link_to v.children ≡ Some n
@@ -301,18 +319,17 @@ can_name source tables tables' nodes first closer left w c o v end n from to clo
       children_are = t.5;
     }
 
-pub named_over : (source : List ℕ) (tables tables' : Tables) (nodes : List (Node Item)) (first closer : ℕ) (left : List (Entry ℕ))
-    (w : Around) (c : Closing ℕ) (becomes : Becomes ℕ) (opener : Opener)
-    (shown : ShownNodes) (number : LinkIndex) (end n from to : ℕ) (r : ReadyWikilink source tables tables' nodes first closer left w c
-    becomes opener shown number end) → shown ≡ Over n from to
-    → CanName source tables tables' w r.split r.found n from to
-named_over source tables tables' nodes first closer left w c becomes opener shown number end n from to r is =
+pub named_over : {source : List ℕ} {tables tables' : Tables} {nodes : List (Node Item)} {first closer : ℕ} {left : List (Entry ℕ)}
+    {w : Around} {c : Closing ℕ} {becomes : Becomes ℕ} {opener : Opener} {shown : ShownNodes} {number : LinkIndex} {end : ℕ} {item : Item}
+    {n from to : ℕ} (r : MayShow source tables tables' nodes first closer left w c becomes opener shown number end item)
+    → shown ≡ Over n from to → CanName source tables tables' w r.split r.found n from to
+named_over {source} {tables} {tables'} {nodes} {first} {closer} {left} {w} {c} {end = end} {n = n} {from = from} {to = to} r is =
     can_name source tables tables' nodes first closer left w c r.split r.found end n from to r.closes
     (subst (λ (s : ShownNodes). shown_of w (past_second (inside r.split)) s ≡ r.found.children) is r.shown_is) (r.first_is
     ∙ ap (λ (s : ShownNodes). Some (first_shown s)) is)
 
 -- so the wikilink stands in the left list
-pub name_closed : (source : List ℕ) (tables tables' : Tables) (old new : List (Node Item)) (first closer : ℕ) (next : Option ℕ)
+by_name : (source : List ℕ) (tables tables' : Tables) (old new : List (Node Item)) (first closer : ℕ) (next : Option ℕ)
     (left : List (Entry ℕ)) (w : Around) (c : Closing ℕ) (o : Split ℕ)
     (opener : Opener) (number : LinkIndex) (v : Wikilink ℕ) (end n from to : ℕ)
     → ClosesAt source tables old first closer left w c (a_wikilink o v end) → opener ≡ opener_of o
@@ -320,7 +337,7 @@ pub name_closed : (source : List ℕ) (tables tables' : Tables) (old new : List 
     → PutsOver source opener.node closer (inside_numbers o) (over_text source tables' (link_from old opener number end)
     (text_item_over from to)) end (opener.node ∷ []) next old new tables tables'
     → PutsClosed source first closer next left w c (a_wikilink o v end) old new tables tables'
-name_closed source tables tables' old new first closer next left w c o opener number v end n from to closes is put can over =
+by_name source tables tables' old new first closer next left w c o opener number v end n from to closes is put can over =
     let at = opener_at source tables old first closer left o closes.stands closes.splits in
     let what : Forest (Label ℕ) = node (linked o (wikilink_target v) end) v.children nil in
     let shows : node (label_of source tables' (text_item_over from to)) nil nil ≡ without_numbers v.children =
@@ -340,6 +357,20 @@ name_closed source tables tables' old new first closer next left w c o opener nu
     end (o.opener.tag ∷ []) closes at (wikilink_stands source tables old first (Some o.opener.tag) o.before at.stands)
     (record { left_is = λ p e. refl; goes = λ p. refl }) reads
     (refl, refl, quiet, tt) (λ a i. refl) here
+
+pub name_closed : {source : List ℕ} {tables tables' : Tables} {old new : List (Node Item)} {first closer : ℕ} {next : Option ℕ}
+    {left : List (Entry ℕ)} {w : Around} {c : Closing ℕ} {becomes : Becomes ℕ} {opener : Opener} {shown : ShownNodes} {number : LinkIndex}
+    {end : ℕ} {item inner : Item} {n from to : ℕ}
+    (r : MayShow source tables tables' old first closer left w c becomes opener shown number end item)
+    → CanName source tables tables' w r.split r.found n from to → inner ≡ text_item_over from to
+    → PutsOver source opener.node closer (inside_numbers r.split) (over_text source tables' item inner) end (opener.node ∷ []) next old new
+    tables tables'
+    → PutsClosed source first closer next left w c becomes old new tables tables'
+name_closed {source} {tables} {tables'} {old} {new} {first} {closer} {next} {left} {w} {c} {becomes} {opener} {shown} {number} {end} {item}
+    {inner} {n} {from} {to} r can text over =
+    subst (λ (b : Becomes ℕ). PutsClosed source first closer next left w c b old new tables tables') (sym r.is)
+    (by_name source tables tables' old new first closer next left w c r.split opener number r.found end n from to r.closes r.opener_is r.put
+    can (rw (text, r.item_is) at over))
 
 -- what stands inside from a byte on
 pub record ShowsFrom (source : List ℕ) (nodes : List (Node Item)) (o : Split ℕ) (v : Wikilink ℕ) (n from : ℕ) : Type 0 where
@@ -393,7 +424,7 @@ without_trees zero f = refl
 without_trees (suc k) nil = refl
 without_trees (suc k) (node a below after) = without_trees k after
 
-pub shows_from_byte : (source : List ℕ) (tables : Tables) (nodes : List (Node Item)) (first closer : ℕ) (left : List (Entry ℕ)) (w : Around)
+shows_from_byte : (source : List ℕ) (tables : Tables) (nodes : List (Node Item)) (first closer : ℕ) (left : List (Entry ℕ)) (w : Around)
     (c : Closing ℕ) (o : Split ℕ) (v : Wikilink ℕ)
     (end n from : ℕ) → ClosesAt source tables nodes first closer left w c (a_wikilink o v end)
     → shown_of w (past_second (inside o)) (From n from) ≡ v.children → link_to v.children ≡ Some n
@@ -413,17 +444,16 @@ shows_from_byte source tables nodes first closer left w c o v end n from closes 
           (quiet_second (inside o) (quiet_inside left o closes.splits closes.stands.quiet)));
     }
 
-pub shows_over : (source : List ℕ) (tables tables' : Tables) (nodes : List (Node Item)) (first closer : ℕ) (left : List (Entry ℕ))
-    (w : Around) (c : Closing ℕ) (becomes : Becomes ℕ) (opener : Opener)
-    (shown : ShownNodes) (number : LinkIndex) (end n from : ℕ) (r : ReadyWikilink source tables tables' nodes first closer left w c becomes
-    opener shown number end) → shown ≡ From n from
-    → ShowsFrom source nodes r.split r.found n from
-shows_over source tables tables' nodes first closer left w c becomes opener shown number end n from r is =
+pub shows_over : {source : List ℕ} {tables tables' : Tables} {nodes : List (Node Item)} {first closer : ℕ} {left : List (Entry ℕ)}
+    {w : Around} {c : Closing ℕ} {becomes : Becomes ℕ} {opener : Opener} {shown : ShownNodes} {number : LinkIndex} {end : ℕ} {item : Item}
+    {n from : ℕ} (r : MayShow source tables tables' nodes first closer left w c becomes opener shown number end item)
+    → shown ≡ From n from → ShowsFrom source nodes r.split r.found n from
+shows_over {source} {tables} {tables'} {nodes} {first} {closer} {left} {w} {c} {end = end} {n = n} {from = from} r is =
     shows_from_byte source tables nodes first closer left w c r.split r.found end n from r.closes
     (subst (λ (s : ShownNodes). shown_of w (past_second (inside r.split)) s ≡ r.found.children) is r.shown_is) (r.first_is
     ∙ ap (λ (s : ShownNodes). Some (first_shown s)) is)
 
-pub shown_closed : (source : List ℕ) (tables tables' : Tables) (old new : List (Node Item)) (first closer : ℕ) (next : Option ℕ)
+by_shown : (source : List ℕ) (tables tables' : Tables) (old new : List (Node Item)) (first closer : ℕ) (next : Option ℕ)
     (left : List (Entry ℕ)) (w : Around) (c : Closing ℕ) (o : Split ℕ)
     (opener : Opener) (number : LinkIndex) (v : Wikilink ℕ) (end n from : ℕ)
     → ClosesAt source tables old first closer left w c (a_wikilink o v end) → opener ≡ opener_of o
@@ -431,7 +461,7 @@ pub shown_closed : (source : List ℕ) (tables tables' : Tables) (old new : List
     → PutsOver source opener.node closer (inside_numbers o) (over_shown source tables' (link_from old opener number end) (length s.skipped)
     from) end (opener.node ∷ []) next old new tables tables'
     → PutsClosed source first closer next left w c (a_wikilink o v end) old new tables tables'
-shown_closed source tables tables' old new first closer next left w c o opener number v end n from closes is put s over =
+by_shown source tables tables' old new first closer next left w c o opener number v end n from closes is put s over =
     let at = opener_at source tables old first closer left o closes.stands closes.splits in
     let what : Forest (Label ℕ) = node (linked o (wikilink_target v) end) v.children nil in
     let here = subst (λ (x : Opener). PutsOver source x.node closer (inside_numbers o)
@@ -447,3 +477,17 @@ shown_closed source tables tables' old new first closer next left w c o opener n
     end (o.opener.tag ∷ []) closes at (wikilink_stands source tables old first (Some o.opener.tag) o.before at.stands)
     (record { left_is = λ p e. refl; goes = λ p. refl }) reads
     (refl, refl, s.quiet, tt) (λ a i. refl) here
+
+pub shown_closed : {source : List ℕ} {tables tables' : Tables} {old new : List (Node Item)} {first closer : ℕ} {next : Option ℕ}
+    {left : List (Entry ℕ)} {w : Around} {c : Closing ℕ} {becomes : Becomes ℕ} {opener : Opener} {shown : ShownNodes} {number : LinkIndex}
+    {end : ℕ} {item : Item} {n from : ℕ}
+    (r : MayShow source tables tables' old first closer left w c becomes opener shown number end item)
+    (s : ShowsFrom source old r.split r.found n from)
+    → PutsOver source opener.node closer (inside_numbers r.split) (over_shown source tables' item (length s.skipped) from) end
+    (opener.node ∷ []) next old new tables tables'
+    → PutsClosed source first closer next left w c becomes old new tables tables'
+shown_closed {source} {tables} {tables'} {old} {new} {first} {closer} {next} {left} {w} {c} {becomes} {opener} {shown} {number} {end} {item}
+    {n} {from} r s over =
+    subst (λ (b : Becomes ℕ). PutsClosed source first closer next left w c b old new tables tables') (sym r.is)
+    (by_shown source tables tables' old new first closer next left w c r.split opener number r.found end n from r.closes r.opener_is r.put
+    s (rw r.item_is at over))

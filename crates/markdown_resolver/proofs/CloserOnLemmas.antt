@@ -7,9 +7,7 @@ use Rattle.markdown_base.specs.Arena.{child_of, sibling_of}
 use Rattle.markdown_base.specs.BlockTree.{item_at}
 use Rattle.markdown_base.specs.Forest.{Forest}
 use Rattle.markdown_base.specs.Questions.{Question, Answer, Answers}
-use Rattle.markdown_base.specs.declared.item.Item.{Item}
 use Rattle.markdown_base.specs.declared.item.ItemBody.{ItemBody}
-use Rattle.markdown_base.specs.declared.node.Node.{Node}
 use Rattle.markdown_brackets.specs.BracketDecision.{Around, Becomes, Closing, Decision, Progress, a_footnote, a_link, a_text, a_wikilink}
 use Rattle.markdown_brackets.specs.BracketTags.{retag_progress}
 use Rattle.markdown_brackets.specs.ClosingBracket.{closed, put, put_decided}
@@ -17,7 +15,6 @@ use Rattle.markdown_brackets.specs.Decides.{Decides}
 use Rattle.markdown_brackets.specs.LeftList.{Entry, brackets_of, wikilinks_of}
 use Rattle.markdown_brackets.specs.Openers.{Waiting}
 use Rattle.markdown_brackets.specs.ReadChain.{closing}
-use Rattle.markdown_brackets.specs.SpentEnds.{is_spent}
 use Rattle.markdown_brackets.specs.declared.closing_bracket.ClosedBracket.{ClosedBracket}
 use Rattle.markdown_brackets.specs.declared.spent_ends.SpentEnds.{SpentEnds}
 use Rattle.markdown_brackets.proofs.BracketTagLemmas.{closing_retag}
@@ -27,25 +24,15 @@ use Rattle.markdown_chains.specs.Document.{Plain, plain_tags, shape_of}
 use Rattle.markdown_chains.specs.Places.{label_at, trees_from}
 use Rattle.markdown_chains.specs.Setting.{Setting}
 use Rattle.markdown_chains.specs.Stages.{Stage, chain_at, known_at}
-use Rattle.markdown_chains.specs.Tables.{Tables}
 use Rattle.markdown_chains.proofs.PlaceLemmas.{shape-open}
-use Rattle.markdown_resolver.specs.Closes.{PutsClosed}
+use Rattle.markdown_resolver.specs.Closes.{PutsClosed, closing_at}
 use Rattle.markdown_resolver.specs.PassOne.{around}
-use Rattle.markdown_resolver.specs.PutsTrees.{numbered_from, numbered_label}
 use Rattle.markdown_resolver.specs.ReadOn.{AreSpent, ReadsOn, StandsTo, StopsOn, all_read, at_left, left_without_numbers}
 use Rattle.markdown_resolver.proofs.FollowersLemmas.{opens_chain}
 use Rattle.markdown_resolver.proofs.PassOneLemmas.{reads_closer}
 use Rattle.markdown_resolver.proofs.ReadOnLemmas.{trees_unnumbered}
 use Rattle.markdown_resolver.proofs.StandsToLemmas.{stands_rest}
 use Rattle.markdown_resolver.proofs.StopsLemmas.{all_asks}
-
--- a `]` of an arena, with the chain after it
-abbrev pub closing_at : List ℕ → Tables → List (Node Item) → SpentEnds → (could_be : Bool) → ℕ → Closing ℕ
-closing_at source tables nodes spent could_be ix = record {
-  label = numbered_label source tables nodes ix;
-  could_be_reference = could_be && not (is_spent spent (end_of (numbered_label source tables nodes ix)));
-  rest = numbered_from source tables nodes (sibling_of nodes ix);
-}
 
 -- putting changes the left list alone, and where the chain goes on
 put_keeps : {A : Type 0} (w : Around) (c : Closing A) (becomes : Becomes A) (p : Progress A)

@@ -1,7 +1,7 @@
 -- A code span that a search finds in a chain is what pass one finds there, and may be put where its opener stands.
 use Rattle.std.proofs.Common.{◌≡◌, ℕ, zero, suc, ◌+◌, ◌-◌, ◌<◌, ◌≤◌, Bool, true, false, ◌==◌, List, [], ◌∷◌, ◌++◌, map, length, get_or}
 use Rattle.std.proofs.Common.{take, drop, Option, Some, None, refl, sym, ap, ◌∙◌, arith, subst}
-use Rattle.std.specs.Prelude.{replicate, slice_range, IfSome}
+use Rattle.std.specs.Prelude.{replicate, slice_range, IfOk, IfSome, Result, Ok, Err}
 use Rattle.std.specs.Option.{option_map}
 use Rattle.std.specs.Str.{IsCharBoundary}
 use Rattle.std.proofs.lemmas.List.{get_or-drop, get_or-replicate, get_or-take, length-replicate, length-take}
@@ -14,6 +14,7 @@ use Rattle.markdown_base.specs.CowText.{text_of}
 use Rattle.markdown_base.specs.Item.{is_open, LiesIn}
 use Rattle.markdown_base.specs.WellFormed.{run_character, StandsOverMarkup}
 use Rattle.markdown_base.specs.declared.cow_str.CowStr.{CowStr}
+use Rattle.markdown_base.specs.declared.fault.Fault.{Fault}
 use Rattle.markdown_base.specs.declared.index.CowIndex.{CowIndex}
 use Rattle.markdown_base.specs.declared.item.Item.{Item}
 use Rattle.markdown_base.specs.declared.item.ItemBody.{ItemBody}
@@ -23,7 +24,7 @@ use Rattle.markdown_chains.specs.Origins.{IsSlicedOf, Origin, origin_at, origin_
 use Rattle.markdown_chains.specs.Above.{Above}
 use Rattle.markdown_chains.specs.ChainRest.{as_item}
 use Rattle.markdown_chains.specs.Places.{IsPlaced, label_at, trees_from}
-use Rattle.markdown_chains.specs.Setting.{Setting}
+use Rattle.markdown_chains.specs.Setting.{Rules, Setting}
 use Rattle.markdown_chains.specs.Tables.{Tables, Named, some_text, some_link, some_alignments, HasGrown, text_at, number_of, size_for}
 use Rattle.markdown_chains.specs.Tables.{tables_of}
 use Rattle.markdown_chains.specs.Totals.{same, times_named}
@@ -35,6 +36,7 @@ use Rattle.markdown_spans.specs.Allocations.{Allocated, LinkParts, with_cow}
 use Rattle.markdown_resolver.specs.Chains.{CanResolve}
 use Rattle.markdown_resolver.specs.PutCode.{CanPutCode, CanPutSpan, code_standing}
 use Rattle.markdown_resolver.specs.Rewritten.{IsFoundAt, first_past, settled}
+use Rattle.markdown_resolver.specs.StoredText.{CanCut, StoresText}
 use Rattle.markdown_resolver.proofs.FollowersLemmas.{InOrder, each_root, followers, nothing_around, opens_chain, order_around}
 use Rattle.markdown_resolver.proofs.ReadsItemLemmas.{ReadsAs, opener_shape, opener_unquiet, read_opener}
 use Rattle.markdown_resolver.proofs.SpanFindLemmas.{StandsAmong, code_close_among, code_close_shown, label_alike, number_alike}
@@ -221,6 +223,30 @@ pub origin_put : (held held' : Allocated) (cow : CowStr) (ix : CowIndex) → hel
 origin_put held held' cow ix put number =
     ap (λ (h : Allocated). origin_at h.cows ix.0) put ∙ origin_pushed held.cows cow ix.0 number
 
+-- so of what putting it in answers
+pub cow_stored : (source : List ℕ) (held held' : Allocated) (cow : CowStr) (origin : Origin) (r : Result CowIndex Fault)
+    → origin_of cow ≡ origin → IsSlicedOf source (origin_of cow) (text_of cow) → IfOk r (λ ix. ix.0 ≡ length held.cows)
+    → IfOk r (λ ix. held' ≡ with_cow held cow) → IfOk r (λ ix. StoresText source (tables_of held) (tables_of held') ix origin)
+cow_stored source held held' cow origin (Err fault) is slice number put = tt
+cow_stored source held held' cow origin (Ok ix) is slice number put =
+    let stored = text_put held held' cow ix (text_of cow) put number refl in
+    let from = origin_put held held' cow ix put number in
+    record {
+      grown = stored.grown;
+      number = number;
+      within = stored.within;
+      origin_is = from ∙ is;
+      slice = rw (from, stored.found) slice;
+    }
+
+pub cow_text : (held held' : Allocated) (cow : CowStr) (r : Result CowIndex Fault) (P : Rules → Type 0) (text : Rules → List ℕ)
+    → ((rules : Rules) → P rules → text_of cow ≡ text rules) → IfOk r (λ ix. ix.0 ≡ length held.cows)
+    → IfOk r (λ ix. held' ≡ with_cow held cow)
+    → IfOk r (λ ix. (rules : Rules) → P rules → text_at held'.cows ix.0 ≡ text rules)
+cow_text held held' cow (Err fault) P text value number put = tt
+cow_text held held' cow (Ok ix) P text value number put = λ rules p. (text_put held held' cow ix (text_of cow) put number refl).found
+    ∙ value rules p
+
 pub same_below : (n m : ℕ) → n < m → same n m ≡ 0
 same_below zero zero h = absurd (omega (arith, h))
 same_below zero (suc m) h = refl
@@ -245,13 +271,12 @@ two_at_least zero h = cc h
 two_at_least (suc zero) h = cc h
 two_at_least (suc (suc n)) h = omega arith
 
-pub can_put_code : (source : List ℕ) (tables tables' : Tables) (nodes : List (Node Item)) (ix x count : ℕ) (escaped : Bool) (cow : CowIndex)
-    (text : List ℕ)
+can_put_code : (source : List ℕ) (tables tables' : Tables) (nodes : List (Node Item)) (ix x count : ℕ) (escaped : Bool) (cow : CowIndex)
+    (origin : Origin)
     → CanResolve source tables nodes (Some ix) → (item_at nodes ix).body ≡ body.MaybeCode count escaped → ClosesCode nodes ix (Some x)
-    → x < length nodes
-    → PutsText tables tables' cow text → IsSlicedOf source (origin_at tables'.cows cow.0) (text_at tables'.cows cow.0)
+    → x < length nodes → StoresText source tables tables' cow origin
     → CanPutCode source tables tables' nodes ix x (body.Code cow)
-can_put_code source tables tables' nodes ix x count escaped cow text ready is closes within puts slice =
+can_put_code source tables tables' nodes ix x count escaped cow origin ready is closes within puts =
     let o = opens_chain source tables nodes ix ready in
     let there = closed_code source tables nodes ix x count escaped ready is closes in
     record {
@@ -277,7 +302,7 @@ can_put_code source tables tables' nodes ix x count escaped cow text ready is cl
                 = there.lies.end;
           };
           named = record { text = puts.within; link = tt; alignments = tt; attributes = tt };
-          slices = slice;
+          slices = puts.slice;
           new_names = λ n old. code_names tables cow n puts.number old;
         }
     by true e two =
@@ -302,7 +327,7 @@ can_put_code source tables tables' nodes ix x count escaped cow text ready is cl
             no_block = refl;
             lies = record { ordered = omega (arith, byte.0, there.behind, there.lies.ordered); start = byte.1; end = there.lies.end };
             named = record { text = puts.within; link = tt; alignments = tt; attributes = tt };
-            slices = slice;
+            slices = puts.slice;
             new_names = λ n old. code_names tables cow n puts.number old;
           };
           names_nothing = text_names;
@@ -317,11 +342,6 @@ can_put_code source tables tables' nodes ix x count escaped cow text ready is cl
         }
 
 -- the bytes between the opener and what closes it may be cut out
-pub record CanCut (source : List ℕ) (start end : ℕ) : Type 0 where
-  pub ordered : start ≤ end
-  pub from : IsCharBoundary source start
-  pub to : IsCharBoundary source end
-
 pub code_cut : (source : List ℕ) (tables : Tables) (nodes : List (Node Item)) (ix x count : ℕ) (escaped : Bool) (opener closer : Item)
     (found : Option ℕ)
     → CanResolve source tables nodes (Some ix) → (item_at nodes ix).body ≡ body.MaybeCode count escaped → ClosesCode nodes ix found
@@ -333,28 +353,18 @@ code_cut source tables nodes ix x count escaped opener closer found ready is clo
     rw (opens, ends) (record { ordered = there.behind; from = o.placed.lies.end; to = there.lies.start })
 
 -- all of it, once the text is in its table
-pub record FoundCode (source : List ℕ) (tables tables' : Tables) (nodes : List (Node Item)) (ix x : ℕ) (cow : CowIndex) (text : List ℕ)
-    (origin : Origin) : Type 0 where
+pub record FoundCode (source : List ℕ) (tables tables' : Tables) (nodes : List (Node Item)) (ix x : ℕ) (cow : CowIndex) : Type 0 where
   pub closes : ClosesCode nodes ix (Some x)
-  pub stored : PutsText tables tables' cow text
-  pub origin_is : origin_at tables'.cows cow.0 ≡ origin
   pub can : CanPutCode source tables tables' nodes ix x (body.Code cow)
 
-pub found_code : (source : List ℕ) (held held' : Allocated) (nodes : List (Node Item)) (ix x count : ℕ) (escaped : Bool) (text : CowStr)
-    (cow : CowIndex) (found : Option ℕ)
-    → CanResolve source (tables_of held) nodes (Some ix) → (item_at nodes ix).body ≡ body.MaybeCode count escaped
-    → ClosesCode nodes ix found → found ≡ Some x → IfSome found (λ x. x < length nodes) → held' ≡ with_cow held text
-    → cow.0 ≡ length held.cows
-    → IsSlicedOf source (origin_of text) (text_of text) → FoundCode source (tables_of held) (tables_of held') nodes ix x cow (text_of text)
-    (origin_of text)
-found_code source held held' nodes ix x count escaped text cow found ready is closes here within put number slice =
+pub found_code : (source : List ℕ) (tables tables' : Tables) (nodes : List (Node Item)) (ix x count : ℕ) (escaped : Bool) (cow : CowIndex)
+    (origin : Origin) (found : Option ℕ)
+    → CanResolve source tables nodes (Some ix) → (item_at nodes ix).body ≡ body.MaybeCode count escaped
+    → ClosesCode nodes ix found → found ≡ Some x → IfSome found (λ x. x < length nodes) → StoresText source tables tables' cow origin
+    → FoundCode source tables tables' nodes ix x cow
+found_code source tables tables' nodes ix x count escaped cow origin found ready is closes here within stored =
     let there : ClosesCode nodes ix (Some x) = subst (ClosesCode nodes ix) here closes in
-    let stored = text_put held held' text cow (text_of text) put number refl in
-    let origin = origin_put held held' text cow put number in
     record {
       closes = there;
-      stored = stored;
-      origin_is = origin;
-      can = can_put_code source (tables_of held) (tables_of held') nodes ix x count escaped cow (text_of text) ready is there
-          (rw here at within) stored (rw (origin, stored.found) slice);
+      can = can_put_code source tables tables' nodes ix x count escaped cow origin ready is there (rw here at within) stored;
     }

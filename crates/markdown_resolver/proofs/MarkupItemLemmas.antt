@@ -41,7 +41,7 @@ use Rattle.markdown_resolver.proofs.FollowersLemmas.{opens_chain}
 use Rattle.markdown_resolver.proofs.CodeSpanLemmas.{PutsText, same_below}
 use Rattle.markdown_resolver.proofs.MarkupEndLemmas.{EndsClosed}
 
--- a boundary of a text is one of its beginning up to another one, and the other way round
+-- a boundary of a text is one of the text's beginning up to some byte behind it
 pub boundary_before : (text : List ℕ) (end i : ℕ) → IsCharBoundary text i → i ≤ end → IsCharBoundary (take end text) i
 boundary_before text end i at before = (
   omega (arith, length-take end text, at.0, before),
@@ -52,6 +52,7 @@ boundary_before text end i at before = (
       omega (arith, byte, at.1 within (omega (arith, byte, high))),
 )
 
+-- a boundary of a text's beginning up to another boundary is one of the text
 pub boundary_after : (text : List ℕ) (end i : ℕ) → IsCharBoundary text end → IsCharBoundary (take end text) i → IsCharBoundary text i
 boundary_after text end i last at = cases (cases_lt i end)
   where

@@ -253,8 +253,7 @@ pub reads_text : (place : ChainPlace) (tree : Arena Item) (held : Allocated) (ix
 reads_text place tree held ix rules next new can opener none p =
     let s = setting_of place.text.now rules in
     let above = above_cursor place.text.now tree in
-    reads_item s above ix (settled place.text.now) None next tree.nodes new (tables_of held) (tables_of held) can.ready
-    (settled_reads s above (tables_of held) tree.nodes ix opener none) p
+    reads_item can.ready (settled_reads s above (tables_of held) tree.nodes ix opener none) p
 
 -- and where markup is found as the trees that stand for it
 pub reads_found : (place : ChainPlace) (tree : Arena Item) (held : Allocated) (ix : ℕ) (prefix : ContainerPrefix) (m : Markup)
@@ -266,9 +265,7 @@ reads_found place tree held ix prefix m rules next new tables' is gfm p =
     let s = setting_of place.text.now rules in
     let above = above_cursor place.text.now tree in
     let found = scan_finds place tree held ix prefix (Some m) rules is gfm in
-    reads_item s above ix (standing_for place.text.now rules m) (Some (end_of_markup m)) next tree.nodes new (tables_of held) tables'
-    is.can.ready
-    (found_reads s above (tables_of held) tree.nodes ix m is.opener found) p
+    reads_item is.can.ready (found_reads s above (tables_of held) tree.nodes ix m is.opener found) p
 
 -- what holds of an answer where another does
 pub if_ok : {T E : Type 0} (r : Result T E) (P Q : T → Type 0) → ((x : T) → P x → Q x) → IfOk r P → IfOk r Q

@@ -7,23 +7,21 @@ use Rattle.std.specs.Str.{IsCharBoundary}
 use Rattle.markdown_base.specs.Arena.{sibling_of}
 use Rattle.markdown_base.specs.ArenaForest.{links_of, forest_at}
 use Rattle.markdown_base.specs.BlockTree.{Numbered, numbered, item_at}
-use Rattle.markdown_base.specs.CowText.{text_of}
 use Rattle.markdown_base.specs.Forest.{Each, Forest, nil, node, roots}
 use Rattle.markdown_base.specs.Item.{is_open}
 use Rattle.markdown_base.specs.WellFormed.{run_character}
-use Rattle.markdown_base.specs.declared.cow_str.CowStr.{CowStr}
 use Rattle.markdown_base.specs.declared.index.CowIndex.{CowIndex}
 use Rattle.markdown_base.specs.declared.item.Item.{Item}
 use Rattle.markdown_base.specs.declared.item.ItemBody.{ItemBody}
 use Rattle.markdown_base.specs.declared.item.ItemBody.TheVariants as body
 use Rattle.markdown_base.specs.declared.node.Node.{Node}
-use Rattle.markdown_chains.specs.Origins.{IsSlicedOf, Origin, origin_at, origin_of}
+use Rattle.markdown_chains.specs.Origins.{Origin, origin_at}
 use Rattle.markdown_chains.specs.Above.{Above}
 use Rattle.markdown_chains.specs.ChainRest.{as_item, end_of, open_body}
 use Rattle.markdown_chains.specs.Document.{Plain}
 use Rattle.markdown_chains.specs.Places.{IsPlaced, label_at, trees_from}
 use Rattle.markdown_chains.specs.Setting.{Setting}
-use Rattle.markdown_chains.specs.Tables.{Named, Tables, number_of, size_for, some_alignments, some_link, some_text, tables_of, text_at}
+use Rattle.markdown_chains.specs.Tables.{Named, Tables, number_of, size_for, some_alignments, some_link, some_text, text_at}
 use Rattle.markdown_chains.specs.Totals.{times_named}
 use Rattle.markdown_code.specs.ChainInArena.{LeadsThrough}
 use Rattle.markdown_code.specs.Closers.{Dollar, MathClose, can_close, can_open, closed_by, context_of, display_close, dollar_next}
@@ -33,11 +31,11 @@ use Rattle.markdown_code.specs.MathOpening.{dollar_at}
 use Rattle.markdown_code.specs.SpanClosers.{ClosesMath, found_math, item_in}
 use Rattle.markdown_code.specs.declared.span_closers.FoundMath.{FoundMath}
 use Rattle.markdown_code.specs.declared.span_text.SpanKind.TheVariants.{Math}
-use Rattle.markdown_spans.specs.Allocations.{Allocated, with_cow}
 use Rattle.markdown_resolver.specs.Chains.{CanResolve}
 use Rattle.markdown_resolver.specs.Rewritten.{CanPut, IsFoundAt, one, settled}
+use Rattle.markdown_resolver.specs.StoredText.{CanCut, StoresText}
 use Rattle.markdown_resolver.proofs.FollowersLemmas.{InOrder, OpenedChain, each_root, followers, opens_chain, order_around}
-use Rattle.markdown_resolver.proofs.CodeSpanLemmas.{CanCut, PutsText, found_at, same_below, text_put, origin_put}
+use Rattle.markdown_resolver.proofs.CodeSpanLemmas.{found_at, same_below}
 use Rattle.markdown_resolver.proofs.ReadsItemLemmas.{ReadsAs, opener_shape, opener_unquiet, read_opener}
 use Rattle.markdown_resolver.proofs.SpanFindLemmas.{StandsAmong, dollar_next_shown, label_alike, math_from_shown, number_alike, shown_close}
 
@@ -332,83 +330,52 @@ math_names tables cow display (some_text n) e h = same_below n cow.0 (omega (ari
 math_names tables cow display (some_link n) e h = refl
 math_names tables cow display (some_alignments n) e h = refl
 
-pub record FoundSpan (source : List ℕ) (tables tables' : Tables) (nodes : List (Node Item)) (ix : ℕ) (m : FoundMath) (cow : CowIndex)
-    (text : List ℕ) (origin : Origin) : Type 0 where
-  pub closes : ClosesMath nodes ix (Some m)
-  pub stored : PutsText tables tables' cow text
-  pub origin_is : origin_at tables'.cows cow.0 ≡ origin
-  pub found : IsFoundAt source tables nodes ix (item_at nodes m.last).end
-  pub can : CanPut source tables tables' (math_item nodes ix m cow)
+-- all of it, once the text is in its table: the item is made of the opener and of the last `$`
+abbrev pub span_of : (opener last : Item) → FoundMath → CowIndex → Item
+span_of opener last m cow = record { start = opener.start; end = last.end; body = body.Math cow m.display }
 
-pub found_span : (source : List ℕ) (held held' : Allocated) (nodes : List (Node Item)) (ix : ℕ) (m : FoundMath) (opens closes : Bool)
-    (context : ℕ) (text : CowStr) (cow : CowIndex) (found : Option FoundMath)
-    → CanResolve source (tables_of held) nodes (Some ix) → (item_at nodes ix).body ≡ body.MaybeMath opens closes context
-    → ClosesMath nodes ix found → found ≡ Some m → held' ≡ with_cow held text → cow.0 ≡ length held.cows
-    → IsSlicedOf source (origin_of text) (text_of text) → FoundSpan source (tables_of held) (tables_of held') nodes ix m cow (text_of text)
-    (origin_of text)
-found_span source held held' nodes ix m opens closes context text cow found ready is closed here put number slice =
-    let tables = tables_of held in
+pub record PutsMath (source : List ℕ) (tables tables' : Tables) (nodes : List (Node Item)) (ix : ℕ) (m : FoundMath) (cow : CowIndex)
+    (item : Item) : Type 0 where
+  pub is : item ≡ math_item nodes ix m cow
+  pub closes : ClosesMath nodes ix (Some m)
+  pub found : IsFoundAt source tables nodes ix item.end
+  pub can : CanPut source tables tables' item
+
+pub puts_math : (source : List ℕ) (tables tables' : Tables) (nodes : List (Node Item)) (ix : ℕ) (m : FoundMath) (opener last : Item)
+    (cow : CowIndex) (origin : Origin) (found : Option FoundMath)
+    → CanResolve source tables nodes (Some ix) → is_dollar (item_at nodes ix).body ≡ true → ClosesMath nodes ix found → found ≡ Some m
+    → opener ≡ item_at nodes ix → last ≡ item_at nodes m.last → StoresText source tables tables' cow origin
+    → PutsMath source tables tables' nodes ix m cow (span_of opener last m cow)
+puts_math source tables tables' nodes ix m opener last cow origin found ready dollar closed here opens ends stored =
+    let is = (dollar_body (item_at nodes ix).body dollar).is in
     let o = opens_chain source tables nodes ix ready in
-    let ends : ClosesMath nodes ix (Some m) = subst (ClosesMath nodes ix) here closed in
-    let there = stands_of source tables nodes ix m ready ends in
-    let stored = text_put held held' text cow (text_of text) put number refl in
-    let origin = origin_put held held' text cow put number in
+    let closes : ClosesMath nodes ix (Some m) = subst (ClosesMath nodes ix) here closed in
+    let there = stands_of source tables nodes ix m ready closes in
     let rest = forest_at (links_of nodes) (sibling_of nodes ix) in
-    let last = each_root (IsPlaced source tables nodes) rest there.last.before m.last there.last.after o.all_placed there.last.parts in
+    let last_placed = each_root (IsPlaced source tables nodes) rest there.last.before m.last there.last.after o.all_placed
+    there.last.parts in
     let closer = each_root (IsPlaced source tables nodes) rest there.before m.closer there.after o.all_placed there.parts in
     let around = order_around nodes (item_at nodes ix).end there.before m.closer there.after (subst (InOrder nodes (item_at nodes ix).end)
     there.parts o.ordered) in
+    let same : span_of opener last m cow ≡ math_item nodes ix m cow = ap (λ (i : Item). span_of i last m cow) opens
+    ∙ ap (λ (i : Item). span_of (item_at nodes ix) i m cow) ends in
     record {
-      closes = ends;
-      stored = stored;
-      origin_is = origin;
-      found = found_at source tables nodes ix m.last ready (ap is_open is) (ap run_character is) there.last;
-      can = record {
+      is = same;
+      closes = closes;
+      found = subst (λ (i : Item). IsFoundAt source tables nodes ix i.end) (sym same) (found_at source tables nodes ix m.last ready
+          (ap is_open is) (ap run_character is) there.last);
+      can = subst (CanPut source tables tables') (sym same) (record {
         closed = refl;
         no_block = refl;
         lies = record {
           ordered = omega (arith, o.placed.lies.ordered, around.from, closer.lies.ordered, there.to_last);
           start = o.placed.lies.start;
-          end = last.lies.end;
+          end = last_placed.lies.end;
         };
         named = record { text = stored.within; link = tt; alignments = tt; attributes = tt };
-        slices = rw (origin, stored.found) slice;
-        new_names = λ n old. math_names tables cow m.display n number old;
-      };
-    }
-
--- so the item that is made of the opener and of the last `$`
-abbrev pub span_of : (opener last : Item) → FoundMath → CowIndex → Item
-span_of opener last m cow = record { start = opener.start; end = last.end; body = body.Math cow m.display }
-
-pub record PutsMath (source : List ℕ) (tables tables' : Tables) (nodes : List (Node Item)) (ix : ℕ) (m : FoundMath) (cow : CowIndex)
-    (text : List ℕ) (origin : Origin) (item : Item) : Type 0 where
-  pub is : item ≡ math_item nodes ix m cow
-  pub closes : ClosesMath nodes ix (Some m)
-  pub stored : PutsText tables tables' cow text
-  pub origin_is : origin_at tables'.cows cow.0 ≡ origin
-  pub found : IsFoundAt source tables nodes ix item.end
-  pub can : CanPut source tables tables' item
-
-pub puts_math : (source : List ℕ) (held held' : Allocated) (nodes : List (Node Item)) (ix : ℕ) (m : FoundMath) (opener last : Item)
-    (text : CowStr) (cow : CowIndex) (found : Option FoundMath)
-    → CanResolve source (tables_of held) nodes (Some ix) → is_dollar (item_at nodes ix).body ≡ true → ClosesMath nodes ix found
-    → found ≡ Some m
-    → held' ≡ with_cow held text → cow.0 ≡ length held.cows → opener ≡ item_at nodes ix → last ≡ item_at nodes m.last
-    → IsSlicedOf source (origin_of text) (text_of text)
-    → PutsMath source (tables_of held) (tables_of held') nodes ix m cow (text_of text) (origin_of text) (span_of opener last m cow)
-puts_math source held held' nodes ix m opener last text cow found ready dollar closed here put number opens ends slice =
-    let d = dollar_body (item_at nodes ix).body dollar in
-    let f = found_span source held held' nodes ix m d.opens d.closes d.context text cow found ready d.is closed here put number slice in
-    let same : span_of opener last m cow ≡ math_item nodes ix m cow = ap (λ (i : Item). span_of i last m cow) opens
-    ∙ ap (λ (i : Item). span_of (item_at nodes ix) i m cow) ends in
-    record {
-      is = same;
-      closes = f.closes;
-      stored = f.stored;
-      origin_is = f.origin_is;
-      found = subst (λ (i : Item). IsFoundAt source (tables_of held) nodes ix i.end) (sym same) f.found;
-      can = subst (CanPut source (tables_of held) (tables_of held')) (sym same) f.can;
+        slices = stored.slice;
+        new_names = λ n old. math_names tables cow m.display n stored.number old;
+      });
     }
 
 -- where its text starts

@@ -1,6 +1,6 @@
 -- A bracket that opens was read where it stands, or memory was refused: what is so of the chain then.
 use Rattle.markdown_base.specs.declared.item.ItemBody.TheVariants as body
-use Rattle.std.proofs.Common.{◌≡◌, ℕ, ◌<◌, Bool, true, false, ◌&&◌, List, ◌∷◌, Option, Some, None, refl}
+use Rattle.std.proofs.Common.{◌≡◌, ℕ, Bool, true, false, ◌&&◌, List, ◌∷◌, Option, Some, None, refl}
 use Rattle.std.specs.Prelude.{Result, Ok, Err, IfErr, IfOk, OnOk, if◌then◌else◌}
 use Rattle.std.specs.Option.{option_map_or}
 use Rattle.markdown_base.specs.Arena.{Arena, sibling_of}
@@ -13,21 +13,19 @@ use Rattle.markdown_brackets.specs.LeftList.{Entry}
 use Rattle.markdown_brackets.specs.Openers as waiting
 use Rattle.markdown_brackets.specs.Openers.{Waiting}
 use Rattle.markdown_brackets.specs.Reference.{is_opener}
-use Rattle.markdown_brackets.specs.declared.spent_ends.SpentEnds.{SpentEnds}
+use Rattle.markdown_brackets.specs.declared.chain_openers.ChainOpeners.{ChainOpeners}
 use Rattle.markdown_chains.specs.Above.{above_cursor}
-use Rattle.markdown_chains.specs.Setting.{Rules, setting_of}
-use Rattle.markdown_chains.specs.Stages.{items_from, stage}
 use Rattle.markdown_chains.specs.Tables.{Tables, tables_of}
-use Rattle.markdown_code.specs.SpanClosers.{HoldsFrom, Learned}
-use Rattle.markdown_code.specs.declared.span_text.SpanKind.{SpanKind}
 use Rattle.markdown_resolver.specs.BracketKinds.{kind_of}
 use Rattle.markdown_resolver.specs.ChainPlace.{CanReadOn}
 use Rattle.markdown_resolver.specs.Chains.{CanResolve}
-use Rattle.markdown_resolver.specs.ReadOn.{ReadsOn, StandsTo}
+use Rattle.markdown_resolver.specs.ReadOn.{StandsTo}
+use Rattle.markdown_resolver.specs.ReadsBracket.{CanReadBracket, ReadsBracket, setting_by, stage_by}
 use Rattle.markdown_resolver.specs.Rewritten.{Puts, settled}
 use Rattle.markdown_resolver.specs.declared.bracket_kind.BracketKind.{BracketKind}
 use Rattle.markdown_resolver.specs.declared.bracket_kind.BracketKind.TheVariants.{Opener, Closer}
 use Rattle.markdown_resolver.specs.declared.chain_place.ChainPlace.{ChainPlace}
+use Rattle.markdown_resolver.specs.declared.resolver.Resolver.{Resolver}
 use Rattle.markdown_resolver.proofs.OpenerOnLemmas.{reads_on_opener}
 use Rattle.markdown_resolver.proofs.PassOneLemmas.{NoBracket, opener_body}
 use Rattle.markdown_resolver.proofs.ReadsItemLemmas.{holds_put}
@@ -77,39 +75,29 @@ abbrev pub IsOpened : Arena Item → Arena Item → ℕ → Option ℕ → Type 
 IsOpened old new ix next = (source : List ℕ) (tables : Tables) → CanResolve source tables old.nodes (Some ix)
     → Puts source ix (settled source) None next old.nodes new.nodes tables tables
 
-module _ {E : Type 0} (place : ChainPlace) (old new : Arena Item) (held : Allocated) (ix : ℕ) where
-  pub ok_fewer : (r : Result (Option ℕ) E) → CanResolve place.text.now (tables_of held) old.nodes (Some ix)
-      → IfOk r (λ next. IsOpened old new ix next)
-      → IfOk r (λ next. items_from new.nodes next < items_from old.nodes (Some ix))
-  ok_fewer (Ok next) ready puts = (puts place.text.now (tables_of held) ready).leaves.fewer
-  ok_fewer (Err fault) ready puts = tt
-
-  pub ok_holds : (r : Result (Option ℕ) E) → CanResolve place.text.now (tables_of held) old.nodes (Some ix)
-      → IfOk r (λ next. IsOpened old new ix next)
-      → IfOk r (λ next. (kind : SpanKind) (learned : Learned) → HoldsFrom kind learned old.nodes (sibling_of old.nodes ix)
-      → HoldsFrom kind learned new.nodes next)
-  ok_holds (Ok next) ready puts = λ kind learned h.
-      holds_put kind learned place.text.now ix (settled place.text.now) None next old.nodes new.nodes (tables_of held) (tables_of held)
-      ready (puts place.text.now (tables_of held) ready) h
-  ok_holds (Err fault) ready puts = tt
-
-  module _ {C : Type 0} (step : C → Question → Option Answer → C → Type 0) (source : List ℕ) (rules : Rules) (limit : ℕ)
-      (callback : Option C) (spent : SpentEnds) (is_image : Bool)
-      (brackets wikilinks brackets' wikilinks' : List Waiting) (same : place.text.now ≡ source) (kind : kind_of (item_at old.nodes ix).body
-      ≡ Some (Opener is_image)) where
-    pub ok_reads : (r : Result (Option ℕ) E) → IfOk r (λ next. IsOpened old new ix next)
-        → OnOk r (brackets' ≡ waiting.live (record { node = ix; is_image = is_image }) ∷ brackets)
-        → OnOk r (wikilinks' ≡ (if wikilinks_on rules.options && option_map_or (λ n. is_opener (item_at old.nodes n).body)
-        (sibling_of old.nodes ix) false
-        then waiting.live (record { node = ix; is_image = is_image }) ∷ wikilinks else wikilinks))
-        → IfOk r (λ next. (first : ℕ) (left : List (Entry ℕ)) → CanReadOn place old held brackets wikilinks first ix left
-        → ReadsOn step (setting_of source rules) (above_cursor source old) first (Some ix) next left (stage old held limit callback)
-        (stage new held limit callback) spent spent brackets' wikilinks')
-    ok_reads (Ok next) puts brackets_are wikilinks_are = λ first left can.
-        let so_far : StandsTo source (tables_of held) old.nodes first (Some ix) left = rw (← same) can.so_far in
-        let ready = stands_rest source (tables_of held) old.nodes first (Some ix) left so_far in
-        reads_on_opener step (setting_of source rules) (above_cursor source old) first ix next left is_image (stage old held limit callback)
-        (stage new held limit callback) spent
-        brackets wikilinks brackets' wikilinks' refl so_far can.openers (opener_kind is_image (item_at old.nodes ix).body kind)
-        (puts source (tables_of held) ready) brackets_are wikilinks_are
-    ok_reads (Err fault) puts brackets_are wikilinks_are = tt
+-- a resolver has read an opener, once that waits
+pub reads_opener : {C E : Type 0} (step : C → Question → Option Answer → C → Type 0) (place : ChainPlace) (ix : ℕ) (is_image : Bool)
+    (tree tree' : Arena Item) (old : Resolver C) (openers : ChainOpeners) (r : Result (Option ℕ) E)
+    → CanReadBracket place tree old ix → kind_of (item_at tree.nodes ix).body ≡ Some (Opener is_image)
+    → IfOk r (λ next. IsOpened tree tree' ix next) → IfOk r (λ next. tree' ≡ record tree { nodes = tree'.nodes })
+    → OnOk r (openers.brackets ≡ waiting.live (record { node = ix; is_image = is_image }) ∷ old.openers.brackets)
+    → OnOk r (openers.wikilinks
+    ≡ (if wikilinks_on old.options && option_map_or (λ n. is_opener (item_at tree.nodes n).body) (sibling_of tree.nodes ix) false
+    then waiting.live (record { node = ix; is_image = is_image }) ∷ old.openers.wikilinks else old.openers.wikilinks))
+    → IfOk r (λ next. ReadsBracket step place ix next tree tree' old (record old { openers = openers }))
+reads_opener step place ix is_image tree tree' old openers (Ok next) can kind puts place_is brackets_are wikilinks_are =
+    let ready = ready_here can.was_read in
+    let put = puts place.text.now (tables_of old.tables) ready in
+    record {
+      reads = λ first left was_read.
+          let so_far : StandsTo old.text.now (tables_of old.tables) tree.nodes first (Some ix) left = rw (← can.text) was_read.so_far in
+          let here = stands_rest old.text.now (tables_of old.tables) tree.nodes first (Some ix) left so_far in
+          reads_on_opener step (setting_by old) (above_cursor old.text.now tree) first ix next left is_image (stage_by tree old)
+          (stage_by tree' old) old.spent old.openers.brackets old.openers.wikilinks openers.brackets openers.wikilinks refl so_far
+          was_read.openers (opener_kind is_image (item_at tree.nodes ix).body kind) (puts old.text.now (tables_of old.tables) here)
+          brackets_are wikilinks_are;
+      fewer = put.leaves.fewer;
+      place_is = place_is;
+      holds = λ kind learned. holds_put kind learned ready put;
+    }
+reads_opener step place ix is_image tree tree' old openers (Err fault) can kind puts place_is brackets_are wikilinks_are = tt

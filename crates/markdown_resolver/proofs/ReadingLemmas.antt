@@ -1,6 +1,7 @@
 -- A chain is read where it stands, item by item: what is so of the items that are left.
-use Rattle.std.proofs.Common.{◌≡◌, ℕ, zero, suc, ◌+◌, ◌-◌, ◌^◌, ◌<◌, ◌≤◌, min, Bool, true, false, ◌⊎◌, inr, ⊎_elim, List, [], ◌∷◌, length}
-use Rattle.std.proofs.Common.{take, rules, Option, Some, None, refl, sym, ap, ◌∙◌, subst, arith}
+use Rattle.std.proofs.Common.{◌≡◌, ℕ, zero, suc, ◌+◌, ◌-◌, ◌^◌, ◌<◌, ◌≤◌, min, Bool, true, false, ◌⊎◌, inr, ⊎_elim, List, length}
+use Rattle.std.proofs.Common.{take, rules, Option, Some, None, refl, sym, subst, arith}
+use Rattle.std.proofs.lemmas.Result.{IfOk-weaker}
 use Rattle.std.specs.Prelude.{Result, Ok, Err, IfOk, slice_range}
 use Rattle.markdown_base.specs.Arena.{Arena, sibling_of, child_of}
 use Rattle.markdown_base.specs.ArenaForest.{links_of}
@@ -12,7 +13,7 @@ use Rattle.markdown_base.specs.declared.item.ItemBody.{ItemBody}
 use Rattle.markdown_base.specs.declared.item.ItemBody.TheVariants as body
 use Rattle.markdown_base.specs.declared.node.Node.{Node}
 use Rattle.markdown_base.proofs.ArenaForestLemmas.{opens, forest_at-none}
-use Rattle.markdown_chains.specs.Above.{Above, above_cursor, inside_all, inside_item}
+use Rattle.markdown_chains.specs.Above.{Above, above_cursor}
 use Rattle.markdown_chains.specs.ChainRest.{open_body}
 use Rattle.markdown_chains.specs.Counts.{risen}
 use Rattle.markdown_chains.specs.Document.{Plain, plain_tags, Shape, leaf, enclosed, plain, backslash_break, unresolved, is_unresolved}
@@ -27,9 +28,10 @@ use Rattle.markdown_code.specs.Finds.{nothing, Passed, find, find_by, gfm_footno
 use Rattle.markdown_code.specs.SpanClosers.{HoldsFrom, Learned}
 use Rattle.markdown_code.specs.declared.span_text.SpanKind.{SpanKind}
 use Rattle.markdown_delims.proofs.PairingLemmas.{closed_shape}
-use Rattle.markdown_resolver.specs.Chains.{AreAbove, CanResolve}
-use Rattle.markdown_resolver.specs.Rewritten.{LeavesRest, Puts, settled}
+use Rattle.markdown_resolver.specs.Chains.{CanResolve}
+use Rattle.markdown_resolver.specs.Rewritten.{Puts, settled}
 use Rattle.markdown_resolver.specs.ReadsItem.{LooksAt, ReadsItem}
+use Rattle.markdown_resolver.specs.declared.chain_place.ChainPlace.{ChainPlace}
 use Rattle.markdown_resolver.proofs.ChainLeadsLemmas.{chain_leads, holds_next}
 use Rattle.markdown_resolver.proofs.ReadsItemLemmas.{reads_item}
 
@@ -150,10 +152,10 @@ settled_reads s above ix next old new tables ready nothing_there puts =
     let none : find s above a after ≡ nothing = finds_in_shape s above a after tables (slice_range s.text item.start item.end) item.body
     nothing_there in
     let reads = reads_settled s above a (trees_from s.text tables old (child_of old ix)) after none in
-    reads_item s above ix (settled s.text) None next old new tables tables ready (record { standing = reads.0; ends = reads.1 }) puts
+    reads_item ready (record { standing = reads.0; ends = reads.1 }) puts
 
 -- where no search was made, none looked at an item
-pub looks_at_none : (failed : Bool) (visits items items' : ℕ) → visits < 2 ^ 128 → items' < items
+looks_at_none : (failed : Bool) (visits items items' : ℕ) → visits < 2 ^ 128 → items' < items
     → LooksAt failed failed visits visits items items'
 looks_at_none failed visits items items' bound fewer = record {
   more = 0;
@@ -163,68 +165,42 @@ looks_at_none failed visits items items' bound fewer = record {
   past = λ e. omega arith;
 }
 
--- what searches have learned of a chain holds of what is left when an item was read
-pub holds_on : (s : Setting) (above : Above) (kind : SpanKind) (learned : Learned) (ix : ℕ) (next : Option ℕ) (old new : List (Node Item))
-    (tables tables' : Tables)
-    → CanResolve s.text tables old (Some ix) → ReadsItem s above ix next old new tables tables' → HoldsFrom kind learned old (Some ix)
-    → HoldsFrom kind learned new next
-holds_on s above kind learned ix next old new tables tables' ready reads h =
-    reads.holds kind learned (holds_next kind learned old ix (chain_leads s.text tables old (Some ix) ready) h)
+-- an item was read, unless memory was refused: what other searches have learned holds of what is left, and they have looked at no
+-- item
+pub record ReadsAlone {E : Type 0} (r : Result (Option ℕ) E) (s : Setting) (above : Above) (ix : ℕ) (old new : List (Node Item))
+    (tables tables' : Tables) : Type 0 where
+  pub reads : IfOk r (λ next. ReadsItem s above ix next old new tables tables')
+  pub holds : (kind : SpanKind) (learned : Learned) → HoldsFrom kind learned old (Some ix)
+      → IfOk r (λ next. HoldsFrom kind learned new next)
+  pub looks : (failed : Bool) (visits : ℕ) → visits < 2 ^ 128
+      → IfOk r (λ next. LooksAt failed failed visits visits (items_from old (Some ix)) (items_from new next))
 
--- an item was read, by the rules of the setting, unless memory was refused
-pub ok_reads : {E : Type 0} (r : Result (Option ℕ) E) (text source : List ℕ) (rules : Rules) (gfm : Bool) (tree : Arena Item) (ix : ℕ)
-    (new : List (Node Item)) (tables tables' : Tables)
-    → text ≡ source → gfm ≡ gfm_footnotes rules.options
-    → IfOk r (λ next. (rules : Rules) → gfm_footnotes rules.options ≡ gfm
-    → ReadsItem (setting_of text rules) (above_cursor text tree) ix next tree.nodes new tables tables')
-    → IfOk r (λ next. ReadsItem (setting_of source rules) (above_cursor source tree) ix next tree.nodes new tables tables')
-ok_reads (Ok next) text source rules gfm tree ix new tables tables' e f h =
-    subst (λ (t : List ℕ). ReadsItem (setting_of t rules) (above_cursor t tree) ix next tree.nodes new tables tables') e (h rules (sym f))
-ok_reads (Err fault) text source rules gfm tree ix new tables tables' e f h = tt
+pub reads_alone : {E : Type 0} (r : Result (Option ℕ) E) (s : Setting) (above : Above) (ix : ℕ) (old new : List (Node Item))
+    (tables tables' : Tables) → CanResolve s.text tables old (Some ix)
+    → IfOk r (λ next. ReadsItem s above ix next old new tables tables') → ReadsAlone r s above ix old new tables tables'
+reads_alone (Ok next) s above ix old new tables tables' ready reads = record {
+  reads = reads;
+  holds = λ kind learned h.
+      reads.holds kind learned (holds_next kind learned old ix (chain_leads s.text tables old (Some ix) ready) h);
+  looks = λ failed visits bound. looks_at_none failed visits (items_from old (Some ix)) (items_from new next) bound reads.leaves.fewer;
+}
+reads_alone (Err fault) s above ix old new tables tables' ready reads = record {
+  reads = tt;
+  holds = λ kind learned h. tt;
+  looks = λ failed visits bound. tt;
+}
 
--- then what searches of the other kind have learned holds of what is left
-pub ok_holds : {E : Type 0} (r : Result (Option ℕ) E) (s : Setting) (above : Above) (kind : SpanKind) (learned : Learned) (ix : ℕ)
-    (old new : List (Node Item)) (tables tables' : Tables)
-    → CanResolve s.text tables old (Some ix) → HoldsFrom kind learned old (Some ix)
-    → IfOk r (λ next. ReadsItem s above ix next old new tables tables')
-    → IfOk r (λ next. HoldsFrom kind learned new next)
-ok_holds (Ok next) s above kind learned ix old new tables tables' ready h reads = holds_on s above kind learned ix next old new tables
-    tables' ready reads h
-ok_holds (Err fault) s above kind learned ix old new tables tables' ready h reads = tt
-
--- and those have looked at no item
-pub ok_looks : {E : Type 0} (r : Result (Option ℕ) E) (s : Setting) (above : Above) (failed : Bool) (visits ix : ℕ)
-    (old new : List (Node Item)) (tables tables' : Tables)
-    → visits < 2 ^ 128 → IfOk r (λ next. ReadsItem s above ix next old new tables tables')
-    → IfOk r (λ next. LooksAt failed failed visits visits (items_from old (Some ix)) (items_from new next))
-ok_looks (Ok next) s above failed visits ix old new tables tables' bound reads =
-    looks_at_none failed visits (items_from old (Some ix)) (items_from new next) bound reads.leaves.fewer
-ok_looks (Err fault) s above failed visits ix old new tables tables' bound reads = tt
-
--- nodes of a spine stay as they are where an item of a chain below them is read
-pub above_left : (source : List ℕ) (ix : ℕ) (next : Option ℕ) (old new : List (Node Item)) (tables' : Tables) (spine : List ℕ)
-    → LeavesRest source ix next old new tables' → AreAbove source old (Some ix) spine → AreAbove source new next spine
-above_left source ix next old new tables' [] leaves above = tt
-above_left source ix next old new tables' (n ∷ deeper) leaves above =
-    let at = above.0 in (
-      record {
-        within = omega (arith, at.within, leaves.more_nodes);
-        lies = rw (leaves.outside n at.within at.apart).item at.lies;
-        apart = omega (arith, leaves.of_chain n at.within, at.apart);
-      },
-      above_left source ix next old new tables' deeper leaves above.1,
-    )
-
--- so the blocks above the chain do
-pub inside_left : (source : List ℕ) (ix : ℕ) (next : Option ℕ) (old new : List (Node Item)) (tables' : Tables) (spine : List ℕ)
-    (outer : Above)
-    → LeavesRest source ix next old new tables' → AreAbove source old (Some ix) spine
-    → inside_all new spine outer ≡ inside_all old spine outer
-inside_left source ix next old new tables' [] outer leaves above = refl
-inside_left source ix next old new tables' (n ∷ deeper) outer leaves above =
-    let at = above.0 in
-    ap (λ (item : Item). inside_all new deeper (inside_item item outer)) (leaves.outside n at.within at.apart).item
-    ∙ inside_left source ix next old new tables' deeper (inside_item (item_at old n) outer) leaves above.1
+-- so it is by the rules of a setting, where it is so by any rules with its footnotes
+pub reads_by_rules : {E : Type 0} (r : Result (Option ℕ) E) (place : ChainPlace) (source : List ℕ) (rules : Rules) (tree : Arena Item)
+    (ix : ℕ) (new : List (Node Item)) (tables tables' : Tables) → CanResolve place.text.now tables tree.nodes (Some ix)
+    → place.text.now ≡ source → place.gfm_footnotes ≡ gfm_footnotes rules.options
+    → IfOk r (λ next. (rules : Rules) → gfm_footnotes rules.options ≡ place.gfm_footnotes
+    → ReadsItem (setting_of place.text.now rules) (above_cursor place.text.now tree) ix next tree.nodes new tables tables')
+    → ReadsAlone r (setting_of source rules) (above_cursor source tree) ix tree.nodes new tables tables'
+reads_by_rules r place source rules tree ix new tables tables' ready same gfm reads =
+    subst (λ (t : List ℕ). ReadsAlone r (setting_of t rules) (above_cursor t tree) ix tree.nodes new tables tables') same
+    (reads_alone r (setting_of place.text.now rules) (above_cursor place.text.now tree) ix tree.nodes new tables tables' ready
+    (IfOk-weaker r _ _ (λ next by_any. by_any rules (sym gfm)) reads))
 
 -- the bytes up to one
 pub up_to : (text : List ℕ) (end : ℕ) → slice_range text 0 end ≡ take end text

@@ -65,19 +65,19 @@ quiet_read s above a below after quiet = by_quiet (is_quiet a.part.shape) refl
     by_quiet false e = quiet_found s a (find s above a after) quiet.0
 
 -- what searches have learned of what follows an item is true of what is left
-pub holds_put : (kind : SpanKind) (learned : Learned) (source : List ℕ) (ix : ℕ) (trees : Standing) (goes_on next : Option ℕ)
-    (old new : List (Node Item)) (tables tables' : Tables)
+pub holds_put : {source : List ℕ} {ix : ℕ} {trees : Standing} {goes_on next : Option ℕ} {old new : List (Node Item)}
+    {tables tables' : Tables} (kind : SpanKind) (learned : Learned)
     → CanResolve source tables old (Some ix) → Puts source ix trees goes_on next old new tables tables'
     → HoldsFrom kind learned old (sibling_of old ix) → HoldsFrom kind learned new next
-holds_put kind learned source ix trees goes_on next old new tables tables' ready puts =
+holds_put {source} {ix} {trees} {goes_on} {next} {old} {new} {tables} kind learned ready puts =
     holds_past kind learned old new ix goes_on next (chain_at old ix (chain_leads source tables old (Some ix) ready)).later puts.leads
 
 -- so the item is read
-pub reads_item : (s : Setting) (above : Above) (ix : ℕ) (trees : Standing) (goes_on next : Option ℕ) (old new : List (Node Item))
-    (tables tables' : Tables)
+pub reads_item : {s : Setting} {above : Above} {ix : ℕ} {trees : Standing} {goes_on next : Option ℕ} {old new : List (Node Item)}
+    {tables tables' : Tables}
     → CanResolve s.text tables old (Some ix) → ReadsAs s above tables old ix trees goes_on
     → Puts s.text ix trees goes_on next old new tables tables' → ReadsItem s above ix next old new tables tables'
-reads_item s above ix trees goes_on next old new tables tables' ready reads puts =
+reads_item {s} {above} {ix} {trees} {goes_on} {next} {old} {new} {tables} {tables'} ready reads puts =
     let o = opens_chain s.text tables old ix ready in
     let a = label_at s.text tables old ix in
     let below = trees_from s.text tables old (child_of old ix) in
@@ -90,7 +90,7 @@ reads_item s above ix trees goes_on next old new tables tables' ready reads puts
       puts = subst (λ (goes_on : Option ℕ). PutsTrees s.text ix next (read_at s above tables old ix).trees (past goes_on after) old new
           tables tables') (sym reads.ends) q;
       leaves = puts.leaves;
-      holds = λ kind learned. holds_put kind learned s.text ix trees goes_on next old new tables tables' ready puts;
+      holds = λ kind learned. holds_put kind learned ready puts;
     }
 
 -- the shape of an open item

@@ -71,13 +71,13 @@ unless_code (body.MaybeCode count escaped) chain h = by (closing_count count esc
 unless_code other chain h = refl
 
 -- where nothing closes code
-pub nothing_looks : (source : List ℕ) (tables tables' : Tables) (old new : List (Node Item)) (ix : ℕ) (trees : Standing) (next : Option ℕ)
-    (learned after : Learned) (visits visits' : ℕ)
+pub nothing_looks : {source : List ℕ} {tables tables' : Tables} {old new : List (Node Item)} {ix : ℕ} {trees : Standing}
+    {next : Option ℕ} {found : Option ℕ} (learned after : Learned) (visits visits' : ℕ)
     → CanResolve source tables old (Some ix) → LooksForCode learned old ix visits visits'
-    → has_failed after ≡ failed_by_now learned (opens_code (item_at old ix).body) false
+    → has_failed after ≡ failed_by_now learned (opens_code (item_at old ix).body) (is_some found) → found ≡ None
     → Puts source ix trees None next old new tables tables'
     → LooksAt (has_failed learned) (has_failed after) visits visits' (items_from old (Some ix)) (items_from new next)
-nothing_looks source tables tables' old new ix trees next learned after visits visits' ready counted failed puts =
+nothing_looks {source} {tables} {tables'} {old} {new} {ix} {trees} {next} learned after visits visits' ready counted failed none puts =
     let o = opens_chain source tables old ix ready in
     let chain = map (numbered old) (followers old ix) in
     let looked = looked_for_code_close item_in (item_at old ix).body chain in
@@ -86,7 +86,9 @@ nothing_looks source tables tables' old new ix trees next learned after visits v
     let within = code_visit_law.within (item_at old ix).body chain in
     looks_at learned (has_failed after) (opens_code (item_at old ix).body) false looked visits visits' (items_from old (Some ix))
     (items_from new next)
-    (counted (suc ix) chain o.leads) failed (omega (arith, within, size, o.items)) (omega (arith, left, size, o.items))
+    (counted (suc ix) chain o.leads)
+    (failed ∙ ap (λ (f : Option ℕ). failed_by_now learned (opens_code (item_at old ix).body) (is_some f)) none)
+    (omega (arith, within, size, o.items)) (omega (arith, left, size, o.items))
     (unless_code (item_at old ix).body chain) (λ found. cc found)
 
 -- and where something does
@@ -108,14 +110,15 @@ up_to_closer nodes count escaped xs x among closes =
     let all = ap length parts in
     rw parts (omega (arith, law, size, rest, all))
 
-pub code_looks : (source : List ℕ) (tables tables' : Tables) (old new : List (Node Item)) (ix x count : ℕ) (escaped : Bool)
-    (trees : Standing) (next : Option ℕ) (learned after : Learned) (visits visits' : ℕ)
+pub code_looks : {source : List ℕ} {tables tables' : Tables} {old new : List (Node Item)} {ix : ℕ} {x count : ℕ} {escaped : Bool}
+    {trees : Standing} {next : Option ℕ} {found : Option ℕ} (learned after : Learned) (visits visits' : ℕ)
     → CanResolve source tables old (Some ix) → (item_at old ix).body ≡ body.MaybeCode count escaped → ClosesCode old ix (Some x)
     → LooksForCode learned old ix visits visits'
-    → has_failed after ≡ failed_by_now learned (opens_code (item_at old ix).body) true
+    → has_failed after ≡ failed_by_now learned (opens_code (item_at old ix).body) (is_some found) → found ≡ Some x
     → Puts source ix trees (Some (item_at old x).end) next old new tables tables'
     → LooksAt (has_failed learned) (has_failed after) visits visits' (items_from old (Some ix)) (items_from new next)
-code_looks source tables tables' old new ix x count escaped trees next learned after visits visits' ready is closes counted failed puts =
+code_looks {source} {tables} {tables'} {old} {new} {ix} {x} {count} {escaped} {trees} {next} learned after visits visits' ready is
+    closes counted failed some puts =
     let o = opens_chain source tables old ix ready in
     let xs = followers old ix in
     let chain = map (numbered old) xs in
@@ -135,7 +138,9 @@ code_looks source tables tables' old new ix x count escaped trees next learned a
     (up_to_closer old count escaped xs x among (closes_by_number source tables old ix count escaped (Some x) ready is closes)) in
     looks_at learned (has_failed after) (opens_code (item_at old ix).body) true looked visits visits' (items_from old (Some ix))
     (items_from new next)
-    (counted (suc ix) chain o.leads) failed (omega (arith, up_to, o.items)) (omega (arith, up_to, left, fewer, o.items))
+    (counted (suc ix) chain o.leads)
+    (failed ∙ ap (λ (f : Option ℕ). failed_by_now learned (opens_code (item_at old ix).body) (is_some f)) some)
+    (omega (arith, up_to, o.items)) (omega (arith, up_to, left, fewer, o.items))
     (unless_code (item_at old ix).body chain) (λ found. omega (arith, up_to, left, fewer, o.items))
 
 -- a `$` that opens nothing is not looked for
@@ -143,13 +148,13 @@ unless_math : (opener : Item) (chain : List Numbered) → can_open opener.body �
 unless_math opener chain h = rw h refl
 
 -- where nothing closes math
-pub no_math_looks : (source : List ℕ) (tables tables' : Tables) (old new : List (Node Item)) (ix : ℕ) (trees : Standing) (next : Option ℕ)
-    (learned after : Learned) (visits visits' : ℕ)
+pub no_math_looks : {source : List ℕ} {tables tables' : Tables} {old new : List (Node Item)} {ix : ℕ} {trees : Standing}
+    {next : Option ℕ} {found : Option FoundMath} (learned after : Learned) (visits visits' : ℕ)
     → CanResolve source tables old (Some ix) → LooksForMath learned old ix visits visits'
-    → has_failed after ≡ failed_by_now learned (can_open (item_at old ix).body) false
+    → has_failed after ≡ failed_by_now learned (can_open (item_at old ix).body) (is_some found) → found ≡ None
     → Puts source ix trees None next old new tables tables'
     → LooksAt (has_failed learned) (has_failed after) visits visits' (items_from old (Some ix)) (items_from new next)
-no_math_looks source tables tables' old new ix trees next learned after visits visits' ready counted failed puts =
+no_math_looks {source} {tables} {tables'} {old} {new} {ix} {trees} {next} learned after visits visits' ready counted failed none puts =
     let o = opens_chain source tables old ix ready in
     let chain = map (numbered old) (followers old ix) in
     let looked = looked_for_math_from item_in (item_at old ix) chain in
@@ -158,7 +163,9 @@ no_math_looks source tables tables' old new ix trees next learned after visits v
     let within = math_visit_law.within (item_at old ix) chain in
     looks_at learned (has_failed after) (can_open (item_at old ix).body) false looked visits visits' (items_from old (Some ix))
     (items_from new next)
-    (counted (suc ix) chain o.leads) failed (omega (arith, within, size, o.items)) (omega (arith, left, size, o.items))
+    (counted (suc ix) chain o.leads)
+    (failed ∙ ap (λ (f : Option FoundMath). failed_by_now learned (can_open (item_at old ix).body) (is_some f)) none)
+    (omega (arith, within, size, o.items)) (omega (arith, left, size, o.items))
     (unless_math (item_at old ix) chain) (λ found. cc found)
 
 -- and where something does
@@ -180,13 +187,15 @@ up_to_dollar nodes opener xs m closes stands =
     let law = math_visit_law.before opener chain d found first in
     omega (arith, law, length-map xs (numbered nodes), length-map stands.after (numbered nodes))
 
-pub math_looks : (source : List ℕ) (tables tables' : Tables) (old new : List (Node Item)) (ix : ℕ) (m : FoundMath) (trees : Standing)
-    (next : Option ℕ) (learned after : Learned) (visits visits' : ℕ)
-    → CanResolve source tables old (Some ix) → ClosesMath old ix (Some m) → LooksForMath learned old ix visits visits'
-    → has_failed after ≡ failed_by_now learned (can_open (item_at old ix).body) true
+pub math_looks : {source : List ℕ} {tables tables' : Tables} {old new : List (Node Item)} {ix : ℕ} {m : FoundMath}
+    {trees : Standing} {next : Option ℕ} {found : Option FoundMath} (learned after : Learned) (visits visits' : ℕ)
+    → CanResolve source tables old (Some ix) → ClosesMath old ix (Some m)
+    → LooksForMath learned old ix visits visits'
+    → has_failed after ≡ failed_by_now learned (can_open (item_at old ix).body) (is_some found) → found ≡ Some m
     → Puts source ix trees (Some (item_at old m.last).end) next old new tables tables'
     → LooksAt (has_failed learned) (has_failed after) visits visits' (items_from old (Some ix)) (items_from new next)
-math_looks source tables tables' old new ix m trees next learned after visits visits' ready closes counted failed puts =
+math_looks {source} {tables} {tables'} {old} {new} {ix} {m} {trees} {next} learned after visits visits' ready closes counted failed
+    some puts =
     let o = opens_chain source tables old ix ready in
     let xs = followers old ix in
     let chain = map (numbered old) xs in
@@ -203,5 +212,7 @@ math_looks source tables tables' old new ix m trees next learned after visits vi
     let up_to = up_to_dollar old (item_at old ix) xs m (math_by_number source tables old ix (Some m) ready closes) there in
     looks_at learned (has_failed after) (can_open (item_at old ix).body) true looked visits visits' (items_from old (Some ix))
     (items_from new next)
-    (counted (suc ix) chain o.leads) failed (omega (arith, up_to, o.items)) (omega (arith, up_to, left, fewer, o.items))
+    (counted (suc ix) chain o.leads)
+    (failed ∙ ap (λ (f : Option FoundMath). failed_by_now learned (can_open (item_at old ix).body) (is_some f)) some)
+    (omega (arith, up_to, o.items)) (omega (arith, up_to, left, fewer, o.items))
     (unless_math (item_at old ix) chain) (λ found. omega (arith, up_to, left, fewer, o.items))

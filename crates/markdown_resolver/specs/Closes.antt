@@ -1,5 +1,5 @@
 -- What a `]` becomes, where it stands in an arena: what may be put there, and what was.
-use Rattle.std.specs.Prelude.{◌≡◌, ℕ, ◌<◌, ◌≤◌, ⊤, Bool, true, false, List, Option, Some, None, nat_le}
+use Rattle.std.specs.Prelude.{◌≡◌, ℕ, ◌<◌, ◌≤◌, ⊤, Bool, true, false, not, ◌&&◌, List, Option, Some, None, nat_le}
 use Rattle.std.specs.Str.{IsCharBoundary}
 use Rattle.markdown_base.specs.Arena.{sibling_of}
 use Rattle.markdown_base.specs.BlockTree.{item_at}
@@ -12,6 +12,8 @@ use Rattle.markdown_brackets.specs.BracketDecision.{Progress, past_second}
 use Rattle.markdown_brackets.specs.ClosingBracket.{put}
 use Rattle.markdown_brackets.specs.Finish.{SplitsAs}
 use Rattle.markdown_brackets.specs.LeftList.{Entry, brackets_of, inside, wikilinks_of}
+use Rattle.markdown_brackets.specs.SpentEnds.{is_spent}
+use Rattle.markdown_brackets.specs.declared.spent_ends.SpentEnds.{SpentEnds}
 use Rattle.markdown_chains.specs.ChainRest.{end_of, past, past_byte, start_of}
 use Rattle.markdown_chains.specs.Document.{Label, is_unresolved}
 use Rattle.markdown_chains.specs.Origins.{StandsIn, destination_origin, made}
@@ -23,6 +25,14 @@ use Rattle.markdown_code.specs.declared.span_text.SpanKind.{SpanKind}
 use Rattle.markdown_resolver.specs.Chains.{ChangesChain}
 use Rattle.markdown_resolver.specs.PutsTrees.{numbered_from, numbered_label}
 use Rattle.markdown_resolver.specs.ReadOn.{StandsTo, left_without_numbers}
+
+-- a `]` of an arena, with the chain after it
+abbrev pub closing_at : List ℕ → Tables → List (Node Item) → SpentEnds → (could_be : Bool) → ℕ → Closing ℕ
+closing_at source tables nodes spent could_be ix = record {
+  label = numbered_label source tables nodes ix;
+  could_be_reference = could_be && not (is_spent spent (end_of (numbered_label source tables nodes ix)));
+  rest = numbered_from source tables nodes (sibling_of nodes ix);
+}
 
 -- no open item stands around a byte: the first that ends past it starts there or later, or is not open
 abbrev pub IsNotCut : (ends : Bool) → ℕ → Label ℕ → (later : Type 0) → Type 0

@@ -17,5 +17,7 @@ pub mod Rewritten
 pub mod ClosedOver
 pub mod ChainPlace
 pub mod BracketKinds
+pub mod ReadsBracket
+pub mod StoredText
 pub mod PutCode
 pub mod MarkupItems

@@ -52,14 +52,16 @@ text_unless false source a below = node (as_text source a) nil nil
 abbrev pub settled : List ℕ → Standing
 settled source a below = text_unless (is_quiet a.part.shape) source a below
 
--- one item; two items; one item with one child
+-- one item
 abbrev pub one : List ℕ → Tables → Item → Standing
 one source tables item a below = node (label_of source tables item) nil nil
 
+-- two items, one behind the other
 abbrev pub pair : List ℕ → Tables → (first second : Item) → Standing
 pair source tables first second a below =
     node (label_of source tables first) nil (node (label_of source tables second) nil nil)
 
+-- one item with one child
 abbrev pub parent : List ℕ → Tables → (item inside : Item) → Standing
 parent source tables item inside a below =
     node (label_of source tables item) (node (label_of source tables inside) nil nil) nil

@@ -1,27 +1,29 @@
 //! Brackets in a chain, where it stands: an opener waits for its `]`, and what a `]` becomes is put where its opener
 //! stands.
 ghost use Rattle.std.specs.Prelude.{◌≡◌, ◌∷◌, ◌&&◌, ◌<◌, false, ℕ, List, None, Some, IfErr, IfOk, IfSome, OnOk};
-ghost use Rattle.std.specs.Prelude.{if◌then◌else◌, length};
+ghost use Rattle.std.specs.Prelude.{OnErr, if◌then◌else◌, is_some, length};
 ghost use Rattle.std.specs.Option.{option_map_or};
 ghost use Rattle.markdown_base.specs.Arena.{sibling_of};
 ghost use Rattle.markdown_base.specs.BlockTree.{item_at};
 ghost use Rattle.markdown_base.specs.CowText.{text_of};
-ghost use Rattle.markdown_base.specs.Event.{LinkView};
 ghost use Rattle.markdown_base.specs.declared.fault.Fault.{Fault};
 ghost use Rattle.markdown_base.specs.declared.item.ItemBody.TheVariants as body;
 ghost use Rattle.markdown_brackets.specs.declared.closing_bracket.ClosedBracket.TheVariants.{Wikilinked};
-ghost use Rattle.markdown_brackets.specs.BracketDecision.{Around, Becomes, Closing, Wikilink, a_footnote, a_link};
-ghost use Rattle.markdown_brackets.specs.BracketDecision.{a_wikilink, past_second};
+ghost use Rattle.markdown_brackets.specs.BracketDecision.{Around, Becomes, Closing, a_footnote, a_link};
 ghost use Rattle.markdown_brackets.specs.BracketOptions.{wikilinks_on};
-ghost use Rattle.markdown_brackets.specs.DecisionView.{IsBecome, first_shown, opener_of, shown_of};
+ghost use Rattle.markdown_brackets.specs.DecisionView.{IsBecome, opener_of};
 ghost use Rattle.markdown_brackets.specs.LeftList.{Entry, Split, inside};
 ghost use Rattle.markdown_brackets.specs.LookupView.{target_view};
 ghost use Rattle.markdown_brackets.specs.Openers as waiting;
 ghost use Rattle.markdown_brackets.specs.Reference.{is_opener};
-ghost use Rattle.markdown_chains.specs.Tables.{HasGrown, Tables, tables_of};
+ghost use Rattle.markdown_chains.specs.Tables.{Tables, tables_of};
+ghost use Rattle.markdown_code.specs.Finds.{gfm_footnotes};
+ghost use Rattle.markdown_resolver.specs.ChainPlace.{CanReadOn};
 ghost use Rattle.markdown_resolver.specs.Chains.{CanResolve};
 ghost use Rattle.markdown_resolver.specs.Closes.{ClosesAt, PutsClosed};
+ghost use Rattle.markdown_resolver.specs.ReadsBracket.{DecidesClosing};
 ghost use Rattle.markdown_resolver.specs.Rewritten.{Puts, settled};
+ghost use Rattle.markdown_spans.specs.Footnotes.{footnote_at};
 
 use crate::chain_place::ChainPlace;
 use crate::found::settle;
@@ -37,11 +39,15 @@ use markdown_base::tag::LinkType;
 use markdown_base::tree::Tree;
 use markdown_brackets::chain_openers::ChainOpeners;
 use markdown_brackets::closing_bracket::ClosedBracket;
+use markdown_brackets::decision::decide_bracket;
 use markdown_brackets::look_up::Target;
 use markdown_brackets::openers::Opener;
+use markdown_brackets::spent_ends::SpentEnds;
 use markdown_brackets::wikilink_nodes::ShownNodes;
 use markdown_brackets::written::{BracketPlace, wikilinks_on};
-use markdown_spans::defs::Allocations;
+use markdown_code::prefixes::ContainerPrefix;
+use markdown_spans::defs::{Allocations, BrokenLinkCallback};
+use std::alloc::Global;
 
 /// The place of a chain, as its brackets ask about it.
 pub(crate) fn bracket_place<'a>(place: &ChainPlace<'a>, options: Options) -> BracketPlace<'a>
@@ -87,8 +93,10 @@ pub(crate) fn open_bracket(
     ensures brackets { OnOk result (
         openers.new.brackets ≡ waiting.live (record { node = ix; is_image = is_image }) ∷ openers.old.brackets) }
     ensures wikilinks { OnOk result (openers.new.wikilinks
-        ≡ (if wikilinks_on options && option_map_or (λ n. is_opener (item_at tree.old.nodes n).body) (sibling_of tree.old.nodes ix) false
-        then waiting.live (record { node = ix; is_image = is_image }) ∷ openers.old.wikilinks else openers.old.wikilinks)) }
+        ≡ (if wikilinks_on options
+        && option_map_or (λ n. is_opener (item_at tree.old.nodes n).body) (sibling_of tree.old.nodes ix) false
+        then waiting.live (record { node = ix; is_image = is_image }) ∷ openers.old.wikilinks
+        else openers.old.wikilinks)) }
     ensures refused { IfErr result (λ fault. fault ≡ Fault.Memory) }
 {
     let opener = Opener { node: ix, is_image };
@@ -300,4 +308,52 @@ pub(crate) fn put_closed<'a>(
             end,
         } => put_wikilink(tree, tables, closer, opener, name, has_pothole, shown, end),
     }
+}
+
+/// Decides what a `]` of a chain, where that stands, becomes: by the openers that wait, by what is defined, and by what
+/// is answered. The only error is `Fault::Memory`; then nobody was asked.
+pub(crate) fn decide_closing<'a, F: BrokenLinkCallback<'a>>(
+    alloc: Global,
+    tree: &Tree<Item>,
+    place: &ChainPlace<'a>,
+    options: Options,
+    ix: usize,
+    could_be: bool,
+    openers: &mut ChainOpeners,
+    spent: &mut SpentEnds,
+    tables: &mut Allocations<'a>,
+    callback: &mut Option<F>,
+    limit: &mut usize,
+) -> Result<ClosedBracket<'a>, Fault>
+    requires can_ask { IfSome callback.old F.can_ask }
+    requires ready { (first : ℕ) × (left : List (Entry ℕ))
+        × CanReadOn place.now tree.now tables.old openers.old.brackets openers.old.wikilinks first ix left }
+    requires footnotes { place.now.gfm_footnotes ≡ gfm_footnotes options }
+    requires closes { (item_at tree.now.nodes ix).body ≡ body.MaybeLinkClose could_be }
+    ensures decides { IfOk result (λ found. DecidesClosing F.answers place.now place.now.text.now options tree.now ix
+        could_be tables.old tables.new limit.old limit.new spent.old spent.new callback.old callback.new
+        openers.old openers.new found) }
+
+    // a refusal, and what holds whatever comes
+    ensures nothing_asked { OnErr result (callback.new ≡ callback.old) }
+    ensures again { IfSome callback.new F.can_ask }
+    ensures refused { IfErr result (λ fault. fault ≡ Fault.Memory) }
+    ensures tables { tables.new ≡ record tables.old { footdefs = tables.new.footdefs } }
+    ensures names { (name : List ℕ)
+        → is_some (footnote_at tables.new.footdefs name) ≡ is_some (footnote_at tables.old.footdefs name) }
+{
+    decide_bracket(
+        alloc,
+        tree,
+        ix,
+        could_be,
+        &bracket_place(place, options),
+        &ContainerPrefix::new(tree, place.gfm_footnotes),
+        openers,
+        spent,
+        &tables.refdefs,
+        &mut tables.footdefs,
+        callback,
+        limit,
+    )
 }

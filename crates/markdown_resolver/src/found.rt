@@ -102,7 +102,8 @@ pub(crate) fn put_pair(
     second: Item,
 ) -> Option<usize>
     requires { (source : List ℕ) × (tables : Tables) × (tables' : Tables) × HasGrown tables tables'
-        × IsFoundAt source tables tree.old.nodes ix second.end × CanPutPair source tables tables' tree.old.nodes ix closer first second }
+        × IsFoundAt source tables tree.old.nodes ix second.end
+        × CanPutPair source tables tables' tree.old.nodes ix closer first second }
     ensures puts { (source : List ℕ) (tables tables' : Tables) → HasGrown tables tables'
         → IsFoundAt source tables tree.old.nodes ix second.end
         → CanPutPair source tables tables' tree.old.nodes ix closer first second
@@ -126,7 +127,8 @@ pub(crate) fn put_parent(
     inside: Item,
 ) -> Result<Option<usize>, AllocError>
     requires { (source : List ℕ) × (tables : Tables) × (tables' : Tables) × HasGrown tables tables'
-        × IsFoundAt source tables tree.old.nodes ix item.end × CanPutParent source tables tables' tree.old.nodes ix item inside }
+        × IsFoundAt source tables tree.old.nodes ix item.end
+        × CanPutParent source tables tables' tree.old.nodes ix item inside }
     ensures puts { IfOk result (λ next. (source : List ℕ) (tables tables' : Tables) → HasGrown tables tables'
         → IsFoundAt source tables tree.old.nodes ix item.end
         → CanPutParent source tables tables' tree.old.nodes ix item inside

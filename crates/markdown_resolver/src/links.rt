@@ -1,6 +1,6 @@
 //! What a closing bracket becomes is put where it stands: into the node of its opener, over what stands inside. What
 //! ends at a byte or before leaves the chain, and what is left begins there at the earliest.
-ghost use Rattle.std.specs.Prelude.{◌≡◌, ◌<◌, ◌∷◌, ◌++◌, [], ℕ, List, length, Some, None, IfSome};
+ghost use Rattle.std.specs.Prelude.{◌≡◌, ◌<◌, ◌∷◌, ◌++◌, [], ℕ, List, length, Some, None};
 ghost use Rattle.markdown_base.specs.BlockTree.{item_at};
 ghost use Rattle.markdown_chains.specs.Tables.{HasGrown, Named, Tables};
 ghost use Rattle.markdown_chains.specs.Totals.{times_named};
@@ -169,7 +169,8 @@ pub(crate) fn put_wikilink_shown(
     requires { (source : List ℕ) × (tables : Tables) × (tables' : Tables) × (nodes : List ℕ) × (skipped : List ℕ)
         × HasGrown tables tables'
         × CanClose source tables tree.old.nodes opener closer nodes item.end
-        × CanPutOver source tables tables' tree.old.nodes opener item item.end × CanShow source tree.old.nodes nodes skipped first from }
+        × CanPutOver source tables tables' tree.old.nodes opener item item.end
+        × CanShow source tree.old.nodes nodes skipped first from }
     ensures puts { (source : List ℕ) (tables tables' : Tables) (nodes skipped : List ℕ) → HasGrown tables tables'
         → CanClose source tables tree.old.nodes opener closer nodes item.end
         → CanPutOver source tables tables' tree.old.nodes opener item item.end

@@ -106,7 +106,8 @@ fn put_markup<'a>(
 /// Puts raw HTML that ends at a byte into the node of its `<`: the link at which the chain goes on.
 fn put_html(tree: &mut Tree<Item>, ix: usize, end: usize, body: ItemBody) -> Option<usize>
     requires { (source : List ℕ) × (tables : Tables) × (tables' : Tables) × HasGrown tables tables'
-        × IsFoundAt source tables tree.old.nodes ix end × CanPut source tables tables' (item_to tree.old.nodes ix end body) }
+        × IsFoundAt source tables tree.old.nodes ix end
+        × CanPut source tables tables' (item_to tree.old.nodes ix end body) }
     ensures puts { (source : List ℕ) (tables tables' : Tables) → HasGrown tables tables'
         → IsFoundAt source tables tree.old.nodes ix end
         → CanPut source tables tables' (item_to tree.old.nodes ix end body)

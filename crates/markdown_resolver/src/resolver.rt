@@ -1,7 +1,7 @@
 //! Resolving of chains: a chain of inline items is resolved where it stands in the arena, from its first open item
 //! on: pass one reads it, and then it is paired.
 use crate::bracket_kind::{BracketKind, kind_of};
-use crate::brackets::{bracket_place, open_bracket, put_closed};
+use crate::brackets::{decide_closing, open_bracket, put_closed};
 use crate::chain_place::ChainPlace;
 use crate::found::settle;
 use crate::markup::read_markup;
@@ -11,11 +11,9 @@ use markdown_base::item::{Item, ItemBody};
 use markdown_base::options::Options;
 use markdown_base::tree::Tree;
 use markdown_brackets::chain_openers::ChainOpeners;
-use markdown_brackets::decision::decide_bracket;
 use markdown_brackets::finish::finish_bracket;
 use markdown_brackets::spent_ends::SpentEnds;
 use markdown_chains::work::Work;
-use markdown_code::prefixes::ContainerPrefix;
 use markdown_code::span_closers::SpanClosers;
 use markdown_delims::chain::pair_chain;
 use markdown_delims::open_runs::OpenRuns;
@@ -49,12 +47,11 @@ pub struct Resolver<'a, F> {
 }
 
 impl<'a, F: BrokenLinkCallback<'a>> Resolver<'a, F> {
-    ghost use Rattle.std.specs.Prelude.{◌≡◌, ◌+◌, ◌-◌, ◌^◌, ◌<◌, ℕ, List, min, true, Some, IfOk, IfErr, IfSome};
-    ghost use Rattle.std.specs.Prelude.{is_some, take};
-    ghost use Rattle.markdown_base.specs.Arena.{sibling_of};
+    ghost use Rattle.std.specs.Prelude.{◌≡◌, ◌+◌, ◌-◌, ◌^◌, ℕ, List, min, true, Some, IfOk, IfErr, IfSome};
+    ghost use Rattle.std.specs.Prelude.{is_some, take, false, None, []};
     ghost use Rattle.markdown_base.specs.BlockTree.{item_at};
     ghost use Rattle.markdown_base.specs.declared.item.ItemBody.TheVariants as body;
-    ghost use Rattle.markdown_brackets.specs.LeftList.{Entry};
+    ghost use Rattle.markdown_brackets.specs.SpentEnds.{is_spent};
     ghost use Rattle.markdown_base.specs.Item.{is_open};
     ghost use Rattle.markdown_chains.specs.Above.{above_cursor};
     ghost use Rattle.markdown_chains.specs.Counts.{RisesAtMost};
@@ -63,13 +60,15 @@ impl<'a, F: BrokenLinkCallback<'a>> Resolver<'a, F> {
     ghost use Rattle.markdown_chains.specs.Stages.{items_from, stage};
     ghost use Rattle.markdown_chains.specs.Tables.{tables_of};
     ghost use Rattle.markdown_code.specs.Finds.{gfm_footnotes};
-    ghost use Rattle.markdown_code.specs.SpanClosers.{HoldsFrom, Learned, has_failed};
+    ghost use Rattle.markdown_code.specs.SpanClosers.{HoldsFrom, has_failed};
     ghost use Rattle.markdown_code.specs.declared.span_text.SpanKind.{SpanKind};
     ghost use Rattle.markdown_resolver.specs.BracketKinds.{kind_of};
-    ghost use Rattle.markdown_resolver.specs.ChainPlace.{CanReadItem, CanReadOn};
+    ghost use Rattle.markdown_resolver.specs.ChainPlace.{CanReadItem};
     ghost use Rattle.markdown_resolver.specs.Chains.{CanResolve, AreAbove, ResolvesChain, ResolvesFrom, StopsIn};
     ghost use Rattle.markdown_resolver.specs.PassOne.{pass_one};
-    ghost use Rattle.markdown_resolver.specs.ReadOn.{ReadsOn, StopsInPassOne, StopsOn};
+    ghost use Rattle.markdown_resolver.specs.ReadOn.{StopsInPassOne};
+    ghost use Rattle.markdown_resolver.specs.ReadsBracket.{CanReadBracket, ChangesForBracket};
+    ghost use Rattle.markdown_resolver.specs.ReadsBracket.{ReadsBracket, StopsAtBracket, setting_by, stage_by};
     ghost use Rattle.markdown_resolver.specs.ReadsItem.{LooksAt, ReadsItem};
     ghost use Rattle.markdown_spans.specs.Footnotes.{footnote_at};
 
@@ -88,10 +87,8 @@ impl<'a, F: BrokenLinkCallback<'a>> Resolver<'a, F> {
         requires scanner { scanner.old.text.now ≡ take place.now.block_end place.now.text.now }
         requires code_learned { HoldsFrom SpanKind.Code self.old.code_closers tree.old.nodes (Some ix) }
         requires math_learned { HoldsFrom SpanKind.Math self.old.math_closers tree.old.nodes (Some ix) }
-        ensures reads { IfOk result (λ next. ReadsItem
-            (setting_of self.old.text.now (rules_from self.old.options self.old.tables (is_some self.old.callback)))
-            (above_cursor self.old.text.now tree.old) ix next tree.old.nodes tree.new.nodes
-            (tables_of self.old.tables) (tables_of self.new.tables)) }
+        ensures reads { IfOk result (λ next. ReadsItem (setting_by self.old) (above_cursor self.old.text.now tree.old)
+            ix next tree.old.nodes tree.new.nodes (tables_of self.old.tables) (tables_of self.new.tables)) }
         ensures code_learned { IfOk result (λ next. HoldsFrom SpanKind.Code self.new.code_closers tree.new.nodes next) }
         ensures math_learned { IfOk result (λ next. HoldsFrom SpanKind.Math self.new.math_closers tree.new.nodes next) }
         ensures code_looks { IfOk result (λ next. LooksAt (has_failed self.old.code_closers)
@@ -155,66 +152,30 @@ impl<'a, F: BrokenLinkCallback<'a>> Resolver<'a, F> {
         could_be: bool,
     ) -> Result<Option<usize>, Fault>
         requires can_ask { IfSome self.old.callback F.can_ask }
-        requires ready { (first : ℕ) × (left : List (Entry ℕ)) × CanReadOn place.now tree.old self.old.tables
-            self.old.openers.brackets
-            self.old.openers.wikilinks first ix left }
-        requires text { place.now.text.now ≡ self.old.text.now }
-        requires footnotes { place.now.gfm_footnotes ≡ gfm_footnotes self.old.options }
+        requires ready { CanReadBracket place.now tree.old self.old ix }
         requires closes { (item_at tree.old.nodes ix).body ≡ body.MaybeLinkClose could_be }
-        ensures reads { IfOk result (λ next. (first : ℕ) (left : List (Entry ℕ))
-            → CanReadOn place.now tree.old self.old.tables
-            self.old.openers.brackets self.old.openers.wikilinks first ix left
-            → ReadsOn F.answers (setting_of self.old.text.now (rules_from self.old.options self.old.tables
-            (is_some self.old.callback)))
-            (above_cursor self.old.text.now tree.old) first (Some ix) next left
-            (stage tree.old self.old.tables self.old.limit self.old.callback)
-            (stage tree.new self.new.tables self.new.limit self.new.callback)
-            self.old.spent self.new.spent self.new.openers.brackets self.new.openers.wikilinks) }
-        ensures fewer { IfOk result (λ next. items_from tree.new.nodes next < items_from tree.old.nodes (Some ix)) }
-        ensures place { IfOk result (λ _. tree.new ≡ record tree.old { nodes = tree.new.nodes }) }
-        ensures holds { IfOk result (λ next. (kind : SpanKind) (learned : Learned)
-            → HoldsFrom kind learned tree.old.nodes (sibling_of tree.old.nodes ix)
-            → HoldsFrom kind learned tree.new.nodes next) }
+        ensures reads { IfOk result (λ next.
+            ReadsBracket F.answers place.now ix next tree.old tree.new self.old self.new) }
 
         // a refusal, and what holds whatever comes
-        ensures stops { IfErr result (λ _. (first : ℕ) (left : List (Entry ℕ))
-            → CanReadOn place.now tree.old self.old.tables
-            self.old.openers.brackets self.old.openers.wikilinks first ix left
-            → StopsOn F.answers (setting_of self.old.text.now (rules_from self.old.options self.old.tables
-            (is_some self.old.callback)))
-            (above_cursor self.old.text.now tree.old) (Some ix) left (stage tree.old self.old.tables self.old.limit
-            self.old.callback)
-            self.old.spent self.new.callback) }
+        ensures stops { IfErr result (λ _. StopsAtBracket F.answers place.now ix tree.old self.old self.new.callback) }
         ensures again { IfSome self.new.callback F.can_ask }
         ensures refused { IfErr result (λ fault. fault ≡ Fault.Memory) }
-        ensures kept { self.new ≡ record self.old {
-          tables = record self.old.tables {
-            cows = self.new.tables.cows;
-            links = self.new.tables.links;
-            footdefs = self.new.tables.footdefs;
-          };
-          limit = self.new.limit;
-          callback = self.new.callback;
-          openers = self.new.openers;
-          spent = self.new.spent;
-        } }
-        ensures footnotes { (name : List ℕ)
-            → is_some (footnote_at self.new.tables.footdefs name) ≡ is_some (footnote_at self.old.tables.footdefs name) }
+        ensures kept { ChangesForBracket self.old self.new }
     {
         // the text is valid
         let _text = place.text.as_bytes();
-        let tables = &mut self.tables;
-        let found = decide_bracket(
+        let options = self.options;
+        let found = decide_closing(
             self.alloc,
             tree,
+            place,
+            options,
             ix,
             could_be,
-            &bracket_place(place, self.options),
-            &ContainerPrefix::new(tree, place.gfm_footnotes),
             &mut self.openers,
             &mut self.spent,
-            &tables.refdefs,
-            &mut tables.footdefs,
+            &mut self.tables,
             &mut self.callback,
             &mut self.limit,
         )?;
@@ -231,51 +192,16 @@ impl<'a, F: BrokenLinkCallback<'a>> Resolver<'a, F> {
         bracket: BracketKind,
     ) -> Result<Option<usize>, Fault>
         requires can_ask { IfSome self.old.callback F.can_ask }
-        requires ready { (first : ℕ) × (left : List (Entry ℕ)) × CanReadOn place.now tree.old self.old.tables
-            self.old.openers.brackets
-            self.old.openers.wikilinks first ix left }
-        requires text { place.now.text.now ≡ self.old.text.now }
-        requires footnotes { place.now.gfm_footnotes ≡ gfm_footnotes self.old.options }
+        requires ready { CanReadBracket place.now tree.old self.old ix }
         requires bracket { kind_of (item_at tree.old.nodes ix).body ≡ Some bracket }
-        ensures reads { IfOk result (λ next. (first : ℕ) (left : List (Entry ℕ))
-            → CanReadOn place.now tree.old self.old.tables
-            self.old.openers.brackets self.old.openers.wikilinks first ix left
-            → ReadsOn F.answers (setting_of self.old.text.now (rules_from self.old.options self.old.tables
-            (is_some self.old.callback)))
-            (above_cursor self.old.text.now tree.old) first (Some ix) next left
-            (stage tree.old self.old.tables self.old.limit self.old.callback)
-            (stage tree.new self.new.tables self.new.limit self.new.callback)
-            self.old.spent self.new.spent self.new.openers.brackets self.new.openers.wikilinks) }
-        ensures fewer { IfOk result (λ next. items_from tree.new.nodes next < items_from tree.old.nodes (Some ix)) }
-        ensures place { IfOk result (λ _. tree.new ≡ record tree.old { nodes = tree.new.nodes }) }
-        ensures holds { IfOk result (λ next. (kind : SpanKind) (learned : Learned)
-            → HoldsFrom kind learned tree.old.nodes (sibling_of tree.old.nodes ix)
-            → HoldsFrom kind learned tree.new.nodes next) }
+        ensures reads { IfOk result (λ next.
+            ReadsBracket F.answers place.now ix next tree.old tree.new self.old self.new) }
 
         // a refusal, and what holds whatever comes
-        ensures stops { IfErr result (λ _. (first : ℕ) (left : List (Entry ℕ))
-            → CanReadOn place.now tree.old self.old.tables
-            self.old.openers.brackets self.old.openers.wikilinks first ix left
-            → StopsOn F.answers (setting_of self.old.text.now (rules_from self.old.options self.old.tables
-            (is_some self.old.callback)))
-            (above_cursor self.old.text.now tree.old) (Some ix) left (stage tree.old self.old.tables self.old.limit
-            self.old.callback)
-            self.old.spent self.new.callback) }
+        ensures stops { IfErr result (λ _. StopsAtBracket F.answers place.now ix tree.old self.old self.new.callback) }
         ensures again { IfSome self.new.callback F.can_ask }
         ensures refused { IfErr result (λ fault. fault ≡ Fault.Memory) }
-        ensures kept { self.new ≡ record self.old {
-          tables = record self.old.tables {
-            cows = self.new.tables.cows;
-            links = self.new.tables.links;
-            footdefs = self.new.tables.footdefs;
-          };
-          limit = self.new.limit;
-          callback = self.new.callback;
-          openers = self.new.openers;
-          spent = self.new.spent;
-        } }
-        ensures footnotes { (name : List ℕ)
-            → is_some (footnote_at self.new.tables.footdefs name) ≡ is_some (footnote_at self.old.tables.footdefs name) }
+        ensures kept { ChangesForBracket self.old self.new }
     {
         match bracket {
             BracketKind::Opener { is_image } => {
@@ -301,6 +227,30 @@ impl<'a, F: BrokenLinkCallback<'a>> Resolver<'a, F> {
         }
     }
 
+    /// Begins the chain from the node `first` on: its items are counted, and what was held in the last one is
+    /// forgotten.
+    fn begin_chain(&mut self, tree: &Tree<Item>, first: usize)
+        requires { CanResolve self.old.text.now (tables_of self.old.tables) tree.now.nodes (Some first) }
+        ensures brackets { self.new.openers.brackets ≡ [] }
+        ensures wikilinks { self.new.openers.wikilinks ≡ [] }
+        ensures spent { (end : ℕ) → is_spent self.new.spent end ≡ false }
+        ensures kept { self.new ≡ record self.old {
+          openers = self.new.openers;
+          spent = self.new.spent;
+          work = record self.old.work {
+            items = min (self.old.work.items + items_from tree.now.nodes (Some first)) (2 ^ 128 - 1);
+          };
+          code_closers = None;
+          math_closers = None;
+        } }
+    {
+        self.count_items(tree, first);
+        self.openers.clear();
+        self.spent.clear();
+        self.code_closers.clear();
+        self.math_closers.clear();
+    }
+
     /// Pass one over the chain from the node `first` on, where it stands: its items are counted, and then read from
     /// left to right.
     fn read_chain(&mut self, tree: &mut Tree<Item>, first: usize) -> Result<(), Fault>
@@ -308,11 +258,8 @@ impl<'a, F: BrokenLinkCallback<'a>> Resolver<'a, F> {
         requires ready { CanResolve self.old.text.now (tables_of self.old.tables) tree.old.nodes (Some first) }
         requires above { AreAbove self.old.text.now tree.old.nodes (Some first) tree.old.spine }
         ensures reads { IfOk result (λ _. ResolvesFrom F.answers self.old.text.now
-            (pass_one (setting_of self.old.text.now (rules_from self.old.options self.old.tables
-            (is_some self.old.callback)))
-            plain_tags (above_cursor self.old.text.now tree.old))
-            (Some first) (stage tree.old self.old.tables self.old.limit self.old.callback)
-            (stage tree.new self.new.tables self.new.limit self.new.callback)) }
+            (pass_one (setting_by self.old) plain_tags (above_cursor self.old.text.now tree.old)) (Some first)
+            (stage_by tree.old self.old) (stage_by tree.new self.new)) }
         ensures place { IfOk result (λ _. tree.new ≡ record tree.old { nodes = tree.new.nodes }) }
         ensures items { self.new.work.items ≡ min (self.old.work.items + items_from tree.old.nodes (Some first))
             (2 ^ 128 - 1) }
@@ -322,11 +269,8 @@ impl<'a, F: BrokenLinkCallback<'a>> Resolver<'a, F> {
             RisesAtMost (items_from tree.old.nodes (Some first)) self.old.work.math_visits self.new.work.math_visits) }
 
         // a refusal, and what holds whatever comes
-        ensures stops { IfErr result (λ _. StopsInPassOne F.answers
-            (setting_of self.old.text.now (rules_from self.old.options self.old.tables (is_some self.old.callback)))
-            (above_cursor self.old.text.now tree.old) first (stage tree.old self.old.tables self.old.limit
-            self.old.callback)
-            self.new.callback) }
+        ensures stops { IfErr result (λ _. StopsInPassOne F.answers (setting_by self.old)
+            (above_cursor self.old.text.now tree.old) first (stage_by tree.old self.old) self.new.callback) }
         ensures again { IfSome self.new.callback F.can_ask }
         ensures kept { self.new ≡ record self.old {
           tables = record self.old.tables {
@@ -347,17 +291,14 @@ impl<'a, F: BrokenLinkCallback<'a>> Resolver<'a, F> {
           math_closers = self.new.math_closers;
         } }
         ensures footnotes { (name : List ℕ)
-            → is_some (footnote_at self.new.tables.footdefs name) ≡ is_some (footnote_at self.old.tables.footdefs name) }
+            → is_some (footnote_at self.new.tables.footdefs name)
+            ≡ is_some (footnote_at self.old.tables.footdefs name) }
         ensures refused { IfErr result (λ fault. fault ≡ Fault.Memory) }
     {
         // bounds the counts
         let _code_visits = self.work.code_visits;
         let _math_visits = self.work.math_visits;
-        self.count_items(tree, first);
-        self.openers.clear();
-        self.spent.clear();
-        self.code_closers.clear();
-        self.math_closers.clear();
+        self.begin_chain(tree, first);
         let place = ChainPlace::of_chain(tree, self.text, self.options);
         let mut scanner = RawHtmlScanner::new(self.text[..place.block_end].as_bytes());
         let mut at = Some(first);
@@ -379,9 +320,8 @@ impl<'a, F: BrokenLinkCallback<'a>> Resolver<'a, F> {
         requires above { AreAbove self.old.text.now tree.old.nodes (Some first) tree.old.spine }
         ensures resolves { IfOk result (λ _. ResolvesChain F.answers
             (setting_of self.old.text.now (rules_from self.old.options self.old.tables (is_some self.old.callback)))
-            first
-            tree.old tree.new self.old.tables self.new.tables self.old.limit self.new.limit self.old.callback self.new.callback
-            self.old.work self.new.work) }
+            first tree.old tree.new self.old.tables self.new.tables self.old.limit self.new.limit
+            self.old.callback self.new.callback self.old.work self.new.work) }
 
         // a refusal, and what holds whatever comes
         ensures refused { IfErr result (λ fault. fault ≡ Fault.Memory) }

@@ -1,7 +1,6 @@
 //! Code spans and math spans in a chain, where it stands.
-ghost use Rattle.std.specs.Prelude.{◌≡◌, ◌<◌, ◌≤◌, ℕ, Bool, true, List, Some, IfErr, IfOk, length, slice_range};
+ghost use Rattle.std.specs.Prelude.{◌≡◌, ◌<◌, ℕ, Bool, true, List, Some, IfErr, IfOk, length, slice_range};
 ghost use Rattle.std.specs.Option.{option_map_or};
-ghost use Rattle.std.specs.Str.{IsCharBoundary};
 ghost use Rattle.markdown_base.specs.Arena.{sibling_of};
 ghost use Rattle.markdown_base.specs.BlockTree.{item_at};
 ghost use Rattle.markdown_base.specs.CowText.{text_of};
@@ -10,7 +9,7 @@ ghost use Rattle.markdown_chains.specs.Above.{above_cursor};
 ghost use Rattle.markdown_chains.specs.Origins.{IsSlicedOf, origin_of};
 ghost use Rattle.markdown_chains.specs.Setting.{Rules, setting_of};
 ghost use Rattle.markdown_chains.specs.Stages.{items_from};
-ghost use Rattle.markdown_chains.specs.Tables.{Tables, tables_of};
+ghost use Rattle.markdown_chains.specs.Tables.{Tables, tables_of, text_at};
 ghost use Rattle.markdown_code.specs.BlocksAbove.{HasBlocks};
 ghost use Rattle.markdown_code.specs.ChainInArena.{HasChain};
 ghost use Rattle.markdown_code.specs.Closers.{is_dollar};
@@ -21,12 +20,14 @@ ghost use Rattle.markdown_code.specs.SpanClosers.{HoldsFrom, has_failed};
 ghost use Rattle.markdown_resolver.specs.ChainPlace.{CanReadItem, IsPlaceOf};
 ghost use Rattle.markdown_resolver.specs.PutCode.{CanPutCode, code_standing};
 ghost use Rattle.markdown_resolver.specs.Rewritten.{Puts};
+ghost use Rattle.markdown_resolver.specs.StoredText.{CanCut, StoresText};
 ghost use Rattle.markdown_resolver.specs.ReadsItem.{LooksAt, ReadsItem};
 
 use crate::chain_place::ChainPlace;
 use crate::found::{put_found, put_pair, settle};
 use markdown_base::cow_str::CowStr;
 use markdown_base::fault::Fault;
+use markdown_base::index::CowIndex;
 use markdown_base::item::{Item, ItemBody};
 use markdown_base::tree::Tree;
 use markdown_code::prefixes::ContainerPrefix;
@@ -46,9 +47,7 @@ fn text_between<'a>(
 ) -> Result<CowStr<'a>, Fault>
     requires place { IsPlaceOf place.now tree.now }
     requires above { HasBlocks tree.now }
-    requires ordered { start ≤ end }
-    requires start_boundary { IsCharBoundary place.now.text.now start }
-    requires end_boundary { IsCharBoundary place.now.text.now end }
+    requires cut { CanCut place.now.text.now start end }
     ensures value { IfOk result (λ made. (rules : Rules) → gfm_footnotes rules.options ≡ place.now.gfm_footnotes
         → text_of made ≡ text_between (setting_of place.now.text.now rules) (above_cursor place.now.text.now tree.now)
         kind start end) }
@@ -65,6 +64,32 @@ fn text_between<'a>(
         place.in_table,
         &prefix,
     )?)
+}
+
+/// Puts in the text of a span that stands from a byte to another, and gives its number.
+fn store_text<'a>(
+    alloc: Global,
+    tree: &Tree<Item>,
+    place: &ChainPlace<'a>,
+    tables: &mut Allocations<'a>,
+    kind: SpanKind,
+    start: usize,
+    end: usize,
+) -> Result<CowIndex, Fault>
+    requires place { IsPlaceOf place.now tree.now }
+    requires above { HasBlocks tree.now }
+    requires cut { CanCut place.now.text.now start end }
+    ensures stored { IfOk result (λ cow. StoresText place.now.text.now (tables_of tables.old) (tables_of tables.new) cow
+        (span_origin (above_cursor place.now.text.now tree.now).in_table (slice_range place.now.text.now start end))) }
+    ensures text { IfOk result (λ cow. (rules : Rules) → gfm_footnotes rules.options ≡ place.now.gfm_footnotes
+        → text_at tables.new.cows cow.0 ≡ text_between (setting_of place.now.text.now rules)
+        (above_cursor place.now.text.now tree.now) kind start end) }
+
+    // whatever comes
+    ensures tables { tables.new ≡ record tables.old { cows = tables.new.cows } }
+    ensures refused { IfErr result (λ fault. fault ≡ Fault.Memory) }
+{
+    tables.allocate_cow(text_between(alloc, tree, place, kind, start, end)?)
 }
 
 /// Where the item of a node ends.
@@ -153,7 +178,8 @@ pub(crate) fn read_code<'a>(
     ix: usize,
 ) -> Result<Option<usize>, Fault>
     requires chain { CanReadItem place.now tree.old tables.old ix }
-    requires opener { (count : ℕ) × (escaped : Bool) × ((item_at tree.old.nodes ix).body ≡ body.MaybeCode count escaped) }
+    requires opener { (count : ℕ) × (escaped : Bool)
+        × ((item_at tree.old.nodes ix).body ≡ body.MaybeCode count escaped) }
     requires learned { HoldsFrom SpanKind.Code closers.old tree.old.nodes (Some ix) }
     ensures reads { IfOk result (λ next. (rules : Rules) → gfm_footnotes rules.options ≡ place.now.gfm_footnotes
         → ReadsItem (setting_of place.now.text.now rules) (above_cursor place.now.text.now tree.old) ix next
@@ -172,9 +198,16 @@ pub(crate) fn read_code<'a>(
     };
     let item = *tree.item(ix);
     let close = *tree.item(closer);
-    let text = text_between(alloc, tree, place, SpanKind::Code, item.end, close.start)?;
-    let body = ItemBody::Code(tables.allocate_cow(text)?);
-    Ok(put_code(tree, ix, closer, body))
+    let cow = store_text(
+        alloc,
+        tree,
+        place,
+        tables,
+        SpanKind::Code,
+        item.end,
+        close.start,
+    )?;
+    Ok(put_code(tree, ix, closer, ItemBody::Code(cow)))
 }
 
 /// Reads a `$`: a math span, if something closes it, which goes on at what follows that; else a Text.
@@ -208,11 +241,11 @@ pub(crate) fn read_math<'a>(
     let item = *tree.item(ix);
     let start = math_text_start(tree, ix);
     let text_end = tree.item(math.closer).start;
-    let text = text_between(alloc, tree, place, SpanKind::Math, start, text_end)?;
+    let cow = store_text(alloc, tree, place, tables, SpanKind::Math, start, text_end)?;
     let found = Item {
         start: item.start,
         end: tree.item(math.last).end,
-        body: ItemBody::Math(tables.allocate_cow(text)?, math.display),
+        body: ItemBody::Math(cow, math.display),
     };
     Ok(put_found(tree, ix, found))
 }

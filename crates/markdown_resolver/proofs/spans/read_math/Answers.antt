@@ -1,19 +1,15 @@
 -- Reading a `$`: what the searches and the writes say of it is what the lemmas on math spans ask.
-use Rattle.std.proofs.Common.{◌≡◌, Option, Some, None, ap, ◌∙◌, subst}
-use Rattle.std.specs.Prelude.{is_some}
+use Rattle.std.proofs.Common.{◌≡◌, Some, None, ap, ◌∙◌, subst}
 use Rattle.markdown_base.specs.BlockTree.{item_at, no_item}
-use Rattle.markdown_base.specs.CowText.{text_of}
 use Rattle.markdown_base.specs.declared.item.Item.{Item}
-use Rattle.markdown_chains.specs.Origins.{origin_of}
+use Rattle.markdown_chains.specs.Origins.{origin_at}
 use Rattle.markdown_chains.specs.Above.{above_cursor}
 use Rattle.markdown_chains.specs.Setting.{Setting, setting_of}
-use Rattle.markdown_chains.specs.Tables.{tables_of}
-use Rattle.markdown_code.specs.Closers.{can_open}
+use Rattle.markdown_chains.specs.Tables.{tables_of, text_at}
 use Rattle.markdown_code.specs.Finds.{text_between, origin_between}
-use Rattle.markdown_code.specs.SpanClosers.{ClosesMath, failed_by_now}
-use Rattle.markdown_code.specs.declared.span_closers.FoundMath.{FoundMath}
+use Rattle.markdown_code.specs.SpanClosers.{ClosesMath}
 use Rattle.markdown_code.specs.declared.span_text.SpanKind.TheVariants.{Math}
-use Rattle.markdown_resolver.specs.Rewritten.{Puts, one, settled}
+use Rattle.markdown_resolver.specs.Rewritten.{Puts, one}
 use Rattle.markdown_resolver.proofs.ChainLeadsLemmas.{chain_leads}
 use Rattle.markdown_resolver.proofs.ChainPlaceLemmas.{has_blocks}
 use Rattle.markdown_resolver.proofs.MathSpanLemmas.{PutsMath, dollar_body, math_cut, math_item, math_reads, no_math_reads, puts_math}
@@ -37,141 +33,106 @@ returns-in_default-clause-reads c = λ rules gfm.
     let tables = tables_of c.args.tables.now in
     let nodes = c.args.tree.now.nodes in
     let d = dollar_body (item_at nodes c.args.ix).body c.requires.opener in
-    reads_item s above c.args.ix (settled s.text) None c.settle.result nodes c.settle.new.tree.nodes tables tables c.requires.chain.ready
+    reads_item c.requires.chain.ready
     (no_math_reads s above tables nodes c.args.ix d.opens d.closes d.context c.requires.chain.ready d.is (nothing_closes c))
     (c.settle.ensures.puts s.text tables c.requires.chain.ready)
 
 pub returns-in_default-clause-learned : goal.returns-in_default-clause-learned
 returns-in_default-clause-learned c =
-    let source = c.args.place.now.text.now in
-    let tables = tables_of c.args.tables.now in
-    holds_put Math c.find_math_closer.new.self source c.args.ix (settled source) None c.settle.result c.args.tree.now.nodes
-    c.settle.new.tree.nodes tables tables
-    c.requires.chain.ready (c.settle.ensures.puts source tables c.requires.chain.ready) c.in_ok-math.ensures.learned
+    holds_put Math c.find_math_closer.new.self c.requires.chain.ready
+    (c.settle.ensures.puts c.args.place.now.text.now (tables_of c.args.tables.now) c.requires.chain.ready) c.in_ok-math.ensures.learned
 
 pub returns-in_default-clause-looks : goal.returns-in_default-clause-looks
 returns-in_default-clause-looks c =
-    let source = c.args.place.now.text.now in
-    let tables = tables_of c.args.tables.now in
-    let opens = can_open (item_at c.args.tree.now.nodes c.args.ix).body in
-    no_math_looks source tables tables c.args.tree.now.nodes c.settle.new.tree.nodes c.args.ix (settled source) c.settle.result
-    c.args.closers.now c.find_math_closer.new.self c.args.visits.now c.find_math_closer.new.visits c.requires.chain.ready
-    c.in_ok-math.ensures.counted
-    (c.in_ok-math.ensures.failed ∙ ap (λ (o : Option FoundMath). failed_by_now c.args.closers.now opens (is_some o)) c.in_default.is)
-    (c.settle.ensures.puts source tables c.requires.chain.ready)
+    let found = c.in_ok-math.ensures in
+    no_math_looks c.args.closers.now c.find_math_closer.new.self c.args.visits.now c.find_math_closer.new.visits
+    c.requires.chain.ready found.counted found.failed c.in_default.is
+    (c.settle.ensures.puts c.args.place.now.text.now (tables_of c.args.tables.now) c.requires.chain.ready)
 
 -- something closes it: the text between them is taken
 pub math_text_start-start-requires : goal.math_text_start-start-requires
 math_text_start-start-requires c =
     chain_leads c.args.place.now.text.now (tables_of c.args.tables.now) c.args.tree.now.nodes (Some c.args.ix) c.requires.chain.ready
 
-pub text_between-requires-clause-above : goal.text_between-requires-clause-above
-text_between-requires-clause-above c = has_blocks c.args.place.now.text.now c.args.tree.now (Some c.args.ix) c.requires.chain.above
+pub store_text-requires-clause-above : goal.store_text-requires-clause-above
+store_text-requires-clause-above c = has_blocks c.args.place.now.text.now c.args.tree.now (Some c.args.ix) c.requires.chain.above
 
-pub text_between-requires-clause-ordered : goal.text_between-requires-clause-ordered
-text_between-requires-clause-ordered c =
-    (math_cut c.args.place.now.text.now (tables_of c.args.tables.now) c.args.tree.now.nodes c.args.ix c.in-Some.math
+pub store_text-requires-clause-cut : goal.store_text-requires-clause-cut
+store_text-requires-clause-cut c =
+    math_cut c.args.place.now.text.now (tables_of c.args.tables.now) c.args.tree.now.nodes c.args.ix c.in-Some.math
     c.math_text_start-start.result c.item.result.now
     c.in_ok-math.field-0 c.requires.chain.ready c.in_ok-math.ensures.found c.in-Some.is c.math_text_start-start.ensures
-    (c.item.ensures no_item)).ordered
-
-pub text_between-requires-clause-start_boundary : goal.text_between-requires-clause-start_boundary
-text_between-requires-clause-start_boundary c =
-    (math_cut c.args.place.now.text.now (tables_of c.args.tables.now) c.args.tree.now.nodes c.args.ix c.in-Some.math
-    c.math_text_start-start.result c.item.result.now
-    c.in_ok-math.field-0 c.requires.chain.ready c.in_ok-math.ensures.found c.in-Some.is c.math_text_start-start.ensures
-    (c.item.ensures no_item)).from
-
-pub text_between-requires-clause-end_boundary : goal.text_between-requires-clause-end_boundary
-text_between-requires-clause-end_boundary c =
-    (math_cut c.args.place.now.text.now (tables_of c.args.tables.now) c.args.tree.now.nodes c.args.ix c.in-Some.math
-    c.math_text_start-start.result c.item.result.now
-    c.in_ok-math.field-0 c.requires.chain.ready c.in_ok-math.ensures.found c.in-Some.is c.math_text_start-start.ensures
-    (c.item.ensures no_item)).to
+    (c.item.ensures no_item)
 
 -- and the span is put
 pub put_found-requires : goal.put_found-requires
 put_found-requires c =
-    let held = c.args.tables.now in
-    let held' = c.allocate_cow.new.self in
-    let put = c.in_ok-allocate_cow.ensures in
+    let tables = tables_of c.args.tables.now in
+    let tables' = tables_of c.store_text.new.tables in
     let opens = c.item-item.ensures no_item in
-    let p = puts_math c.args.place.now.text.now held held' c.args.tree.now.nodes c.args.ix c.in-Some.math c.item-item.result.now
-    c.item-2.result.now c.in_ok-text.text c.in_ok-allocate_cow.field-0
-    c.in_ok-math.field-0 c.requires.chain.ready c.requires.opener c.in_ok-math.ensures.found c.in-Some.is put.put put.number opens
-    (c.item-2.ensures no_item) c.in_ok-text.ensures.slice in
-    (c.args.place.now.text.now, tables_of held, tables_of held', p.stored.grown, p.found, p.can, ap (λ (i : Item). i.start) opens)
+    let stored = c.in_ok-cow.ensures.stored in
+    let p = puts_math c.args.place.now.text.now tables tables' c.args.tree.now.nodes c.args.ix c.in-Some.math c.item-item.result.now
+    c.item-2.result.now c.in_ok-cow.cow _ c.in_ok-math.field-0 c.requires.chain.ready c.requires.opener c.in_ok-math.ensures.found
+    c.in-Some.is opens (c.item-2.ensures no_item) stored in
+    (c.args.place.now.text.now, tables, tables', stored.grown, p.found, p.can, ap (λ (i : Item). i.start) opens)
 
-put_here : (c : goal.After-put_found) → PutsMath c.args.place.now.text.now (tables_of c.args.tables.now) (tables_of c.allocate_cow.new.self)
-    c.args.tree.now.nodes
-    c.args.ix c.in-Some.math c.in_ok-allocate_cow.field-0 (text_of c.in_ok-text.text) (origin_of c.in_ok-text.text)
-    (span_of c.item-item.result.now c.item-2.result.now c.in-Some.math c.in_ok-allocate_cow.field-0)
+put_here : (c : goal.After-put_found) → PutsMath c.args.place.now.text.now (tables_of c.args.tables.now) (tables_of c.store_text.new.tables)
+    c.args.tree.now.nodes c.args.ix c.in-Some.math c.in_ok-cow.cow
+    (span_of c.item-item.result.now c.item-2.result.now c.in-Some.math c.in_ok-cow.cow)
 put_here c =
-    let put = c.in_ok-allocate_cow.ensures in
-    puts_math c.args.place.now.text.now c.args.tables.now c.allocate_cow.new.self c.args.tree.now.nodes c.args.ix c.in-Some.math
-    c.item-item.result.now c.item-2.result.now
-    c.in_ok-text.text c.in_ok-allocate_cow.field-0 c.in_ok-math.field-0 c.requires.chain.ready c.requires.opener c.in_ok-math.ensures.found
-    c.in-Some.is put.put put.number
-    (c.item-item.ensures no_item) (c.item-2.ensures no_item) c.in_ok-text.ensures.slice
+    puts_math c.args.place.now.text.now (tables_of c.args.tables.now) (tables_of c.store_text.new.tables) c.args.tree.now.nodes c.args.ix
+    c.in-Some.math c.item-item.result.now c.item-2.result.now c.in_ok-cow.cow _ c.in_ok-math.field-0 c.requires.chain.ready
+    c.requires.opener c.in_ok-math.ensures.found c.in-Some.is (c.item-item.ensures no_item) (c.item-2.ensures no_item)
+    c.in_ok-cow.ensures.stored
 
 abbrev standing_item : goal.After-put_found → Item
-standing_item c = math_item c.args.tree.now.nodes c.args.ix c.in-Some.math c.in_ok-allocate_cow.field-0
+standing_item c = math_item c.args.tree.now.nodes c.args.ix c.in-Some.math c.in_ok-cow.cow
 
 was_put : (c : goal.After-put_found) → Puts c.args.place.now.text.now c.args.ix
-    (one c.args.place.now.text.now (tables_of c.allocate_cow.new.self) (standing_item c)) (Some (standing_item c).end)
-    c.put_found.result c.args.tree.now.nodes c.put_found.new.tree.nodes (tables_of c.args.tables.now) (tables_of c.allocate_cow.new.self)
+    (one c.args.place.now.text.now (tables_of c.store_text.new.tables) (standing_item c)) (Some (standing_item c).end)
+    c.put_found.result c.args.tree.now.nodes c.put_found.new.tree.nodes (tables_of c.args.tables.now) (tables_of c.store_text.new.tables)
 was_put c =
     let source = c.args.place.now.text.now in
     let tables = tables_of c.args.tables.now in
-    let tables' = tables_of c.allocate_cow.new.self in
+    let tables' = tables_of c.store_text.new.tables in
     let p = put_here c in
     subst (λ (i : Item). Puts source c.args.ix (one source tables' i) (Some i.end) c.put_found.result c.args.tree.now.nodes
     c.put_found.new.tree.nodes tables tables') p.is
-    (c.put_found.ensures.puts source tables tables' p.stored.grown p.found p.can (ap (λ (i : Item). i.start) (c.item-item.ensures no_item)))
+    (c.put_found.ensures.puts source tables tables' c.in_ok-cow.ensures.stored.grown p.found p.can
+    (ap (λ (i : Item). i.start) (c.item-item.ensures no_item)))
 
 pub returns-clause-reads : goal.returns-clause-reads
 returns-clause-reads c = λ rules gfm.
     let s : Setting = setting_of c.args.place.now.text.now rules in
     let above = above_cursor s.text c.args.tree.now in
     let tables = tables_of c.args.tables.now in
-    let tables' = tables_of c.allocate_cow.new.self in
+    let tables' = tables_of c.store_text.new.tables in
     let nodes = c.args.tree.now.nodes in
     let m = c.in-Some.math in
     let d = dollar_body (item_at nodes c.args.ix).body c.requires.opener in
-    let text : text_of c.in_ok-text.text ≡ text_between s above Math (text_start nodes c.args.ix) (item_at nodes m.closer).start =
-    c.in_ok-text.ensures.value rules gfm
+    let text : text_at tables'.cows c.in_ok-cow.cow.0 ≡ text_between s above Math (text_start nodes c.args.ix)
+    (item_at nodes m.closer).start =
+    c.in_ok-cow.ensures.text rules gfm
     ∙ ap (λ start. text_between s above Math start c.item.result.now.start)
     (start_is s.text tables nodes c.args.ix c.math_text_start-start.result c.requires.chain.ready c.math_text_start-start.ensures)
     ∙ ap (λ (i : Item). text_between s above Math (text_start nodes c.args.ix) i.start) (c.item.ensures no_item) in
-    let origin : origin_of c.in_ok-text.text ≡ origin_between s above (text_start nodes c.args.ix) (item_at nodes m.closer).start =
-    c.in_ok-text.ensures.origin
+    let origin : origin_at tables'.cows c.in_ok-cow.cow.0 ≡ origin_between s above (text_start nodes c.args.ix)
+    (item_at nodes m.closer).start =
+    c.in_ok-cow.ensures.stored.origin_is
     ∙ ap (λ start. origin_between s above start c.item.result.now.start)
     (start_is s.text tables nodes c.args.ix c.math_text_start-start.result c.requires.chain.ready c.math_text_start-start.ensures)
     ∙ ap (λ (i : Item). origin_between s above (text_start nodes c.args.ix) i.start) (c.item.ensures no_item) in
-    reads_item s above c.args.ix (one s.text tables' (standing_item c)) (Some (standing_item c).end) c.put_found.result nodes
-    c.put_found.new.tree.nodes tables tables' c.requires.chain.ready
-    (math_reads s above tables tables' nodes c.args.ix m d.opens d.closes d.context c.in_ok-allocate_cow.field-0 c.requires.chain.ready d.is
-    (put_here c).closes ((put_here c).stored.found ∙ text) ((put_here c).origin_is ∙ origin))
+    reads_item c.requires.chain.ready
+    (math_reads s above tables tables' nodes c.args.ix m d.opens d.closes d.context c.in_ok-cow.cow c.requires.chain.ready d.is
+    (put_here c).closes text origin)
     (was_put c)
 
 pub returns-clause-learned : goal.returns-clause-learned
 returns-clause-learned c =
-    let source = c.args.place.now.text.now in
-    let tables' = tables_of c.allocate_cow.new.self in
-    holds_put Math c.find_math_closer.new.self source c.args.ix (one source tables' (standing_item c)) (Some (standing_item c).end)
-    c.put_found.result
-    c.args.tree.now.nodes c.put_found.new.tree.nodes (tables_of c.args.tables.now) tables' c.requires.chain.ready (was_put c)
-    c.in_ok-math.ensures.learned
+    holds_put Math c.find_math_closer.new.self c.requires.chain.ready (was_put c) c.in_ok-math.ensures.learned
 
 pub returns-clause-looks : goal.returns-clause-looks
 returns-clause-looks c =
-    let source = c.args.place.now.text.now in
-    let tables' = tables_of c.allocate_cow.new.self in
-    let nodes = c.args.tree.now.nodes in
-    let opens = can_open (item_at nodes c.args.ix).body in
-    math_looks source (tables_of c.args.tables.now) tables' nodes c.put_found.new.tree.nodes c.args.ix c.in-Some.math
-    (one source tables' (standing_item c)) c.put_found.result
-    c.args.closers.now c.find_math_closer.new.self c.args.visits.now c.find_math_closer.new.visits c.requires.chain.ready
-    (put_here c).closes c.in_ok-math.ensures.counted
-    (c.in_ok-math.ensures.failed ∙ ap (λ (o : Option FoundMath). failed_by_now c.args.closers.now opens (is_some o)) c.in-Some.is)
-    (was_put c)
+    let found = c.in_ok-math.ensures in
+    math_looks c.args.closers.now c.find_math_closer.new.self c.args.visits.now c.find_math_closer.new.visits c.requires.chain.ready
+    (put_here c).closes found.counted found.failed c.in-Some.is (was_put c)

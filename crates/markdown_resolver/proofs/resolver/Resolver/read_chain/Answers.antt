@@ -23,22 +23,22 @@ use Rattle.markdown_resolver.proofs.resolver.Resolver.read_chain.Goals as goal
 use Rattle.markdown_spans.specs.Footnotes.{footnote_at}
 
 pub of_chain-place-requires : goal.of_chain-place-requires
-of_chain-place-requires g c = (Some c.args.first, rw c.count_items.ensures c.requires.above)
+of_chain-place-requires g c = (Some c.args.first, rw c.begin_chain.ensures.kept c.requires.above)
 
 pub chain-init : goal.chain-init
 chain-init g c =
     let s = c.args.self.now in
     let place = c.of_chain-place.result in
     let all = items_from c.args.tree.now.nodes (Some c.args.first) in
-    rw (c.count_items.ensures, c.clear-3.ensures, c.clear-4.ensures) (record {
+    let b = c.begin_chain.new.self in
+    rw c.begin_chain.ensures.kept (record {
       reads = up_to_none g.F.BrokenLinkCallback.answers (setting_of s.text.now (rules_from s.options s.tables (is_some s.callback)))
-          c.args.first c.args.tree.now s.tables s.limit s.callback
-          c.clear-2.new.self c.clear.new.self.brackets c.clear.new.self.wikilinks c.requires.ready c.clear-2.ensures
-          c.clear.ensures.brackets c.clear.ensures.wikilinks;
+          c.args.first c.args.tree.now s.tables s.limit s.callback b.spent b.openers.brackets b.openers.wikilinks c.requires.ready
+          c.begin_chain.ensures.spent c.begin_chain.ensures.brackets c.begin_chain.ensures.wikilinks;
       can_ask = c.requires.can_ask;
       scanner =
           c.new-scanner.ensures ∙ c.as_bytes.ensures.value ∙ c.range.ensures.value
-          ∙ up_to c.count_items.new.self.text.now place.block_end ∙ ap (take place.block_end) (sym c.of_chain-place.ensures.text);
+          ∙ up_to c.begin_chain.new.self.text.now place.block_end ∙ ap (take place.block_end) (sym c.of_chain-place.ensures.text);
       code_learned = λ low chain leads. tt;
       math_learned = λ low chain leads. tt;
       code_looks = looked_none false s.work.code_visits all;
@@ -52,7 +52,7 @@ item-requires g c =
     let s = c.args.self.now in
     let i = c.chain.invariant in
     let text : c.of_chain-place.result.text.now ≡ s.text.now = c.of_chain-place.ensures.text
-    ∙ ap (λ (r : Resolver g.row.F.Denot). r.text.now) c.count_items.ensures in
+    ∙ ap (λ (r : Resolver g.row.F.Denot). r.text.now) c.begin_chain.ensures.kept in
     let can = can_read_on i.reads c.requires.above c.of_chain-place.result c.in-Some.ix c.in-Some.is text c.of_chain-place.ensures.place in
     node_within c.of_chain-place.result.text.now (tables_of c.chain.self.tables) c.chain.tree.nodes c.in-Some.ix (ready_here can)
 
@@ -61,18 +61,24 @@ read_bracket-requires g c κs =
     let s = c.args.self.now in
     let i = c.chain.invariant in
     let text : c.of_chain-place.result.text.now ≡ s.text.now = c.of_chain-place.ensures.text
-    ∙ ap (λ (r : Resolver g.row.F.Denot). r.text.now) c.count_items.ensures in
+    ∙ ap (λ (r : Resolver g.row.F.Denot). r.text.now) c.begin_chain.ensures.kept in
     let can = can_read_on i.reads c.requires.above c.of_chain-place.result c.in-Some.ix c.in-Some.is text c.of_chain-place.ensures.place in
-    let options : c.count_items.new.self.options ≡ c.chain.self.options = ap (λ (r : Resolver g.row.F.Denot). r.options)
-    c.count_items.ensures ∙ sym (ap (λ (r : Resolver g.row.F.Denot). r.options) i.kept) in
+    let options : c.begin_chain.new.self.options ≡ c.chain.self.options = ap (λ (r : Resolver g.row.F.Denot). r.options)
+    c.begin_chain.ensures.kept ∙ sym (ap (λ (r : Resolver g.row.F.Denot). r.options) i.kept) in
     let kind : kind_of (item_at c.chain.tree.nodes c.in-Some.ix).body ≡ Some c.in-Some-kind_of.bracket =
     ap (λ (item : Item). kind_of item.body) (sym (c.item.ensures no_item)) ∙ sym c.kind_of.ensures ∙ c.in-Some-kind_of.is in (
       (refl, tt),
       (
         i.can_ask,
         (
-          (c.args.first, i.reads.reads.left_then, can),
-          (text ∙ sym (ap (λ (r : Resolver g.row.F.Denot). r.text.now) i.kept), (rw (← options) c.of_chain-place.ensures.footnotes, kind)),
+          record {
+            first = c.args.first;
+            left = i.reads.reads.left_then;
+            was_read = can;
+            text = text ∙ sym (ap (λ (r : Resolver g.row.F.Denot). r.text.now) i.kept);
+            footnotes = rw (← options) c.of_chain-place.ensures.footnotes;
+          },
+          kind,
         ),
       ),
     )
@@ -83,7 +89,7 @@ returns-in_err-at-in-Some-kind_of-clause-stops g c =
     let i = c.chain.invariant in
     let at = c.chain.self in
     let text : c.of_chain-place.result.text.now ≡ s.text.now = c.of_chain-place.ensures.text
-    ∙ ap (λ (r : Resolver g.row.F.Denot). r.text.now) c.count_items.ensures in
+    ∙ ap (λ (r : Resolver g.row.F.Denot). r.text.now) c.begin_chain.ensures.kept in
     let can = can_read_on i.reads c.requires.above c.of_chain-place.result c.in-Some.ix c.in-Some.is text c.of_chain-place.ensures.place in
     let same = same_setting s.text.now at.text.now s.options at.options s.tables at.tables (is_some s.callback) (is_some at.callback)
     (ap (λ (r : Resolver g.row.F.Denot). r.text.now) i.kept) (ap (λ (r : Resolver g.row.F.Denot). r.options) i.kept)
@@ -99,9 +105,9 @@ read_other-requires g c κs =
     let s = c.args.self.now in
     let i = c.chain.invariant in
     let text : c.of_chain-place.result.text.now ≡ s.text.now = c.of_chain-place.ensures.text
-    ∙ ap (λ (r : Resolver g.row.F.Denot). r.text.now) c.count_items.ensures in
-    let options : c.count_items.new.self.options ≡ c.chain.self.options = ap (λ (r : Resolver g.row.F.Denot). r.options)
-    c.count_items.ensures ∙ sym (ap (λ (r : Resolver g.row.F.Denot). r.options) i.kept) in
+    ∙ ap (λ (r : Resolver g.row.F.Denot). r.text.now) c.begin_chain.ensures.kept in
+    let options : c.begin_chain.new.self.options ≡ c.chain.self.options = ap (λ (r : Resolver g.row.F.Denot). r.options)
+    c.begin_chain.ensures.kept ∙ sym (ap (λ (r : Resolver g.row.F.Denot). r.options) i.kept) in
     let learned : (kind : SpanKind) → HoldsFrom kind c.chain.self.code_closers c.chain.tree.nodes c.chain.at
     → HoldsFrom kind c.chain.self.code_closers c.chain.tree.nodes (Some c.in-Some.ix) =
     λ kind h. subst (λ (l : Option ℕ). HoldsFrom kind c.chain.self.code_closers c.chain.tree.nodes l) c.in-Some.is h in
@@ -140,10 +146,10 @@ chain-preserved-in_ok-at-in-Some-kind_of g c =
     let new = c.read_bracket.new in
     let ix = c.in-Some.ix in
     let next = c.in_ok-at-in-Some-kind_of.at in
-    let reads = c.in_ok-at-in-Some-kind_of.ensures in
-    let kept = c.read_bracket.ensures.kept in
+    let reads = c.in_ok-at-in-Some-kind_of.ensures.reads in
+    let kept = c.read_bracket.ensures.kept.kept in
     let text : c.of_chain-place.result.text.now ≡ s.text.now = c.of_chain-place.ensures.text
-    ∙ ap (λ (r : Resolver g.row.F.Denot). r.text.now) c.count_items.ensures in
+    ∙ ap (λ (r : Resolver g.row.F.Denot). r.text.now) c.begin_chain.ensures.kept in
     let can = can_read_on i.reads c.requires.above c.of_chain-place.result ix c.in-Some.is text c.of_chain-place.ensures.place in
     let leads = chain_leads c.of_chain-place.result.text.now (tables_of at.tables) c.chain.tree.nodes (Some ix) (ready_here can) in
     let same = same_setting s.text.now at.text.now s.options at.options s.tables at.tables (is_some s.callback) (is_some at.callback)
@@ -168,7 +174,7 @@ chain-preserved-in_ok-at-in-Some-kind_of g c =
     record {
       reads = up_to_more i.reads c.requires.above (setting_of at.text.now (rules_from at.options at.tables (is_some at.callback))) ix next
           new.tree new.self.tables new.self.limit new.self.callback
-          new.self.spent new.self.openers.brackets new.self.openers.wikilinks same c.in-Some.is reads.place
+          new.self.spent new.self.openers.brackets new.self.openers.wikilinks same c.in-Some.is reads.place_is
           (reads.reads c.args.first i.reads.reads.left_then can);
       can_ask = c.read_bracket.ensures.again;
       scanner = i.scanner;
@@ -178,7 +184,7 @@ chain-preserved-in_ok-at-in-Some-kind_of g c =
           (items_from new.tree.nodes next)) (sym kept) code_looks;
       math_looks = subst (λ (r : Resolver g.row.F.Denot). LookedUpTo (has_failed r.math_closers) s.work.math_visits r.work.math_visits all
           (items_from new.tree.nodes next)) (sym kept) math_looks;
-      footnotes = λ name. c.read_bracket.ensures.footnotes name ∙ i.footnotes name;
+      footnotes = λ name. c.read_bracket.ensures.kept.footnotes name ∙ i.footnotes name;
       kept = kept ∙ ap (λ (r : Resolver g.row.F.Denot). let x : Resolver g.row.F.Denot = record r {
         tables = record r.tables { cows = new.self.tables.cows; links = new.self.tables.links; footdefs = new.self.tables.footdefs };
         limit = new.self.limit;
@@ -222,10 +228,10 @@ chain-preserved g c =
     i.footnotes (still_asks i.reads c.requires.above) in
     let text : at.text.now ≡ s.text.now = ap (λ (r : Resolver g.row.F.Denot). r.text.now) i.kept in
     let so_far = (can_read_on i.reads c.requires.above c.of_chain-place.result ix c.in-Some.is
-    (c.of_chain-place.ensures.text ∙ ap (λ (r : Resolver g.row.F.Denot). r.text.now) c.count_items.ensures)
+    (c.of_chain-place.ensures.text ∙ ap (λ (r : Resolver g.row.F.Denot). r.text.now) c.begin_chain.ensures.kept)
     c.of_chain-place.ensures.place).so_far in
     let place_text : c.of_chain-place.result.text.now ≡ at.text.now =
-    c.of_chain-place.ensures.text ∙ ap (λ (r : Resolver g.row.F.Denot). r.text.now) c.count_items.ensures ∙ sym text in
+    c.of_chain-place.ensures.text ∙ ap (λ (r : Resolver g.row.F.Denot). r.text.now) c.begin_chain.ensures.kept ∙ sym text in
     let before = stage c.chain.tree at.tables at.limit at.callback in
     let after = stage new.tree new.self.tables new.self.limit new.self.callback in
     let kind : kind_of (item_at c.chain.tree.nodes ix).body ≡ None = ap (λ (item : Item). kind_of item.body) (sym (c.item.ensures no_item))
@@ -281,5 +287,50 @@ chain-preserved g c =
           } in x) (sym kept);
     }
 
-pub returns-clause-reads : goal.returns-clause-reads
-returns-clause-reads g c = up_to_all c.chain.invariant.reads c.requires.above c.in_default.is
+pub returns-in_err-at-in-Some-kind_of-clause-items : goal.returns-in_err-at-in-Some-kind_of-clause-items
+returns-in_err-at-in-Some-kind_of-clause-items g c =
+    ap (λ (r : Resolver g.row.F.Denot). r.work.items) c.read_bracket.ensures.kept.kept
+    ∙ ap (λ (r : Resolver g.row.F.Denot). r.work.items) c.chain.invariant.kept
+
+pub returns-in_err-at-in-Some-kind_of-clause-kept : goal.returns-in_err-at-in-Some-kind_of-clause-kept
+returns-in_err-at-in-Some-kind_of-clause-kept g c = rw (c.read_bracket.ensures.kept.kept, c.chain.invariant.kept) refl
+
+pub returns-in_err-at-in-Some-kind_of-clause-footnotes : goal.returns-in_err-at-in-Some-kind_of-clause-footnotes
+returns-in_err-at-in-Some-kind_of-clause-footnotes g c = λ name.
+    c.read_bracket.ensures.kept.footnotes name ∙ c.chain.invariant.footnotes name
+
+pub returns-in_err-at-in-None-clause-items : goal.returns-in_err-at-in-None-clause-items
+returns-in_err-at-in-None-clause-items g c =
+    ap (λ (r : Resolver g.row.F.Denot). r.work.items) c.read_other.ensures.kept
+    ∙ ap (λ (r : Resolver g.row.F.Denot). r.work.items) c.chain.invariant.kept
+
+pub returns-in_err-at-in-None-clause-again : goal.returns-in_err-at-in-None-clause-again
+returns-in_err-at-in-None-clause-again g c =
+    subst (λ (r : Resolver g.row.F.Denot). IfSome r.callback g.F.BrokenLinkCallback.can_ask) (sym c.read_other.ensures.kept)
+    c.chain.invariant.can_ask
+
+pub returns-in_err-at-in-None-clause-kept : goal.returns-in_err-at-in-None-clause-kept
+returns-in_err-at-in-None-clause-kept g c = rw (c.read_other.ensures.kept, c.chain.invariant.kept) refl
+
+pub returns-in_err-at-in-None-clause-footnotes : goal.returns-in_err-at-in-None-clause-footnotes
+returns-in_err-at-in-None-clause-footnotes g c = λ name.
+    ap (λ (r : Resolver g.row.F.Denot). is_some (footnote_at r.tables.footdefs name)) c.read_other.ensures.kept
+    ∙ c.chain.invariant.footnotes name
+
+pub returns : goal.returns
+returns g c =
+    let i = c.chain.invariant in
+    let code = i.code_looks in
+    let math = i.math_looks in
+    record {
+      reads = up_to_all i.reads c.requires.above c.in_default.is;
+      place = i.reads.tree;
+      items = ap (λ (r : Resolver g.row.F.Denot). r.work.items) i.kept;
+      code_visits = record { more = code.more; within = code.within; counted = code.counted };
+      math_visits = record { more = math.more; within = math.within; counted = math.counted };
+      stops = tt;
+      again = i.can_ask;
+      kept = rw i.kept refl;
+      footnotes = i.footnotes;
+      refused = tt;
+    }

@@ -1,0 +1,97 @@
+-- How a resolver reads a bracket of a chain where it stands: what private contracts say of it.
+use Rattle.std.specs.Prelude.{◌≡◌, ℕ, ◌<◌, Bool, List, Option, Some, is_some}
+use Rattle.markdown_base.specs.Arena.{Arena, sibling_of}
+use Rattle.markdown_base.specs.Questions.{Question, Answer}
+use Rattle.markdown_base.specs.declared.item.Item.{Item}
+use Rattle.markdown_base.specs.declared.options.Options.{Options}
+use Rattle.markdown_brackets.specs.Decides.{Decides}
+use Rattle.markdown_brackets.specs.LeftList.{Entry}
+use Rattle.markdown_brackets.specs.declared.chain_openers.ChainOpeners.{ChainOpeners}
+use Rattle.markdown_brackets.specs.declared.closing_bracket.ClosedBracket.{ClosedBracket}
+use Rattle.markdown_brackets.specs.declared.spent_ends.SpentEnds.{SpentEnds}
+use Rattle.markdown_chains.specs.Above.{above_cursor}
+use Rattle.markdown_chains.specs.Setting.{Setting, rules_from, setting_of, uses_of}
+use Rattle.markdown_chains.specs.Stages.{Stage, items_from, stage}
+use Rattle.markdown_chains.specs.Tables.{tables_of}
+use Rattle.markdown_code.specs.Finds.{gfm_footnotes}
+use Rattle.markdown_code.specs.SpanClosers.{HoldsFrom, Learned}
+use Rattle.markdown_code.specs.declared.span_text.SpanKind.{SpanKind}
+use Rattle.markdown_resolver.specs.ChainPlace.{CanReadOn}
+use Rattle.markdown_resolver.specs.Closes.{closing_at}
+use Rattle.markdown_resolver.specs.PassOne.{around}
+use Rattle.markdown_resolver.specs.ReadOn.{ReadsOn, StopsOn}
+use Rattle.markdown_resolver.specs.declared.chain_place.ChainPlace.{ChainPlace}
+use Rattle.markdown_resolver.specs.declared.resolver.Resolver.{Resolver}
+use Rattle.markdown_spans.specs.Allocations.{Allocated}
+use Rattle.markdown_spans.specs.Footnotes.{footnote_at}
+
+-- the setting that a resolver goes by
+abbrev pub setting_by : {C : Type 0} → Resolver C → Setting
+setting_by r = setting_of r.text.now (rules_from r.options r.tables (is_some r.callback))
+
+-- how far it has come, with the chain that stands in a tree
+abbrev pub stage_by : {C : Type 0} → Arena Item → Resolver C → Stage C
+stage_by tree r = stage tree r.tables r.limit r.callback
+
+-- it has read a chain up to the item of a node: from the node `first` on a left list stands, of which it holds the
+-- openers
+abbrev pub WasReadTo : {C : Type 0} → ChainPlace → Arena Item → Resolver C → (first ix : ℕ) → List (Entry ℕ) → Type 0
+WasReadTo place tree r first ix left =
+    CanReadOn place tree r.tables r.openers.brackets r.openers.wikilinks first ix left
+
+-- it may read the bracket of a node
+pub record CanReadBracket {C : Type 0} (place : ChainPlace) (tree : Arena Item) (r : Resolver C) (ix : ℕ) : Type 0 where
+  pub first : ℕ
+  pub left : List (Entry ℕ)
+  pub was_read : WasReadTo place tree r first ix left
+  pub text : place.text.now ≡ r.text.now
+  pub footnotes : place.gfm_footnotes ≡ gfm_footnotes r.options
+
+-- it was decided what the `]` of a node becomes: behind any left list that stands there, that is what pass one decides
+pub record DecidesClosing {C : Type 0} (step : C → Question → Option Answer → C → Type 0) (place : ChainPlace)
+    (source : List ℕ) (options : Options) (tree : Arena Item) (ix : ℕ) (could_be : Bool) (held held' : Allocated)
+    (limit limit' : ℕ) (spent spent' : SpentEnds) (callback callback' : Option C) (openers openers' : ChainOpeners)
+    (found : ClosedBracket) : Type 0 where
+  pub decides : (first : ℕ) (left : List (Entry ℕ))
+      → CanReadOn place tree held openers.brackets openers.wikilinks first ix left
+      → Decides step
+      (around (setting_of source (rules_from options held (is_some callback))) (above_cursor source tree))
+      (closing_at source (tables_of held) tree.nodes spent could_be ix) left limit limit' (uses_of held.footdefs)
+      (uses_of held'.footdefs) spent spent' callback callback' openers'.brackets openers'.wikilinks found
+
+-- a resolver has read the bracket of a node: behind any left list that stands there, the chain was read on from it to a
+-- link, where fewer items are left; and what searches have learned of what follows the bracket is true of those
+pub record ReadsBracket {C : Type 0} (step : C → Question → Option Answer → C → Type 0) (place : ChainPlace) (ix : ℕ)
+    (next : Option ℕ) (tree tree' : Arena Item) (old new : Resolver C) : Type 0 where
+  pub reads : (first : ℕ) (left : List (Entry ℕ)) → WasReadTo place tree old first ix left
+      → ReadsOn step (setting_by old) (above_cursor old.text.now tree) first (Some ix) next left (stage_by tree old)
+      (stage_by tree' new) old.spent new.spent new.openers.brackets new.openers.wikilinks
+  pub fewer : items_from tree'.nodes next < items_from tree.nodes (Some ix)
+  pub place_is : tree' ≡ record tree { nodes = tree'.nodes }
+  pub holds : (kind : SpanKind) (learned : Learned) → HoldsFrom kind learned tree.nodes (sibling_of tree.nodes ix)
+      → HoldsFrom kind learned tree'.nodes next
+
+-- memory was refused to it on the way
+abbrev pub StopsAtBracket : {C : Type 0} → (C → Question → Option Answer → C → Type 0) → ChainPlace → (ix : ℕ)
+    → Arena Item → (old : Resolver C) → (callback' : Option C) → Type 0
+StopsAtBracket step place ix tree old callback' = (first : ℕ) (left : List (Entry ℕ))
+    → WasReadTo place tree old first ix left
+    → StopsOn step (setting_by old) (above_cursor old.text.now tree) (Some ix) left (stage_by tree old) old.spent
+    callback'
+
+-- whatever came, a bracket has changed nothing but the texts and links that were put in, the uses of footnotes, what
+-- asking changes, and what is held of the brackets; and the same names have a footnote
+pub record ChangesForBracket {C : Type 0} (old new : Resolver C) : Type 0 where
+  pub kept : new ≡ record old {
+    tables = record old.tables {
+      cows = new.tables.cows;
+      links = new.tables.links;
+      footdefs = new.tables.footdefs;
+    };
+    limit = new.limit;
+    callback = new.callback;
+    openers = new.openers;
+    spent = new.spent;
+  }
+  pub footnotes : (name : List ℕ)
+      → is_some (footnote_at new.tables.footdefs name) ≡ is_some (footnote_at old.tables.footdefs name)
