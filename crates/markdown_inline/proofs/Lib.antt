@@ -4,6 +4,7 @@ pub mod QuestionLawsLemmas
 pub mod CountLemmas
 pub mod LeftFrameLemmas
 pub mod WalkLemmas
+pub mod WalkTotalsLemmas
 pub mod ChainLemmas
 pub mod TakingLemmas
 pub mod WalkStepsLemmas

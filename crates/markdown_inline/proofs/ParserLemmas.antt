@@ -1,7 +1,8 @@
 -- The steps of a parser, and what they give of what was left.
-use Rattle.std.proofs.Common.{◌≡◌, ℕ, Bool, ap, ◌<◌, ◌≤◌, List, [], ◌∷◌, ◌++◌, Option, Some, None, Result, Ok, Err, ◌⊎◌, inl, inr, refl}
+use Rattle.std.proofs.Common.{◌≡◌, ℕ, Bool, ap, ◌<◌, List, [], ◌∷◌, ◌++◌, Option, Some, None, Result, Ok, Err, ◌⊎◌, inl, inr, refl}
 use Rattle.std.proofs.Common.{sym, subst, ◌∙◌, arith, append_assoc}
-use Rattle.std.specs.Prelude.{is_some}
+use Rattle.std.specs.Prelude.{is_some, MatchResult}
+use Rattle.std.specs.Borrow.{Bor}
 use Rattle.std.specs.declared.ops.Range.{Range}
 use Rattle.std.proofs.lemmas.List.{map-append}
 use Rattle.markdown_base.specs.Arena.{Arena}
@@ -9,6 +10,8 @@ use Rattle.markdown_base.specs.Questions.{Question, Answer, Answers}
 use Rattle.markdown_base.specs.declared.event.Event.{Event}
 use Rattle.markdown_base.specs.declared.fault.Fault.{Fault}
 use Rattle.markdown_base.specs.declared.fault.Fault.TheVariants.{Memory}
+use Rattle.markdown_base.specs.Event.{event_view}
+use Rattle.markdown_base.specs.Item.{range_of}
 use Rattle.markdown_base.specs.declared.item.Item.{Item}
 use Rattle.markdown_spans.specs.Allocations.{Allocated}
 use Rattle.markdown_spans.specs.Footnotes.{footnote_at}
@@ -22,15 +25,18 @@ use Rattle.markdown_resolver.specs.ChainCounts.{chain_counts}
 use Rattle.markdown_inline.specs.Counts.{Counting}
 use Rattle.markdown_resolver.specs.Chains.{AreAbove, ResolvesChain, CanResolve, StopsIn}
 use Rattle.markdown_inline.specs.Elements.{Placed, Element}
-use Rattle.markdown_inline.specs.Moves.{Leads, Keeps, Gave, GaveEvent, WentOn, Ended, Failed, BeginsWithEvent}
+use Rattle.markdown_inline.specs.Moves.{Leads, Keeps, Gave, GaveEvent, WentOn, Ended, Failed, BeginsWithEvent, HasGone}
+use Rattle.markdown_inline.specs.Moves.{Began, RefusedAt, Took, WentPast, shape_in}
 use Rattle.markdown_inline.specs.NextGives.{NextGives, IsEventOf, IsPlacedOf, GivesItem}
 use Rattle.markdown_inline.specs.ParserLeft.{parser_known, parser_counts, parser_work, parser_callback, parser_steps, parser_setting}
-use Rattle.markdown_inline.specs.ParserLeft.{elements, IsOver}
+use Rattle.markdown_inline.specs.ParserLeft.{elements, parser_text, IsOver}
 use Rattle.markdown_chains.specs.Above.{above_cursor}
 use Rattle.markdown_chains.specs.Setting.{Setting, rules_from, setting_of}
 use Rattle.markdown_chains.specs.Tables.{tables_of}
 use Rattle.markdown_inline.specs.Walk.{left_of}
-use Rattle.markdown_inline.specs.WalkSteps.{HasEnded, TreeStands, Went, Gives, IsRefused, IsBefore, tree_left}
+use Rattle.markdown_inline.specs.WalkSteps.{HasEnded, TreeStands, Went, Gives, Passed, OpensWith, IsRefused, IsBefore, tree_left}
+use Rattle.markdown_inline.specs.WalkSteps.{way_at}
+use Rattle.markdown_inline.specs.declared.bodies.Way.{Way}
 use Rattle.markdown_inline.specs.declared.walk.Parser.{Parser}
 use Rattle.markdown_chains.proofs.CallbackLemmas.{Asks-append, Asks-some}
 use Rattle.markdown_inline.proofs.ChainLemmas.{ChainMoves, are_above, moves_chain, can_resolve, stops_chain}
@@ -77,6 +83,47 @@ moved_give s t e range k g = (
   },
   g.went.falls,
 )
+
+-- a step that goes on, and then what an item names is taken
+took_same : {F : Type 0} (s t u : Parser F) (item : Item) → SameBut s t → Took t u item → SameBut s u
+took_same s t u item k took = record {
+  text = took.text ∙ k.text;
+  options = took.options ∙ k.options;
+  callback = took.callback ∙ k.callback;
+  limit = took.limit ∙ k.limit;
+  work = took.work ∙ k.work;
+}
+
+-- what is given of a step past the beginning of an item
+past_gives : {F : Type 0} (s t u : Parser F) (item : Item) (e : Event)
+    → Passed t.resolver.text.now s.tree t.tree t.resolver.tables item → Took t u item
+    → OpensWith (parser_text t) (shape_in t item) e
+    → Gives t.resolver.text.now s.tree u.tree t.resolver.tables u.resolver.tables e (range_of item)
+past_gives s t u item e p took o = record {
+  origins = o.origins;
+  texts = o.texts;
+  start = o.start;
+  went = subst (λ (tree : Arena Item). Went t.resolver.text.now s.tree tree t.resolver.tables u.resolver.tables
+      ((event_view e, range_of item, o.origins) ∷ []))
+      (sym took.tree) (p.went u.resolver.tables (event_view e) o.origins took.tables o.begins);
+}
+
+-- the same of an equal text and equal tables
+same_gives : (x y : List ℕ) (s t : Arena Item) (a b held : Allocated) (e : Event) (range : Range ℕ) → x ≡ y → a ≡ b
+    → Gives x s t a held e range → Gives y s t b held e range
+same_gives x y s t a b held e range p q g = rw (← p, ← q) g
+
+-- past the beginning of an item
+pub moved_past : {F : Type 0} (s t : Parser F) (item : Item) (w : Way) → SameBut s t → t.resolver.tables ≡ s.resolver.tables
+    → Passed t.resolver.text.now s.tree t.tree t.resolver.tables item × (way_at item.body ≡ w) → WentPast s t item w
+moved_past s t item w k same p = record {
+  ready = record { can = p.0.can; stands = p.0.stands; goes = p.1 };
+  gave = λ u e took o. (moved_give s u e (range_of item) (took_same s t u item k took)
+      (same_gives t.resolver.text.now s.resolver.text.now s.tree u.tree t.resolver.tables s.resolver.tables u.resolver.tables e
+      (range_of item) (ap (λ (text : Bor (List ℕ)). text.now) k.text) same (past_gives s t u item e p.0 took o))).0;
+  callback = k.callback;
+  falls = p.0.falls;
+}
 
 -- one stretch after another
 pub leads_on : {C : Type 0} (step : C → Question → Option Answer → C → Type 0) (c d e : Option C) (x y z : Answers
@@ -242,13 +289,6 @@ moved_stopped step s t first w b r e = record {
 no_step : {F : Type 0} (s t : Parser F) → parser_steps t < parser_steps s → IsOver s → ⊥
 no_step s t l over = omega (arith, l, over.steps)
 
--- the walk has gone on, from s on, and has given nothing
-pub record HasGone {F : Type 0} (step : F → Question → Option Answer → F → Type 0) (s t : Parser F) : Type 0 where
-  pub went : WentOn step s t
-  pub keeps : Keeps s t
-  pub over : IsOver s → IsOver t
-  pub steps : parser_steps t ≤ parser_steps s
-
 pub gone_nowhere : {F : Type 0} (step : F → Question → Option Answer → F → Type 0) (s : Parser F) → HasGone step s s
 gone_nowhere step s = record {
   went = record {
@@ -307,9 +347,10 @@ abbrev pub Advances : {F : Type 0} → (F → Question → Option Answer → F �
     → Parser F → Type 0
 Advances {F} step s r t = NextGives {F = F} step IsPlacedOf s r t
 
-pub advances_none : {F : Type 0} (step : F → Question → Option Answer → F → Type 0) (s t u : Parser F) → HasGone step s t → Ended t u
-    → Keeps t u → Advances step s None u
-advances_none step s t u g e k =
+pub advances_none : {F I : Type 0} (step : F → Question → Option Answer → F → Type 0) (is_of : List ℕ → I → Placed → Type 0)
+    (s t u : Parser F) → HasGone step s t → Ended t u
+    → Keeps t u → NextGives step is_of s None u
+advances_none step is_of s t u g e k =
     let q = none_quiet s t e.was.left g.went.asked in
     let keeps = keeps_more s t u g.keeps k in
     record {
@@ -325,9 +366,10 @@ advances_none step s t u g e k =
       stays = λ over. (refl, e.is);
     }
 
-pub advances_fault : {F : Type 0} (step : F → Question → Option Answer → F → Type 0) (s t u : Parser F) → HasGone step s t → Failed step t u
-    → Keeps t u → Advances step s (Some (Err Memory)) u
-advances_fault step s t u g f k =
+pub advances_fault : {F I : Type 0} (step : F → Question → Option Answer → F → Type 0) (is_of : List ℕ → I → Placed → Type 0)
+    (s t u : Parser F) → HasGone step s t → Failed step t u
+    → Keeps t u → NextGives step is_of s (Some (Err Memory)) u
+advances_fault step is_of s t u g f k =
     let l = g.went.leads in
     let keeps = keeps_more s t u g.keeps k in
     record {
@@ -391,3 +433,72 @@ without_range step s e t g = record {
 pub steps_failed : {F : Type 0} (step : F → Question → Option Answer → F → Type 0) (s t u : Parser F) → HasGone step s t → Failed step t u
     → parser_steps u < parser_steps s
 steps_failed step s t u g f = omega (arith, g.steps, f.more, f.is.steps)
+
+-- a text and its definitions stay where what an item names is taken
+took_keeps : {F : Type 0} (s t : Parser F) (item : Item) → Took s t item → Keeps s t
+took_keeps s t item took = record {
+  text = ap (λ (text : Bor (List ℕ)). text.now) took.text;
+  definitions = ap (λ (held : Allocated). held.refdefs) took.tables.tables;
+}
+
+-- the steps that are left then are as many
+took_falls : {F : Type 0} (s t u : Parser F) (item : Item) → Took t u item → parser_steps t < parser_steps s
+    → parser_steps u < parser_steps s
+took_falls s t u item took l = rw took.tree l
+
+-- the event of an item is given once it is made
+pub begun_event : {F : Type 0} (step : F → Question → Option Answer → F → Type 0) (s r t u : Parser F) (item : Item) (w : Way) (e : Event)
+    → HasGone step s r → Keeps r t → WentPast r t item w → Began t u item e → Advances step s (Some (Ok (e, range_of item))) u
+begun_event step s r t u item w e g k past b =
+    advances_event step s r u e (range_of item) g (past.gave u e b.took b.opens) (keeps_more r t u k (took_keeps t u item b.took))
+    (took_falls r t u item b.took past.falls)
+
+-- it may be refused memory
+pub failed_past : {F : Type 0} (step : F → Question → Option Answer → F → Type 0) (s t u : Parser F) (item : Item) (w : Way) (fault : Fault)
+    → WentPast s t item w → RefusedAt t u fault → Failed step s u
+failed_past step s t u item w fault past r = record {
+  is = r.is;
+  more = omega (arith, past.falls);
+  questions = [];
+  answers = [];
+  asked = sym (r.callback ∙ past.callback);
+  begins =
+      λ later. (elements s later, refl);
+}
+
+pub begun_fault : {F I : Type 0} (step : F → Question → Option Answer → F → Type 0) (is_of : List ℕ → I → Placed → Type 0)
+    (s r t u : Parser F) (item : Item) (w : Way) (fault : Fault)
+    → HasGone step s r → Keeps r t → WentPast r t item w → RefusedAt t u fault → NextGives step is_of s (Some (Err fault)) u
+begun_fault step is_of s r t u item w fault g k past refused =
+    rw refused.memory (advances_fault step is_of s r u g (failed_past step r t u item w fault past refused)
+    (keeps_more r t u k refused.keeps))
+
+-- an item with its range is given, and so it is without
+pub next_event : {F : Type 0} (step : F → Question → Option Answer → F → Type 0) (s t : Parser F) (e : Event) (range : Range ℕ)
+    → Advances step s (Some (Ok (e, range))) t → NextGives step IsEventOf s (Some (Ok e)) t
+next_event step s t e range n = record {
+  gives = without_range step s (e, range) t n.gives;
+  text = n.text;
+  definitions = n.definitions;
+  stays = λ over. absurd (let none = (n.stays over).0 in cc none);
+}
+
+-- what comes of a Start
+pub begun_start : {F : Type 0} (step : F → Question → Option Answer → F → Type 0) (s r t u : Parser F) (item : Item) (w : Way)
+    (made : Result Event Fault) → HasGone step s r → Keeps r t → WentPast r t item w → MatchResult made (Began t u item) (RefusedAt t u)
+    → NextGives step IsEventOf s (Some made) u
+begun_start step s r t u item w (Ok e) g k past b =
+    next_event step s u e (range_of item) (begun_event step s r t u item w e g k past b)
+begun_start step s r t u item w (Err fault) g k past b = begun_fault step IsEventOf s r t u item w fault g k past b
+
+-- what comes of it has fewer steps to come
+pub start_falls : {F : Type 0} (step : F → Question → Option Answer → F → Type 0) (s r t u : Parser F) (item : Item) (w : Way)
+    (made : Result Event Fault) → HasGone step s r → WentPast r t item w → MatchResult made (Began t u item) (RefusedAt t u)
+    → parser_steps u < parser_steps s
+start_falls step s r t u item w (Ok e) g past b = let l = took_falls r t u item b.took past.falls in omega (arith, l, g.steps)
+start_falls step s r t u item w (Err fault) g past b = omega (arith, past.falls, b.is.steps, g.steps)
+
+-- so has what a stop leaves
+pub stop_falls : {F : Type 0} (step : F → Question → Option Answer → F → Type 0) (s r t : Parser F) → HasGone step s r
+    → parser_steps t < parser_steps r → parser_steps t < parser_steps s
+stop_falls step s r t g l = omega (arith, l, g.steps)

@@ -1,16 +1,17 @@
 -- What an item begins with, by what it names, and what is left in the tables.
 use Rattle.markdown_base.specs.declared.item.ItemBody.TheVariants as body
+use Rattle.markdown_inline.specs.declared.bodies.Way.TheVariants as way
 use Rattle.std.proofs.Common.{◌≡◌, ℕ, zero, suc, ◌-◌, ◌<◌, ◌≤◌, List, [], ◌∷◌, Option, Some, None, length, refl, sym, ap, subst, arith}
-use Rattle.std.proofs.Common.{get_or, set}
-use Rattle.std.specs.Prelude.{IfSome, slice_range}
+use Rattle.std.proofs.Common.{get_or, set, true, false}
+use Rattle.std.specs.Prelude.{IfSome, is_some, slice_range}
 use Rattle.std.specs.Borrow.{Bor}
 use Rattle.std.specs.declared.alloc.Global.{Global}
 use Rattle.std.specs.declared.ops.Range.{Range}
 use Rattle.std.specs.declared.vec.Vec.{Vec}
 use Rattle.std.proofs.lemmas.List.{length-set}
 use Rattle.markdown_base.specs.CowText.{text_of}
-use Rattle.markdown_base.specs.Event.{EventView, LinkView, event_view}
-use Rattle.markdown_base.specs.Item.{text_named, alignments_named}
+use Rattle.markdown_base.specs.Event.{EventView, LinkView, TagView, event_view, tag_view, hard_break}
+use Rattle.markdown_base.specs.Item.{text_named, alignments_named, is_open}
 use Rattle.markdown_base.specs.declared.block_parts.HeadingAttributes.{HeadingAttributes}
 use Rattle.markdown_base.specs.declared.cow_str.CowStr.{CowStr}
 use Rattle.markdown_base.specs.declared.cow_str.CowStr.TheVariants.{Borrowed}
@@ -23,17 +24,19 @@ use Rattle.markdown_base.specs.declared.index.LinkIndex.{LinkIndex}
 use Rattle.markdown_base.specs.declared.item.ItemBody.{ItemBody}
 use Rattle.markdown_base.specs.declared.tag.Alignment.{Alignment}
 use Rattle.markdown_base.specs.declared.tag.HeadingLevel.{HeadingLevel}
+use Rattle.markdown_base.specs.declared.tag.Tag.{Tag}
 use Rattle.markdown_spans.specs.Allocations.{Allocated, LinkParts, LeavesEmptyCow, LeavesEmptyLink, LeavesEmptyAlignment}
 use Rattle.markdown_chains.specs.Origins.{IsLinkFrom, IsSlicedOf, Origin, origin_at, origin_of}
-use Rattle.markdown_chains.specs.Document.{leaf, sliced, made}
+use Rattle.markdown_chains.specs.Document.{Shape, leaf, enclosed, plain, backslash_break, unresolved, sliced, made, container_of}
+use Rattle.markdown_chains.specs.Document.{shape_of, event_of_shape}
 use Rattle.markdown_chains.specs.Places.{HasSliceLink}
 use Rattle.markdown_chains.specs.Tables.{Tables, Named, some_text, some_link, some_alignments, text_at, link_at, link_origin_at, link_view}
 use Rattle.markdown_chains.specs.Tables.{link_named, alignments_at, attributes_at, attributes_view, size_for, tables_of, NamesEntries}
 use Rattle.markdown_chains.specs.Tables.{IsSameEntry}
 use Rattle.markdown_chains.specs.Totals.{same, times_named}
 use Rattle.markdown_chains.proofs.TablesLemmas.{same_entry-refl}
-use Rattle.markdown_inline.specs.Slices.{texts_of, IsFrom, StartIsFrom}
-use Rattle.markdown_inline.specs.WalkSteps.{OpensWith, TakesOnly}
+use Rattle.markdown_inline.specs.Slices.{texts_of, IsFrom, TagIsFrom, StartIsFrom}
+use Rattle.markdown_inline.specs.WalkSteps.{OpensWith, TakesOnly, beginning, way_at_shape, way_at}
 
 -- an entry that is read
 pub text_at-read : (cows : List CowStr) (n : ℕ) (c : CowStr) → n < length cows → c ≡ get_or cows n c → text_at cows n ≡ text_of c
@@ -229,7 +232,7 @@ pub opens_slice : (source : List ℕ) (range : Range ℕ) (view : List ℕ → E
     → OpensWith source (leaf (view (slice_range source range.start range.end)) (sliced ∷ [])) (e c)
 opens_slice source range view e c (slice, is, over) viewed texts = rw is (record {
   origins = sliced ∷ [];
-  is_leaf = rw (viewed (Borrowed slice), over) refl;
+  begins = rw (viewed (Borrowed slice), over) refl;
   texts = rw (texts (Borrowed slice)) (∣ (range, over) ∣₁, tt);
   start = no_start source (e (Borrowed slice)) (Borrowed slice) (texts (Borrowed slice));
 })
@@ -241,7 +244,7 @@ pub opens_made : (source : List ℕ) (cows : List CowStr) (n : ℕ) (view : List
     → OpensWith source (leaf (view (text_at cows n)) (made ∷ [])) (e c)
 opens_made source cows n view e c within read viewed texts = record {
   origins = made ∷ [];
-  is_leaf = rw (viewed c, text_at-read cows n c within read) refl;
+  begins = rw (viewed c, text_at-read cows n c within read) refl;
   texts = rw (texts c) (tt, tt);
   start = no_start source (e c) c (texts c);
 }
@@ -254,7 +257,88 @@ pub opens_span : (source : List ℕ) (cows : List CowStr) (n : ℕ) (view : List
     → OpensWith source (leaf (view (text_at cows n)) (origin_at cows n ∷ [])) (e c)
 opens_span source cows n view e c within read slice viewed texts = record {
   origins = origin_at cows n ∷ [];
-  is_leaf = rw (viewed c, text_at-read cows n c within read) refl;
+  begins = rw (viewed c, text_at-read cows n c within read) refl;
   texts = rw (texts c) (is_from source cows n c within read slice, tt);
   start = no_start source (e c) c (texts c);
 }
+
+-- where a walk goes over an item, its event is that of the shape
+pub leaf_shape : (shape : Shape) (e : EventView) (origins : List Origin) → way_at_shape shape ≡ way.Leaf
+    → beginning shape ≡ Some (e, origins) → event_of_shape shape ≡ Some (e, origins)
+leaf_shape (leaf d others) e origins h b = b
+leaf_shape (enclosed tag) e origins h b = cc h
+leaf_shape plain e origins h b = cc h
+leaf_shape backslash_break e origins h b = b
+leaf_shape (unresolved other) e origins h b = cc h
+
+-- and there is one
+pub record IsLeafShape (shape : Shape) : Type 0 where
+  pub event : EventView
+  pub origins : List Origin
+  pub begins : beginning shape ≡ Some (event, origins)
+
+pub some_leaf : (shape : Shape) → way_at_shape shape ≡ way.Leaf → IsLeafShape shape
+some_leaf (leaf e origins) h = record { event = e; origins = origins; begins = refl }
+some_leaf (enclosed tag) h = absurd (cc h)
+some_leaf plain h = absurd (cc h)
+some_leaf backslash_break h = record { event = hard_break; origins = []; begins = refl }
+some_leaf (unresolved other) h = absurd (cc h)
+
+-- where it goes in by a Start, the shape has a tag
+pub record IsEnclosed (shape : Shape) : Type 0 where
+  pub tag : TagView
+  pub is : shape ≡ enclosed tag
+
+pub some_tag : (shape : Shape) → way_at_shape shape ≡ way.Start → IsEnclosed shape
+some_tag (leaf e origins) h = absurd (cc h)
+some_tag (enclosed tag) h = record { tag = tag; is = refl }
+some_tag plain h = absurd (cc h)
+some_tag backslash_break h = absurd (cc h)
+some_tag (unresolved other) h = absurd (cc h)
+
+-- where it goes in without one, what is below is read alone
+pub plain_shape : (shape : Shape) → way_at_shape shape ≡ way.Plain → shape ≡ plain
+plain_shape (leaf e origins) h = cc h
+plain_shape (enclosed tag) h = cc h
+plain_shape plain h = refl
+plain_shape backslash_break h = cc h
+plain_shape (unresolved other) h = cc h
+
+-- a body alone tells how a walk goes at it
+pub way-shape : (tables : Tables) (over : List ℕ) (b : ItemBody) → way_at b ≡ way_at_shape (shape_of tables over b)
+way-shape tables over (body.HardBreak true) = refl
+way-shape tables over (body.HardBreak false) = refl
+way-shape tables over other = refl
+
+-- a chain is resolved at an open item alone
+pub open-way : (b : ItemBody) → way_at b ≡ way.Open → is_open b ≡ true
+open-way (body.HardBreak true) h = cc h
+open-way (body.HardBreak false) h = cc h
+open-way other h = cc h
+
+-- a Start of a body that names nothing is a container's
+pub some_container : (b : ItemBody) → way_at b ≡ way.Start
+    → ((level : HeadingLevel) (named : Option HeadingIndex) → b ≡ body.Heading level named → ⊥)
+    → ((ix : CowIndex) → b ≡ body.FencedCodeBlock ix → ⊥) → ((ix : CowIndex) → b ≡ body.FootnoteDefinition ix → ⊥)
+    → ((ix : AlignmentIndex) → b ≡ body.Table ix → ⊥) → ((ix : LinkIndex) → b ≡ body.Link ix → ⊥)
+    → ((ix : LinkIndex) → b ≡ body.Image ix → ⊥) → is_some (container_of b) ≡ true
+some_container (body.Heading level named) h heading fenced footnote table link image = absurd (heading level named refl)
+some_container (body.FencedCodeBlock ix) h heading fenced footnote table link image = absurd (fenced ix refl)
+some_container (body.FootnoteDefinition ix) h heading fenced footnote table link image = absurd (footnote ix refl)
+some_container (body.Table ix) h heading fenced footnote table link image = absurd (table ix refl)
+some_container (body.Link ix) h heading fenced footnote table link image = absurd (link ix refl)
+some_container (body.Image ix) h heading fenced footnote table link image = absurd (image ix refl)
+some_container (body.HardBreak true) h heading fenced footnote table link image = cc h
+some_container (body.HardBreak false) h heading fenced footnote table link image = cc h
+some_container other h heading fenced footnote table link image = cc h
+
+-- whose tag the tree reads with
+pub container_shape : (tables : Tables) (over : List ℕ) (b : ItemBody) (tag : TagView) (found : Option TagView) → container_of b ≡ found
+    → is_some found ≡ true → IfSome found (λ t. tag ≡ t) → shape_of tables over b ≡ enclosed tag
+container_shape tables over b tag None e s h = cc s
+container_shape tables over b tag (Some t) e s h = rw e (ap enclosed (sym h))
+
+-- a Start is the event that a tree of its tag begins with
+pub opens_start : (source : List ℕ) (shape : Shape) (tag : Tag) → shape ≡ enclosed (tag_view tag) → TagIsFrom source tag
+    → OpensWith source shape (step.Start tag)
+opens_start source shape tag h from = record { origins = []; begins = rw h refl; texts = tt; start = from }

@@ -1,6 +1,8 @@
 -- The moves of a walk, over the tree and the tables of a program.
 use Rattle.std.proofs.Common.{◌≡◌, ℕ, ◌+◌, ◌<◌, ◌≤◌, false, List, [], ◌∷◌, ◌++◌, map, Option, Some, None, length, refl, arith}
 use Rattle.std.specs.Prelude.{slice_range}
+use Rattle.std.proofs.Common.{sym, subst, ◌∙◌}
+use Rattle.markdown_inline.specs.declared.bodies.Way.TheVariants as way
 use Rattle.markdown_base.specs.Arena.{Arena, child_of, sibling_of}
 use Rattle.markdown_base.specs.ArenaForest.{links_of}
 use Rattle.markdown_base.specs.BlockTree.{item_at}
@@ -20,9 +22,11 @@ use Rattle.markdown_chains.specs.Totals.{same, naming}
 use Rattle.markdown_inline.specs.WalkTotals.{named_left}
 use Rattle.markdown_chains.specs.Places.{IsPlaced}
 use Rattle.markdown_inline.specs.Standing.{Stands}
-use Rattle.markdown_chains.specs.Document.{Origin, enclosed, plain, shape_of, event_of_shape}
+use Rattle.markdown_chains.specs.Document.{Origin, Shape, leaf, enclosed, plain, backslash_break, unresolved, shape_of, event_of_shape}
 use Rattle.markdown_chains.specs.Tables.{Tables, Named, tables_of}
-use Rattle.markdown_inline.specs.WalkSteps.{TreeStands, HasEnded, Went, IsRefused, TakesOnly, tree_left, tree_steps}
+use Rattle.markdown_inline.specs.WalkSteps.{TreeStands, HasEnded, Went, Passed, CanBegin, IsRefused, TakesOnly, tree_left, tree_steps}
+use Rattle.markdown_inline.specs.WalkSteps.{beginning, way_at, way_at_shape}
+use Rattle.markdown_inline.proofs.TakingLemmas.{leaf_shape, some_leaf, some_tag, plain_shape, way-shape, takes_nothing}
 use Rattle.markdown_inline.proofs.LeftFrameLemmas.{left_framed}
 use Rattle.markdown_inline.proofs.WalkLemmas.{Moves, moves_on, moves_past, moves_in, moves_past_in, moves_in_plain, moves_out, left_of-end}
 use Rattle.markdown_inline.proofs.WalkLemmas.{steps-some, steps-end, stands-end, AllReach-last}
@@ -117,6 +121,65 @@ went_in_plain source s t held held' ix item w a h sh k c =
     went source s t held held' ix (child_of s.nodes ix) (s.spine ++ ix ∷ []) [] a c (rw h at k) (λ n. moves_past_in source (tables_of held)
     s.nodes ix s.spine n st)
     (λ rules. moves_in_plain (setting_of source rules) (tables_of held) s.nodes ix s.spine st (rw h at sh))
+
+-- what names an item's event is there where the cursor stands
+can_begin : (source : List ℕ) (s : Arena Item) (held : Allocated) (ix : ℕ) (item : Item) → TreeStands source (tables_of held) s
+    → s.cursor ≡ Some ix → item ≡ item_at s.nodes ix → CanBegin source (tables_of held) item
+can_begin source s held ix item w a h =
+    let placed = cursor_placed source (tables_of held) s ix w a in
+    rw h (record { lies = placed.lies; named = placed.named; slices = placed.slices })
+
+-- past an item that is one event
+pub passed_over : (source : List ℕ) (s t : Arena Item) (held : Allocated) (ix : ℕ) (item : Item) → TreeStands source (tables_of held) s
+    → s.cursor ≡ Some ix → item ≡ item_at s.nodes ix → way_at item.body ≡ way.Leaf → t ≡ record s { cursor = sibling_of s.nodes ix }
+    → Passed source s t held item
+passed_over source s t held ix item w a h goes c =
+    let shape = shape_of (tables_of held) (over source item) item.body in
+    let is : way_at_shape shape ≡ way.Leaf = sym (way-shape (tables_of held) (over source item) item.body) ∙ goes in
+    let some = some_leaf shape is in
+    let is_event = leaf_shape shape some.event some.origins is some.begins in
+    record {
+      can = can_begin source s held ix item w a h;
+      stays = (went_on source s t held held ix item some.event some.origins w a h is_event (takes_nothing item.body held) c).stands;
+      stands = λ held' k. (went_on source s t held held' ix item some.event some.origins w a h is_event k c).stands;
+      went = λ held' e origins k b. went_on source s t held held' ix item e origins w a h (leaf_shape shape e origins is b) k c;
+      falls = (went_on source s t held held ix item some.event some.origins w a h is_event (takes_nothing item.body held) c).falls;
+    }
+
+-- the event that a tree in a tag begins with is the Start
+start_begins : (shape : Shape) (tag : TagView) (e : EventView) (origins : List Origin) → shape ≡ enclosed tag
+    → beginning shape ≡ Some (e, origins) → ◌≡◌ {A = EventView × List Origin} (start tag, []) (e, origins)
+start_begins (enclosed own) tag e origins h b = cc (h, b)
+start_begins (leaf d others) tag e origins h b = cc h
+start_begins plain tag e origins h b = cc h
+start_begins backslash_break tag e origins h b = cc h
+start_begins (unresolved other) tag e origins h b = cc h
+
+-- into an item by a Start
+pub passed_in : (source : List ℕ) (s t : Arena Item) (held : Allocated) (ix : ℕ) (item : Item) → TreeStands source (tables_of held) s
+    → s.cursor ≡ Some ix → item ≡ item_at s.nodes ix → way_at item.body ≡ way.Start
+    → t ≡ record s { spine = s.spine ++ ix ∷ []; cursor = child_of s.nodes ix } → Passed source s t held item
+passed_in source s t held ix item w a h goes c =
+    let shape = shape_of (tables_of held) (over source item) item.body in
+    let is : way_at_shape shape ≡ way.Start = sym (way-shape (tables_of held) (over source item) item.body) ∙ goes in
+    let some = some_tag shape is in
+    record {
+      can = can_begin source s held ix item w a h;
+      stays = (went_in source s t held held ix item some.tag w a h some.is (takes_nothing item.body held) c).stands;
+      stands = λ held' k. (went_in source s t held held' ix item some.tag w a h some.is k c).stands;
+      went = λ held' e origins k b.
+          subst (λ (x : EventView × List Origin). Went source s t held held' ((x.0, range_of item, x.1) ∷ []))
+          (start_begins shape some.tag e origins some.is b) (went_in source s t held held' ix item some.tag w a h some.is k c);
+      falls = (went_in source s t held held ix item some.tag w a h some.is (takes_nothing item.body held) c).falls;
+    }
+
+-- into an item by none
+pub passed_plain : (source : List ℕ) (s t : Arena Item) (held : Allocated) (ix : ℕ) (item : Item) → TreeStands source (tables_of held) s
+    → s.cursor ≡ Some ix → item ≡ item_at s.nodes ix → way_at item.body ≡ way.Plain
+    → t ≡ record s { spine = s.spine ++ ix ∷ []; cursor = child_of s.nodes ix } → Went source s t held held []
+passed_plain source s t held ix item w a h goes c =
+    went_in_plain source s t held held ix item w a h
+    (plain_shape _ (sym (way-shape (tables_of held) (over source item) item.body) ∙ goes)) (takes_nothing item.body held) c
 
 went_out : (source : List ℕ) (s t : Arena Item) (held : Allocated) (ix : ℕ) (up : List ℕ) (given : List Placed)
     → TreeStands source (tables_of held) s → s.cursor ≡ None → s.spine ≡ up ++ ix ∷ []

@@ -1,6 +1,9 @@
 -- What a step of a parser gives.
-use Rattle.markdown_inline.specs.declared.walk.Move.TheVariants as move
-use Rattle.std.specs.Prelude.{◌≡◌, ℕ, ◌<◌, List, [], ◌∷◌, ◌++◌, map, Option, ◌⊎◌}
+use Rattle.markdown_base.specs.declared.event.Event.TheVariants as events
+use Rattle.markdown_inline.specs.declared.bodies.Way.TheVariants as way
+use Rattle.markdown_inline.specs.declared.walk.Stop.TheVariants as stop
+use Rattle.std.specs.Prelude.{◌≡◌, ℕ, ◌<◌, ◌≤◌, List, [], ◌∷◌, ◌++◌, map, Option, Some, None, ◌⊎◌}
+use Rattle.std.specs.Prelude.{slice_range}
 use Rattle.std.specs.declared.ops.Range.{Range}
 use Rattle.markdown_base.specs.Questions.{Question, Answer, Answers}
 use Rattle.markdown_base.specs.declared.event.Event.{Event}
@@ -13,7 +16,16 @@ use Rattle.markdown_inline.specs.NextGives.{IsPlacedOf}
 use Rattle.markdown_inline.specs.ParserLeft.{parser_text, parser_callback, parser_steps, parser_definitions}
 use Rattle.markdown_inline.specs.ParserLeft.{parser_work, parser_counts, elements, IsOver}
 use Rattle.markdown_inline.specs.declared.walk.Parser.{Parser}
-use Rattle.markdown_inline.specs.declared.walk.Move.{Move}
+use Rattle.markdown_base.specs.Item.{range_of}
+use Rattle.markdown_base.specs.declared.fault.Fault.{Fault}
+use Rattle.markdown_base.specs.declared.fault.Fault.TheVariants.{Memory}
+use Rattle.markdown_base.specs.declared.item.Item.{Item}
+use Rattle.markdown_spans.specs.Allocations.{Allocated}
+use Rattle.markdown_chains.specs.Document.{Shape, shape_of}
+use Rattle.markdown_chains.specs.Tables.{tables_of}
+use Rattle.markdown_inline.specs.WalkSteps.{CanBegin, OpensWith, TakesOnly, TreeStands, way_at}
+use Rattle.markdown_inline.specs.declared.bodies.Way.{Way}
+use Rattle.markdown_inline.specs.declared.walk.Stop.{Stop}
 
 -- the list begins with an event
 pub record BeginsWithEvent (es : List Element) : Type 0 where
@@ -75,9 +87,69 @@ pub record GaveEvent {F : Type 0} (s t : Parser F) (e : Event) (range : Range �
   pub is_item : IsPlacedOf (parser_text s) (e, range) placed
   pub gave : Gave s t (placed ∷ [])
 
--- a move of the walk, and what it leaves
-abbrev pub Moved : {F : Type 0} → (F → Question → Option Answer → F → Type 0) → Parser F → Parser F → Move → Type 0
-Moved step s t move.Done = Ended s t
-Moved step s t move.Again = WentOn step s t × (parser_steps t < parser_steps s)
-Moved step s t (move.Give e range) = GaveEvent s t e range × (parser_steps t < parser_steps s)
-Moved step s t move.Failed = Failed step s t
+-- the walk has gone on, from s on, and has given nothing
+pub record HasGone {F : Type 0} (step : F → Question → Option Answer → F → Type 0) (s t : Parser F) : Type 0 where
+  pub went : WentOn step s t
+  pub keeps : Keeps s t
+  pub over : IsOver s → IsOver t
+  pub steps : parser_steps t ≤ parser_steps s
+
+-- how an item reads, by what a parser holds
+abbrev pub shape_in : {F : Type 0} → Parser F → Item → Shape
+shape_in p item = shape_of (tables_of p.resolver.tables) (slice_range (parser_text p) item.start item.end) item.body
+
+-- the event of an item may be made, and the walk stands where it did when what the item names is taken
+pub record IsToBegin {F : Type 0} (s : Parser F) (item : Item) (w : Way) : Type 0 where
+  pub can : CanBegin (parser_text s) (tables_of s.resolver.tables) item
+  pub stands : (held : Allocated) → TakesOnly item.body s.resolver.tables held
+      → TreeStands (parser_text s) (tables_of held) s.tree
+  pub goes : way_at item.body ≡ w
+
+-- what an item names was taken, and nothing else was done
+pub record Took {F : Type 0} (s t : Parser F) (item : Item) : Type 0 where
+  pub text : t.resolver.text ≡ s.resolver.text
+  pub options : t.resolver.options ≡ s.resolver.options
+  pub callback : t.resolver.callback ≡ s.resolver.callback
+  pub limit : t.resolver.limit ≡ s.resolver.limit
+  pub work : t.resolver.work ≡ s.resolver.work
+  pub tree : t.tree ≡ s.tree
+  pub tables : TakesOnly item.body s.resolver.tables t.resolver.tables
+
+-- the event of an item was made
+pub record Began {F : Type 0} (s t : Parser F) (item : Item) (e : Event) : Type 0 where
+  pub took : Took s t item
+  pub opens : OpensWith (parser_text s) (shape_in s item) e
+
+-- it was not, since memory was refused, and the walk is over
+pub record RefusedAt {F : Type 0} (s t : Parser F) (fault : Fault) : Type 0 where
+  pub memory : fault ≡ Memory
+  pub is : IsOver t
+  pub callback : t.resolver.callback ≡ s.resolver.callback
+  pub keeps : Keeps s t
+
+-- the walk went past the beginning of an item: its event is given once it is made
+pub record WentPast {F : Type 0} (s t : Parser F) (item : Item) (w : Way) : Type 0 where
+  pub ready : IsToBegin t item w
+  pub gave : (u : Parser F) (e : Event) → Took t u item → OpensWith (parser_text t) (shape_in t item) e
+      → GaveEvent s u e (range_of item)
+  pub callback : parser_callback t ≡ parser_callback s
+  pub falls : parser_steps t < parser_steps s
+
+-- one step of the walk, and what it leaves
+abbrev pub Moved : {F : Type 0} → (F → Question → Option Answer → F → Type 0) → Parser F → Parser F → Option Stop
+    → Type 0
+Moved step s t None = WentOn step s t × (parser_steps t < parser_steps s)
+Moved step s t (Some stop.Over) = Ended s t
+Moved step s t (Some (stop.Leaf item)) = WentPast s t item way.Leaf
+Moved step s t (Some (stop.Start item)) = WentPast s t item way.Start
+Moved step s t (Some (stop.End e item)) = GaveEvent s t (events.End e) (range_of item)
+    × (parser_steps t < parser_steps s)
+Moved step s t (Some stop.Refused) = Failed step s t
+
+-- the walk went on, and then it stopped
+pub record Stops {F : Type 0} (step : F → Question → Option Answer → F → Type 0) (s t : Parser F) (stop : Stop) : Type 0
+  where
+    pub before : Parser F
+    pub gone : HasGone step s before
+    pub moved : Moved step before t (Some stop)
+    pub keeps : Keeps before t

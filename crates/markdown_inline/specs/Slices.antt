@@ -42,6 +42,7 @@ abbrev pub LeadsFrom : List ℕ → LinkType → (destination title label : CowS
 LeadsFrom source link_type destination title label =
     IsLinkFrom source (origin_of destination) (link_view (link_type, destination, title, label))
 
+-- a tag that is a link or an image leads so
 abbrev pub TagIsFrom : List ℕ → Tag → Type 0
 TagIsFrom source (opens.Link link_type destination title label) = LeadsFrom source link_type destination title label
 TagIsFrom source (opens.Image link_type destination title label) = LeadsFrom source link_type destination title label

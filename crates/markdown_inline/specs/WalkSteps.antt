@@ -1,42 +1,64 @@
 -- What one step of a walk over a tree gives.
-use Rattle.markdown_inline.specs.declared.bodies.Opening.TheVariants as opening
+use Rattle.markdown_base.specs.declared.event.Event.TheVariants as events
+use Rattle.markdown_inline.specs.declared.bodies.Way.TheVariants as way
 use Rattle.markdown_inline.specs.declared.step.Step.TheVariants as step
-use Rattle.std.specs.Prelude.{◌≡◌, ℕ, ◌<◌, true, List, [], ◌∷◌, ◌++◌, map, Option, Some, None}
+use Rattle.std.specs.Prelude.{◌≡◌, ℕ, ◌<◌, true, List, [], ◌∷◌, ◌++◌, map, Option, Some, None, slice_range}
 use Rattle.std.specs.declared.ops.Range.{Range}
 use Rattle.markdown_base.specs.Arena.{Arena}
 use Rattle.markdown_base.specs.BlockTree.{item_at}
-use Rattle.markdown_base.specs.Event.{event_view, tag_view}
-use Rattle.markdown_base.specs.Item.{is_open}
+use Rattle.markdown_base.specs.Event.{EventView, event_view, start, hard_break}
+use Rattle.markdown_base.specs.Item.{LiesIn, is_open, range_of}
 use Rattle.markdown_base.specs.declared.event.Event.{Event}
 use Rattle.markdown_base.specs.declared.item.Item.{Item}
 use Rattle.markdown_base.specs.declared.item.ItemBody.{ItemBody}
 use Rattle.markdown_base.specs.declared.tag.TagEnd.{TagEnd}
 use Rattle.markdown_spans.specs.Allocations.{Allocated}
-use Rattle.markdown_chains.specs.Document.{Origin, Shape, event_of_shape, enclosed, plain}
+use Rattle.markdown_chains.specs.Document.{Origin, Shape, leaf, enclosed, plain, backslash_break, unresolved, shape_of}
+use Rattle.markdown_chains.specs.Places.{HasSlices}
 use Rattle.markdown_inline.specs.Elements.{Placed, Reading, event}
 use Rattle.markdown_chains.specs.Setting.{Rules, Setting, Known, setting_of}
-use Rattle.markdown_inline.specs.Slices.{texts_of, AreFrom, TagIsFrom, StartIsFrom}
+use Rattle.markdown_inline.specs.Slices.{texts_of, AreFrom, StartIsFrom}
 use Rattle.markdown_inline.specs.Standing.{Stands}
 use Rattle.markdown_chains.specs.Totals.{times_named}
-use Rattle.markdown_chains.specs.Tables.{Tables, Named, tables_of, IsSameEntry, IsNoShorter}
+use Rattle.markdown_chains.specs.Tables.{Tables, Named, NamesEntries, tables_of, no_tables, IsSameEntry, IsNoShorter}
 use Rattle.markdown_inline.specs.WalkTotals.{steps_of}
 use Rattle.markdown_inline.specs.Counts.{tree_counts, LeavesAhead}
 use Rattle.markdown_inline.specs.Walk.{left_of, closing}
-use Rattle.markdown_inline.specs.declared.bodies.Opening.{Opening}
+use Rattle.markdown_inline.specs.declared.bodies.Way.{Way}
 use Rattle.markdown_inline.specs.declared.step.Step.{Step}
+
+-- the event that a tree of this shape begins with, with the origins of its texts
+abbrev pub beginning : Shape → Option (EventView × List Origin)
+beginning (leaf e origins) = Some (e, origins)
+beginning (enclosed tag) = Some (start tag, [])
+beginning plain = None
+beginning backslash_break = Some (hard_break, [])
+beginning (unresolved b) = None
 
 -- an item of this shape begins with an event, whose texts are of the origins that the shape names
 pub record OpensWith (source : List ℕ) (shape : Shape) (e : Event) : Type 0 where
   pub origins : List Origin
-  pub is_leaf : event_of_shape shape ≡ Some (event_view e, origins)
+  pub begins : beginning shape ≡ Some (event_view e, origins)
   pub texts : AreFrom source origins (texts_of e)
   pub start : StartIsFrom source e
 
--- an item of this shape begins so
-abbrev pub OpensTo : List ℕ → Shape → Opening → Type 0
-OpensTo source shape (opening.Leaf e) = OpensWith source shape e
-OpensTo source shape (opening.Start tag) = (shape ≡ enclosed (tag_view tag)) × TagIsFrom source tag
-OpensTo source shape opening.Plain = shape ≡ plain
+-- how a walk goes at a tree of this shape
+abbrev pub way_at_shape : Shape → Way
+way_at_shape (leaf e origins) = way.Leaf
+way_at_shape (enclosed tag) = way.Start
+way_at_shape plain = way.Plain
+way_at_shape backslash_break = way.Leaf
+way_at_shape (unresolved b) = way.Open
+
+-- its body alone tells it
+abbrev pub way_at : ItemBody → Way
+way_at b = way_at_shape (shape_of no_tables [] b)
+
+-- the event of an item can be made: the item lies in the text, and what it names is there
+pub record CanBegin (source : List ℕ) (tables : Tables) (item : Item) : Type 0 where
+  pub lies : LiesIn source item
+  pub named : NamesEntries tables item.body
+  pub slices : HasSlices source tables item.body
 
 -- a tree of this body ends so
 abbrev pub ClosesTo : ItemBody → Option TagEnd → Type 0
@@ -84,6 +106,17 @@ pub record Gives (source : List ℕ) (s t : Arena Item) (held held' : Allocated)
     pub start : StartIsFrom source e
     pub went : Went source s t held held' ((event_view e, range, origins) ∷ [])
 
+-- a step went past the beginning of an item, whose event is still to be made: it is given, whatever entry that the
+-- item names is taken then
+pub record Passed (source : List ℕ) (s t : Arena Item) (held : Allocated) (item : Item) : Type 0 where
+  pub can : CanBegin source (tables_of held) item
+  pub stays : TreeStands source (tables_of held) t
+  pub stands : (held' : Allocated) → TakesOnly item.body held held' → TreeStands source (tables_of held') t
+  pub went : (held' : Allocated) (e : EventView) (origins : List Origin) → TakesOnly item.body held held'
+      → beginning (shape_of (tables_of held) (slice_range source item.start item.end) item.body) ≡ Some (e, origins)
+      → Went source s t held held' ((e, range_of item, origins) ∷ [])
+  pub falls : tree_steps t < tree_steps s
+
 -- a step that was refused memory: it left the tree as it was, and the walk was not over
 pub record IsRefused (s t : Arena Item) : Type 0 where
   pub same : t ≡ s
@@ -95,8 +128,10 @@ pub record IsBefore (s : Arena Item) (first : ℕ) : Type 0 where
   pub is_open : is_open (item_at s.nodes first).body ≡ true
 
 -- what a step over the tree gives
-abbrev pub StepGives : List ℕ → Arena Item → Arena Item → Allocated → Allocated → Step → Type 0
-StepGives source s t held held' step.Done = HasEnded s × (t ≡ s) × (held' ≡ held)
-StepGives source s t held held' step.Skip = Went source s t held held' []
-StepGives source s t held held' (step.Give e range) = Gives source s t held held' e range
-StepGives source s t held held' (step.Chain first) = IsBefore s first × (t ≡ s) × (held' ≡ held)
+abbrev pub StepGives : List ℕ → Arena Item → Arena Item → Allocated → Step → Type 0
+StepGives source s t held step.Done = HasEnded s × (t ≡ s)
+StepGives source s t held step.Skip = Went source s t held held []
+StepGives source s t held (step.Leaf item) = Passed source s t held item × (way_at item.body ≡ way.Leaf)
+StepGives source s t held (step.Start item) = Passed source s t held item × (way_at item.body ≡ way.Start)
+StepGives source s t held (step.End e item) = Gives source s t held held (events.End e) (range_of item)
+StepGives source s t held (step.Chain first) = IsBefore s first × (t ≡ s)

@@ -1,17 +1,16 @@
 //! How an item that is not open begins and ends, by its body.
-ghost use Rattle.std.specs.Prelude.{◌≡◌, ◌<◌, ◌∷◌, [], IfOk, IfSome, List, OnErr, Some, false, slice_range, length, ℕ};
-ghost use Rattle.std.specs.Option.{option_map};
+ghost use Rattle.std.specs.Prelude.{◌≡◌, ◌<◌, ◌∷◌, [], IfOk, IfSome, List, OnErr, slice_range, length, ℕ};
 ghost use Rattle.markdown_base.specs.Event.{event_view, tag_view, link, image};
 ghost use Rattle.markdown_base.specs.CowText.{text_of};
-ghost use Rattle.markdown_base.specs.Item.{LiesIn, is_open};
+ghost use Rattle.markdown_base.specs.Item.{LiesIn};
 ghost use Rattle.markdown_spans.specs.Allocations.{HasLink, LeavesEmptyLink};
-ghost use Rattle.markdown_chains.specs.Document.{container_of, math, other_shape, shape_of};
+ghost use Rattle.markdown_chains.specs.Document.{container_of, enclosed, math, shape_of};
 ghost use Rattle.markdown_chains.specs.Places.{HasSliceLink, HasSlices};
 ghost use Rattle.markdown_chains.specs.Tables.{NamesEntries, link_at, tables_of};
 ghost use Rattle.markdown_inline.specs.Slices.{TagIsFrom, texts_of};
-ghost use Rattle.markdown_inline.specs.WalkSteps.{ClosesTo, OpensTo, TakesOnly};
+ghost use Rattle.markdown_inline.specs.WalkSteps.{CanBegin, ClosesTo, OpensWith, TakesOnly, way_at};
 
-use crate::heading::heading_tag;
+use crate::heading::heading_start;
 use markdown_base::cow_str::CowStr;
 use markdown_base::event::Event;
 use markdown_base::index::LinkIndex;
@@ -20,108 +19,129 @@ use markdown_base::tag::{CodeBlockKind, Tag, TagEnd};
 use markdown_spans::defs::Allocations;
 use std::alloc::{AllocError, Global};
 
-/// How an item begins.
-#[derive(Drop)]
-pub enum Opening<'a> {
-    /// One event, and no children are walked.
-    Leaf(Event<'a>),
-    /// A Start, and then its children.
-    Start(Tag<'a>),
-    /// Its children alone.
+/// How a walk goes at an item, by its body.
+#[derive(Clone, Copy, Drop)]
+pub enum Way {
+    /// Its chain is to be resolved first.
+    Open,
+    /// Over it: it is one event.
+    Leaf,
+    /// Into it, by a Start.
+    Start,
+    /// Into it: what is below it is read alone.
     Plain,
 }
 
-/// How an item that is not open begins, by its body. A text, a link or alignments that it names are taken, and heading
-/// attributes copied. After an error, where memory for the copies is refused, the tables are as before.
-pub fn open_item<'a>(
-    alloc: Global,
-    text: &'a str,
-    tables: &mut Allocations<'a>,
-    item: Item,
-) -> Result<Opening<'a>, AllocError>
-    requires lies { LiesIn text.now item }
-    requires settled { is_open item.body ≡ false }
-    requires named { NamesEntries (tables_of tables.old) item.body }
-    requires slices { HasSlices text.now (tables_of tables.old) item.body }
-    ensures opens { IfOk result (OpensTo text.entry.now
-        (shape_of (tables_of tables.old) (slice_range text.entry.now item.start item.end) item.body)) }
-    ensures taken { IfOk result (λ _. TakesOnly item.body tables.old tables.new) }
-    ensures refused { OnErr result (tables.new ≡ tables.old) }
-{
-    if let Some(tag) = container_tag(item.body) {
-        return Ok(Opening::Start(tag));
-    }
-    match heading_tag(alloc, tables, item.body)? {
-        Some(tag) => Ok(Opening::Start(tag)),
-        None => Ok(open_other(text, tables, item)),
-    }
-}
-
-/// What its Start opens, of a body that names nothing.
-fn container_tag<'a>(body: ItemBody) -> Option<Tag<'a>>
-    ensures tag { option_map tag_view result ≡ container_of body }
-    ensures from { (source : List ℕ) → IfSome result (TagIsFrom source) }
+/// How a walk goes at a body.
+pub fn way_of(body: ItemBody) -> Way
+    ensures { way_at body ≡ result }
 {
     match body {
-        ItemBody::Paragraph => Some(Tag::Paragraph),
-        ItemBody::BlockQuote(kind) => Some(Tag::BlockQuote(kind)),
-        ItemBody::IndentCodeBlock => Some(Tag::CodeBlock(CodeBlockKind::Indented)),
-        ItemBody::HtmlBlock => Some(Tag::HtmlBlock),
-        ItemBody::List(_, b'.' | b')', first) => Some(Tag::List(Some(first))),
-        ItemBody::List(_, _, _) => Some(Tag::List(None)),
-        ItemBody::ListItem(_) => Some(Tag::Item),
-        ItemBody::MetadataBlock(kind) => Some(Tag::MetadataBlock(kind)),
-        ItemBody::DefinitionList(_) => Some(Tag::DefinitionList),
-        ItemBody::DefinitionListTitle => Some(Tag::DefinitionListTitle),
-        ItemBody::DefinitionListDefinition(_) => Some(Tag::DefinitionListDefinition),
-        ItemBody::TableHead => Some(Tag::TableHead),
-        ItemBody::TableRow => Some(Tag::TableRow),
-        ItemBody::TableCell => Some(Tag::TableCell),
-        ItemBody::Emphasis => Some(Tag::Emphasis),
-        ItemBody::Strong => Some(Tag::Strong),
-        ItemBody::Strikethrough => Some(Tag::Strikethrough),
-        ItemBody::Superscript => Some(Tag::Superscript),
-        ItemBody::Subscript => Some(Tag::Subscript),
-        _ => None,
+        ItemBody::MaybeEmphasis(_, _, _)
+        | ItemBody::MaybeMath(_, _, _)
+        | ItemBody::MaybeSmartQuote(_, _, _)
+        | ItemBody::MaybeCode(_, _)
+        | ItemBody::MaybeHtml
+        | ItemBody::MaybeLinkOpen
+        | ItemBody::MaybeLinkClose(_)
+        | ItemBody::MaybeImage => Way::Open,
+        ItemBody::Text { .. }
+        | ItemBody::SynthesizeText(_)
+        | ItemBody::SynthesizeChar(_)
+        | ItemBody::Code(_)
+        | ItemBody::Math(_, _)
+        | ItemBody::Html
+        | ItemBody::InlineHtml
+        | ItemBody::OwnedInlineHtml(_)
+        | ItemBody::FootnoteReference(_)
+        | ItemBody::SoftBreak
+        | ItemBody::HardBreak(_)
+        | ItemBody::Rule
+        | ItemBody::TaskListMarker(_) => Way::Leaf,
+        ItemBody::Root | ItemBody::TightParagraph | ItemBody::MaybeDefinitionListTitle =>
+            Way::Plain,
+        _ => Way::Start,
     }
 }
 
-/// How the other items begin.
-fn open_other<'a>(text: &'a str, tables: &mut Allocations<'a>, item: Item) -> Opening<'a>
-    requires lies { LiesIn text.now item }
-    requires settled { is_open item.body ≡ false }
-    requires named { NamesEntries (tables_of tables.old) item.body }
-    requires slices { HasSlices text.now (tables_of tables.old) item.body }
-    ensures opens { OpensTo text.entry.now
-        (other_shape (tables_of tables.old) (slice_range text.entry.now item.start item.end) item.body) result }
+/// The event of an item that is one. A text that it names is taken.
+pub fn leaf_event<'a>(text: &'a str, tables: &mut Allocations<'a>, item: Item) -> Event<'a>
+    requires can { CanBegin text.now (tables_of tables.old) item }
+    requires leaf { way_at item.body ≡ Way.Leaf }
+    ensures opens { OpensWith text.entry.now
+        (shape_of (tables_of tables.old) (slice_range text.entry.now item.start item.end) item.body) result }
     ensures taken { TakesOnly item.body tables.old tables.new }
 {
     match item.body {
-        ItemBody::Text { .. } => Opening::Leaf(Event::Text(slice_of(text, item))),
-        ItemBody::SynthesizeText(ix) => Opening::Leaf(Event::Text(tables.take_cow(ix))),
-        ItemBody::SynthesizeChar(c) => Opening::Leaf(Event::Text(CowStr::from(c))),
-        ItemBody::Code(ix) => Opening::Leaf(Event::Code(tables.take_cow(ix))),
-        ItemBody::Math(ix, display) => Opening::Leaf(math_event(display, tables.take_cow(ix))),
-        ItemBody::Html => Opening::Leaf(Event::Html(slice_of(text, item))),
-        ItemBody::InlineHtml => Opening::Leaf(Event::InlineHtml(slice_of(text, item))),
-        ItemBody::OwnedInlineHtml(ix) => Opening::Leaf(Event::InlineHtml(tables.take_cow(ix))),
-        ItemBody::FootnoteReference(ix) => {
-            Opening::Leaf(Event::FootnoteReference(tables.take_cow(ix)))
-        }
-        ItemBody::SoftBreak => Opening::Leaf(Event::SoftBreak),
-        ItemBody::HardBreak(_) => Opening::Leaf(Event::HardBreak),
-        ItemBody::Rule => Opening::Leaf(Event::Rule),
-        ItemBody::TaskListMarker(done) => Opening::Leaf(Event::TaskListMarker(done)),
-        ItemBody::FencedCodeBlock(ix) => {
-            Opening::Start(Tag::CodeBlock(CodeBlockKind::Fenced(tables.take_cow(ix))))
-        }
-        ItemBody::FootnoteDefinition(ix) => {
-            Opening::Start(Tag::FootnoteDefinition(tables.take_cow(ix)))
-        }
-        ItemBody::Table(ix) => Opening::Start(Tag::Table(tables.take_alignment(ix))),
-        ItemBody::Link(ix) => Opening::Start(link_tag(tables, ix)),
-        ItemBody::Image(ix) => Opening::Start(image_tag(tables, ix)),
-        _ => Opening::Plain,
+        ItemBody::Text { .. } => Event::Text(slice_of(text, item)),
+        ItemBody::SynthesizeText(ix) => Event::Text(tables.take_cow(ix)),
+        ItemBody::SynthesizeChar(c) => Event::Text(CowStr::from(c)),
+        ItemBody::Code(ix) => Event::Code(tables.take_cow(ix)),
+        ItemBody::Math(ix, display) => math_event(display, tables.take_cow(ix)),
+        ItemBody::Html => Event::Html(slice_of(text, item)),
+        ItemBody::InlineHtml => Event::InlineHtml(slice_of(text, item)),
+        ItemBody::OwnedInlineHtml(ix) => Event::InlineHtml(tables.take_cow(ix)),
+        ItemBody::FootnoteReference(ix) => Event::FootnoteReference(tables.take_cow(ix)),
+        ItemBody::SoftBreak => Event::SoftBreak,
+        ItemBody::HardBreak(_) => Event::HardBreak,
+        ItemBody::TaskListMarker(done) => Event::TaskListMarker(done),
+        _ => Event::Rule,
+    }
+}
+
+/// What the Start of an item opens. A text, a link or alignments that it names are taken, and heading attributes
+/// copied. After an error, where memory for the copies is refused, the tables are as before.
+pub fn start_tag<'a>(
+    alloc: Global,
+    tables: &mut Allocations<'a>,
+    body: ItemBody,
+) -> Result<Tag<'a>, AllocError>
+    requires start { way_at body ≡ Way.Start }
+    requires named { NamesEntries (tables_of tables.old) body }
+    ensures tag { (over : List ℕ) → IfOk result (λ tag. shape_of (tables_of tables.old) over body
+        ≡ enclosed (tag_view tag)) }
+    ensures from { (source : List ℕ) → HasSlices source (tables_of tables.old) body → IfOk result (TagIsFrom source) }
+    ensures taken { IfOk result (λ _. TakesOnly body tables.old tables.new) }
+    ensures refused { OnErr result (tables.new ≡ tables.old) }
+{
+    match body {
+        ItemBody::Heading(level, named) => heading_start(alloc, tables, level, named),
+        ItemBody::FencedCodeBlock(ix) => Ok(Tag::CodeBlock(CodeBlockKind::Fenced(tables.take_cow(
+            ix,
+        )))),
+        ItemBody::FootnoteDefinition(ix) => Ok(Tag::FootnoteDefinition(tables.take_cow(ix))),
+        ItemBody::Table(ix) => Ok(Tag::Table(tables.take_alignment(ix))),
+        ItemBody::Link(ix) => Ok(link_tag(tables, ix)),
+        ItemBody::Image(ix) => Ok(image_tag(tables, ix)),
+        _ => Ok(container_tag(body)),
+    }
+}
+
+/// What its Start opens, of a body that names nothing: of any other a paragraph.
+fn container_tag<'a>(body: ItemBody) -> Tag<'a>
+    ensures tag { IfSome (container_of body) (λ tag. tag_view result ≡ tag) }
+    ensures from { (source : List ℕ) → TagIsFrom source result }
+{
+    match body {
+        ItemBody::BlockQuote(kind) => Tag::BlockQuote(kind),
+        ItemBody::IndentCodeBlock => Tag::CodeBlock(CodeBlockKind::Indented),
+        ItemBody::HtmlBlock => Tag::HtmlBlock,
+        ItemBody::List(_, b'.' | b')', first) => Tag::List(Some(first)),
+        ItemBody::List(_, _, _) => Tag::List(None),
+        ItemBody::ListItem(_) => Tag::Item,
+        ItemBody::MetadataBlock(kind) => Tag::MetadataBlock(kind),
+        ItemBody::DefinitionList(_) => Tag::DefinitionList,
+        ItemBody::DefinitionListTitle => Tag::DefinitionListTitle,
+        ItemBody::DefinitionListDefinition(_) => Tag::DefinitionListDefinition,
+        ItemBody::TableHead => Tag::TableHead,
+        ItemBody::TableRow => Tag::TableRow,
+        ItemBody::TableCell => Tag::TableCell,
+        ItemBody::Emphasis => Tag::Emphasis,
+        ItemBody::Strong => Tag::Strong,
+        ItemBody::Strikethrough => Tag::Strikethrough,
+        ItemBody::Superscript => Tag::Superscript,
+        ItemBody::Subscript => Tag::Subscript,
+        _ => Tag::Paragraph,
     }
 }
 
@@ -182,16 +202,31 @@ fn image_tag<'a>(tables: &mut Allocations<'a>, ix: LinkIndex) -> Tag<'a>
 pub fn close_item(body: ItemBody) -> Option<TagEnd>
     ensures { ClosesTo body result }
 {
-    match container_tag(body) {
-        Some(tag) => Some(tag.to_end()),
-        None => match body {
-            ItemBody::Heading(level, _) => Some(TagEnd::Heading(level)),
-            ItemBody::FencedCodeBlock(_) => Some(TagEnd::CodeBlock),
-            ItemBody::FootnoteDefinition(_) => Some(TagEnd::FootnoteDefinition),
-            ItemBody::Table(_) => Some(TagEnd::Table),
-            ItemBody::Link(_) => Some(TagEnd::Link),
-            ItemBody::Image(_) => Some(TagEnd::Image),
-            _ => None,
-        },
+    match body {
+        ItemBody::Paragraph => Some(TagEnd::Paragraph),
+        ItemBody::Heading(level, _) => Some(TagEnd::Heading(level)),
+        ItemBody::BlockQuote(kind) => Some(TagEnd::BlockQuote(kind)),
+        ItemBody::IndentCodeBlock | ItemBody::FencedCodeBlock(_) => Some(TagEnd::CodeBlock),
+        ItemBody::HtmlBlock => Some(TagEnd::HtmlBlock),
+        ItemBody::List(_, b'.' | b')', _) => Some(TagEnd::List(true)),
+        ItemBody::List(_, _, _) => Some(TagEnd::List(false)),
+        ItemBody::ListItem(_) => Some(TagEnd::Item),
+        ItemBody::FootnoteDefinition(_) => Some(TagEnd::FootnoteDefinition),
+        ItemBody::DefinitionList(_) => Some(TagEnd::DefinitionList),
+        ItemBody::DefinitionListTitle => Some(TagEnd::DefinitionListTitle),
+        ItemBody::DefinitionListDefinition(_) => Some(TagEnd::DefinitionListDefinition),
+        ItemBody::Table(_) => Some(TagEnd::Table),
+        ItemBody::TableHead => Some(TagEnd::TableHead),
+        ItemBody::TableRow => Some(TagEnd::TableRow),
+        ItemBody::TableCell => Some(TagEnd::TableCell),
+        ItemBody::Emphasis => Some(TagEnd::Emphasis),
+        ItemBody::Strong => Some(TagEnd::Strong),
+        ItemBody::Strikethrough => Some(TagEnd::Strikethrough),
+        ItemBody::Superscript => Some(TagEnd::Superscript),
+        ItemBody::Subscript => Some(TagEnd::Subscript),
+        ItemBody::Link(_) => Some(TagEnd::Link),
+        ItemBody::Image(_) => Some(TagEnd::Image),
+        ItemBody::MetadataBlock(kind) => Some(TagEnd::MetadataBlock(kind)),
+        _ => None,
     }
 }

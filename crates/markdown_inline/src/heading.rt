@@ -5,39 +5,18 @@ ghost use Rattle.std.specs.Option.{option_map};
 ghost use Rattle.markdown_base.specs.CowText.{text_of};
 ghost use Rattle.markdown_base.specs.Event.{attribute_view, heading, tag_view};
 ghost use Rattle.markdown_spans.specs.Allocations.{HasHeading};
-ghost use Rattle.markdown_chains.specs.Document.{heading_of};
-ghost use Rattle.markdown_chains.specs.Tables.{NamesEntries, attributes_for, attributes_view, heading_with, tables_of};
+ghost use Rattle.markdown_chains.specs.Tables.{attributes_for, attributes_view, heading_with};
 ghost use Rattle.markdown_inline.specs.Slices.{TagIsFrom};
 
 use markdown_base::block_parts::HeadingAttributes;
 use markdown_base::cow_str::CowStr;
 use markdown_base::index::HeadingIndex;
-use markdown_base::item::ItemBody;
 use markdown_base::tag::{HeadingLevel, Tag};
 use markdown_spans::defs::Allocations;
 use std::alloc::{AllocError, Global};
 
-/// What the Start of a heading opens, where a body is one. An error where memory for copies is refused.
-pub fn heading_tag<'a>(
-    alloc: Global,
-    tables: &Allocations<'a>,
-    body: ItemBody,
-) -> Result<Option<Tag<'a>>, AllocError>
-    requires { NamesEntries (tables_of tables.now) body }
-    ensures tag { IfOk result (λ tag. option_map tag_view tag ≡ heading_of (tables_of tables.now) body) }
-    ensures from { (source : List ℕ) → IfOk result (λ tag. IfSome tag (TagIsFrom source)) }
-{
-    match body {
-        ItemBody::Heading(level, named) => {
-            let tag = heading_start(alloc, tables, level, named)?;
-            Ok(Some(tag))
-        }
-        _ => Ok(None),
-    }
-}
-
-/// A heading with the attributes that it names, or with none.
-fn heading_start<'a>(
+/// A heading with the attributes that it names, or with none. An error where memory for copies is refused.
+pub fn heading_start<'a>(
     alloc: Global,
     tables: &Allocations<'a>,
     level: HeadingLevel,

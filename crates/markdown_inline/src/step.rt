@@ -1,33 +1,37 @@
-//! One step of a walk over a tree of items, with what they name.
-ghost use Rattle.std.specs.Prelude.{◌≡◌, ◌<◌, None, Some, MatchResult, IfSome};
+//! One step of a walk over a tree of items.
+ghost use Rattle.std.specs.Prelude.{◌≡◌, ◌<◌, List, None, Some, MatchResult, length, ℕ};
+ghost use Rattle.markdown_spans.specs.Allocations.{Allocated};
 ghost use Rattle.markdown_chains.specs.Tables.{tables_of};
 ghost use Rattle.markdown_inline.specs.WalkSteps.{StepGives, TreeStands, IsRefused};
 
-use crate::bodies::{Opening, close_item, open_item};
-use markdown_base::event::Event;
+use crate::bodies::{Way, close_item, way_of};
 use markdown_base::item::Item;
+use markdown_base::tag::TagEnd;
 use markdown_base::tree::Tree;
-use markdown_spans::defs::Allocations;
-use std::alloc::{AllocError, Global};
-use std::ops::Range;
+use std::alloc::AllocError;
 
-/// What one step of a walk did.
-#[derive(Drop)]
-pub enum Step<'a> {
-    /// The walk is over.
+/// Where one step of a walk has led.
+#[derive(Clone, Copy, Drop)]
+pub enum Step {
+    /// Nowhere: the walk is over.
     Done,
-    /// It went into a node or out of one that gives no event.
+    /// Into a node or out of one that gives no event.
     Skip,
-    Give(Event<'a>, Range<usize>),
-    /// It stands before an open item, from which on the chain is to be resolved.
+    /// Over an item that is one event, which is still to be made.
+    Leaf(Item),
+    /// Into an item that begins with a Start, which is still to be made.
+    Start(Item),
+    /// Out of an item, which ends so.
+    End(TagEnd, Item),
+    /// Before an open item, from which on the chain is to be resolved.
     Chain(usize),
 }
 
-/// A step out of the node gone into last. The tables are as they were.
-pub fn step_out<'a>(text: &'a str, tables: &Allocations<'a>, tree: &mut Tree<Item>) -> Step<'a>
-    requires stands { TreeStands text.now (tables_of tables.now) tree.old }
-    requires at_end { tree.old.cursor ≡ None }
-    ensures { StepGives text.entry.now tree.old tree.new tables.now tables.now result }
+/// A step out of the node gone into last.
+pub fn step_out(tree: &mut Tree<Item>) -> Step
+    requires { tree.old.cursor ≡ None }
+    ensures { (source : List ℕ) (held : Allocated) → TreeStands source (tables_of held) tree.old
+        → StepGives source tree.old tree.new held result }
 {
     match tree.pop() {
         None => Step::Done,
@@ -36,41 +40,31 @@ pub fn step_out<'a>(text: &'a str, tables: &Allocations<'a>, tree: &mut Tree<Ite
             tree.next_sibling(ix);
             match close_item(item.body) {
                 None => Step::Skip,
-                Some(end) => Step::Give(Event::End(end), item.start..item.end),
+                Some(end) => Step::End(end, item),
             }
         }
     }
 }
 
 /// A step at the node in focus.
-pub fn step_at<'a>(
-    alloc: Global,
-    text: &'a str,
-    tables: &mut Allocations<'a>,
-    tree: &mut Tree<Item>,
-    ix: usize,
-) -> Result<Step<'a>, AllocError>
-    requires stands { TreeStands text.now (tables_of tables.old) tree.old }
+pub fn step_at(tree: &mut Tree<Item>, ix: usize) -> Result<Step, AllocError>
+    requires within { ix < length tree.old.nodes }
     requires at_ix { tree.old.cursor ≡ Some ix }
-    ensures given { MatchResult result (StepGives text.entry.now tree.old tree.new tables.old tables.new)
-        (λ _. IsRefused tree.old tree.new) }
-    ensures definitions { tables.new.refdefs ≡ tables.old.refdefs }
+    ensures { (source : List ℕ) (held : Allocated) → TreeStands source (tables_of held) tree.old
+        → MatchResult result (StepGives source tree.old tree.new held) (λ _. IsRefused tree.old tree.new) }
 {
     let item = *tree.item(ix);
-    if item.body.is_open() {
-        return Ok(Step::Chain(ix));
-    }
-    let opening = open_item(alloc, text, tables, item)?;
-    match opening {
-        Opening::Leaf(event) => {
+    match way_of(item.body) {
+        Way::Open => Ok(Step::Chain(ix)),
+        Way::Leaf => {
             tree.next_sibling(ix);
-            Ok(Step::Give(event, item.start..item.end))
+            Ok(Step::Leaf(item))
         }
-        Opening::Start(tag) => {
+        Way::Start => {
             tree.push()?;
-            Ok(Step::Give(Event::Start(tag), item.start..item.end))
+            Ok(Step::Start(item))
         }
-        Opening::Plain => {
+        Way::Plain => {
             tree.push()?;
             Ok(Step::Skip)
         }
@@ -78,19 +72,12 @@ pub fn step_at<'a>(
 }
 
 /// One step of the walk over a tree. After a refusal the tree is as before.
-pub fn take_step<'a>(
-    alloc: Global,
-    text: &'a str,
-    tables: &mut Allocations<'a>,
-    tree: &mut Tree<Item>,
-) -> Result<Step<'a>, AllocError>
-    requires { TreeStands text.now (tables_of tables.old) tree.old }
-    ensures given { MatchResult result (StepGives text.entry.now tree.old tree.new tables.old tables.new)
-        (λ _. IsRefused tree.old tree.new) }
-    ensures definitions { tables.new.refdefs ≡ tables.old.refdefs }
+pub fn take_step(tree: &mut Tree<Item>) -> Result<Step, AllocError>
+    ensures { (source : List ℕ) (held : Allocated) → TreeStands source (tables_of held) tree.old
+        → MatchResult result (StepGives source tree.old tree.new held) (λ _. IsRefused tree.old tree.new) }
 {
     match tree.cur() {
-        None => Ok(step_out(text, tables, tree)),
-        Some(ix) => step_at(alloc, text, tables, tree, ix),
+        None => Ok(step_out(tree)),
+        Some(ix) => step_at(tree, ix),
     }
 }

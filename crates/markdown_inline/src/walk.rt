@@ -3,11 +3,13 @@ ghost use Rattle.std.specs.Prelude.{◌≡◌, ◌<◌, ◌++◌, ◌∷◌, [],
 ghost use Rattle.markdown_inline.specs.Standing.{Stands, Stands-prop};
 ghost use Rattle.markdown_chains.specs.Tables.{tables_of};
 
+use crate::bodies::{leaf_event, start_tag};
 use crate::step::{Step, take_step};
 use bitflags::Flags;
 use markdown_base::event::Event;
 use markdown_base::item::Item;
 use markdown_base::options::Options;
+use markdown_base::tag::TagEnd;
 use markdown_base::tree::Tree;
 use markdown_brackets::chain_openers::ChainOpeners;
 use markdown_brackets::spent_ends::SpentEnds;
@@ -18,86 +20,157 @@ use markdown_resolver::resolver::Resolver;
 use markdown_spans::blocks::{Blocks, Fault};
 use markdown_spans::defs::{Allocations, BrokenLinkCallback, DefaultBrokenLinkCallback, RefDefs};
 use std::alloc::Global;
+use std::fmt;
 use std::iter::FusedIterator;
 use std::ops::Range;
 
-/// What one step of a parser did.
-#[derive(Drop)]
-pub enum Move<'a> {
-    Done,
-    Again,
-    Give(Event<'a>, Range<usize>),
-    Failed,
+/// Where the walk of a parser stops.
+#[derive(Clone, Copy, Drop)]
+pub enum Stop {
+    /// It is over.
+    Over,
+    /// Behind an item that is one event, which is still to be made.
+    Leaf(Item),
+    /// In an item that begins with a Start, which is still to be made.
+    Start(Item),
+    /// Behind an item, which ends so.
+    End(TagEnd, Item),
+    /// Memory was refused, and it is over.
+    Refused,
 }
 
 /// The events of a text, as an iterator. Its items are errors where memory is refused; after one nothing
 /// comes.
+///
+/// ```
+/// let mut parser = Parser::new(alloc, "*a*")?;
+/// while let Some(event) = parser.next() {
+///     let event = event?;
+/// }
+/// // Start(Paragraph), Start(Emphasis), Text("a"), End(Emphasis), End(Paragraph)
+/// ```
 #[derive(Drop)]
 pub struct Parser<'input, F = DefaultBrokenLinkCallback> {
     /// For copies of heading attributes.
     alloc: Global,
     tree: Tree<Item>,
     resolver: Resolver<'input, F>,
-    ghost stands: { Stands resolver.text.now (tables_of resolver.tables) tree.nodes tree.cursor tree.spine } by { Stands-prop resolver.text.now (tables_of resolver.tables) tree.nodes tree.cursor tree.spine },
+    ghost stands: { Stands resolver.text.now (tables_of resolver.tables)
+        tree.nodes tree.cursor tree.spine } by { Stands-prop resolver.text.now (tables_of resolver.tables)
+            tree.nodes tree.cursor tree.spine },
 }
 
 /// The same events, each with the bytes of the source that it stands over.
+///
+/// ```
+/// let mut events = Parser::new(alloc, "*a*")?.into_offset_iter();
+/// while let Some(item) = events.next() {
+///     let (event, range) = item?;
+/// }
+/// // (Start(Paragraph), 0..3), (Start(Emphasis), 0..3), (Text("a"), 1..2),
+/// // (End(Emphasis), 0..3), (End(Paragraph), 0..3)
+/// ```
 #[derive(Drop)]
 pub struct OffsetIter<'input, F = DefaultBrokenLinkCallback> {
     inner: Parser<'input, F>,
 }
 
 impl<'input, F: BrokenLinkCallback<'input>> Parser<'input, F> {
-    ghost use Rattle.std.specs.Prelude.{◌≡◌, ◌<◌, IfSome};
-    ghost use Rattle.markdown_inline.specs.Moves.{Moved, Keeps};
+    ghost use Rattle.std.specs.Prelude.{◌≡◌, ◌<◌, IfSome, MatchResult};
+    ghost use Rattle.markdown_inline.specs.Moves.{Moved, Stops, Keeps, IsToBegin, Began, RefusedAt};
     ghost use Rattle.markdown_inline.specs.NextGives.{NextGives, IsPlacedOf};
     ghost use Rattle.markdown_inline.specs.ParserLeft.{parser_callback, parser_steps};
+    ghost use Rattle.markdown_inline.specs.declared.bodies.Way.TheVariants as way;
 
-    /// One step of the walk.
-    fn advance_once(&mut self) -> Move<'input>
+    /// One step of the walk; None where it goes on.
+    fn advance_once(&mut self) -> Option<Stop>
         requires { IfSome (parser_callback self.old) F.can_ask }
         ensures askable { IfSome (parser_callback self.new) F.can_ask }
         ensures moves { Moved F.answers self.old self.new result }
         ensures keeps { Keeps self.old self.new }
     {
-        match take_step(
-            self.alloc,
-            self.resolver.text,
-            &mut self.resolver.tables,
-            &mut self.tree,
-        ) {
-            Ok(Step::Done) => Move::Done,
-            Ok(Step::Skip) => Move::Again,
-            Ok(Step::Give(event, range)) => Move::Give(event, range),
+        match take_step(&mut self.tree) {
+            Ok(Step::Done) => Some(Stop::Over),
+            Ok(Step::Skip) => None,
+            Ok(Step::Leaf(item)) => Some(Stop::Leaf(item)),
+            Ok(Step::Start(item)) => Some(Stop::Start(item)),
+            Ok(Step::End(end, item)) => Some(Stop::End(end, item)),
             Ok(Step::Chain(first)) => match self.resolver.resolve_chain(&mut self.tree, first) {
-                Ok(()) => Move::Again,
+                Ok(()) => None,
                 Err(_) => {
                     self.tree.stop();
-                    Move::Failed
+                    Some(Stop::Refused)
                 }
             },
             Err(_) => {
                 self.tree.stop();
-                Move::Failed
+                Some(Stop::Refused)
+            }
+        }
+    }
+
+    /// Up to the next event, or to the end.
+    fn advance(&mut self) -> Stop
+        requires { IfSome (parser_callback self.old) F.can_ask }
+        ensures stops { Stops F.answers self.old self.new result }
+        ensures askable { IfSome (parser_callback self.new) F.can_ask }
+    {
+        'walk: loop {
+            if let Some(stop) = self.advance_once() {
+                return stop;
+            }
+        }
+    }
+
+    /// The Start of an item that the walk has gone into. Where memory is refused the walk is over.
+    fn start(&mut self, item: Item) -> Result<Event<'input>, Fault>
+        requires begins { IsToBegin self.old item way.Start }
+        ensures callback { parser_callback self.new ≡ parser_callback self.old }
+        ensures begun { MatchResult result (Began self.old self.new item) (RefusedAt self.old self.new) }
+    {
+        match start_tag(self.alloc, &mut self.resolver.tables, item.body) {
+            Ok(tag) => Ok(Event::Start(tag)),
+            Err(_) => {
+                self.tree.stop();
+                Err(Fault::Memory)
             }
         }
     }
 
     /// The next event with its range.
-    fn advance(&mut self) -> Option<Result<(Event<'input>, Range<usize>), Fault>>
+    fn next_placed(&mut self) -> Option<Result<(Event<'input>, Range<usize>), Fault>>
         requires { IfSome (parser_callback self.old) F.can_ask }
         ensures gives { NextGives F.answers IsPlacedOf self.old result self.new }
         ensures askable { IfSome (parser_callback self.new) F.can_ask }
         ensures falls { IfSome result (λ _. parser_steps self.new < parser_steps self.old) }
     {
-        'walk: loop {
-            match self.advance_once() {
-                Move::Done => return None,
-                Move::Again => {}
-                Move::Give(event, range) => return Some(Ok((event, range))),
-                Move::Failed => return Some(Err(Fault::Memory)),
+        match self.advance() {
+            Stop::Over => None,
+            Stop::Leaf(item) => {
+                let event = leaf_event(self.resolver.text, &mut self.resolver.tables, item);
+                Some(Ok((event, item.start..item.end)))
             }
+            Stop::Start(item) => match self.start(item) {
+                Ok(event) => Some(Ok((event, item.start..item.end))),
+                Err(fault) => Some(Err(fault)),
+            },
+            Stop::End(end, item) => Some(Ok((Event::End(end), item.start..item.end))),
+            Stop::Refused => Some(Err(Fault::Memory)),
         }
+    }
+}
+
+impl<'input, F> Parser<'input, F> {
+    ghost use Rattle.std.specs.Prelude.{◌≤◌, IfSome};
+    ghost use Rattle.markdown_inline.specs.ParserLeft.{parser_steps};
+
+    /// A bound on the steps to come, None where no `usize` holds it. To sum them up would take a walk over what is
+    /// left; but no node is left twice. Each becomes two at most, which are gone into and left, and behind each of
+    /// these four moves a chain may be resolved, as one may be before the first.
+    fn most_left(&self) -> Option<usize>
+        ensures { IfSome result (λ most. parser_steps self.now ≤ most) }
+    {
+        self.tree.len().checked_mul(8)?.checked_add(1)
     }
 }
 
@@ -115,16 +188,22 @@ impl<'input, F: BrokenLinkCallback<'input>> Iterator for Parser<'input, F> {
 
     ghost remaining = { λ p. at_most (parser_steps p) };
 
+    /// At most eight events for each node of the tree, and one.
     fn size_hint(&self) -> (usize, Option<usize>) {
-        (0, None)
+        (0, self.most_left())
     }
 
     /// The next event; an error where memory is refused, after which nothing comes.
     fn next(&mut self) -> Option<Result<Event<'input>, Fault>> {
         match self.advance() {
-            None => None,
-            Some(Ok((event, _))) => Some(Ok(event)),
-            Some(Err(fault)) => Some(Err(fault)),
+            Stop::Over => None,
+            Stop::Leaf(item) => {
+                let event = leaf_event(self.resolver.text, &mut self.resolver.tables, item);
+                Some(Ok(event))
+            }
+            Stop::Start(item) => Some(self.start(item)),
+            Stop::End(end, _) => Some(Ok(Event::End(end))),
+            Stop::Refused => Some(Err(Fault::Memory)),
         }
     }
 }
@@ -145,17 +224,37 @@ impl<'input, F: BrokenLinkCallback<'input>> Iterator for OffsetIter<'input, F> {
 
     ghost remaining = { λ o. at_most (parser_steps (offset_parser o)) };
 
+    /// At most eight events for each node of the tree, and one.
     fn size_hint(&self) -> (usize, Option<usize>) {
-        (0, None)
+        (0, self.inner.most_left())
     }
 
     /// The next event with its range; an error where memory is refused, after which nothing comes.
     fn next(&mut self) -> Option<Result<(Event<'input>, Range<usize>), Fault>> {
-        self.inner.advance()
+        self.inner.next_placed()
     }
 }
 
 impl<'input, F: BrokenLinkCallback<'input>> FusedIterator for OffsetIter<'input, F> {}
+
+/// Without the tree and what it names, which may be as long as the text, and without the callback.
+impl<'input, F> fmt::Debug for Parser<'input, F> {
+    fn fmt<W: fmt::Write>(&self, f: &mut fmt::Formatter<W>) -> fmt::Result {
+        f.debug_struct("Parser")
+            .field("text", &self.resolver.text)
+            .field("options", &self.resolver.options)
+            .finish_non_exhaustive()
+    }
+}
+
+/// That of the parser that it goes on as.
+impl<'input, F> fmt::Debug for OffsetIter<'input, F> {
+    fn fmt<W: fmt::Write>(&self, f: &mut fmt::Formatter<W>) -> fmt::Result {
+        f.debug_struct("OffsetIter")
+            .field("inner", &self.inner)
+            .finish()
+    }
+}
 
 impl<'input> Parser<'input, DefaultBrokenLinkCallback> {
     ghost use Rattle.std.specs.Prelude.{◌≡◌, IfOk, IfErr};
@@ -301,7 +400,7 @@ impl<'input, F: BrokenLinkCallback<'input>> OffsetIter<'input, F> {
         let OffsetIter { inner } = self;
         let mut parser = inner;
         let mut events = Vec::new(alloc);
-        'walk: while let Some(item) = parser.advance() {
+        'walk: while let Some(item) = parser.next_placed() {
             match item {
                 Err(fault) => return Err(fault),
                 Ok(event) => {

@@ -5,20 +5,20 @@ use Rattle.markdown_inline.proofs.WalkStepsLemmas.{went_out_end, went_out_plain}
 use Rattle.markdown_inline.proofs.step.step_out.Goals as goal
 
 pub returns-in-None-close_item : goal.returns-in-None-close_item
-returns-in-None-close_item c =
+returns-in-None-close_item c source held w =
     let popped = c.in-Some.ensures.goes in
-    went_out_plain c.args.text.now c.args.tree.now c.next_sibling.new.self c.args.tables.now c.in-Some.ix c.item-item.result.now popped.0
-    c.requires.stands c.requires.at_end popped.1
+    went_out_plain source c.args.tree.now c.next_sibling.new.self held c.in-Some.ix c.item-item.result.now popped.0
+    w c.requires popped.1
     (rw popped.2 at (c.item-item.ensures no_item)) c.in-None-close_item.ensures (rw popped.2 at c.next_sibling.ensures.goes)
 
 pub returns-in-Some-close_item : goal.returns-in-Some-close_item
-returns-in-Some-close_item c =
+returns-in-Some-close_item c source held w =
     let popped = c.in-Some.ensures.goes in
     record {
       origins = [];
       texts = tt;
       start = tt;
-      went = went_out_end c.args.text.now c.args.tree.now c.next_sibling.new.self c.args.tables.now c.in-Some.ix c.item-item.result.now
-          popped.0 _ c.requires.stands c.requires.at_end popped.1
+      went = went_out_end source c.args.tree.now c.next_sibling.new.self held c.in-Some.ix c.item-item.result.now
+          popped.0 _ w c.requires popped.1
           (rw popped.2 at (c.item-item.ensures no_item)) c.in-Some-close_item.ensures (rw popped.2 at c.next_sibling.ensures.goes);
     }

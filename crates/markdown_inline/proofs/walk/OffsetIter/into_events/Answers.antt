@@ -15,18 +15,24 @@ pub walk-preserved : goal.walk-preserved
 walk-preserved g c =
     let next = rw c.in-Ok.is at c.in-Some.ensures.gives in
     record {
-      askable = c.advance.ensures.askable;
+      askable = c.next_placed.ensures.askable;
       given = rw (c.add.ensures c.if-not-add.false) (gave_more g.F.BrokenLinkCallback.answers IsPlacedOf (λ p. p) c.args.self.inner
-          c.walk.parser c.advance.new.self c.walk.events.items _ c.walk.invariant.given next);
+          c.walk.parser c.next_placed.new.self c.walk.events.items _ c.walk.invariant.given next);
     }
 
 pub returns-clause-all : goal.returns-clause-all
 returns-clause-all g c =
-    gave_rest g.F.BrokenLinkCallback.answers IsPlacedOf (λ p. p) c.args.self.inner c.walk.parser c.advance.new.self c.walk.events.items
+    gave_rest g.F.BrokenLinkCallback.answers IsPlacedOf (λ p. p) c.args.self.inner c.walk.parser c.next_placed.new.self c.walk.events.items
     c.walk.invariant.given c.in_default.ensures.gives
 
 pub returns-clause-whole : goal.returns-clause-whole
 returns-clause-whole g c =
     whole_run g.F.BrokenLinkCallback.answers c.args.self.inner c.walk.events.items _
-    (gave_rest g.F.BrokenLinkCallback.answers IsPlacedOf (λ p. p) c.args.self.inner c.walk.parser c.advance.new.self c.walk.events.items
+    (gave_rest g.F.BrokenLinkCallback.answers IsPlacedOf (λ p. p) c.args.self.inner c.walk.parser c.next_placed.new.self c.walk.events.items
     c.walk.invariant.given c.in_default.ensures.gives)
+
+pub returns-in-Err-clause-all : goal.returns-in-Err-clause-all
+returns-in-Err-clause-all g c = tt
+
+pub returns-in-Err-clause-whole : goal.returns-in-Err-clause-whole
+returns-in-Err-clause-whole g c = tt

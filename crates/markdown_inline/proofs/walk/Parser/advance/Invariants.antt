@@ -1,7 +1,7 @@
 -- The walk has gone on from where it stood, and has given nothing.
 use Rattle.std.specs.Prelude.{IfSome}
 use Rattle.markdown_inline.specs.ParserLeft.{parser_callback, parser_steps}
-use Rattle.markdown_inline.proofs.ParserLemmas.{HasGone}
+use Rattle.markdown_inline.specs.Moves.{HasGone}
 use Rattle.markdown_inline.proofs.walk.Parser.advance.Given as goal
 
 abbrev pub invariant-walk : goal.invariant-walk

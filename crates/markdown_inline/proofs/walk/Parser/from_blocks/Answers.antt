@@ -1,5 +1,5 @@
 -- A parser of a block result stands before its first block, and all of its reading is left.
-use Rattle.std.proofs.Common.{ℕ, List, length, max, ap, ◌∙◌}
+use Rattle.std.proofs.Common.{ℕ, List, length, max, refl, ap, ◌∙◌}
 use Rattle.markdown_spans.specs.Allocations.{HoldsParts}
 use Rattle.markdown_inline.proofs.StartLemmas.{starts_stands, starts_left, tables_held}
 use Rattle.markdown_inline.proofs.walk.Parser.from_blocks.Goals as goal
@@ -19,3 +19,9 @@ returns-clause-left g c answers =
     let held : HoldsParts c.into_parts-tree.result.3 c.in_ok-tables.tables = c.in_ok-tables.ensures.holds in
     starts_left c.args.blocks _ answers parts.0 parts.1 (rw parts.3 at held) c.into_parts-tree.result.2 parts.2 c.reset.ensures
     (c.max.ensures ∙ ap (λ (text : List ℕ). max (length text) 100000) parts.0)
+
+pub returns-clause-text : goal.returns-clause-text
+returns-clause-text g c = c.into_parts-tree.ensures.parts.0
+
+pub returns-clause-callback : goal.returns-clause-callback
+returns-clause-callback g c = refl

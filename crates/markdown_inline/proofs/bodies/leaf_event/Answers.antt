@@ -1,13 +1,13 @@
 -- A text that an item names is read and taken at once; other texts are slices of the source.
 use Rattle.markdown_base.specs.declared.event.Event.TheVariants as step
-use Rattle.std.proofs.Common.{[], ◌∷◌, refl, sym, ap}
+use Rattle.std.proofs.Common.{[], ◌∷◌, refl}
 use Rattle.markdown_base.specs.Event.{text, code, html, inline_html, footnote_reference}
 use Rattle.markdown_base.specs.Item.{range_of}
 use Rattle.markdown_chains.specs.Origins.{origin_at}
-use Rattle.markdown_chains.specs.Document.{enclosed, made}
-use Rattle.markdown_inline.proofs.TakingLemmas.{is_from, no_start, opens_made, opens_slice, opens_span, text_at-read, alignments_at-read}
-use Rattle.markdown_inline.proofs.TakingLemmas.{takes_text, takes_link, takes_alignments}
-use Rattle.markdown_inline.proofs.bodies.open_other.Goals as goal
+use Rattle.markdown_chains.specs.Document.{made}
+use Rattle.markdown_inline.proofs.TakingLemmas.{is_from, no_start, opens_made, opens_slice, opens_span, text_at-read}
+use Rattle.markdown_inline.proofs.TakingLemmas.{takes_text}
+use Rattle.markdown_inline.proofs.bodies.leaf_event.Goals as goal
 
 pub returns-in-Text-clause-opens : goal.returns-in-Text-clause-opens
 returns-in-Text-clause-opens c = rw c.in-Text.is (opens_slice c.args.text.now (range_of c.args.item) text step.Text c.slice_of.result
@@ -24,7 +24,7 @@ returns-in-InlineHtml-clause-opens c = rw c.in-InlineHtml.is (opens_slice c.args
 pub returns-in-SynthesizeChar-clause-opens : goal.returns-in-SynthesizeChar-clause-opens
 returns-in-SynthesizeChar-clause-opens c = record {
   origins = made ∷ [];
-  is_leaf = rw (c.in-SynthesizeChar.is, c.from.ensures.1) refl;
+  begins = rw (c.in-SynthesizeChar.is, c.from.ensures.1) refl;
   texts
       = (tt, tt);
   start = tt;
@@ -33,7 +33,7 @@ returns-in-SynthesizeChar-clause-opens c = record {
 pub returns-in-SynthesizeText-clause-opens : goal.returns-in-SynthesizeText-clause-opens
 returns-in-SynthesizeText-clause-opens c =
     rw c.in-SynthesizeText.is (opens_made c.args.text.now c.args.tables.now.cows c.in-SynthesizeText.ix.0 text step.Text c.take_cow.result
-    (rw c.in-SynthesizeText.is at c.requires.named).text c.take_cow.ensures.taken (λ d. refl) (λ d. refl))
+    (rw c.in-SynthesizeText.is at c.requires.can.named).text c.take_cow.ensures.taken (λ d. refl) (λ d. refl))
 
 pub returns-in-SynthesizeText-clause-taken : goal.returns-in-SynthesizeText-clause-taken
 returns-in-SynthesizeText-clause-taken c = rw c.in-SynthesizeText.is (takes_text _ c.args.tables.now c.take_cow.new.self
@@ -43,8 +43,8 @@ pub returns-in-Code-clause-opens : goal.returns-in-Code-clause-opens
 returns-in-Code-clause-opens c =
     rw c.in-Code.is
     (opens_span c.args.text.now c.args.tables.now.cows c.in-Code.ix.0 code step.Code c.take_cow-in-Code.result
-    (rw c.in-Code.is at c.requires.named).text c.take_cow-in-Code.ensures.taken
-    (rw c.in-Code.is at c.requires.slices) (λ d. refl) (λ d. refl))
+    (rw c.in-Code.is at c.requires.can.named).text c.take_cow-in-Code.ensures.taken
+    (rw c.in-Code.is at c.requires.can.slices) (λ d. refl) (λ d. refl))
 
 pub returns-in-Code-clause-taken : goal.returns-in-Code-clause-taken
 returns-in-Code-clause-taken c = rw c.in-Code.is (takes_text _ c.args.tables.now c.take_cow-in-Code.new.self c.in-Code.ix refl
@@ -53,7 +53,7 @@ returns-in-Code-clause-taken c = rw c.in-Code.is (takes_text _ c.args.tables.now
 pub returns-in-OwnedInlineHtml-clause-opens : goal.returns-in-OwnedInlineHtml-clause-opens
 returns-in-OwnedInlineHtml-clause-opens c =
     rw c.in-OwnedInlineHtml.is (opens_made c.args.text.now c.args.tables.now.cows c.in-OwnedInlineHtml.ix.0 inline_html step.InlineHtml
-    c.take_cow-in-OwnedInlineHtml.result (rw c.in-OwnedInlineHtml.is at c.requires.named).text
+    c.take_cow-in-OwnedInlineHtml.result (rw c.in-OwnedInlineHtml.is at c.requires.can.named).text
     c.take_cow-in-OwnedInlineHtml.ensures.taken (λ d. refl) (λ d. refl))
 
 pub returns-in-OwnedInlineHtml-clause-taken : goal.returns-in-OwnedInlineHtml-clause-taken
@@ -64,7 +64,7 @@ returns-in-OwnedInlineHtml-clause-taken c = rw c.in-OwnedInlineHtml.is
 pub returns-in-FootnoteReference-clause-opens : goal.returns-in-FootnoteReference-clause-opens
 returns-in-FootnoteReference-clause-opens c =
     rw c.in-FootnoteReference.is (opens_made c.args.text.now c.args.tables.now.cows c.in-FootnoteReference.ix.0 footnote_reference
-    step.FootnoteReference c.take_cow-in-FootnoteReference.result (rw c.in-FootnoteReference.is at c.requires.named).text
+    step.FootnoteReference c.take_cow-in-FootnoteReference.result (rw c.in-FootnoteReference.is at c.requires.can.named).text
     c.take_cow-in-FootnoteReference.ensures.taken (λ d. refl) (λ d. refl))
 
 pub returns-in-FootnoteReference-clause-taken : goal.returns-in-FootnoteReference-clause-taken
@@ -72,64 +72,19 @@ returns-in-FootnoteReference-clause-taken c = rw c.in-FootnoteReference.is
     (takes_text _ c.args.tables.now c.take_cow-in-FootnoteReference.new.self c.in-FootnoteReference.ix refl
     c.take_cow-in-FootnoteReference.ensures.left)
 
-pub returns-in-FencedCodeBlock-clause-opens : goal.returns-in-FencedCodeBlock-clause-opens
-returns-in-FencedCodeBlock-clause-opens c = rw (
-  c.in-FencedCodeBlock.is,
-  text_at-read c.args.tables.now.cows c.in-FencedCodeBlock.ix.0
-      c.take_cow-in-FencedCodeBlock.result (rw c.in-FencedCodeBlock.is at c.requires.named).text c.take_cow-in-FencedCodeBlock.ensures.taken,
-)
-    (refl, tt)
-
-pub returns-in-FencedCodeBlock-clause-taken : goal.returns-in-FencedCodeBlock-clause-taken
-returns-in-FencedCodeBlock-clause-taken c = rw c.in-FencedCodeBlock.is
-    (takes_text _ c.args.tables.now c.take_cow-in-FencedCodeBlock.new.self c.in-FencedCodeBlock.ix refl
-    c.take_cow-in-FencedCodeBlock.ensures.left)
-
-pub returns-in-FootnoteDefinition-clause-opens : goal.returns-in-FootnoteDefinition-clause-opens
-returns-in-FootnoteDefinition-clause-opens c = rw (
-  c.in-FootnoteDefinition.is,
-  text_at-read c.args.tables.now.cows
-      c.in-FootnoteDefinition.ix.0 c.take_cow-in-FootnoteDefinition.result (rw c.in-FootnoteDefinition.is at c.requires.named).text
-      c.take_cow-in-FootnoteDefinition.ensures.taken,
-) (refl, tt)
-
-pub returns-in-FootnoteDefinition-clause-taken : goal.returns-in-FootnoteDefinition-clause-taken
-returns-in-FootnoteDefinition-clause-taken c = rw c.in-FootnoteDefinition.is
-    (takes_text _ c.args.tables.now c.take_cow-in-FootnoteDefinition.new.self c.in-FootnoteDefinition.ix refl
-    c.take_cow-in-FootnoteDefinition.ensures.left)
-
-pub returns-in-Table-clause-opens : goal.returns-in-Table-clause-opens
-returns-in-Table-clause-opens c = rw (
-  c.in-Table.is,
-  alignments_at-read c.args.tables.now.alignments c.in-Table.ix.0 c.take_alignment.result
-      (rw c.in-Table.is at c.requires.named).alignments c.take_alignment.ensures.taken,
-) (refl, tt)
-
-pub returns-in-Table-clause-taken : goal.returns-in-Table-clause-taken
-returns-in-Table-clause-taken c = rw c.in-Table.is (takes_alignments _ c.args.tables.now c.take_alignment.new.self c.in-Table.ix refl
-    c.take_alignment.ensures.left)
-
-pub returns-in-Link-clause-taken : goal.returns-in-Link-clause-taken
-returns-in-Link-clause-taken c = rw c.in-Link.is (takes_link _ c.args.tables.now c.link_tag.new.tables c.in-Link.ix refl
-    c.link_tag.ensures.left)
-
-pub returns-in-Image-clause-taken : goal.returns-in-Image-clause-taken
-returns-in-Image-clause-taken c = rw c.in-Image.is (takes_link _ c.args.tables.now c.image_tag.new.tables c.in-Image.ix refl
-    c.image_tag.ensures.left)
-
 pub returns-in-Math-clause-opens : goal.returns-in-Math-clause-opens
 returns-in-Math-clause-opens c =
     let cows = c.args.tables.now.cows in
     let ix = c.in-Math.ix.0 in
-    let within = (rw c.in-Math.is at c.requires.named).text in
+    let within = (rw c.in-Math.is at c.requires.can.named).text in
     let taken = c.take_cow-in-Math.ensures.taken in
     let read = text_at-read cows ix c.take_cow-in-Math.result within taken in
     record {
       origins = origin_at cows ix ∷ [];
-      is_leaf = rw (c.in-Math.is, c.math_event.ensures.event, read) refl;
+      begins = rw (c.in-Math.is, c.math_event.ensures.event, read) refl;
       texts = rw c.math_event.ensures.text (
         is_from c.args.text.now cows ix c.take_cow-in-Math.result within taken
-            (rw c.in-Math.is at c.requires.slices),
+            (rw c.in-Math.is at c.requires.can.slices),
         tt,
       );
       start = no_start c.args.text.now c.math_event.result c.take_cow-in-Math.result c.math_event.ensures.text;
@@ -138,19 +93,3 @@ returns-in-Math-clause-opens c =
 pub returns-in-Math-clause-taken : goal.returns-in-Math-clause-taken
 returns-in-Math-clause-taken c = rw c.in-Math.is (takes_text _ c.args.tables.now c.take_cow-in-Math.new.self c.in-Math.ix refl
     c.take_cow-in-Math.ensures.left)
-
-pub returns-in-Link-clause-opens : goal.returns-in-Link-clause-opens
-returns-in-Link-clause-opens c =
-    rw c.in-Link.is (
-      ap enclosed (sym c.link_tag.ensures.tag),
-      c.link_tag.ensures.from c.args.text.now
-          (rw c.in-Link.is at c.requires.slices),
-    )
-
-pub returns-in-Image-clause-opens : goal.returns-in-Image-clause-opens
-returns-in-Image-clause-opens c =
-    rw c.in-Image.is (
-      ap enclosed (sym c.image_tag.ensures.tag),
-      c.image_tag.ensures.from c.args.text.now
-          (rw c.in-Image.is at c.requires.slices),
-    )

@@ -1,0 +1,40 @@
+-- The Start is that of the item; where it is refused the walk is over.
+use Rattle.std.proofs.Common.{refl, ap}
+use Rattle.markdown_spans.specs.Allocations.{Allocated}
+use Rattle.markdown_chains.specs.Tables.{tables_of}
+use Rattle.markdown_inline.proofs.ParserLemmas.{over_ended}
+use Rattle.markdown_inline.proofs.TakingLemmas.{opens_start}
+use Rattle.markdown_inline.proofs.WalkStepsLemmas.{stands_ended, stopped}
+use Rattle.markdown_inline.proofs.walk.Parser.start.Goals as goal
+
+pub invariant_of-self : goal.invariant_of-self
+invariant_of-self g c = record { stands = c.requires.begins.stands _ c.in-Ok.ensures.taken }
+
+pub invariant_of-self-in-Err : goal.invariant_of-self-in-Err
+invariant_of-self-in-Err g c = record {
+  stands = stands_ended c.args.self.now.resolver.text.now (tables_of c.start_tag.new.tables) c.stop.new.self
+      (stopped c.args.self.now.tree c.stop.new.self c.stop.ensures);
+}
+
+pub returns-in-Ok-clause-begun : goal.returns-in-Ok-clause-begun
+returns-in-Ok-clause-begun g c = record {
+  took = record {
+    text = refl;
+    options = refl;
+    callback = refl;
+    limit = refl;
+    work = refl;
+    tree = refl;
+    tables = c.in-Ok.ensures.taken;
+  };
+  opens = opens_start c.args.self.now.resolver.text.now _ c.in-Ok.tag (c.in-Ok.ensures.tag _)
+      (c.in-Ok.ensures.from c.args.self.now.resolver.text.now c.requires.begins.can.slices);
+}
+
+pub returns-in-Err-clause-begun : goal.returns-in-Err-clause-begun
+returns-in-Err-clause-begun g c = record {
+  memory = refl;
+  is = over_ended _ (stopped c.args.self.now.tree c.stop.new.self c.stop.ensures);
+  callback = refl;
+  keeps = record { text = refl; definitions = ap (λ (held : Allocated). held.refdefs) c.in-Err.ensures.refused };
+}
