@@ -1,51 +1,53 @@
--- Bytes of which a front was appended, parts that are appended one after another, and the last
+-- Bytes of which a prefix was appended, parts that are appended one after another, and the last
 -- byte.
 use Rattle.std.proofs.Common.{◌≡◌, ◌++◌, ◌<◌, ◌≤◌, ◌+◌, ◌-◌, ◌==◌, ℕ, Bool, List, [], ◌∷◌, length}
 use Rattle.std.proofs.Common.{Result, Ok, Err, OnErr, take, drop, get_or, refl, sym, ap, ◌∙◌}
-use Rattle.std.proofs.Common.{append_assoc, append-nil, arith, length-append}
+use Rattle.std.proofs.Common.{append_assoc, append-nil, arith, length-append, length-drop}
 use Rattle.std.specs.List.{flat_map}
 use Rattle.std.proofs.lemmas.List.{take_more, flat_map_more, take-append-drop, take_all}
 use Rattle.std.proofs.lemmas.List.Concat.{flat_map-append}
-use Rattle.markdown_out.specs.ByteLists.{AppendsFront, joined, ends_line}
+use Rattle.std.proofs.Math.ListN.{drop_of_length-le}
+use Rattle.std.proofs.Math.Seq.{drop-append_seam}
+use Rattle.markdown_out.specs.ByteLists.{AppendsPrefix, joined, fresh_after_bytes}
 
--- all of the bytes are a front
-pub front-all : (old new bytes : List ℕ) → new ≡ old ++ bytes → AppendsFront old new bytes
-front-all old new bytes e = record {
-  front = bytes;
+-- all of the bytes are a prefix
+pub prefix-all : (old new bytes : List ℕ) → new ≡ old ++ bytes → AppendsPrefix old new bytes
+prefix-all old new bytes e = record {
+  prefix = bytes;
   missing = [];
   stands = e;
   whole = append-nil
       bytes;
 }
 
--- no bytes are a front
-pub front-none : (old new bytes : List ℕ) → new ≡ old → AppendsFront old new bytes
-front-none old new bytes e = record {
-  front = [];
+-- no bytes are a prefix
+pub prefix-none : (old new bytes : List ℕ) → new ≡ old → AppendsPrefix old new bytes
+prefix-none old new bytes e = record {
+  prefix = [];
   missing = bytes;
   stands = e
       ∙ sym (append-nil old);
   whole = refl;
 }
 
-append-empty : (front missing : List ℕ) → front ++ missing ≡ [] → front ≡ []
+append-empty : (prefix missing : List ℕ) → prefix ++ missing ≡ [] → prefix ≡ []
 append-empty [] missing e = refl
-append-empty (b ∷ front) missing e = cc
+append-empty (b ∷ prefix) missing e = cc
 
--- a front of nothing is nothing
-pub front-empty : (old new : List ℕ) → AppendsFront old new [] → new ≡ old
-front-empty old new f = f.stands ∙ (ap (λ x. old ++ x) (append-empty f.front f.missing f.whole)
+-- a prefix of nothing is nothing
+pub prefix-empty : (old new : List ℕ) → AppendsPrefix old new [] → new ≡ old
+prefix-empty old new f = f.stands ∙ (ap (λ x. old ++ x) (append-empty f.prefix f.missing f.whole)
     ∙ append-nil old)
 
--- a front of what comes after bytes that were appended
-pub front-after : (old mid new first bytes whole rest : List ℕ) → mid ≡ old ++ first
-    → AppendsFront mid new bytes → first ++ (bytes ++ rest) ≡ whole → AppendsFront old new whole
-front-after old mid new first bytes whole rest e f w = record {
-  front = first ++ f.front;
+-- a prefix of what comes after bytes that were appended
+pub prefix-after : (old mid new first bytes whole rest : List ℕ) → mid ≡ old ++ first
+    → AppendsPrefix mid new bytes → first ++ (bytes ++ rest) ≡ whole → AppendsPrefix old new whole
+prefix-after old mid new first bytes whole rest e f w = record {
+  prefix = first ++ f.prefix;
   missing = f.missing ++ rest;
-  stands = f.stands ∙ (ap (λ x. x ++ f.front) e ∙ append_assoc old first f.front);
-  whole = append_assoc first f.front (f.missing ++ rest)
-      ∙ (ap (λ x. first ++ x) (sym (append_assoc f.front f.missing rest)
+  stands = f.stands ∙ (ap (λ x. x ++ f.prefix) e ∙ append_assoc old first f.prefix);
+  whole = append_assoc first f.prefix (f.missing ++ rest)
+      ∙ (ap (λ x. first ++ x) (sym (append_assoc f.prefix f.missing rest)
       ∙ ap (λ x. x ++ rest) f.whole) ∙ w);
 }
 
@@ -82,12 +84,12 @@ pub StandsTo-all : {A : Type 0} (bytes_of : A → List ℕ) (out old : List ℕ)
 StandsTo-all bytes_of out old xs n h p = p.is ∙ ap (λ x. old
     ++ flat_map bytes_of x) (take_all n xs h)
 
--- a front of the next one was appended
-pub StandsTo-front : {A : Type 0} (bytes_of : A → List ℕ) (out out' old : List ℕ) (xs : List A)
+-- a prefix of the next one was appended
+pub StandsTo-prefix : {A : Type 0} (bytes_of : A → List ℕ) (out out' old : List ℕ) (xs : List A)
     (n : ℕ) (d : A)
-    → n < length xs → AppendsFront out out' (bytes_of (get_or xs n d))
-    → StandsTo bytes_of out old xs n → AppendsFront old out' (flat_map bytes_of xs)
-StandsTo-front bytes_of out out' old xs n d h f p =
+    → n < length xs → AppendsPrefix out out' (bytes_of (get_or xs n d))
+    → StandsTo bytes_of out old xs n → AppendsPrefix old out' (flat_map bytes_of xs)
+StandsTo-prefix bytes_of out out' old xs n d h f p =
     let whole : flat_map bytes_of (take n xs) ++ (bytes_of (get_or xs n d)
     ++ flat_map bytes_of (drop (n + 1) xs)) ≡ flat_map bytes_of xs =
     sym (append_assoc (flat_map bytes_of (take n xs)) (bytes_of (get_or xs n d)) (flat_map bytes_of
@@ -96,58 +98,59 @@ StandsTo-front bytes_of out out' old xs n d h f p =
     (get_or xs n d) ∙ ap (flat_map bytes_of) (sym (take_more xs n d h)))
     ∙ (sym (flat_map-append bytes_of (take (n + 1) xs) (drop (n + 1) xs))
     ∙ ap (flat_map bytes_of) (take-append-drop (n + 1) xs))) in
-    front-after old out out' (flat_map bytes_of (take n xs)) (bytes_of (get_or xs n d))
+    prefix-after old out out' (flat_map bytes_of (take n xs)) (bytes_of (get_or xs n d))
     (flat_map bytes_of xs) (flat_map bytes_of (drop (n + 1) xs)) p.is f whole
 
 -- the last byte decides whether a line is ended
-pub ends_line-last : (before : Bool) (old bytes : List ℕ) → 0 < length bytes
-    → ends_line before bytes ≡ (get_or (old ++ bytes) (length (old ++ bytes) - 1) 0 == 10)
-ends_line-last before old [] h = absurd (omega arith)
-ends_line-last before old (b ∷ []) h =
+pub fresh_after_bytes-last : (before : Bool) (old bytes : List ℕ) → 0 < length bytes
+    → fresh_after_bytes before bytes ≡ (get_or (old ++ bytes) (length (old ++ bytes) - 1) 0 == 10)
+fresh_after_bytes-last before old [] h = absurd (omega arith)
+fresh_after_bytes-last before old (b ∷ []) h =
     let l : length (old ++ b ∷ []) - 1 ≡ length old = omega (arith, length-append old (b ∷ [])) in
     ap (λ x. x == 10) (sym (ap (λ i. get_or (old ++ b ∷ []) i 0) l ∙ get_or-here old b []))
   where
     get_or-here : (xs : List ℕ) (y : ℕ) (ys : List ℕ) → get_or (xs ++ y ∷ ys) (length xs) 0 ≡ y
     get_or-here [] y ys = refl
     get_or-here (x ∷ xs) y ys = get_or-here xs y ys
-ends_line-last before old (b ∷ c ∷ bytes) h =
-    ends_line-last (b == 10) (old ++ b ∷ []) (c ∷ bytes) (omega arith)
+fresh_after_bytes-last before old (b ∷ c ∷ bytes) h =
+    fresh_after_bytes-last (b == 10) (old ++ b ∷ []) (c ∷ bytes) (omega arith)
     ∙ ap (λ x. get_or x (length x - 1) 0 == 10) (append_assoc old (b ∷ []) (c ∷ bytes))
 
--- no bytes leave it as it was
-pub ends_line-none : (before : Bool) (bytes : List ℕ) → length bytes ≡ 0
-    → ends_line before bytes ≡ before
-ends_line-none before [] h = refl
-ends_line-none before (b ∷ bytes) h = absurd (omega arith)
-
 -- bytes in two parts
-pub ends_line-append : (before : Bool) (xs ys : List ℕ)
-    → ends_line before (xs ++ ys) ≡ ends_line (ends_line before xs) ys
-ends_line-append before [] ys = refl
-ends_line-append before (x ∷ xs) ys = ends_line-append (x == 10) xs ys
+pub fresh_after_bytes-append : (before : Bool) (xs ys : List ℕ)
+    → fresh_after_bytes before (xs ++ ys) ≡ fresh_after_bytes (fresh_after_bytes before xs) ys
+fresh_after_bytes-append before [] ys = refl
+fresh_after_bytes-append before (x ∷ xs) ys = fresh_after_bytes-append (x == 10) xs ys
 
--- what was appended, and whether it ends a line
-pub last_of_appended : (out old bytes : List ℕ) (before : Bool) → out ≡ old ++ bytes
-    → length old < length out → (get_or out (length out - 1) 0 == 10) ≡ ends_line before bytes
-last_of_appended out old bytes before e h =
-    let l : 0 < length bytes = omega (arith, ap length e, length-append old bytes) in
-    ap (λ x. get_or x (length x - 1) 0 == 10) e ∙ sym (ends_line-last before old bytes l)
+-- from a place on there are bytes
+pub fresh_behind-some : (bytes : List ℕ) (start : ℕ) (before : Bool) → start < length bytes
+    → (get_or bytes (length bytes - 1) 0 == 10) ≡ fresh_after_bytes before (drop start bytes)
+fresh_behind-some bytes start before h =
+    let l : 0 < length (drop start bytes) = omega (arith, length-drop start bytes) in
+    sym (fresh_after_bytes-last before (take start bytes) (drop start bytes) l
+    ∙ ap (λ x. get_or x (length x - 1) 0 == 10) (take-append-drop start bytes))
 
--- nothing was appended
-pub none_appended : (out old bytes : List ℕ) (before : Bool) → out ≡ old ++ bytes
-    → length out ≤ length old → before ≡ ends_line before bytes
-none_appended out old bytes before e h =
-    let l : length bytes ≡ 0 = omega (arith, ap length e, length-append old bytes) in
-    sym (ends_line-none before bytes l)
+-- from a place on there are none
+pub fresh_behind-none : (bytes : List ℕ) (start : ℕ) (before : Bool) → length bytes ≤ start
+    → before ≡ fresh_after_bytes before (drop start bytes)
+fresh_behind-none bytes start before h = sym (ap (fresh_after_bytes before) (drop_of_length-le bytes h))
 
--- a front of the bytes that come first
-pub front-first : (old new bytes whole rest : List ℕ) → AppendsFront old new bytes
-    → bytes ++ rest ≡ whole → AppendsFront old new whole
-front-first old new bytes whole rest f w = record {
-  front = f.front;
+-- what stands behind the old text is what was appended
+pub fresh_behind-appended : (fresh before : Bool) (first last old out bytes : List ℕ) → first ≡ old → last ≡ out
+    → out ≡ old ++ bytes → fresh ≡ fresh_after_bytes before (drop (length first) last) → fresh ≡ fresh_after_bytes before bytes
+fresh_behind-appended fresh before first last old out bytes f l e h =
+    h ∙ (ap (λ x. fresh_after_bytes before (drop (length x) last)) f
+    ∙ (ap (λ x. fresh_after_bytes before (drop (length old) x)) (l ∙ e)
+    ∙ ap (fresh_after_bytes before) (drop-append_seam old bytes)))
+
+-- a prefix of the bytes that come first
+pub prefix-first : (old new bytes whole rest : List ℕ) → AppendsPrefix old new bytes
+    → bytes ++ rest ≡ whole → AppendsPrefix old new whole
+prefix-first old new bytes whole rest f w = record {
+  prefix = f.prefix;
   missing = f.missing ++ rest;
   stands = f.stands;
-  whole = sym (append_assoc f.front f.missing rest) ∙ (ap (λ x. x ++ rest) f.whole ∙ w);
+  whole = sym (append_assoc f.prefix f.missing rest) ∙ (ap (λ x. x ++ rest) f.whole ∙ w);
 }
 
 -- bytes behind bytes
@@ -156,8 +159,8 @@ pub append-more : (old mid new first bytes : List ℕ) → mid ≡ old ++ first 
 append-more old mid new first bytes e n = n ∙ (ap (λ x. x ++ bytes) e
     ∙ append_assoc old first bytes)
 
--- whatever was refused afterwards, all of the bytes are a front
-pub front-all-err : {T E : Type 0} (r : Result T E) (old new bytes : List ℕ) → new ≡ old ++ bytes
-    → OnErr r (AppendsFront old new bytes)
-front-all-err r old new bytes e = elim r as (λ r. OnErr r (AppendsFront old new bytes))
-    [ Ok v ↦ tt | Err v ↦ front-all old new bytes e ]
+-- whatever was refused afterwards, all of the bytes are a prefix
+pub prefix-all-err : {T E : Type 0} (r : Result T E) (old new bytes : List ℕ) → new ≡ old ++ bytes
+    → OnErr r (AppendsPrefix old new bytes)
+prefix-all-err r old new bytes e = elim r as (λ r. OnErr r (AppendsPrefix old new bytes))
+    [ Ok v ↦ tt | Err v ↦ prefix-all old new bytes e ]

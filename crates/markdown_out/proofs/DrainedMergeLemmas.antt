@@ -1,4 +1,4 @@
--- What a merge gave of what its iterator gave: the merge of all, and at any moment a front of it.
+-- What a merge gave of what its iterator gave: the merge of all, and at any moment a prefix of it.
 use Rattle.std.proofs.Common.{◌≡◌, ◌⊎◌, Bool, true, false, List, [], ◌∷◌, ◌++◌, map, Err, Result, Option, Some, None}
 use Rattle.std.proofs.Common.{refl, sym, ap, subst, ◌∙◌, append_assoc, append-nil, inl, inr}
 use Rattle.std.specs.Bool.{MatchBool}
@@ -35,17 +35,17 @@ nones-some (None ∷ q) y rest n e = cc
 nones-some (Some x ∷ q) y rest n e = absurd n
 
 -- items before Nones, and items before a None
-same-fronts : {A : Type 0} (a b : List A) (q r : List (Option A)) → AreNone q → map (λ x. Some x) a ++ q ≡ map (λ x. Some x) b ++ (None ∷ r)
-    → a ≡ b
-same-fronts [] [] q r n e = refl
-same-fronts [] (y ∷ b) q r n e = absurd (nones-some q y (map (λ x. Some x) b ++ (None ∷ r)) n e)
-same-fronts (x ∷ a) [] q r n e = absurd (none-some (cons-head e))
+same-prefixes : {A : Type 0} (a b : List A) (q r : List (Option A)) → AreNone q
+    → map (λ x. Some x) a ++ q ≡ map (λ x. Some x) b ++ (None ∷ r) → a ≡ b
+same-prefixes [] [] q r n e = refl
+same-prefixes [] (y ∷ b) q r n e = absurd (nones-some q y (map (λ x. Some x) b ++ (None ∷ r)) n e)
+same-prefixes (x ∷ a) [] q r n e = absurd (none-some (cons-head e))
   where
     none-some : {A : Type 0} {x : A} → Some x ≡ None → ⊥
     none-some {A} {x} e = cc
-same-fronts (x ∷ a) (y ∷ b) q r n e =
+same-prefixes (x ∷ a) (y ∷ b) q r n e =
     let head : x ≡ y = some-same (cons-head e) in
-    ap (λ z. z ∷ a) head ∙ ap (λ zs. y ∷ zs) (same-fronts a b q r n (cons-tail e))
+    ap (λ z. z ∷ a) head ∙ ap (λ zs. y ∷ zs) (same-prefixes a b q r n (cons-tail e))
 
 -- a list of answers, cut at its first None
 record IsCut {A : Type 0} (answers : List (Option A)) : Type 0 where
@@ -67,18 +67,18 @@ cut (Some x ∷ rest) = more (cut rest)
     more (inr n) = inr (record { all = x ∷ n.all; is = ap (λ ys. Some x ∷ ys) n.is })
 
 -- the first items of a list, as answers before others
-record IsFront {A : Type 0} (a b : List A) : Type 0 where
+record IsPrefix {A : Type 0} (a b : List A) : Type 0 where
   pub missing : List A
   pub is : a ≡ b ++ missing
 
 -- items before Nones, and items before anything
-front-of : {A : Type 0} (a b : List A) (q r : List (Option A)) → AreNone q
-    → map (λ x. Some x) a ++ q ≡ map (λ x. Some x) b ++ r → IsFront a b
-front-of a [] q r n e = record { missing = a; is = refl }
-front-of [] (y ∷ b) q r n e = absurd (nones-some q y (map (λ x. Some x) b ++ r) n e)
-front-of (x ∷ a) (y ∷ b) q r n e =
+prefix-of : {A : Type 0} (a b : List A) (q r : List (Option A)) → AreNone q
+    → map (λ x. Some x) a ++ q ≡ map (λ x. Some x) b ++ r → IsPrefix a b
+prefix-of a [] q r n e = record { missing = a; is = refl }
+prefix-of [] (y ∷ b) q r n e = absurd (nones-some q y (map (λ x. Some x) b ++ r) n e)
+prefix-of (x ∷ a) (y ∷ b) q r n e =
     let head : x ≡ y = some-same (cons-head e) in
-    let rest = front-of a b q r n (cons-tail e) in
+    let rest = prefix-of a b q r n (cons-tail e) in
     record { missing = rest.missing; is = ap (λ z. z ∷ a) head ∙ ap (λ zs. y ∷ zs) rest.is }
 
 -- ---- what a merge answers of these
@@ -111,17 +111,17 @@ module _ {P : Type 0} (through : P → P → P) where
   given-stretch : (vs its : List (Item P)) (later rest : List (Option (Item P))) → AreNone later
       → stretch vs later ≡ map (λ i. Some i) its ++ (None ∷ rest) → merged through vs ≡ its
   given-stretch [] its later rest n e =
-      same-fronts [] its (None ∷ merge_answers through [] later) rest (answers-nones later n) e
+      same-prefixes [] its (None ∷ merge_answers through [] later) rest (answers-nones later n) e
   given-stretch (v ∷ vs) its later rest n e =
-      same-fronts (merged through (v ∷ vs)) its (merge_answers through [] later) rest (answers-nones later n) e
+      same-prefixes (merged through (v ∷ vs)) its (merge_answers through [] later) rest (answers-nones later n) e
 
-  -- the items given so far are a front of the stretch, merged
-  front-stretch : (vs its : List (Item P)) (later rest : List (Option (Item P))) → AreNone later
-      → stretch vs later ≡ map (λ i. Some i) its ++ rest → IsFront (merged through vs) its
-  front-stretch [] its later rest n e =
-      front-of [] its (None ∷ merge_answers through [] later) rest (answers-nones later n) e
-  front-stretch (v ∷ vs) its later rest n e =
-      front-of (merged through (v ∷ vs)) its (merge_answers through [] later) rest (answers-nones later n) e
+  -- the items given so far are a prefix of the stretch, merged
+  prefix-stretch : (vs its : List (Item P)) (later rest : List (Option (Item P))) → AreNone later
+      → stretch vs later ≡ map (λ i. Some i) its ++ rest → IsPrefix (merged through vs) its
+  prefix-stretch [] its later rest n e =
+      prefix-of [] its (None ∷ merge_answers through [] later) rest (answers-nones later n) e
+  prefix-stretch (v ∷ vs) its later rest n e =
+      prefix-of (merged through (v ∷ vs)) its (merge_answers through [] later) rest (answers-nones later n) e
 
 module _ {A B : Type 0} (view : A → B) where
   views-some : (xs : List A) → map (option_map view) (map (λ x. Some x) xs) ≡ map (λ i. Some i) (map view xs)
@@ -247,7 +247,7 @@ module _ {M S T P : Type 0} (through : P → P → P) (view : Result T Fault →
       ∙ (ap (merge_answers through (state m).held) (sym (append-nil (map answer run.answers))) ∙ run.leaves [])
 
   module _ (ends : StaysEnded steps) where
-    -- what was given so far is a front of the merge of what was read
+    -- what was given so far is a prefix of the merge of what was read
     so-far : (m t : M) (xs : List (Result T Fault)) → (state m).held ≡ []
         → IsRun (state m) (map (λ i. Some i) (map view xs)) (state t)
         → IsMergeSoFar through view steps (state m).iter xs
@@ -265,7 +265,7 @@ module _ {M S T P : Type 0} (through : P → P → P) (view : Result T Fault →
         by_cut : IsCut run.answers ⊎ HasNoNone run.answers → IsMergeSoFar through view steps (state m).iter xs
         by_cut (inr n) =
             let seen : map answer run.answers ≡ map (λ i. Some i) (map view n.all) = ap (map answer) n.is ∙ views-some view n.all in
-            let front = front-of (merged through (map view n.all)) its [] tail tt
+            let prefix = prefix-of (merged through (map view n.all)) its [] tail tt
             (append-nil (map (λ i. Some i) (merged through (map view n.all)))
             ∙ (sym (answers-last through [] (map view n.all)) ∙ (ap (merge_answers through []) (sym seen) ∙ all))) in
             record {
@@ -273,8 +273,8 @@ module _ {M S T P : Type 0} (through : P → P → P) (view : Result T Fault →
               left = (state t).iter;
               read = yielded steps (state m).iter (state t).iter n.all (subst (λ rs. Gave steps (state m).iter rs (state t).iter) n.is
                   run.read);
-              missing = front.missing;
-              merges = front.is;
+              missing = prefix.missing;
+              merges = prefix.is;
             }
         by_cut (inl c) =
             let e = ended steps (state m).iter (state t).iter c.before c.after (subst (λ rs. Gave steps (state m).iter rs (state t).iter)
@@ -283,15 +283,15 @@ module _ {M S T P : Type 0} (through : P → P → P) (view : Result T Fault →
             let seen : map answer run.answers ≡ map (λ i. Some i) (map view c.before) ++ (None ∷ later) =
             ap (map answer) c.is ∙ (map-append answer (map (λ x. Some x) c.before) (None ∷ c.after)
             ∙ ap (λ ys. ys ++ (None ∷ later)) (views-some view c.before)) in
-            let front = front-stretch through (map view c.before) its later tail (ended-nones steps view ends e.last e.end (state t).iter
+            let prefix = prefix-stretch through (map view c.before) its later tail (ended-nones steps view ends e.last e.end (state t).iter
             c.after e.ends e.after)
             (sym (answers-stretch through [] (map view c.before) later) ∙ (ap (merge_answers through []) (sym seen) ∙ all)) in
             record {
               so_far = c.before;
               left = e.last;
               read = e.yields;
-              missing = front.missing;
-              merges = front.is;
+              missing = prefix.missing;
+              merges = prefix.is;
             }
 
     none-missing : {A : Type 0} (a b : List A) (r : List (Option A)) → map (λ x. Some x) a ≡ map (λ x. Some x) b ++ (None ∷ r) → ⊥

@@ -9,7 +9,7 @@ use Rattle.std.proofs.lemmas.List.{take_more, flat_map_more, get_or-drop}
 use Rattle.std.proofs.lemmas.List.{take-append-drop}
 use Rattle.std.proofs.lemmas.List.Concat.{flat_map-append}
 use Rattle.std.proofs.lemmas.Str.{IsCharBoundary-before_ascii, IsCharBoundary-after_ascii}
-use Rattle.markdown_out.specs.ByteLists.{AppendsFront}
+use Rattle.markdown_out.specs.ByteLists.{AppendsPrefix}
 
 -- the bytes from one place to another
 abbrev pub slice : ℕ → ℕ → List ℕ → List ℕ
@@ -78,11 +78,11 @@ replaced_parts : (f : ℕ → List ℕ) (bytes : List ℕ) (to : ℕ)
 replaced_parts f bytes to = sym (flat_map-append f (take to bytes) (drop to bytes))
     ∙ ap (flat_map f) (take-append-drop to bytes)
 
--- what was written is a front while a slice waits
-pub front-waiting : (f : ℕ → List ℕ) (out out' old bytes : List ℕ) (from to : ℕ) → out' ≡ out
-    → Copied f out old bytes from to → AppendsFront old out' (flat_map f bytes)
-front-waiting f out out' old bytes from to e c = record {
-  front = c.done;
+-- what was written is a prefix while a slice waits
+pub prefix-waiting : (f : ℕ → List ℕ) (out out' old bytes : List ℕ) (from to : ℕ) → out' ≡ out
+    → Copied f out old bytes from to → AppendsPrefix old out' (flat_map f bytes)
+prefix-waiting f out out' old bytes from to e c = record {
+  prefix = c.done;
   missing = slice from to bytes ++ flat_map f (drop to bytes);
   stands = e ∙ c.stands;
   whole = sym (append_assoc c.done (slice from to bytes) (flat_map f (drop to bytes)))
@@ -90,11 +90,11 @@ front-waiting f out out' old bytes from to e c = record {
 }
 
 -- and once the slice is written
-pub front-written : (f : ℕ → List ℕ) (out out' old bytes : List ℕ) (from to : ℕ)
+pub prefix-written : (f : ℕ → List ℕ) (out out' old bytes : List ℕ) (from to : ℕ)
     → out' ≡ out ++ slice from to bytes → Copied f out old bytes from to
-    → AppendsFront old out' (flat_map f bytes)
-front-written f out out' old bytes from to e c = record {
-  front = flat_map f (take to bytes);
+    → AppendsPrefix old out' (flat_map f bytes)
+prefix-written f out out' old bytes from to e c = record {
+  prefix = flat_map f (take to bytes);
   missing = flat_map f (drop to bytes);
   stands = e ∙ (ap (λ x. x ++ slice from to bytes) c.stands
       ∙ (append_assoc old c.done (slice from to bytes) ∙ ap (λ x. old ++ x) c.is));

@@ -3,13 +3,13 @@ use Rattle.std.proofs.Common.{◌≡◌, ◌++◌, ℕ, Bool, List, [], ◌∷�
 use Rattle.std.proofs.Common.{append_assoc}
 use Rattle.markdown_base.specs.Event.{start, footnote_reference, footnote_definition}
 use Rattle.markdown_out.specs.AltText.{alt_parts}
-use Rattle.markdown_out.specs.ByteLists.{AppendsFront, joined, ends_line}
+use Rattle.markdown_out.specs.ByteLists.{AppendsPrefix, joined, fresh_after_bytes}
 use Rattle.markdown_out.specs.EventHtml.{reference_parts}
 use Rattle.markdown_out.specs.FootnoteParts.{to_reference_number, to_definition_number, after_number}
 use Rattle.markdown_out.specs.LookBacks.{Past, footnote_number}
 use Rattle.markdown_out.specs.TagHtml.{definition_parts}
 use Rattle.markdown_out.specs.Writer.{view_after, after_alt_reference}
-use Rattle.markdown_out.proofs.ByteListsLemmas.{ends_line-append, front-first, front-after, append-more}
+use Rattle.markdown_out.proofs.ByteListsLemmas.{fresh_after_bytes-append, prefix-first, prefix-after, append-more}
 
 -- bytes that are two parts
 abbrev AreBoth : List ℕ → List ℕ → List ℕ → Type 0
@@ -24,25 +24,25 @@ definition_whole : (fresh : Bool) (name number : List ℕ)
     (joined (definition_parts fresh name number))
 definition_whole fresh name number = simp append_assoc
 
--- a front of the second part, behind the first
-front_of_last : (old mid new first last whole : List ℕ) → AreBoth first last whole → mid ≡ old ++ first → AppendsFront mid new last
-    → AppendsFront old new whole
-front_of_last old mid new first last whole w e f = front-after old mid new first last whole [] e f (ap (λ x. first ++ x) (append-nil last)
+-- a prefix of the second part, behind the first
+prefix_of_last : (old mid new first last whole : List ℕ) → AreBoth first last whole → mid ≡ old ++ first → AppendsPrefix mid new last
+    → AppendsPrefix old new whole
+prefix_of_last old mid new first last whole w e f = prefix-after old mid new first last whole [] e f (ap (λ x. first ++ x) (append-nil last)
     ∙ w)
 
 -- ---- a reference
 
-pub reference_first : (old new name number : List ℕ) → AppendsFront old new (joined (to_reference_number name))
-    → AppendsFront old new (joined (reference_parts name number))
+pub reference_first : (old new name number : List ℕ) → AppendsPrefix old new (joined (to_reference_number name))
+    → AppendsPrefix old new (joined (reference_parts name number))
 reference_first old new name number f =
-    front-first old new (joined (to_reference_number name)) (joined (reference_parts name number))
+    prefix-first old new (joined (to_reference_number name)) (joined (reference_parts name number))
     (joined (number ∷ codes "</a></sup>" ∷ [])) f
     (reference_whole name number)
 
 pub reference_last : (old mid new name number : List ℕ) → mid ≡ old ++ joined (to_reference_number name)
-    → AppendsFront mid new (joined (number ∷ codes "</a></sup>" ∷ [])) → AppendsFront old new (joined (reference_parts name number))
+    → AppendsPrefix mid new (joined (number ∷ codes "</a></sup>" ∷ [])) → AppendsPrefix old new (joined (reference_parts name number))
 reference_last old mid new name number e f =
-    front_of_last old mid new (joined (to_reference_number name)) (joined (number ∷ codes "</a></sup>" ∷ []))
+    prefix_of_last old mid new (joined (to_reference_number name)) (joined (number ∷ codes "</a></sup>" ∷ []))
     (joined (reference_parts name number))
     (reference_whole name number) e f
 
@@ -50,8 +50,8 @@ reference_last old mid new name number e f =
 pub after_reference : (past : Past) (name : List ℕ) → past.open_image ≡ None
     → after_number past name (codes "</a></sup>") ≡ view_after past (footnote_reference name)
 after_reference past name none =
-    let ends : ends_line past.fresh (joined (footnote_number past name ∷ codes "</a></sup>" ∷ []))
-    ≡ ends_line past.fresh (joined (reference_parts name (footnote_number past name))) = simp ends_line-append in
+    let ends : fresh_after_bytes past.fresh (joined (footnote_number past name ∷ codes "</a></sup>" ∷ []))
+    ≡ fresh_after_bytes past.fresh (joined (reference_parts name (footnote_number past name))) = simp fresh_after_bytes-append in
     rw (none, ends) refl
 
 -- ---- a definition
@@ -63,30 +63,31 @@ definition_stands old mid new fresh name number e n =
     ∙ ap (λ x. old ++ x) (definition_whole fresh name number)
 
 pub definition_first : (old new : List ℕ) (fresh : Bool) (name number : List ℕ)
-    → AppendsFront old new (joined (to_definition_number fresh name))
-    → AppendsFront old new (joined (definition_parts fresh name number))
+    → AppendsPrefix old new (joined (to_definition_number fresh name))
+    → AppendsPrefix old new (joined (definition_parts fresh name number))
 definition_first old new fresh name number f =
-    front-first old new (joined (to_definition_number fresh name)) (joined (definition_parts fresh name number))
+    prefix-first old new (joined (to_definition_number fresh name)) (joined (definition_parts fresh name number))
     (joined (number ∷ codes "</sup>" ∷ [])) f
     (definition_whole fresh name number)
 
 pub definition_last : (old mid new : List ℕ) (fresh : Bool) (name number : List ℕ) → mid ≡ old ++ joined (to_definition_number fresh name)
-    → AppendsFront mid new (joined (number ∷ codes "</sup>" ∷ [])) → AppendsFront old new (joined (definition_parts fresh name number))
+    → AppendsPrefix mid new (joined (number ∷ codes "</sup>" ∷ [])) → AppendsPrefix old new (joined (definition_parts fresh name number))
 definition_last old mid new fresh name number e f =
-    front_of_last old mid new (joined (to_definition_number fresh name)) (joined (number ∷ codes "</sup>" ∷ []))
+    prefix_of_last old mid new (joined (to_definition_number fresh name)) (joined (number ∷ codes "</sup>" ∷ []))
     (joined (definition_parts fresh name number)) (definition_whole fresh name number) e f
 
 pub after_definition : (past : Past) (name : List ℕ) → past.open_image ≡ None
     → after_number past name (codes "</sup>") ≡ view_after past (start (footnote_definition name))
 after_definition past name none =
-    let ends : ends_line past.fresh (joined (footnote_number past name ∷ codes "</sup>" ∷ []))
-    ≡ ends_line past.fresh (joined (definition_parts past.fresh name (footnote_number past name))) = simp ends_line-append in
+    let ends : fresh_after_bytes past.fresh (joined (footnote_number past name ∷ codes "</sup>" ∷ []))
+    ≡ fresh_after_bytes past.fresh (joined (definition_parts past.fresh name (footnote_number past name))) =
+    simp fresh_after_bytes-append in
     rw (none, ends) refl
 
 -- ---- a reference in an image
 
 pub after_alt : (past : Past) (name : List ℕ) → after_number past name (codes "]") ≡ after_alt_reference past name
 after_alt past name =
-    let ends : ends_line past.fresh (joined (footnote_number past name ∷ codes "]" ∷ []))
-    ≡ ends_line past.fresh (joined (alt_parts past (footnote_reference name))) = simp ends_line-append in
+    let ends : fresh_after_bytes past.fresh (joined (footnote_number past name ∷ codes "]" ∷ []))
+    ≡ fresh_after_bytes past.fresh (joined (alt_parts past (footnote_reference name))) = simp fresh_after_bytes-append in
     rw ends refl

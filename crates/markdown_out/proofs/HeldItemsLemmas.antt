@@ -5,11 +5,11 @@ use Rattle.markdown_base.specs.declared.event.Event.{Event}
 use Rattle.markdown_base.specs.declared.fault.Fault.{Fault}
 use Rattle.markdown_out.specs.declared.merge.held.Step.{Step}
 use Rattle.markdown_out.specs.declared.merge.held.Step.TheVariants as step
-use Rattle.markdown_out.specs.Merge.{Item, PlacedText, text_item, text_in, unless_empty, merge_answers}
+use Rattle.markdown_out.specs.Merge.{Item, PlacedText, text_item, text_of_item, unless_empty, merge_answers}
 use Rattle.markdown_out.specs.HeldItems.{placed_view}
 use Rattle.markdown_out.specs.TakenAnswers.{answer_items, IsNoText, answer_count, again_count}
 use Rattle.markdown_out.proofs.MergeLemmas.{merged-alone, merged-one, merged-lone_text, merged-two_texts, merged-three_texts}
-use Rattle.markdown_out.proofs.MergeLemmas.{merged-run_end, merged-run_last, answers-front, answers-alike}
+use Rattle.markdown_out.proofs.MergeLemmas.{merged-run_end, merged-run_last, answers-prefix, answers-alike}
 
 -- an answer stays one, behind a function
 pub answer_count-mapped : {A B : Type 0} (f : A → B) (answer : Option A)
@@ -27,10 +27,10 @@ module _ {P : Type 0} (through : P → P → P) where
   after answer later = merge_answers through (answer_items answer) later
 
   -- an item that is no Text is given
-  pub gives-alone : (x : Item P) (answer : Option (Result (Event × P) Fault)) (later : List (Option (Item P))) → text_in x ≡ None
+  pub gives-alone : (x : Item P) (answer : Option (Result (Event × P) Fault)) (later : List (Option (Item P))) → text_of_item x ≡ None
       → merge_answers through (x ∷ []) (option_map placed_view answer ∷ later) ≡ Some x ∷ merge_answers through (answer_items answer) later
   gives-alone x None later h = ap (λ items. map (λ i. Some i) items ++ merge_answers through [] later) (merged-one through x)
-  gives-alone x (Some y) later h = answers-front through x [] (x ∷ []) (placed_view y) [] later
+  gives-alone x (Some y) later h = answers-prefix through x [] (x ∷ []) (placed_view y) [] later
       (λ rest. merged-alone through x (placed_view y ∷ rest) h)
 
   -- a Text is given where no Text follows it
@@ -38,7 +38,7 @@ module _ {P : Type 0} (through : P → P → P) where
       → merge_answers through (text_item t ∷ []) (option_map placed_view answer ∷ later) ≡ Some (text_item t) ∷ merge_answers through
       (answer_items answer) later
   gives-lone_text t None later h = refl
-  gives-lone_text t (Some y) later h = answers-front through (text_item t) [] (text_item t ∷ []) (placed_view y) [] later
+  gives-lone_text t (Some y) later h = answers-prefix through (text_item t) [] (text_item t ∷ []) (placed_view y) [] later
       (λ rest. merged-lone_text through t (placed_view y) rest h)
 
   -- two Texts are joined
@@ -65,5 +65,6 @@ module _ {P : Type 0} (through : P → P → P) where
       → merge_answers through (text_item t ∷ text_item l ∷ []) (option_map placed_view answer ∷ later)
       ≡ map (λ i. Some i) (unless_empty t.bytes (through t.place l.place)) ++ merge_answers through (answer_items answer) later
   gives-run t l None later e h = ap (λ items. map (λ i. Some i) items ++ merge_answers through [] later) (merged-run_last through t l e)
-  gives-run t l (Some y) later e h = answers-front through (text_item t) (text_item l ∷ []) (unless_empty t.bytes (through t.place l.place))
-      (placed_view y) [] later (λ rest. merged-run_end through t l (placed_view y) rest e h)
+  gives-run t l (Some y) later e h = answers-prefix through (text_item t) (text_item l ∷ [])
+      (unless_empty t.bytes (through t.place l.place)) (placed_view y) [] later
+      (λ rest. merged-run_end through t l (placed_view y) rest e h)

@@ -10,14 +10,14 @@ use Rattle.markdown_base.specs.Event.{EventView, event_view}
 use Rattle.markdown_base.specs.declared.event.Event.{Event}
 use Rattle.markdown_base.specs.declared.fault.Fault.{Fault}
 use Rattle.markdown_base.specs.declared.fault.Fault.TheVariants.{Memory, Blocks, Depth}
-use Rattle.markdown_out.specs.ByteLists.{AppendsFront}
+use Rattle.markdown_out.specs.ByteLists.{AppendsPrefix}
 use Rattle.markdown_out.specs.EventHtml.{past_of, event_bytes, bytes_before, closing}
 use Rattle.markdown_out.specs.EventHtml.{open_html, bytes_after, closing_after}
 use Rattle.markdown_out.specs.HtmlCorrect.{items, IsRendered, StopsAtError}
 use Rattle.markdown_out.specs.HtmlCorrect.{IsOwnFault}
 use Rattle.markdown_out.specs.LookBacks.{Past, image_before, IsTooDeep}
 use Rattle.markdown_out.specs.Writer.{view_after, MayRefuse, IsFull}
-use Rattle.markdown_out.proofs.ByteListsLemmas.{front-empty}
+use Rattle.markdown_out.proofs.ByteListsLemmas.{prefix-empty}
 use Rattle.markdown_out.proofs.WriterLemmas.{capped, highest, event_bytes-capped, view_after-capped}
 use Rattle.markdown_out.proofs.WriterLemmas.{full_deep, full_silent}
 
@@ -84,27 +84,27 @@ Wrote-more {told} {told'} {old} {new} {new'} {yielded} {item} e h w i n t =
           ∙ ap (λ b. old ++ bytes_before b) (sym (past-more w.events e)))));
     }
 
--- a front of one more event
-front-event : {told : Past} {old new out : List ℕ} {yielded : List (Result Event Fault)} (e : Event)
+-- a prefix of one more event
+prefix-event : {told : Past} {old new out : List ℕ} {yielded : List (Result Event Fault)} (e : Event)
     (w : Wrote told old new yielded)
-    → length told.alignments ≤ highest → AppendsFront new out (event_bytes told (event_view e))
-    → AppendsFront (old ++ open_html (map event_view w.events)) out
+    → length told.alignments ≤ highest → AppendsPrefix new out (event_bytes told (event_view e))
+    → AppendsPrefix (old ++ open_html (map event_view w.events)) out
     (bytes_after (map event_view w.events) (event_view e))
-front-event {told} {old} {new} {out} e w h f =
+prefix-event {told} {old} {new} {out} e w h f =
     let bytes = bytes_after (map event_view w.events) (event_view e) in
-    subst (λ n. AppendsFront n out bytes) w.stands
-    (subst (AppendsFront new out) (told_bytes (event_view e) w h) f)
+    subst (λ n. AppendsPrefix n out bytes) w.stands
+    (subst (AppendsPrefix new out) (told_bytes (event_view e) w h) f)
 
--- a front of what closes an image
-front-closing : {told : Past} {old new out : List ℕ} {yielded : List (Result Event Fault)}
+-- a prefix of what closes an image
+prefix-closing : {told : Past} {old new out : List ℕ} {yielded : List (Result Event Fault)}
     (w : Wrote told old new yielded)
-    → AppendsFront new out (closing told.open_image)
-    → AppendsFront (old ++ open_html (map event_view w.events)) out
+    → AppendsPrefix new out (closing told.open_image)
+    → AppendsPrefix (old ++ open_html (map event_view w.events)) out
     (closing_after (map event_view w.events))
-front-closing {told} {old} {new} {out} w f =
+prefix-closing {told} {old} {new} {out} w f =
     let bytes = closing_after (map event_view w.events) in
-    subst (λ n. AppendsFront n out bytes) w.stands
-    (subst (λ p. AppendsFront new out (closing p.open_image)) w.tells f)
+    subst (λ n. AppendsPrefix n out bytes) w.stands
+    (subst (λ p. AppendsPrefix new out (closing p.open_image)) w.tells f)
 
 module _ {S : Type 0} (steps : S → Option (Result Event Fault) → S → Type 0) where
   pub StopsAtError-from : (it t u : S) {told : Past} {old new : List ℕ} {yielded : List
@@ -125,7 +125,7 @@ module _ {S : Type 0} (steps : S → Option (Result Event Fault) → S → Type 
       (Result Event Fault)} {item : Result Event Fault} (fault : Fault) (e : Event)
       → length told.alignments ≤ highest → Yields steps it yielded t → steps t (Some item) u
       → item ≡ Ok e → Wrote told old new yielded → MayRefuse told (event_view e) fault
-      → AppendsFront new out (event_bytes told (event_view e)) → IsOwnFault steps it old out fault
+      → AppendsPrefix new out (event_bytes told (event_view e)) → IsOwnFault steps it old out fault
   unfolding Wrote-more
   IsOwnFault-event it t u {told} {old} {new} {out} {yielded} {item} fault e h y p i w m f = by_fault
       fault m
@@ -144,7 +144,7 @@ module _ {S : Type 0} (steps : S → Option (Result Event Fault) → S → Type 
       silent : IsFull told.open_image (event_view e) → out ≡ new ++ event_bytes told (event_view e)
       silent full =
           let none = full_silent told.open_image told (event_view e) full in
-          front-empty new out (subst (AppendsFront new out) none f)
+          prefix-empty new out (subst (AppendsPrefix new out) none f)
           ∙ (sym (append-nil new) ∙ ap (λ bytes. new ++ bytes) (sym none))
 
       by_fault : (fault : Fault) → MayRefuse told (event_view e) fault
@@ -154,7 +154,7 @@ module _ {S : Type 0} (steps : S → Option (Result Event Fault) → S → Type 
         last = e;
         left = u;
         read = read;
-        stands = front-event e w h f;
+        stands = prefix-event e w h f;
       })
       by_fault Depth m = record {
         events = w.events
@@ -170,13 +170,13 @@ module _ {S : Type 0} (steps : S → Option (Result Event Fault) → S → Type 
   pub IsOwnFault-end : (it t u : S) {told : Past} {old new out : List ℕ} {yielded : List
       (Result Event Fault)} (fault : Fault)
       → Yields steps it yielded t → steps t None u → Wrote told old new yielded → fault ≡ Memory
-      → AppendsFront new out (closing told.open_image) → IsOwnFault steps it old out fault
+      → AppendsPrefix new out (closing told.open_image) → IsOwnFault steps it old out fault
   IsOwnFault-end it t u {told} {old} {new} {out} {yielded} fault y p w m f =
       subst (IsOwnFault steps it old out) (sym m)
       (inr (record {
         events = w.events;
         read = (u, (t, subst (λ ys. Yields steps it ys t) w.read y, p));
-        stands = front-closing w f;
+        stands = prefix-closing w f;
       }))
 
   -- all events were written

@@ -3,8 +3,8 @@ use Rattle.std.proofs.Common.{◌≡◌, ◌⊎◌, ℕ, List, [], ◌∷◌, �
 use Rattle.std.specs.List.{flat_map}
 use Rattle.markdown_base.specs.Event.{text, start, end, code, inline_math, display_math, html, inline_html, footnote_reference, soft_break}
 use Rattle.markdown_base.specs.Event.{hard_break, rule, task_list_marker}
-use Rattle.markdown_out.specs.Merge.{Item, PlacedText, text_item, text_in, Run, alone, texts, before_runs, runs, last_text, unless_empty}
-use Rattle.markdown_out.specs.Merge.{run_items, merged}
+use Rattle.markdown_out.specs.Merge.{Item, PlacedText, text_item, text_of_item, Run, alone, texts, before_runs, runs, last_text}
+use Rattle.markdown_out.specs.Merge.{unless_empty, run_items, merged}
 use Rattle.markdown_out.specs.OutLaws.{AreApart, HasNoNeighbours}
 use Rattle.markdown_out.proofs.MergeLemmas.{merged-alone, merged-one, merged-lone_text}
 
@@ -13,7 +13,7 @@ pub record IsText {P : Type 0} (x : Item P) : Type 0 where
   pub t : PlacedText P
   pub is : x ≡ text_item t
 
-pub text_or_none : {P : Type 0} (x : Item P) → IsText x ⊎ (text_in x ≡ None)
+pub text_or_none : {P : Type 0} (x : Item P) → IsText x ⊎ (text_of_item x ≡ None)
 text_or_none (Ok (text t, p)) = inl (record { t = record { bytes = t; place = p }; is = refl })
 text_or_none (Ok (start o, p)) = inr refl
 text_or_none (Ok (end c, p)) = inr refl
@@ -32,7 +32,7 @@ text_or_none (Err fault) = inr refl
 -- no run of Texts follows another, and an item alone is no Text
 abbrev pub AreMaximal : {P : Type 0} → List (Run P) → Type 0
 AreMaximal [] = Unit {0}
-AreMaximal (alone x ∷ rs) = (text_in x ≡ None) × AreMaximal rs
+AreMaximal (alone x ∷ rs) = (text_of_item x ≡ None) × AreMaximal rs
 AreMaximal (texts t us ∷ []) = Unit {0}
 AreMaximal (texts t us ∷ texts v vs ∷ rs) = ⊥
 AreMaximal (texts t us ∷ alone x ∷ rs) = AreMaximal (alone x ∷ rs)
@@ -49,9 +49,9 @@ maximal-text t [] m = m
 maximal-text t (alone x ∷ rs) m = m
 maximal-text t (texts u us ∷ rs) m = maximal-longer t u us rs m
 
-maximal-more : {P : Type 0} (x : Item P) (rs : List (Run P)) → IsText x ⊎ (text_in x ≡ None) → AreMaximal rs
-    → AreMaximal (before_runs x (text_in x) rs)
-maximal-more x rs (inl is) m = subst (λ y. AreMaximal (before_runs y (text_in y) rs)) (sym is.is) (maximal-text is.t rs m)
+maximal-more : {P : Type 0} (x : Item P) (rs : List (Run P)) → IsText x ⊎ (text_of_item x ≡ None) → AreMaximal rs
+    → AreMaximal (before_runs x (text_of_item x) rs)
+maximal-more x rs (inl is) m = subst (λ y. AreMaximal (before_runs y (text_of_item y) rs)) (sym is.is) (maximal-text is.t rs m)
 maximal-more x rs (inr none) m = subst (λ o. AreMaximal (before_runs x o rs)) (sym none) (none, m)
 
 -- the runs of a list are maximal
@@ -61,12 +61,12 @@ runs-maximal (x ∷ xs) = maximal-more x (runs xs) (text_or_none x) (runs-maxima
 
 module _ {P : Type 0} (through : P → P → P) where
   -- an item that is no Text before others
-  before-no_text : (x : Item P) (ys : List (Item P)) → text_in x ≡ None → HasNoNeighbours ys → HasNoNeighbours (x ∷ ys)
+  before-no_text : (x : Item P) (ys : List (Item P)) → text_of_item x ≡ None → HasNoNeighbours ys → HasNoNeighbours (x ∷ ys)
   before-no_text x [] h n = tt
   before-no_text x (y ∷ ys) h n = (inl h, n)
 
   -- what a run of Texts gives, before an item that is no Text
-  run-before : (r : List ℕ) (p : P) (y : Item P) (ys : List (Item P)) → text_in y ≡ None → HasNoNeighbours (y ∷ ys)
+  run-before : (r : List ℕ) (p : P) (y : Item P) (ys : List (Item P)) → text_of_item y ≡ None → HasNoNeighbours (y ∷ ys)
       → HasNoNeighbours (unless_empty r p ++ y ∷ ys)
   run-before [] p y ys h n = n
   run-before (b ∷ bs) p y ys h n = (inr h, n)
@@ -96,7 +96,7 @@ module _ {P : Type 0} (through : P → P → P) where
   merged-of_apart (x ∷ []) n = merged-one through x
   merged-of_apart (x ∷ y ∷ ys) n = by_kind (text_or_none x) n.0 ∙ ap (λ zs. x ∷ zs) (merged-of_apart (y ∷ ys) n.1)
     where
-      by_kind : IsText x ⊎ (text_in x ≡ None) → AreApart x y → merged through (x ∷ y ∷ ys) ≡ x ∷ merged through (y ∷ ys)
+      by_kind : IsText x ⊎ (text_of_item x ≡ None) → AreApart x y → merged through (x ∷ y ∷ ys) ≡ x ∷ merged through (y ∷ ys)
       by_kind (inr none) a = merged-alone through x (y ∷ ys) none
       by_kind (inl is) (inl none) = merged-alone through x (y ∷ ys) none
       by_kind (inl is) (inr none) = subst (λ z. merged through (z ∷ y ∷ ys) ≡ z ∷ merged through (y ∷ ys)) (sym is.is)

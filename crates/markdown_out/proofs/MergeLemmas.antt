@@ -4,16 +4,16 @@ use Rattle.std.specs.List.{flat_map}
 use Rattle.std.proofs.lemmas.List.{map-append}
 use Rattle.markdown_base.specs.Event.{text, start, end, code, inline_math, display_math, html, inline_html, footnote_reference, soft_break}
 use Rattle.markdown_base.specs.Event.{hard_break, rule, task_list_marker}
-use Rattle.markdown_out.specs.Merge.{Item, PlacedText, text_item, text_in, Run, alone, texts, before_runs, runs, last_text, unless_empty}
-use Rattle.markdown_out.specs.Merge.{run_items, merged, merge_answers}
+use Rattle.markdown_out.specs.Merge.{Item, PlacedText, text_item, text_of_item, Run, alone, texts, before_runs, runs, last_text}
+use Rattle.markdown_out.specs.Merge.{unless_empty, run_items, merged, merge_answers}
 
 -- the runs of a list that begins with no Text
-pub runs-alone : {P : Type 0} (x : Item P) (xs : List (Item P)) → text_in x ≡ None → runs (x ∷ xs) ≡ alone x ∷ runs xs
+pub runs-alone : {P : Type 0} (x : Item P) (xs : List (Item P)) → text_of_item x ≡ None → runs (x ∷ xs) ≡ alone x ∷ runs xs
 runs-alone x xs h = ap (λ t. before_runs x t (runs xs)) h
 
 module _ {P : Type 0} (through : P → P → P) where
   -- an item that is no Text stays, and what follows is merged by itself
-  pub merged-alone : (x : Item P) (xs : List (Item P)) → text_in x ≡ None → merged through (x ∷ xs) ≡ x ∷ merged through xs
+  pub merged-alone : (x : Item P) (xs : List (Item P)) → text_of_item x ≡ None → merged through (x ∷ xs) ≡ x ∷ merged through xs
   merged-alone x xs h = ap (flat_map (run_items through)) (runs-alone x xs h)
 
   -- one item stays as it is
@@ -34,8 +34,8 @@ module _ {P : Type 0} (through : P → P → P) where
   merged-one (Err fault) = refl
 
   -- a lone Text stays where no Text follows it
-  pub merged-lone_text : (t : PlacedText P) (y : Item P) (ys : List (Item P)) → text_in y ≡ None → merged through (text_item t ∷ y ∷ ys)
-      ≡ text_item t ∷ merged through (y ∷ ys)
+  pub merged-lone_text : (t : PlacedText P) (y : Item P) (ys : List (Item P)) → text_of_item y ≡ None
+      → merged through (text_item t ∷ y ∷ ys) ≡ text_item t ∷ merged through (y ∷ ys)
   merged-lone_text t y ys h =
       ap (λ rs. flat_map (run_items through) (before_runs (text_item t) (Some t) rs)) (runs-alone y ys h)
       ∙ ap (λ rs. text_item t ∷ flat_map (run_items through) rs) (sym (runs-alone y ys h))
@@ -53,10 +53,10 @@ module _ {P : Type 0} (through : P → P → P) where
       none : PlacedText P
       none = record { bytes = []; place = u.place }
 
-      front : List (Run P) → PlacedText P → PlacedText P → List (Item P)
-      front rs a b = flat_map (run_items through) (before_runs (text_item a) (Some a) (before_runs (text_item b) (Some b) rs))
+      with_two : List (Run P) → PlacedText P → PlacedText P → List (Item P)
+      with_two rs a b = flat_map (run_items through) (before_runs (text_item a) (Some a) (before_runs (text_item b) (Some b) rs))
 
-      by_runs : (rs : List (Run P)) → front rs t u ≡ front rs both none
+      by_runs : (rs : List (Run P)) → with_two rs t u ≡ with_two rs both none
       by_runs [] = ap (λ bytes. unless_empty bytes (through t.place u.place) ++ []) (sym (append_assoc t.bytes u.bytes []))
       by_runs (alone x ∷ rs) = ap (λ bytes. unless_empty bytes (through t.place u.place) ++ flat_map (run_items through) (alone x ∷ rs))
           (sym (append_assoc t.bytes u.bytes []))
@@ -92,7 +92,7 @@ module _ {P : Type 0} (through : P → P → P) where
           (joined (flat_map (λ x. x.bytes) (v ∷ vs)))
 
   -- two Texts, the last of them empty, where no Text follows
-  pub merged-run_end : (t l : PlacedText P) (y : Item P) (ys : List (Item P)) → l.bytes ≡ [] → text_in y ≡ None
+  pub merged-run_end : (t l : PlacedText P) (y : Item P) (ys : List (Item P)) → l.bytes ≡ [] → text_of_item y ≡ None
       → merged through (text_item t ∷ text_item l ∷ y ∷ ys) ≡ unless_empty t.bytes (through t.place l.place) ++ merged through (y ∷ ys)
   merged-run_end t l y ys e h =
       ap (λ rs. flat_map (run_items through) (before_runs (text_item t) (Some t) (before_runs (text_item l) (Some l) rs)))
@@ -109,18 +109,18 @@ module _ {P : Type 0} (through : P → P → P) where
       ∙ append-nil (unless_empty t.bytes (through t.place l.place))
 
   -- items at the front whose merge does not depend on what comes after the next item
-  pub answers-front : (x : Item P) (xs front : List (Item P)) (y : Item P) (ys : List (Item P)) (later : List (Option (Item P)))
-      → ((rest : List (Item P)) → merged through (x ∷ xs ++ y ∷ rest) ≡ front ++ merged through (y ∷ rest))
-      → merge_answers through (x ∷ xs ++ y ∷ ys) later ≡ map (λ i. Some i) front ++ merge_answers through (y ∷ ys) later
-  answers-front x xs front y ys [] h =
-      ap (map (λ i. Some i)) (h ys) ∙ map-append (λ i. Some i) front (merged through (y ∷ ys))
-  answers-front x xs front y ys (Some z ∷ later) h =
+  pub answers-prefix : (x : Item P) (xs prefix : List (Item P)) (y : Item P) (ys : List (Item P)) (later : List (Option (Item P)))
+      → ((rest : List (Item P)) → merged through (x ∷ xs ++ y ∷ rest) ≡ prefix ++ merged through (y ∷ rest))
+      → merge_answers through (x ∷ xs ++ y ∷ ys) later ≡ map (λ i. Some i) prefix ++ merge_answers through (y ∷ ys) later
+  answers-prefix x xs prefix y ys [] h =
+      ap (map (λ i. Some i)) (h ys) ∙ map-append (λ i. Some i) prefix (merged through (y ∷ ys))
+  answers-prefix x xs prefix y ys (Some z ∷ later) h =
       ap (λ items. merge_answers through (x ∷ items) later) (append_assoc xs (y ∷ ys) (z ∷ []))
-      ∙ answers-front x xs front y (ys ++ z ∷ []) later h
-  answers-front x xs front y ys (None ∷ later) h =
+      ∙ answers-prefix x xs prefix y (ys ++ z ∷ []) later h
+  answers-prefix x xs prefix y ys (None ∷ later) h =
       ap (λ items. map (λ i. Some i) items ++ merge_answers through [] later) (h ys)
-      ∙ (ap (λ items. items ++ merge_answers through [] later) (map-append (λ i. Some i) front (merged through (y ∷ ys)))
-      ∙ append_assoc (map (λ i. Some i) front) (map (λ i. Some i) (merged through (y ∷ ys))) (merge_answers through [] later))
+      ∙ (ap (λ items. items ++ merge_answers through [] later) (map-append (λ i. Some i) prefix (merged through (y ∷ ys)))
+      ∙ append_assoc (map (λ i. Some i) prefix) (map (λ i. Some i) (merged through (y ∷ ys))) (merge_answers through [] later))
 
   -- items at the front that are merged alike, whatever comes after them
   pub answers-alike : (x : Item P) (xs : List (Item P)) (y : Item P) (ys rest : List (Item P)) (later : List (Option (Item P)))

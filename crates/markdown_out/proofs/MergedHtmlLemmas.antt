@@ -6,15 +6,15 @@ use Rattle.std.specs.List.{flat_map, AllByRecursion}
 use Rattle.std.proofs.lemmas.List.Concat.{flat_map-append}
 use Rattle.markdown_base.specs.Event.{EventView, text, start, end, code, inline_math, display_math, html, inline_html, footnote_reference}
 use Rattle.markdown_base.specs.Event.{soft_break, hard_break, rule, task_list_marker}
-use Rattle.markdown_out.specs.ByteLists.{ends_line}
+use Rattle.markdown_out.specs.ByteLists.{fresh_after_bytes}
 use Rattle.markdown_out.specs.Escapes.{text_escaped, text_byte, attribute_escaped, attribute_byte}
-use Rattle.markdown_out.specs.LookBacks.{Past, OpenImageView, unless_inside, metadata_after, head_after, column_after, alignments_after}
-use Rattle.markdown_out.specs.LookBacks.{names_after, image_after, image_before}
+use Rattle.markdown_out.specs.LookBacks.{Past, OpenImageView, unless_inside, metadata_after, head_after, cell_column_after}
+use Rattle.markdown_out.specs.LookBacks.{alignments_after, names_after, image_after, image_before}
 use Rattle.markdown_out.specs.EventHtml.{event_bytes, bytes_by_image, fresh_after, past_of, bytes_before, closing, html_of}
 use Rattle.markdown_out.specs.Merge.{PlacedText, text_item, Run, alone, texts, before_runs, runs, last_text, unless_empty, run_items}
 use Rattle.markdown_out.specs.OutLaws.{event_item, item_events, merged_events, IsNoEmptyText}
 use Rattle.markdown_out.specs.Places.{nowhere}
-use Rattle.markdown_out.proofs.ByteListsLemmas.{ends_line-append}
+use Rattle.markdown_out.proofs.ByteListsLemmas.{fresh_after_bytes-append}
 
 -- what is told after one more event
 abbrev pub past_after : Past → EventView → Past
@@ -22,7 +22,7 @@ past_after past e = record {
   fresh = fresh_after past e;
   in_metadata = unless_inside metadata_after past.open_image past.in_metadata e;
   in_head = unless_inside head_after past.open_image past.in_head e;
-  column = unless_inside column_after past.open_image past.column e;
+  column = unless_inside cell_column_after past.open_image past.column e;
   alignments = unless_inside alignments_after past.open_image past.alignments e;
   names = names_after past.open_image past.names e;
   open_image = image_after past.open_image e;
@@ -86,13 +86,13 @@ past-text past t = by_image past.open_image
     by_image (Some i) = refl
 
 fresh-text : (past : Past) (t : List ℕ) → 0 < length t
-    → fresh_after past (text t) ≡ ends_line past.fresh (written past.open_image past.in_metadata t)
+    → fresh_after past (text t) ≡ fresh_after_bytes past.fresh (written past.open_image past.in_metadata t)
 fresh-text past [] h = absurd (omega arith)
-fresh-text past (b ∷ bs) h = ap (ends_line past.fresh) (text-written past (b ∷ bs))
+fresh-text past (b ∷ bs) h = ap (fresh_after_bytes past.fresh) (text-written past (b ∷ bs))
 
 -- what is told after a Text that is not empty
 told-text : (past : Past) (t : List ℕ) → 0 < length t
-    → past_after past (text t) ≡ record past { fresh = ends_line past.fresh (written past.open_image past.in_metadata t) }
+    → past_after past (text t) ≡ record past { fresh = fresh_after_bytes past.fresh (written past.open_image past.in_metadata t) }
 told-text past t h = past-text past t ∙ ap (λ f. record past { fresh = f }) (fresh-text past t h)
 
 -- events that write the same and tell the same
@@ -134,7 +134,7 @@ same-two past t u rest h k l = record {
 
     second : event_bytes mid (text u) ≡ written o m u
     second = ap (λ p. event_bytes p (text u)) (told-text past t h)
-        ∙ text-written (record past { fresh = ends_line past.fresh (written o m t) }) u
+        ∙ text-written (record past { fresh = fresh_after_bytes past.fresh (written o m t) }) u
 
     bytes : event_bytes past (text t) ++ event_bytes mid (text u) ≡ event_bytes past (text (t ++ u))
     bytes = ap (λ b. b ++ event_bytes mid (text u)) (text-written past t)
@@ -142,9 +142,9 @@ same-two past t u rest h k l = record {
 
     told : past_after mid (text u) ≡ past_after past (text (t ++ u))
     told = ap (λ p. past_after p (text u)) (told-text past t h)
-        ∙ (told-text (record past { fresh = ends_line past.fresh (written o m t) }) u k
-        ∙ (ap (λ f. record past { fresh = f }) (sym (ends_line-append past.fresh (written o m t) (written o m u))
-        ∙ ap (ends_line past.fresh) (written-append o m t u))
+        ∙ (told-text (record past { fresh = fresh_after_bytes past.fresh (written o m t) }) u k
+        ∙ (ap (λ f. record past { fresh = f }) (sym (fresh_after_bytes-append past.fresh (written o m t) (written o m u))
+        ∙ ap (fresh_after_bytes past.fresh) (written-append o m t u))
         ∙ sym (told-text past (t ++ u) l)))
 
 -- no Text of a run is empty

@@ -12,8 +12,8 @@ use Rattle.markdown_base.specs.declared.fault.Fault.{Fault}
 use Rattle.markdown_base.specs.declared.fault.Fault.TheVariants.{Memory}
 use Rattle.markdown_out.specs.EventHtml.{html_of, open_html}
 use Rattle.markdown_out.specs.HtmlCorrect.{items, IsRendered, StopsAtError}
-use Rattle.markdown_out.specs.Merge.{Item, PlacedText, text_item, text_in, Run, alone, texts, before_runs, runs, last_text, unless_empty}
-use Rattle.markdown_out.specs.Merge.{run_items, merged}
+use Rattle.markdown_out.specs.Merge.{Item, PlacedText, text_item, text_of_item, Run, alone, texts, before_runs, runs, last_text}
+use Rattle.markdown_out.specs.Merge.{unless_empty, run_items, merged}
 use Rattle.markdown_out.specs.MergeNext.{MergeState, PassesOn, item_view}
 use Rattle.markdown_out.specs.Places.{bare, nowhere}
 use Rattle.markdown_out.specs.OutLaws.{event_item, item_events, merged_events, StaysEnded, merge_steps, IsNewMerge}
@@ -48,9 +48,9 @@ source-text t [] = refl
 source-text t (alone x ∷ rs) = refl
 source-text t (texts u us ∷ rs) = refl
 
-source-more : (x : Item U) (rs : List (Run U)) → IsText x ⊎ (text_in x ≡ None) → flat_map run_source (before_runs x (text_in x) rs)
-    ≡ x ∷ flat_map run_source rs
-source-more x rs (inl is) = subst (λ y. flat_map run_source (before_runs y (text_in y) rs) ≡ y ∷ flat_map run_source rs) (sym is.is)
+source-more : (x : Item U) (rs : List (Run U)) → IsText x ⊎ (text_of_item x ≡ None)
+    → flat_map run_source (before_runs x (text_of_item x) rs) ≡ x ∷ flat_map run_source rs
+source-more x rs (inl is) = subst (λ y. flat_map run_source (before_runs y (text_of_item y) rs) ≡ y ∷ flat_map run_source rs) (sym is.is)
     (source-text is.t rs)
 source-more x rs (inr none) = ap (λ o. flat_map run_source (before_runs x o rs)) none
 
@@ -148,7 +148,7 @@ runs-error : (xs : List (Item U)) (fault : Fault) (ys : List (Item U)) → runs 
     ++ alone (Err fault) ∷ runs ys
 runs-error [] fault ys = refl
 runs-error (x ∷ xs) fault ys =
-    ap (before_runs x (text_in x)) (runs-error xs fault ys) ∙ runs-before x (text_in x) (runs xs) (Err fault) (runs ys)
+    ap (before_runs x (text_of_item x)) (runs-error xs fault ys) ∙ runs-before x (text_of_item x) (runs xs) (Err fault) (runs ys)
 
 merged-error : (xs : List (Item U)) (fault : Fault) (ys : List (Item U))
     → merged nowhere (xs ++ Err fault ∷ ys) ≡ merged nowhere xs ++ Err fault ∷ merged nowhere ys
@@ -223,13 +223,13 @@ stopped xs views fault rest e = by_cut (error_cut xs)
         let seen : map view xs ≡ map event_item (map event_view a.events) = ap (map view) a.are ∙ views-items a.events in
         absurd (error-among (map event_item views) fault rest (subst HasNoError (ap (merged nowhere) (sym seen) ∙ e) none))
     by_cut (inr c) =
-        let front = map event_item (map event_view c.events) in
-        let seen : map view xs ≡ front ++ Err c.fault ∷ map view c.after =
+        let prefix = map event_item (map event_view c.events) in
+        let seen : map view xs ≡ prefix ++ Err c.fault ∷ map view c.after =
         ap (map view) c.is ∙ (map-append view (items c.events) (Err c.fault ∷ c.after)
         ∙ ap (λ ys. ys ++ Err c.fault ∷ map view c.after) (views-items c.events)) in
-        let same = same-until-error (merged nowhere front) (map event_item views) c.fault fault (merged nowhere (map view c.after)) rest
-        (no_error-merged front (no_error-views (map event_view c.events))) (no_error-views views)
-        (sym (merged-error front c.fault (map view c.after)) ∙ (ap (merged nowhere) (sym seen) ∙ e)) in
+        let same = same-until-error (merged nowhere prefix) (map event_item views) c.fault fault (merged nowhere (map view c.after)) rest
+        (no_error-merged prefix (no_error-views (map event_view c.events))) (no_error-views views)
+        (sym (merged-error prefix c.fault (map view c.after)) ∙ (ap (merged nowhere) (sym seen) ∙ e)) in
         record {
           events = c.events;
           after = c.after;
@@ -240,15 +240,15 @@ stopped xs views fault rest e = by_cut (error_cut xs)
 -- ---- the calls
 
 module _ {S A : Type 0} (steps : S → Option A → S → Type 0) where
-  record YieldsFront (s : S) (xs ys : List A) (t : S) : Type 0 where
+  record YieldsPrefix (s : S) (xs ys : List A) (t : S) : Type 0 where
     pub mid : S
     pub first : Yields steps s xs mid
     pub rest : Yields steps mid ys t
 
-  yields-front : (s t : S) (xs ys : List A) → Yields steps s (xs ++ ys) t → YieldsFront s xs ys t
-  yields-front s t [] ys y = record { mid = s; first = refl; rest = y }
-  yields-front s t (x ∷ xs) ys y =
-      let f = yields-front y.0 t xs ys y.2 in record { mid = f.mid; first = (y.0, y.1, f.first); rest = f.rest }
+  yields-prefix : (s t : S) (xs ys : List A) → Yields steps s (xs ++ ys) t → YieldsPrefix s xs ys t
+  yields-prefix s t [] ys y = record { mid = s; first = refl; rest = y }
+  yields-prefix s t (x ∷ xs) ys y =
+      let f = yields-prefix y.0 t xs ys y.2 in record { mid = f.mid; first = (y.0, y.1, f.first); rest = f.rest }
 
 module _ {S M : Type 0} (steps : S → Option Raw → S → Type 0) (can : S → Type 0) (rest : S → Count) (state : M → MergeState S U) where
   abbrev calls : M → Option Raw → M → Type 0
@@ -315,8 +315,8 @@ module _ {S M : Type 0} (steps : S → Option Raw → S → Type 0) (can : S →
         es : List Event
         es = r.events
 
-        f : YieldsFront calls m (items r.events) (Err fault ∷ []) r.left
-        f = yields-front calls m r.left (items r.events) (Err fault ∷ []) r.read
+        f : YieldsPrefix calls m (items r.events) (Err fault ∷ []) r.left
+        f = yields-prefix calls m r.left (items r.events) (Err fault ∷ []) r.read
 
         o : (state f.mid).over ≡ false
         o = events-go-on m f.mid es begun.goes_on f.first
@@ -334,7 +334,7 @@ module _ {S M : Type 0} (steps : S → Option Raw → S → Type 0) (can : S →
             map-append view (items es) (Err fault ∷ []) ∙ ap (λ ys. ys ++ Err fault ∷ []) (views-items es) in
             let s = stopped g.so_far (map event_view es) fault g.missing
             (g.merges ∙ (ap (λ ys. ys ++ g.missing) seen ∙ append_assoc (map event_item (map event_view es)) (Err fault ∷ []) g.missing)) in
-            let y = yields-front steps (state m).iter g.left (items s.events ++ Err fault ∷ []) s.after
+            let y = yields-prefix steps (state m).iter g.left (items s.events ++ Err fault ∷ []) s.after
             (subst (λ xs. Yields steps (state m).iter xs g.left) s.is g.read) in
             inl (record {
               events = s.events;
@@ -346,7 +346,7 @@ module _ {S M : Type 0} (steps : S → Option Raw → S → Type 0) (can : S →
           same-fault q.0,
           record {
             events = es;
-            front = (gives_the_merge nowhere view steps can rest state ends m begun).so_far (items es) f.mid f.first o;
+            prefix = (gives_the_merge nowhere view steps can rest state ends m begun).so_far (items es) f.mid f.first o;
             stands = r.stands;
           },
         )

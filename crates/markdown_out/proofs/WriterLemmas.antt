@@ -14,11 +14,11 @@ use Rattle.markdown_base.specs.Event.{table_cell}
 use Rattle.markdown_base.specs.declared.fault.Fault.{Fault}
 use Rattle.markdown_base.specs.declared.fault.Fault.TheVariants.{Depth}
 use Rattle.markdown_base.specs.declared.tag.TagEnd.TheVariants as closes
-use Rattle.markdown_out.specs.ByteLists.{joined, ends_line}
+use Rattle.markdown_out.specs.ByteLists.{joined, fresh_after_bytes}
 use Rattle.markdown_out.specs.EventHtml.{bytes_by_image, event_bytes, fresh_after}
 use Rattle.markdown_out.specs.EventHtml.{fresh_after_empty, past_of}
 use Rattle.markdown_out.specs.TagHtml.{start_parts, cell_style}
-use Rattle.markdown_out.specs.LookBacks.{Past, OpenImageView, unless_inside, column_after}
+use Rattle.markdown_out.specs.LookBacks.{Past, OpenImageView, unless_inside, cell_column_after}
 use Rattle.markdown_out.specs.LookBacks.{metadata_after, head_after}
 use Rattle.markdown_out.specs.LookBacks.{alignments_after, names_after, image_after}
 use Rattle.markdown_out.specs.Writer.{piece_bytes, spelled, counted_after, view_after, IsFull}
@@ -85,13 +85,13 @@ fresh_after_empty-capped (Some i) past = refl
 fresh_after-capped : (past : Past) (e : EventView) → length past.alignments ≤ highest
     → fresh_after (capped past) e ≡ fresh_after past e
 fresh_after-capped past (text []) h = fresh_after_empty-capped past.open_image past
-fresh_after-capped past (text (b ∷ bytes)) h = ap (ends_line past.fresh) (event_bytes-capped past
+fresh_after-capped past (text (b ∷ bytes)) h = ap (fresh_after_bytes past.fresh) (event_bytes-capped past
     (text (b ∷ bytes)) h)
-fresh_after-capped past e h = ap (ends_line past.fresh) (event_bytes-capped past e h)
+fresh_after-capped past e h = ap (fresh_after_bytes past.fresh) (event_bytes-capped past e h)
 
 counted_after-capped : (within : Option OpenImageView) (column : ℕ) (e : EventView)
     → unless_inside counted_after within (min column highest) e ≡ min
-    (unless_inside column_after within column e) highest
+    (unless_inside cell_column_after within column e) highest
 counted_after-capped (Some i) column e = refl
 counted_after-capped None column (start table_head) = refl
 counted_after-capped None column (start table_row) = refl

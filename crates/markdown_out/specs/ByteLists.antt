@@ -1,6 +1,4 @@
--- Bytes: parts one after another, bytes that were appended whole or in part, and whether the last
--- of
--- them ends a line.
+-- Bytes: parts one after another, bytes that were appended whole or in part, and whether a line is fresh after them.
 use Rattle.std.specs.Prelude.{◌≡◌, ℕ, Bool, List, [], ◌∷◌, ◌++◌, ◌==◌}
 use Rattle.std.specs.Prelude.{String, string_bytes}
 
@@ -10,22 +8,22 @@ joined [] = []
 joined (part ∷ []) = part
 joined (part ∷ next ∷ parts) = part ++ joined (next ∷ parts)
 
--- a front of these bytes, and no more, stands behind the old text
-pub record AppendsFront (old new bytes : List ℕ) : Type 0 where
-  pub front : List ℕ
+-- a prefix of these bytes, and no more, stands behind the old text
+pub record AppendsPrefix (old new bytes : List ℕ) : Type 0 where
+  pub prefix : List ℕ
   pub missing : List ℕ
-  pub stands : new ≡ old ++ front
-  pub whole : front ++ missing ≡ bytes
+  pub stands : new ≡ old ++ prefix
+  pub whole : prefix ++ missing ≡ bytes
 
 -- these bytes were appended
 abbrev pub Appends : {A : Type 0} → String A → String A → List ℕ → Type 0
 Appends old new bytes = string_bytes new ≡ string_bytes old ++ bytes
 
--- a front of these bytes was appended, and no more
+-- a prefix of these bytes was appended, and no more
 abbrev pub AppendsPart : {A : Type 0} → String A → String A → List ℕ → Type 0
-AppendsPart old new bytes = AppendsFront (string_bytes old) (string_bytes new) bytes
+AppendsPart old new bytes = AppendsPrefix (string_bytes old) (string_bytes new) bytes
 
--- the last of these bytes is a newline (10); where there are none, what was so before
-abbrev pub ends_line : Bool → List ℕ → Bool
-ends_line before [] = before
-ends_line before (b ∷ bytes) = ends_line (b == 10) bytes
+-- whether a line is fresh after these bytes: the last is a newline (10); where there are none, what was so before
+abbrev pub fresh_after_bytes : Bool → List ℕ → Bool
+fresh_after_bytes before [] = before
+fresh_after_bytes before (b ∷ bytes) = fresh_after_bytes (b == 10) bytes

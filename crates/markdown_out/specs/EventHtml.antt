@@ -6,10 +6,10 @@ use Rattle.markdown_base.specs.Event.{EventView, start, end, text, code, inline_
 use Rattle.markdown_base.specs.Event.{html, inline_html, footnote_reference, soft_break, hard_break}
 use Rattle.markdown_base.specs.Event.{rule, task_list_marker}
 use Rattle.markdown_out.specs.AltText.{alt_parts}
-use Rattle.markdown_out.specs.ByteLists.{joined, ends_line}
+use Rattle.markdown_out.specs.ByteLists.{joined, fresh_after_bytes}
 use Rattle.markdown_out.specs.Escapes.{text_escaped, attribute_escaped}
 use Rattle.markdown_out.specs.LookBacks.{Past, OpenImageView, footnote_number, image_before}
-use Rattle.markdown_out.specs.LookBacks.{metadata_before, head_before, column_before}
+use Rattle.markdown_out.specs.LookBacks.{metadata_before, head_before, cell_column_before}
 use Rattle.markdown_out.specs.LookBacks.{alignments_before, names_before}
 use Rattle.markdown_out.specs.TagHtml.{new_line, start_parts, end_parts, image_end}
 
@@ -66,7 +66,7 @@ fresh_after_empty (Some i) past = past.fresh
 -- empty Text outside metadata and images
 abbrev pub fresh_after : Past → EventView → Bool
 fresh_after past (text []) = fresh_after_empty past.open_image past
-fresh_after past e = ends_line past.fresh (event_bytes past e)
+fresh_after past e = fresh_after_bytes past.fresh (event_bytes past e)
 
 -- whether a line begins after these events
 abbrev pub fresh_before : List EventView → Bool
@@ -75,7 +75,7 @@ fresh_before (e ∷ before) = fresh_after (record {
   fresh = fresh_before before;
   in_metadata = metadata_before before;
   in_head = head_before before;
-  column = column_before before;
+  column = cell_column_before before;
   alignments = alignments_before before;
   names = names_before before;
   open_image = image_before before;
@@ -87,7 +87,7 @@ past_of before = record {
   fresh = fresh_before before;
   in_metadata = metadata_before before;
   in_head = head_before before;
-  column = column_before before;
+  column = cell_column_before before;
   alignments = alignments_before before;
   names = names_before before;
   open_image = image_before before;

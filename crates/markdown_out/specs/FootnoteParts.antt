@@ -1,7 +1,7 @@
 -- A footnote's number among the bytes of its event: what comes before it, and what the writer remembers behind it. Only
 -- private clauses cite this.
 use Rattle.std.specs.Prelude.{ℕ, Bool, List, [], ◌∷◌, codes}
-use Rattle.markdown_out.specs.ByteLists.{joined, ends_line}
+use Rattle.markdown_out.specs.ByteLists.{joined, fresh_after_bytes}
 use Rattle.markdown_out.specs.Escapes.{attribute_escaped}
 use Rattle.markdown_out.specs.LookBacks.{Past, footnote_number, with_name}
 use Rattle.markdown_out.specs.TagHtml.{new_line}
@@ -20,6 +20,6 @@ to_definition_number fresh name =
 -- what the writer remembers after the number of a name and what comes behind it
 abbrev pub after_number : Past → List ℕ → List ℕ → Past
 after_number past name after = record past {
-  fresh = ends_line past.fresh (joined (footnote_number past name ∷ after ∷ []));
+  fresh = fresh_after_bytes past.fresh (joined (footnote_number past name ∷ after ∷ []));
   names = with_name name past.names;
 }

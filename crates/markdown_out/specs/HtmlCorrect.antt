@@ -6,7 +6,7 @@ use Rattle.markdown_base.specs.Event.{event_view}
 use Rattle.markdown_base.specs.declared.event.Event.{Event}
 use Rattle.markdown_base.specs.declared.fault.Fault.{Fault}
 use Rattle.markdown_base.specs.declared.fault.Fault.TheVariants.{Memory, Blocks, Depth}
-use Rattle.markdown_out.specs.ByteLists.{AppendsFront}
+use Rattle.markdown_out.specs.ByteLists.{AppendsPrefix}
 use Rattle.markdown_out.specs.EventHtml.{html_of, open_html, bytes_after, closing_after}
 use Rattle.markdown_out.specs.LookBacks.{IsTooDeep}
 
@@ -30,21 +30,21 @@ module _ {S : Type 0} (steps : S → Option (Result Event Fault) → S → Type 
     pub stands : new ≡ old ++ open_html (map event_view events)
 
   -- memory was refused at the last event read: the open HTML of those before it stands, and behind
-  -- it a front of its own bytes
+  -- it a prefix of its own bytes
   pub record IsCutShort : Type 0 where
     pub events : List Event
     pub last : Event
     pub left : S
     pub read : Yields steps it (items (events ++ last ∷ [])) left
-    pub stands : AppendsFront (old ++ open_html (map event_view events)) new
+    pub stands : AppendsPrefix (old ++ open_html (map event_view events)) new
         (bytes_after (map event_view events) (event_view last))
 
   -- memory was refused behind all events, where an image was to be closed: their open HTML stands,
-  -- and behind it a front of what closes the image
+  -- and behind it a prefix of what closes the image
   pub record IsCutAtEnd : Type 0 where
     pub events : List Event
     pub read : Drains steps it (items events)
-    pub stands : AppendsFront (old ++ open_html (map event_view events)) new
+    pub stands : AppendsPrefix (old ++ open_html (map event_view events)) new
         (closing_after (map event_view events))
 
   -- more Starts are open in an image than can be counted; the open HTML of the events read stands

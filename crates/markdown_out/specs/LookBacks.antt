@@ -64,18 +64,18 @@ abbrev pub head_before : List EventView → Bool
 head_before [] = true
 head_before (e ∷ before) = unless_inside head_after (image_before before) (head_before before) e
 
--- the column after an event
-abbrev pub column_after : ℕ → EventView → ℕ
-column_after column (start table_head) = 0
-column_after column (start table_row) = 0
-column_after column (end closes.TableCell) = column + 1
-column_after column e = column
+-- the column of the next cell after an event
+abbrev pub cell_column_after : ℕ → EventView → ℕ
+cell_column_after column (start table_head) = 0
+cell_column_after column (start table_row) = 0
+cell_column_after column (end closes.TableCell) = column + 1
+cell_column_after column e = column
 
 -- how many cells ended since the head or the row was started
-abbrev pub column_before : List EventView → ℕ
-column_before [] = 0
-column_before (e ∷ before) =
-    unless_inside column_after (image_before before) (column_before before) e
+abbrev pub cell_column_before : List EventView → ℕ
+cell_column_before [] = 0
+cell_column_before (e ∷ before) =
+    unless_inside cell_column_after (image_before before) (cell_column_before before) e
 
 -- the last table's alignments after an event
 abbrev pub alignments_after : List Alignment → EventView → List Alignment

@@ -18,9 +18,9 @@ abbrev pub text_item : {P : Type 0} → PlacedText P → Item P
 text_item t = Ok (text t.bytes, t.place)
 
 -- the Text that an item is
-abbrev pub text_in : {P : Type 0} → Item P → Option (PlacedText P)
-text_in (Ok (text t, place)) = Some (record { bytes = t; place = place })
-text_in item = None
+abbrev pub text_of_item : {P : Type 0} → Item P → Option (PlacedText P)
+text_of_item (Ok (text t, place)) = Some (record { bytes = t; place = place })
+text_of_item item = None
 
 -- an item that is no Text, or a maximal run of neighbouring Texts: the first, and those after it
 pub data Run (P : Type 0) : Type 0 where
@@ -36,7 +36,7 @@ before_runs item (Some t) rest = texts t [] ∷ rest
 -- a list of items, cut into maximal runs
 abbrev pub runs : {P : Type 0} → List (Item P) → List (Run P)
 runs [] = []
-runs (item ∷ items) = before_runs item (text_in item) (runs items)
+runs (item ∷ items) = before_runs item (text_of_item item) (runs items)
 
 -- the last of some Texts
 abbrev pub last_text : {P : Type 0} → PlacedText P → List (PlacedText P) → PlacedText P

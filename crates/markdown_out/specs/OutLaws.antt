@@ -7,13 +7,13 @@ use Rattle.markdown_base.specs.declared.event.Event.{Event}
 use Rattle.markdown_base.specs.declared.fault.Fault.{Fault}
 use Rattle.markdown_out.specs.EventHtml.{html_of, open_html}
 use Rattle.markdown_out.specs.HtmlCorrect.{items}
-use Rattle.markdown_out.specs.Merge.{Item, text_in, merged}
+use Rattle.markdown_out.specs.Merge.{Item, text_of_item, merged}
 use Rattle.markdown_out.specs.MergeNext.{MergeState, CallsMerge, item_view}
 use Rattle.markdown_out.specs.Places.{bare, nowhere}
 
 -- not both are Texts
 abbrev pub AreApart : {P : Type 0} → Item P → Item P → Type 0
-AreApart x y = (text_in x ≡ None) ⊎ (text_in y ≡ None)
+AreApart x y = (text_of_item x ≡ None) ⊎ (text_of_item y ≡ None)
 
 -- no two Texts are neighbours
 abbrev pub HasNoNeighbours : {P : Type 0} → List (Item P) → Type 0
@@ -56,7 +56,7 @@ module _ {S T P : Type 0} (through : P → P → P) (view : Result T Fault → I
     pub read : Drains steps it all
     pub merges : merged through (map view all) ≡ map view given
 
-  -- these items of the iterator were read, and those given are a front of their merge
+  -- these items of the iterator were read, and those given are a prefix of their merge
   pub record IsMergeSoFar : Type 0 where
     pub so_far : List (Result T Fault)
     pub left : S
@@ -72,7 +72,7 @@ module _ {M S T P : Type 0} (through : P → P → P) (view : Result T Fault →
   merge_steps m r t = CallsMerge through view steps can rest (state m) r (state t)
 
   -- over an iterator that stays ended, where no growth was refused: up to its first None a new merge
-  -- gives the merge of all items, and at any moment it gave a front of the merge of those read
+  -- gives the merge of all items, and at any moment it gave a prefix of the merge of those read
   pub record GivesTheMerge (m : M) : Type 0 where
     pub all : (given : List (Result T Fault)) (t u : M) → Yields merge_steps m given t
         → merge_steps t None u → (state u).over ≡ false
@@ -100,8 +100,8 @@ module _ {S : Type 0} (steps : S → Option (Result Event Fault) → S → Type 
     pub read : Yields steps it (items events ++ Err fault ∷ []) left
     pub stands : new ≡ old ++ open_html (merged_events (map event_view events))
 
-  -- the merge was refused memory, and the open HTML of a front of the merge of what was read stands
+  -- the merge was refused memory, and the open HTML of a prefix of the merge of what was read stands
   pub record IsRefusedMerged : Type 0 where
     pub events : List Event
-    pub front : IsMergeSoFar nowhere (item_view bare) steps it (items events)
+    pub prefix : IsMergeSoFar nowhere (item_view bare) steps it (items events)
     pub stands : new ≡ old ++ open_html (map event_view events)

@@ -1,5 +1,4 @@
--- The HTML of tags: what the Start and the End of a block or of inline markup write outside images,
--- in
+-- The HTML of tags: what the Start and the End of a block or of inline markup write outside images, in
 -- parts, as `joined` puts them together.
 use Rattle.std.specs.Prelude.{ℕ, Bool, true, false, List, [], ◌∷◌, ◌++◌, ◌==◌, codes}
 use Rattle.std.specs.Prelude.{if◌then◌else◌, slice_get, Option, Some, None}
@@ -40,13 +39,13 @@ level_digit level.H5 = codes "5"
 level_digit level.H6 = codes "6"
 
 -- an attribute in a tag, from the blank before it on
-abbrev pub attribute : List ℕ → List ℕ → List ℕ
-attribute lead value = joined (lead ∷ attribute_escaped value ∷ codes "\"" ∷ [])
+abbrev pub attribute_html : List ℕ → List ℕ → List ℕ
+attribute_html lead value = joined (lead ∷ attribute_escaped value ∷ codes "\"" ∷ [])
 
 -- a heading's id
 abbrev pub id_attribute : Option (List ℕ) → List ℕ
 id_attribute None = []
-id_attribute (Some id) = attribute (codes " id=\"") id
+id_attribute (Some id) = attribute_html (codes " id=\"") id
 
 -- a class behind another
 abbrev pub further_class : List ℕ → List ℕ

@@ -6,7 +6,7 @@ use Rattle.markdown_base.specs.declared.cow_str.CowStr.{CowStr}
 use Rattle.markdown_base.specs.declared.event.Event.{Event}
 use Rattle.markdown_base.specs.declared.fault.Fault.{Fault}
 use Rattle.markdown_out.specs.HeldItems.{placed_view, held_items}
-use Rattle.markdown_out.specs.Merge.{Item, PlacedText, text_in, merge_answers}
+use Rattle.markdown_out.specs.Merge.{Item, PlacedText, text_of_item, merge_answers}
 use Rattle.markdown_out.specs.MergeNext.{some_count}
 use Rattle.markdown_out.specs.declared.merge.held.Held.{Held}
 use Rattle.markdown_out.specs.declared.merge.held.Step.{Step}
@@ -29,7 +29,7 @@ given_answers (step.Give r) = option_map placed_view r ∷ []
 -- an answer that is no Text
 abbrev pub IsNoText : {P : Type 0} → Option (Result (Event × P) Fault) → Type 0
 IsNoText None = Unit {0}
-IsNoText (Some x) = text_in (placed_view x) ≡ None
+IsNoText (Some x) = text_of_item (placed_view x) ≡ None
 
 -- one for an answer that is an item
 abbrev pub answer_count : {A : Type 0} → Option A → ℕ

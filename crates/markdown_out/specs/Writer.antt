@@ -6,14 +6,15 @@ use Rattle.markdown_base.specs.CowText.{text_of}
 use Rattle.markdown_base.specs.Event.{EventView, HeadingView, start, end, text, table_head, table_row}
 use Rattle.markdown_base.specs.Event.{attribute_view, footnote_reference, TagView, image, table}
 use Rattle.markdown_base.specs.Event.{footnote_definition, heading, block_quote, indented_code}
-use Rattle.markdown_base.specs.Event.{fenced_code, list, table_cell, link}
+use Rattle.markdown_base.specs.Event.{paragraph, list_item, emphasis, strong}
+use Rattle.markdown_base.specs.Event.{fenced_code, list, table_cell, link, code, inline_math, display_math}
 use Rattle.markdown_base.specs.declared.cow_str.CowStr.{CowStr}
 use Rattle.markdown_base.specs.declared.tag.HeadingLevel.{HeadingLevel}
 use Rattle.markdown_base.specs.declared.fault.Fault.{Fault}
 use Rattle.markdown_base.specs.declared.fault.Fault.TheVariants.{Memory, Blocks, Depth}
 use Rattle.markdown_base.specs.declared.tag.TagEnd.TheVariants as closes
 use Rattle.markdown_out.specs.AltText.{alt_parts}
-use Rattle.markdown_out.specs.ByteLists.{joined, ends_line}
+use Rattle.markdown_out.specs.ByteLists.{joined, fresh_after_bytes}
 use Rattle.markdown_out.specs.Escapes.{text_escaped, attribute_escaped, destination_escaped}
 use Rattle.markdown_out.specs.EventHtml.{fresh_after}
 use Rattle.markdown_out.specs.LookBacks.{Past, OpenImageView, unless_inside, metadata_after}
@@ -57,7 +58,7 @@ view_in w i = record (view w) { open_image = Some (image_view i) }
 
 -- the writer after these bytes were appended
 abbrev pub after_bytes : Writer → List ℕ → Writer
-after_bytes w bytes = record w { fresh = ends_line w.fresh bytes }
+after_bytes w bytes = record w { fresh = fresh_after_bytes w.fresh bytes }
 
 -- the writer, with this image open
 abbrev pub with_image : Writer → OpenImage → Writer
@@ -85,7 +86,7 @@ view_after past e = record {
 -- what the writer remembers after a footnote's reference in an image
 abbrev pub after_alt_reference : Past → List ℕ → Past
 after_alt_reference past name = record past {
-  fresh = ends_line past.fresh (joined (alt_parts past (footnote_reference name)));
+  fresh = fresh_after_bytes past.fresh (joined (alt_parts past (footnote_reference name)));
   names = with_name name past.names;
 }
 
@@ -117,17 +118,38 @@ AddsAlt (end tag) = ⊥
 AddsAlt (footnote_reference name) = ⊥
 AddsAlt e = Unit {0}
 
+-- an event that is neither a Text nor an End
+abbrev pub IsRarer : EventView → Type 0
+IsRarer (text t) = ⊥
+IsRarer (end tag) = ⊥
+IsRarer e = Unit {0}
+
 -- an event that is written outside images by itself: neither is it a Text
 abbrev pub IsSingle : EventView → Type 0
 IsSingle (text t) = ⊥
 IsSingle e = AddsAlt e
 
--- a tag that the writer keeps nothing of: no image, no table, and no definition of a footnote
+-- an event that is written as it is: neither is it code, nor math
+abbrev pub IsVerbatim : EventView → Type 0
+IsVerbatim (code t) = ⊥
+IsVerbatim (inline_math t) = ⊥
+IsVerbatim (display_math t) = ⊥
+IsVerbatim e = IsSingle e
+
+-- a tag that is no paragraph, no list item, and neither emphasis nor strong emphasis
+abbrev pub IsRarerTag : TagView → Type 0
+IsRarerTag paragraph = ⊥
+IsRarerTag list_item = ⊥
+IsRarerTag emphasis = ⊥
+IsRarerTag strong = ⊥
+IsRarerTag tag = Unit {0}
+
+-- such a tag that the writer keeps nothing of: no image, no table, and no definition of a footnote
 abbrev pub IsReleased : TagView → Type 0
 IsReleased (image i) = ⊥
 IsReleased (table alignments) = ⊥
 IsReleased (footnote_definition name) = ⊥
-IsReleased tag = Unit {0}
+IsReleased tag = IsRarerTag tag
 
 -- a tag that is the same in all texts, but for the line's beginning: neither does it hold anything, nor is it a cell
 abbrev pub IsFixed : TagView → Type 0

@@ -46,7 +46,10 @@ fn replacement(escape: Escape, byte: u8) -> Option<&'static str>
 }
 
 /// How many bytes are looked at together, where none of them is replaced: no branch for each.
-const TOGETHER: usize = 16;
+const TOGETHER: usize = 32;
+
+/// The same, where fewer are left.
+const FEW: usize = 16;
 
 /// Whether some escape replaces a byte.
 #[inline(always)]
@@ -68,26 +71,41 @@ fn holds_replaced(bytes: &[u8]) -> bool
     found
 }
 
-/// The first place from `from` on whose byte some escape replaces, or the end.
+/// A place up to which no escape replaces a byte, looking at `count` of them together.
+#[inline(always)]
+fn past_kept(bytes: &[u8], from: usize, count: usize) -> usize
+    requires some { 0 < count }
+    requires within { from ≤ length bytes.now }
+    ensures { IsBeforeReplaced bytes.now from result }
+{
+    let mut start = from;
+    'kept: while bytes.len() - start >= count && !holds_replaced(&bytes[start..start + count]) {
+        start += count;
+    }
+    start
+}
+
+/// The first place from `from` on whose byte some escape replaces, or the end. The last few bytes are looked at
+/// together with some of those before them.
 fn first_replaced(bytes: &[u8], from: usize) -> usize
     requires { from ≤ length bytes.now }
     ensures { IsBeforeReplaced bytes.now from result }
 {
-    let mut start = from;
-    'kept: while bytes.len() - start >= TOGETHER
-        && !holds_replaced(&bytes[start..start + TOGETHER])
-    {
-        start += TOGETHER;
+    let start = past_kept(bytes, from, TOGETHER);
+    let start = past_kept(bytes, start, FEW);
+    let end = bytes.len();
+    if end - from >= FEW && end - start < FEW && !holds_replaced(&bytes[end - FEW..end]) {
+        return end;
     }
-    for at in start..bytes.len() {
+    for at in start..end {
         if may_be_replaced(bytes[at]) {
             return at;
         }
     }
-    bytes.len()
+    end
 }
 
-/// Appends a text, escaped. Where memory runs out, a front of it was appended.
+/// Appends a text, escaped. Where memory runs out, a prefix of it was appended.
 pub(crate) fn push_escaped(out: &mut String, escape: Escape, text: &str) -> Result<(), AllocError>
     ensures ok { OnOk result (Appends out.old out.new (flat_map (escaped_byte escape) text.now)) }
     ensures err { OnErr result (AppendsPart out.old out.new (flat_map (escaped_byte escape)
@@ -149,7 +167,7 @@ fn between(text: &str, from: usize, to: usize) -> &str
     if from < to { &text[from..to] } else { "" }
 }
 
-/// Appends a link's destination, escaped. Where memory runs out, a front of it was appended.
+/// Appends a link's destination, escaped. Where memory runs out, a prefix of it was appended.
 pub(crate) fn push_destination(out: &mut String, destination: &str) -> Result<(), AllocError>
     ensures ok { OnOk result (Appends out.old out.new (destination_escaped destination.now)) }
     ensures err { OnErr result (AppendsPart out.old out.new (destination_escaped destination.now)) }

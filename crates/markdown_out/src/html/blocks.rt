@@ -1,7 +1,7 @@
 //! The Starts of blocks: headings, block quotes, code blocks and lists.
 ghost use Rattle.std.specs.Prelude.{◌≡◌, OnOk, OnErr};
 ghost use Rattle.markdown_base.specs.Event.{code_block_view, block_quote, list};
-ghost use Rattle.markdown_out.specs.ByteLists.{Appends, AppendsPart, ends_line, joined};
+ghost use Rattle.markdown_out.specs.ByteLists.{Appends, AppendsPart, fresh_after_bytes, joined};
 ghost use Rattle.markdown_out.specs.TagHtml.{start_parts, quote_class};
 ghost use Rattle.markdown_out.specs.TagHtml.{language, code_block_parts, numbered_list_parts};
 
@@ -38,7 +38,7 @@ fn language_of(info: &str) -> &str
 /// Appends a code block's Start.
 fn put_code_block(s: &mut String, fresh: &mut bool, name: &str) -> Result<(), AllocError>
     ensures ok { OnOk result (Appends s.old s.new (joined (code_block_parts fresh.old name.now))) }
-    ensures fresh { OnOk result (fresh.new ≡ ends_line fresh.old
+    ensures fresh { OnOk result (fresh.new ≡ fresh_after_bytes fresh.old
         (joined (code_block_parts fresh.old name.now))) }
     ensures err { OnErr result (AppendsPart s.old s.new
         (joined (code_block_parts fresh.old name.now))) }
@@ -63,7 +63,7 @@ fn put_code_block(s: &mut String, fresh: &mut bool, name: &str) -> Result<(), Al
 fn put_numbered_list(s: &mut String, fresh: &mut bool, digits: &str) -> Result<(), AllocError>
     ensures ok { OnOk result (Appends s.old s.new
         (joined (numbered_list_parts fresh.old digits.now))) }
-    ensures fresh { OnOk result (fresh.new ≡ ends_line fresh.old
+    ensures fresh { OnOk result (fresh.new ≡ fresh_after_bytes fresh.old
         (joined (numbered_list_parts fresh.old digits.now))) }
     ensures err { OnErr result (AppendsPart s.old s.new
         (joined (numbered_list_parts fresh.old digits.now))) }

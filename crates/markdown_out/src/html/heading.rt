@@ -5,7 +5,7 @@ ghost use Rattle.std.specs.Option.{option_map};
 ghost use Rattle.std.specs.String.{string_bytes};
 ghost use Rattle.markdown_base.specs.CowText.{text_of};
 ghost use Rattle.markdown_base.specs.Event.{attribute_view};
-ghost use Rattle.markdown_out.specs.ByteLists.{Appends, AppendsPart, ends_line, joined};
+ghost use Rattle.markdown_out.specs.ByteLists.{Appends, AppendsPart, fresh_after_bytes, joined};
 ghost use Rattle.markdown_out.specs.TagHtml.{level_digit, id_attribute, class_attribute};
 ghost use Rattle.markdown_out.specs.TagHtml.{further_class, other_attribute, heading_parts};
 ghost use Rattle.markdown_out.specs.Writer.{heading_view};
@@ -133,7 +133,7 @@ pub(super) fn put_heading(
 ) -> Result<(), AllocError>
     ensures ok { OnOk result (Appends s.old s.new (joined (heading_parts fresh.old
         (heading_view level id.now classes.now attributes.now)))) }
-    ensures fresh { OnOk result (fresh.new ≡ ends_line fresh.old (joined (heading_parts fresh.old
+    ensures fresh { OnOk result (fresh.new ≡ fresh_after_bytes fresh.old (joined (heading_parts fresh.old
         (heading_view level id.now classes.now attributes.now)))) }
     ensures err { OnErr result (AppendsPart s.old s.new (joined (heading_parts fresh.old
         (heading_view level id.now classes.now attributes.now)))) }

@@ -1,21 +1,21 @@
 //! Links, and the Start and the end of an image.
-ghost use Rattle.std.specs.Prelude.{◌≡◌, ◌++◌, OnOk, OnErr};
+ghost use Rattle.std.specs.Prelude.{◌≡◌, ◌++◌, OnOk, OnErr, codes};
 ghost use Rattle.std.specs.String.{string_bytes};
-ghost use Rattle.markdown_out.specs.ByteLists.{Appends, AppendsPart, ends_line, joined};
+ghost use Rattle.markdown_out.specs.ByteLists.{Appends, AppendsPart, fresh_after_bytes, joined};
 ghost use Rattle.markdown_out.specs.TagHtml.{link_scheme, link_parts, image_parts, image_end};
 
 use super::Piece;
-use super::pieces::put;
+use super::pieces::{put, put_raw};
 use markdown_base::tag::LinkType;
 use std::alloc::AllocError;
 
 /// What stands before a link's destination.
-fn scheme_of(kind: LinkType) -> &'static str
-    ensures { result.now ≡ link_scheme kind }
+fn link_lead(kind: LinkType) -> &'static str
+    ensures { result.now ≡ codes "<a href=\"" ++ link_scheme kind }
 {
     match kind {
-        LinkType::Email => "mailto:",
-        _ => "",
+        LinkType::Email => "<a href=\"mailto:",
+        _ => "<a href=\"",
     }
 }
 
@@ -29,22 +29,20 @@ pub(super) fn put_link<'x>(
 ) -> Result<(), AllocError>
     ensures ok { OnOk result (Appends s.old s.new
         (joined (link_parts kind destination.now title.now))) }
-    ensures fresh { OnOk result (fresh.new ≡ ends_line fresh.old
+    ensures fresh { OnOk result (fresh.new ≡ fresh_after_bytes fresh.old
         (joined (link_parts kind destination.now title.now))) }
     ensures err { OnErr result (AppendsPart s.old s.new
         (joined (link_parts kind destination.now title.now))) }
 {
-    let scheme = scheme_of(kind);
+    let lead = link_lead(kind);
     if title.is_empty() {
         return put(
             s,
             fresh,
             &[
-                Piece::Raw("<a href=\""),
-                Piece::Raw(scheme),
+                Piece::Raw(lead),
                 Piece::Destination(destination),
-                Piece::Raw("\""),
-                Piece::Raw(">"),
+                Piece::Raw("\">"),
             ],
         );
     }
@@ -52,14 +50,11 @@ pub(super) fn put_link<'x>(
         s,
         fresh,
         &[
-            Piece::Raw("<a href=\""),
-            Piece::Raw(scheme),
+            Piece::Raw(lead),
             Piece::Destination(destination),
-            Piece::Raw("\""),
-            Piece::Raw(" title=\""),
+            Piece::Raw("\" title=\""),
             Piece::Attribute(title),
-            Piece::Raw("\""),
-            Piece::Raw(">"),
+            Piece::Raw("\">"),
         ],
     )
 }
@@ -71,7 +66,7 @@ pub(super) fn put_image(
     destination: &str,
 ) -> Result<(), AllocError>
     ensures ok { OnOk result (Appends s.old s.new (joined (image_parts destination.now))) }
-    ensures fresh { OnOk result (fresh.new ≡ ends_line fresh.old
+    ensures fresh { OnOk result (fresh.new ≡ fresh_after_bytes fresh.old
         (joined (image_parts destination.now))) }
     ensures err { OnErr result (AppendsPart s.old s.new (joined (image_parts destination.now))) }
 {
@@ -89,21 +84,19 @@ pub(super) fn put_image(
 /// Appends what closes an image.
 pub(super) fn put_image_end(s: &mut String, fresh: &mut bool, title: &str) -> Result<(), AllocError>
     ensures ok { OnOk result (Appends s.old s.new (image_end title.now)) }
-    ensures fresh { OnOk result (fresh.new ≡ ends_line fresh.old (image_end title.now)) }
+    ensures fresh { OnOk result (fresh.new ≡ fresh_after_bytes fresh.old (image_end title.now)) }
     ensures err { OnErr result (AppendsPart s.old s.new (image_end title.now)) }
 {
     if title.is_empty() {
-        return put(s, fresh, &[Piece::Raw("\""), Piece::Raw(" />")]);
+        return put_raw(s, fresh, "\" />");
     }
     put(
         s,
         fresh,
         &[
-            Piece::Raw("\""),
-            Piece::Raw(" title=\""),
+            Piece::Raw("\" title=\""),
             Piece::Attribute(title),
-            Piece::Raw("\""),
-            Piece::Raw(" />"),
+            Piece::Raw("\" />"),
         ],
     )
 }

@@ -1,16 +1,18 @@
 //! What an event outside images writes.
 ghost use Rattle.std.specs.Prelude.{◌≡◌, None, OnOk, OnErr};
+ghost use Rattle.markdown_base.specs.CowText.{text_of};
 ghost use Rattle.markdown_base.specs.Event.{event_view, text};
 ghost use Rattle.markdown_out.specs.ByteLists.{Appends, AppendsPart, joined};
 ghost use Rattle.markdown_out.specs.EventHtml.{outside_parts};
 
-use super::pieces::{alone, put, put_text};
+use super::pieces::{put, put_text};
 use super::{Piece, Writer};
+use markdown_base::cow_str::CowStr;
 use markdown_base::event::Event;
 use std::alloc::AllocError;
 
 impl<'a> Writer<'a> {
-    ghost use Rattle.markdown_out.specs.Writer.{view, view_after, spelled, IsSingle};
+    ghost use Rattle.markdown_out.specs.Writer.{view, view_after, IsRarer, IsSingle, IsVerbatim};
 
     /// A Text outside images; in metadata it writes nothing.
     fn text(&mut self, s: &mut String, words: &str) -> Result<(), AllocError>
@@ -30,12 +32,53 @@ impl<'a> Writer<'a> {
         put_text(s, &mut self.fresh, words)
     }
 
-    /// What an event that is written by itself is spelled by.
-    fn single_pieces<'x>(&self, event: &'x Event<'a>) -> [Piece<'x>; 3]
-        requires { IsSingle (event_view event.now) }
-        ensures { spelled result ≡ joined (outside_parts (view self.now) (event_view event.now)) }
+    /// What an event writes that is written as it is.
+    fn verbatim<'x>(&self, event: &'x Event<'a>) -> &'x str
+        requires { IsVerbatim (event_view event.now) }
+        ensures { result.now ≡ joined (outside_parts (view self.now) (event_view event.now)) }
     {
         match event {
+            Event::Html(html) => html.as_str(),
+            Event::InlineHtml(html) => html.as_str(),
+            Event::SoftBreak => "\n",
+            Event::HardBreak => "<br />\n",
+            Event::Rule if self.fresh => "<hr />\n",
+            Event::Rule => "\n<hr />\n",
+            Event::TaskListMarker(true) => {
+                "<input disabled=\"\" type=\"checkbox\" checked=\"\"/>\n"
+            }
+            Event::TaskListMarker(false) => "<input disabled=\"\" type=\"checkbox\"/>\n",
+            _ => unreachable!(),
+        }
+    }
+
+    /// Such an event.
+    fn put_verbatim(&mut self, s: &mut String, event: &Event<'a>) -> Result<(), AllocError>
+        requires outside { self.old.image ≡ None }
+        requires verbatim { IsVerbatim (event_view event.now) }
+        ensures ok { OnOk result (Appends s.old s.new (joined (outside_parts (view self.old)
+            (event_view event.now)))) }
+        ensures told { OnOk result (view self.new ≡ view_after (view self.old)
+            (event_view event.now)) }
+        ensures err { OnErr result (AppendsPart s.old s.new (joined (outside_parts (view self.old)
+            (event_view event.now)))) }
+    {
+        let text = self.verbatim(event);
+        self.raw(s, text)
+    }
+
+    /// An event outside images that is written by itself.
+    fn single(&mut self, s: &mut String, event: &Event<'a>) -> Result<(), AllocError>
+        requires outside { self.old.image ≡ None }
+        requires single { IsSingle (event_view event.now) }
+        ensures ok { OnOk result (Appends s.old s.new (joined (outside_parts (view self.old)
+            (event_view event.now)))) }
+        ensures told { OnOk result (view self.new ≡ view_after (view self.old)
+            (event_view event.now)) }
+        ensures err { OnErr result (AppendsPart s.old s.new (joined (outside_parts (view self.old)
+            (event_view event.now)))) }
+    {
+        let pieces = match event {
             Event::Code(text) => [
                 Piece::Raw("<code>"),
                 Piece::Text(text.as_str()),
@@ -51,36 +94,55 @@ impl<'a> Writer<'a> {
                 Piece::Attribute(text.as_str()),
                 Piece::Raw("</span>"),
             ],
-            Event::Html(html) => alone(html.as_str()),
-            Event::InlineHtml(html) => alone(html.as_str()),
-            Event::SoftBreak => alone("\n"),
-            Event::HardBreak => alone("<br />\n"),
-            Event::Rule if self.fresh => alone("<hr />\n"),
-            Event::Rule => alone("\n<hr />\n"),
-            Event::TaskListMarker(true) => {
-                alone("<input disabled=\"\" type=\"checkbox\" checked=\"\"/>\n")
-            }
-            Event::TaskListMarker(false) => alone("<input disabled=\"\" type=\"checkbox\"/>\n"),
-            _ => unreachable!(),
-        }
-    }
-
-    /// An event outside images that is written by itself.
-    fn single(&mut self, s: &mut String, event: &Event<'a>) -> Result<(), AllocError>
-        requires outside { self.old.image ≡ None }
-        requires single { IsSingle (event_view event.now) }
-        ensures ok { OnOk result (Appends s.old s.new (joined (outside_parts (view self.old)
-            (event_view event.now)))) }
-        ensures told { OnOk result (view self.new ≡ view_after (view self.old)
-            (event_view event.now)) }
-        ensures err { OnErr result (AppendsPart s.old s.new (joined (outside_parts (view self.old)
-            (event_view event.now)))) }
-    {
-        let pieces = self.single_pieces(event);
+            _ => return self.put_verbatim(s, event),
+        };
         put(s, &mut self.fresh, &pieces)
     }
 
-    /// An event outside images.
+    /// A Text outside images, held in any way. Mostly it is a slice of the source, which is written where it stands.
+    fn any_text(&mut self, s: &mut String, words: CowStr<'a>) -> Result<(), AllocError>
+        requires { self.old.image ≡ None }
+        ensures ok { OnOk result (Appends s.old s.new (joined (outside_parts (view self.old)
+            (text (text_of words.entry))))) }
+        ensures told { OnOk result (view self.new ≡ view_after (view self.old)
+            (text (text_of words.entry))) }
+        ensures err { OnErr result (AppendsPart s.old s.new (joined (outside_parts (view self.old)
+            (text (text_of words.entry))))) }
+    {
+        match words {
+            CowStr::Borrowed(slice) => self.text(s, slice),
+            held => {
+                let done = self.text(s, held.as_str());
+                drop(held);
+                done
+            }
+        }
+    }
+
+    /// An event outside images that is none of the most frequent ones.
+    fn rarer(&mut self, s: &mut String, event: Event<'a>) -> Result<(), AllocError>
+        requires outside { self.old.image ≡ None }
+        requires rarer { IsRarer (event_view event) }
+        ensures ok { OnOk result (Appends s.old s.new (joined (outside_parts (view self.old)
+            (event_view event.entry)))) }
+        ensures told { OnOk result (view self.new ≡ view_after (view self.old)
+            (event_view event.entry)) }
+        ensures err { OnErr result (AppendsPart s.old s.new (joined (outside_parts (view self.old)
+            (event_view event.entry)))) }
+    {
+        match event {
+            Event::Start(tag) => self.start(s, tag),
+            Event::FootnoteReference(name) => self.footnote_reference(s, name),
+            single => {
+                let done = self.single(s, &single);
+                drop(single);
+                done
+            }
+        }
+    }
+
+    /// An event outside images. The most frequent ones are taken apart at once, so that only others are moved as a
+    /// whole.
     pub(super) fn outside(&mut self, s: &mut String, event: Event<'a>) -> Result<(), AllocError>
         requires { self.old.image ≡ None }
         ensures ok { OnOk result (Appends s.old s.new (joined (outside_parts (view self.old)
@@ -91,15 +153,10 @@ impl<'a> Writer<'a> {
             (event_view event.entry)))) }
     {
         match event {
-            Event::Start(tag) => self.start(s, tag),
+            Event::Text(words) => self.any_text(s, words),
             Event::End(tag) => self.end(s, tag),
-            Event::Text(text) => self.text(s, text.as_str()),
-            Event::FootnoteReference(name) => self.footnote_reference(s, name),
-            single => {
-                let done = self.single(s, &single);
-                drop(single);
-                done
-            }
+            Event::SoftBreak => self.raw(s, "\n"),
+            rarer => self.rarer(s, rarer),
         }
     }
 }

@@ -1,7 +1,7 @@
 //! Pieces of HTML, written one after another.
-ghost use Rattle.std.specs.Prelude.{◌≡◌, ◌++◌, OnOk, OnErr};
+ghost use Rattle.std.specs.Prelude.{◌≡◌, ◌++◌, OnOk, OnErr, drop};
 ghost use Rattle.std.specs.String.{string_bytes};
-ghost use Rattle.markdown_out.specs.ByteLists.{Appends, AppendsPart, ends_line};
+ghost use Rattle.markdown_out.specs.ByteLists.{Appends, AppendsPart, fresh_after_bytes};
 ghost use Rattle.markdown_out.specs.Escapes.{text_escaped};
 ghost use Rattle.markdown_out.specs.TagHtml.{new_line};
 ghost use Rattle.markdown_out.specs.Writer.{spelled, piece_bytes};
@@ -48,46 +48,48 @@ pub(super) fn push_pieces(s: &mut String, pieces: &[Piece<'_>]) -> Result<(), Al
     Ok(())
 }
 
+/// Whether a line is fresh after the bytes from `start` on; where there are none, what was so before.
+fn fresh_behind(bytes: &[u8], start: usize, before: bool) -> bool
+    ensures { result ≡ fresh_after_bytes before (drop start bytes.now) }
+{
+    if start < bytes.len() {
+        bytes[bytes.len() - 1] == b'\n'
+    } else {
+        before
+    }
+}
+
 /// Appends the pieces, and tells whether a line is fresh then.
 pub(super) fn put(s: &mut String, fresh: &mut bool, pieces: &[Piece<'_>]) -> Result<(), AllocError>
     ensures ok { OnOk result (Appends s.old s.new (spelled pieces.now)) }
-    ensures fresh { OnOk result (fresh.new ≡ ends_line fresh.old (spelled pieces.now)) }
+    ensures fresh { OnOk result (fresh.new ≡ fresh_after_bytes fresh.old (spelled pieces.now)) }
     ensures err { OnErr result (AppendsPart s.old s.new (spelled pieces.now)) }
 {
     let start = s.as_bytes().len();
     push_pieces(s, pieces)?;
-    let bytes = s.as_bytes();
-    if start < bytes.len() {
-        *fresh = bytes[bytes.len() - 1] == b'\n';
-    }
+    *fresh = fresh_behind(s.as_bytes(), start, *fresh);
     Ok(())
 }
 
 /// Appends a text as it is, and tells whether a line is fresh then.
 pub(super) fn put_raw(s: &mut String, fresh: &mut bool, text: &str) -> Result<(), AllocError>
     ensures ok { OnOk result (Appends s.old s.new text.now) }
-    ensures fresh { OnOk result (fresh.new ≡ ends_line fresh.old text.now) }
+    ensures fresh { OnOk result (fresh.new ≡ fresh_after_bytes fresh.old text.now) }
     ensures err { OnErr result (AppendsPart s.old s.new text.now) }
 {
     push_any(s, text)?;
-    let bytes = text.as_bytes();
-    if !bytes.is_empty() {
-        *fresh = bytes[bytes.len() - 1] == b'\n';
-    }
+    *fresh = fresh_behind(text.as_bytes(), 0, *fresh);
     Ok(())
 }
 
 /// Appends running text, escaped, and tells whether a line is fresh then.
 pub(super) fn put_text(s: &mut String, fresh: &mut bool, text: &str) -> Result<(), AllocError>
     ensures ok { OnOk result (Appends s.old s.new (text_escaped text.now)) }
-    ensures fresh { OnOk result (fresh.new ≡ ends_line fresh.old (text_escaped text.now)) }
+    ensures fresh { OnOk result (fresh.new ≡ fresh_after_bytes fresh.old (text_escaped text.now)) }
     ensures err { OnErr result (AppendsPart s.old s.new (text_escaped text.now)) }
 {
     let start = s.as_bytes().len();
     push_escaped(s, Escape::Text, text)?;
-    let bytes = s.as_bytes();
-    if start < bytes.len() {
-        *fresh = bytes[bytes.len() - 1] == b'\n';
-    }
+    *fresh = fresh_behind(s.as_bytes(), start, *fresh);
     Ok(())
 }

@@ -42,12 +42,15 @@ impl<'a> Writer<'a> {
             MayRefuse (view self.old) (event_view event.entry) fault
             × AppendsPart s.old s.new (event_bytes (view self.old) (event_view event.entry))) }
     {
-        match self.image.take() {
-            Some(image) => self.inside(s, image, event),
-            None => match self.outside(s, event) {
+        if self.image.is_none() {
+            return match self.outside(s, event) {
                 Ok(()) => Ok(()),
                 Err(_) => Err(Fault::Memory),
-            },
+            };
+        }
+        match self.image.take() {
+            Some(image) => self.inside(s, image, event),
+            None => unreachable!(),
         }
     }
 

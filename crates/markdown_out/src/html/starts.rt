@@ -13,7 +13,8 @@ use markdown_base::tag::Tag;
 use std::alloc::AllocError;
 
 impl<'a> Writer<'a> {
-    ghost use Rattle.markdown_out.specs.Writer.{view, view_after, after_bytes, with_image, IsFixed, IsReleased};
+    ghost use Rattle.markdown_out.specs.Writer.{view, view_after, after_bytes, with_image};
+    ghost use Rattle.markdown_out.specs.Writer.{IsFixed, IsRarerTag, IsReleased};
 
     /// Appends a text as it is.
     pub(super) fn raw(&mut self, s: &mut String, text: &str) -> Result<(), AllocError>
@@ -38,25 +39,23 @@ impl<'a> Writer<'a> {
     }
 
     /// What the Start of a tag that is the same in all texts writes outside images.
-    fn fixed_start(&self, tag: &Tag<'a>) -> (&'static str, &'static str)
+    fn fixed_start(&self, tag: &Tag<'a>) -> &'static str
         requires { IsFixed (tag_view tag.now) }
-        ensures { result.0.now ++ result.1.now ≡ joined (start_parts (view self.now) (tag_view tag.now)) }
+        ensures { result.now ≡ joined (start_parts (view self.now) (tag_view tag.now)) }
     {
-        let first = line_break(self.fresh);
         match tag {
-            Tag::Paragraph => (first, "<p>"),
-            Tag::HtmlBlock | Tag::MetadataBlock(_) => ("", ""),
-            Tag::Item => (first, "<li>"),
-            Tag::DefinitionList => (first, "<dl>\n"),
-            Tag::DefinitionListTitle => (first, "<dt>"),
-            Tag::DefinitionListDefinition => (first, "<dd>"),
-            Tag::TableHead => ("", "<thead><tr>"),
-            Tag::TableRow => ("", "<tr>"),
-            Tag::Emphasis => ("", "<em>"),
-            Tag::Strong => ("", "<strong>"),
-            Tag::Strikethrough => ("", "<del>"),
-            Tag::Superscript => ("", "<sup>"),
-            Tag::Subscript => ("", "<sub>"),
+            Tag::HtmlBlock | Tag::MetadataBlock(_) => "",
+            Tag::DefinitionList if self.fresh => "<dl>\n",
+            Tag::DefinitionList => "\n<dl>\n",
+            Tag::DefinitionListTitle if self.fresh => "<dt>",
+            Tag::DefinitionListTitle => "\n<dt>",
+            Tag::DefinitionListDefinition if self.fresh => "<dd>",
+            Tag::DefinitionListDefinition => "\n<dd>",
+            Tag::TableHead => "<thead><tr>",
+            Tag::TableRow => "<tr>",
+            Tag::Strikethrough => "<del>",
+            Tag::Superscript => "<sup>",
+            Tag::Subscript => "<sub>",
             _ => unreachable!(),
         }
     }
@@ -91,9 +90,9 @@ impl<'a> Writer<'a> {
         ensures err { OnErr result (AppendsPart s.old s.new (joined (start_parts (view self.old)
             (tag_view tag.now)))) }
     {
-        let (first, text) = self.fixed_start(tag);
+        let text = self.fixed_start(tag);
         self.note_start(tag);
-        put(s, &mut self.fresh, &[Piece::Raw(first), Piece::Raw(text)])
+        self.raw(s, text)
     }
 
     /// A Start outside images of which nothing is kept.
@@ -151,9 +150,10 @@ impl<'a> Writer<'a> {
         put_image(s, &mut self.fresh, destination)
     }
 
-    /// A Start outside images.
-    pub(super) fn start(&mut self, s: &mut String, tag: Tag<'a>) -> Result<(), AllocError>
-        requires { self.old.image ≡ None }
+    /// A Start outside images whose tag is none of the most frequent ones.
+    fn rarer_start(&mut self, s: &mut String, tag: Tag<'a>) -> Result<(), AllocError>
+        requires outside { self.old.image ≡ None }
+        requires rarer { IsRarerTag (tag_view tag) }
         ensures ok { OnOk result (Appends s.old s.new (joined (start_parts (view self.old)
             (tag_view tag.entry)))) }
         ensures told { OnOk result (view self.new ≡ view_after (view self.old)
@@ -175,5 +175,28 @@ impl<'a> Writer<'a> {
                 done
             }
         }
+    }
+
+    /// A Start outside images. What the most frequent ones write is found at once, so that only others are moved as a
+    /// whole, and dropped.
+    pub(super) fn start(&mut self, s: &mut String, tag: Tag<'a>) -> Result<(), AllocError>
+        requires { self.old.image ≡ None }
+        ensures ok { OnOk result (Appends s.old s.new (joined (start_parts (view self.old)
+            (tag_view tag.entry)))) }
+        ensures told { OnOk result (view self.new ≡ view_after (view self.old)
+            (start_event (tag_view tag.entry))) }
+        ensures err { OnErr result (AppendsPart s.old s.new (joined (start_parts (view self.old)
+            (tag_view tag.entry)))) }
+    {
+        let text = match tag {
+            Tag::Paragraph if self.fresh => "<p>",
+            Tag::Paragraph => "\n<p>",
+            Tag::Item if self.fresh => "<li>",
+            Tag::Item => "\n<li>",
+            Tag::Emphasis => "<em>",
+            Tag::Strong => "<strong>",
+            rarer => return self.rarer_start(s, rarer),
+        };
+        self.raw(s, text)
     }
 }

@@ -2,7 +2,7 @@
 ghost use Rattle.std.specs.Prelude.{◌≡◌, ◌++◌, ◌≤◌, Some, None, IfOk, IfErr, MatchResult, map, string_bytes};
 ghost use Rattle.std.specs.Option.{option_map};
 ghost use Rattle.markdown_base.specs.CowText.{text_of};
-ghost use Rattle.markdown_out.specs.Merge.{text_item, text_in, unless_empty};
+ghost use Rattle.markdown_out.specs.Merge.{text_item, text_of_item, unless_empty};
 ghost use Rattle.markdown_out.specs.HeldItems.{placed_view, held_items};
 ghost use Rattle.markdown_out.specs.TakenAnswers.{placed_text, answer_items, given_answers, IsNoText};
 ghost use Rattle.markdown_out.specs.TakenAnswers.{TakesIn, answer_count, held_count, given_count};
@@ -42,7 +42,7 @@ pub enum Step<'a, P> {
 /// The text of an event, or the event that is no text.
 fn into_text<'a, P: Place>(item: Placed<'a, P>) -> Result<(CowStr<'a>, P), Placed<'a, P>>
     ensures { MatchResult result (λ t. placed_view item.entry ≡ text_item (placed_text t))
-        (λ x. (x ≡ item.entry) × (text_in (placed_view item.entry) ≡ None)) }
+        (λ x. (x ≡ item.entry) × (text_of_item (placed_view item.entry) ≡ None)) }
 {
     match item {
         Err(fault) => Err(Err(fault)),

@@ -1,17 +1,14 @@
--- No byte of those looked at together is replaced.
-use Rattle.std.proofs.Common.{◌+◌, arith}
-use Rattle.markdown_out.proofs.ReplacedLemmas.{kept_further}
+-- No byte of the last ones is replaced.
+use Rattle.std.proofs.Common.{arith}
+use Rattle.markdown_out.proofs.ReplacedLemmas.{before_both, kept_to_end}
 use Rattle.markdown_out.proofs.escape.first_replaced.Goals as goal
 
-pub kept-preserved : goal.kept-preserved
-kept-preserved c =
-    let kept = c.kept.invariant in
-    let low = kept.low in
-    let high = kept.high in
-    let room = c.kept-test.true in
-    record {
-      low = omega (arith, low);
-      high = omega (arith, high, room);
-      kept = kept_further c.args.bytes.now c.args.from c.kept.start (c.kept.start + 16) (omega arith)
-          (omega (arith, high, room)) kept.kept c.if-not-holds_replaced.ensures;
-    }
+pub returns-then-not-holds_replaced : goal.returns-then-not-holds_replaced
+returns-then-not-holds_replaced c =
+    let first = c.past_kept-start.ensures in
+    let second = c.past_kept-start-2.ensures in
+    let far = second.high in
+    let room = c.if-end-from-ge-FEW.true in
+    let near = c.if-end-start-lt-FEW.true in
+    kept_to_end c.args.bytes.now c.args.from c.past_kept-start-2.result 16 (before_both _ _ _ _ first second)
+    (omega (arith, room)) (omega (arith, near, far)) c.if-not-holds_replaced.ensures

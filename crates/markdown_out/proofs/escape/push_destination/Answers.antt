@@ -4,7 +4,7 @@ use Rattle.std.specs.String.{string_bytes}
 use Rattle.std.proofs.lemmas.Result.{err_from_is_err_and}
 use Rattle.markdown_out.specs.Escapes.{destination_byte}
 use Rattle.markdown_out.proofs.EscapesLemmas.{Copied-keep, Copied-write, Cuts-none, Cuts-keep}
-use Rattle.markdown_out.proofs.EscapesLemmas.{front-waiting, front-written, slice}
+use Rattle.markdown_out.proofs.EscapesLemmas.{prefix-waiting, prefix-written, slice}
 use Rattle.markdown_out.proofs.escape.push_destination.Goals as goal
 use Rattle.markdown_out.proofs.escape.push_destination.Goals.{
   in-Some+in_ok-push_any+in_ok-push_str,
@@ -14,14 +14,14 @@ use Rattle.markdown_out.proofs.escape.push_destination.Goals.{in_default}
 pub returns-in_err-push_any-clause-err : goal.returns-in_err-push_any-clause-err
 returns-in_err-push_any-clause-err c =
     let p = err_from_is_err_and c.from_residual.result c.from_residual.ensures.1 in
-    rw p.1 (front-waiting destination_byte _ _ _ _ _ _ c.in_err-push_any.ensures.err
+    rw p.1 (prefix-waiting destination_byte _ _ _ _ _ _ c.in_err-push_any.ensures.err
     c.loop-i.invariant.copied)
 
 pub returns-in_err-push_str-clause-err : goal.returns-in_err-push_str-clause-err
 returns-in_err-push_str-clause-err c =
     let p = err_from_is_err_and c.from_residual-in_err-push_str.result
     c.from_residual-in_err-push_str.ensures.1 in
-    rw p.1 (front-written destination_byte _ _ _ _ _ _ (c.in_err-push_str.ensures.bytes
+    rw p.1 (prefix-written destination_byte _ _ _ _ _ _ (c.in_err-push_str.ensures.bytes
     ∙ (c.in_ok-push_any.ensures.ok ∙ ap (λ x. string_bytes c.loop-i.out
     ++ x) c.between.ensures)) c.loop-i.invariant.copied)
 

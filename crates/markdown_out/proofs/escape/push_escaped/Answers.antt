@@ -5,7 +5,7 @@ use Rattle.std.proofs.lemmas.Str.{IsCharBoundary-start, IsCharBoundary-after_asc
 use Rattle.std.proofs.lemmas.Result.{err_from_is_err_and}
 use Rattle.markdown_out.specs.Escaped.{escaped_byte, IsBeforeReplaced}
 use Rattle.markdown_out.proofs.EscapesLemmas.{Copied-none, Copied-keep, Copied-write}
-use Rattle.markdown_out.proofs.EscapesLemmas.{front-waiting, front-written, slice}
+use Rattle.markdown_out.proofs.EscapesLemmas.{prefix-waiting, prefix-written, slice}
 use Rattle.markdown_out.proofs.ReplacedLemmas.{copied_up_to}
 use Rattle.markdown_out.proofs.escape.push_escaped.Goals as goal
 use Rattle.markdown_out.proofs.escape.push_escaped.Goals.{in-Some+in_ok-push_any+in_ok-push_str}
@@ -26,14 +26,14 @@ text-init c =
 pub returns-in_err-push_any-clause-err : goal.returns-in_err-push_any-clause-err
 returns-in_err-push_any-clause-err c =
     let p = err_from_is_err_and c.from_residual.result c.from_residual.ensures.1 in
-    rw p.1 (front-waiting (escaped_byte c.args.escape) _ _ _ _ _ _ c.in_err-push_any.ensures.err
+    rw p.1 (prefix-waiting (escaped_byte c.args.escape) _ _ _ _ _ _ c.in_err-push_any.ensures.err
     c.text.invariant.copied)
 
 pub returns-in_err-push_str-clause-err : goal.returns-in_err-push_str-clause-err
 returns-in_err-push_str-clause-err c =
     let p = err_from_is_err_and c.from_residual-in_err-push_str.result
     c.from_residual-in_err-push_str.ensures.1 in
-    rw p.1 (front-written (escaped_byte c.args.escape) _ _ _ _ _ _
+    rw p.1 (prefix-written (escaped_byte c.args.escape) _ _ _ _ _ _
     (c.in_err-push_str.ensures.bytes ∙ (c.in_ok-push_any.ensures.ok
     ∙ ap (λ x. string_bytes c.text.out ++ x) c.range.ensures.value))
     c.text.invariant.copied)

@@ -3,7 +3,7 @@ use Rattle.std.specs.String.{string_bytes}
 use Rattle.std.proofs.lemmas.Result.{err_from_is_err_and}
 use Rattle.markdown_out.specs.Writer.{piece_bytes}
 use Rattle.markdown_out.proofs.ByteListsLemmas.{StandsTo-none, StandsTo-more, StandsTo-all}
-use Rattle.markdown_out.proofs.ByteListsLemmas.{StandsTo-front}
+use Rattle.markdown_out.proofs.ByteListsLemmas.{StandsTo-prefix}
 use Rattle.markdown_out.proofs.WriterLemmas.{spelled-flat_map}
 use Rattle.markdown_out.proofs.html.pieces.push_pieces.Goals as goal
 
@@ -13,7 +13,7 @@ loop-piece-init c = StandsTo-none _ _ _
 pub returns-in_err-push_piece-clause-err : goal.returns-in_err-push_piece-clause-err
 returns-in_err-push_piece-clause-err c =
     let p = err_from_is_err_and c.from_residual.result c.from_residual.ensures.1 in
-    rw (p.1, ← spelled-flat_map c.args.pieces.now) (StandsTo-front piece_bytes _ _ _ _ _ _
+    rw (p.1, ← spelled-flat_map c.args.pieces.now) (StandsTo-prefix piece_bytes _ _ _ _ _ _
     c.loop-piece-test.true c.in_err-push_piece.ensures.err c.loop-piece.invariant)
 
 pub loop-piece-preserved : goal.loop-piece-preserved
