@@ -5,7 +5,7 @@ use std::test::Fail;
 #[test]
 fn block_quotes(rt: HostRuntime) -> Result<(), Fail> {
     compare(
-        &rt,
+        rt.alloc(),
         &[
             (
                 "> # Foo\n> bar\n> baz\n",

@@ -5,7 +5,7 @@ use std::test::Fail;
 #[test]
 fn indented_code_blocks(rt: HostRuntime) -> Result<(), Fail> {
     compare(
-        &rt,
+        rt.alloc(),
         &[
             (
                 "    a simple\n      indented code block\n",
@@ -57,7 +57,7 @@ fn indented_code_blocks(rt: HostRuntime) -> Result<(), Fail> {
 #[test]
 fn fenced_code_blocks(rt: HostRuntime) -> Result<(), Fail> {
     compare(
-        &rt,
+        rt.alloc(),
         &[
             (
                 "```\n<\n >\n```\n",
@@ -195,7 +195,7 @@ fn fenced_code_blocks(rt: HostRuntime) -> Result<(), Fail> {
 #[test]
 fn paragraphs_and_blank_lines(rt: HostRuntime) -> Result<(), Fail> {
     compare(
-        &rt,
+        rt.alloc(),
         &[
             ("aaa\n\nbbb\n", "<p>aaa</p>\n<p>bbb</p>\n"),
             (

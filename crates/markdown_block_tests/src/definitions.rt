@@ -5,7 +5,7 @@ use std::test::Fail;
 #[test]
 fn link_reference_definitions(rt: HostRuntime) -> Result<(), Fail> {
     compare(
-        &rt,
+        rt.alloc(),
         &[
             (
                 "[foo]: /url \"title\"\n\n[foo]\n",

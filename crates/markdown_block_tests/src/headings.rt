@@ -5,7 +5,7 @@ use std::test::Fail;
 #[test]
 fn thematic_breaks(rt: HostRuntime) -> Result<(), Fail> {
     compare(
-        &rt,
+        rt.alloc(),
         &[
             ("***\n---\n___\n", "<hr />\n<hr />\n<hr />\n"),
             ("+++\n", "<p>+++</p>\n"),
@@ -56,7 +56,7 @@ fn thematic_breaks(rt: HostRuntime) -> Result<(), Fail> {
 #[test]
 fn atx_headings(rt: HostRuntime) -> Result<(), Fail> {
     compare(
-        &rt,
+        rt.alloc(),
         &[
             (
                 "# foo\n## foo\n### foo\n#### foo\n##### foo\n###### foo\n",
@@ -121,7 +121,7 @@ fn atx_headings(rt: HostRuntime) -> Result<(), Fail> {
 #[test]
 fn setext_headings(rt: HostRuntime) -> Result<(), Fail> {
     compare(
-        &rt,
+        rt.alloc(),
         &[
             (
                 "Foo *bar*\n=========\n\nFoo *bar*\n---------\n",

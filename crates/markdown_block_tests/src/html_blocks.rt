@@ -5,7 +5,7 @@ use std::test::Fail;
 #[test]
 fn html_blocks(rt: HostRuntime) -> Result<(), Fail> {
     compare(
-        &rt,
+        rt.alloc(),
         &[
             (
                 "<table><tr><td>\n<pre>\n**Hello**,\n\n_world_.\n</pre>\n</td></tr></table>\n",
@@ -179,7 +179,7 @@ fn html_blocks(rt: HostRuntime) -> Result<(), Fail> {
 #[test]
 fn kinds_of_html_blocks(rt: HostRuntime) -> Result<(), Fail> {
     compare(
-        &rt,
+        rt.alloc(),
         &[
             (
                 "<script>a\n\nb</style>c\n*d*\n",

@@ -1,6 +1,5 @@
-//! Tests of what no clause says of the block pass: the HTML of each example of CommonMark 0.31.2 on blocks, and of texts
-//! in which its rules meet. A module for a section or a few. They stand apart from the libraries, so that no library is
-//! proved a second time with its tests.
+//! Tests of what no clause says of blocks: the HTML of each example of CommonMark 0.31.2 on them, and of texts in which
+//! the rules of the block pass meet. A module for a section or a few.
 #![tactic(auto)]
 
 #[cfg(test)]

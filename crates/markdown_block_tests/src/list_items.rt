@@ -5,7 +5,7 @@ use std::test::Fail;
 #[test]
 fn list_items(rt: HostRuntime) -> Result<(), Fail> {
     compare(
-        &rt,
+        rt.alloc(),
         &[
             (
                 "A paragraph\nwith two lines.\n\n    indented code\n\n> A block quote.\n",
@@ -136,7 +136,8 @@ fn list_items(rt: HostRuntime) -> Result<(), Fail> {
                 </ol>\n",
             ),
             (
-                "    1.  A paragraph\n        with two lines.\n\n            indented code\n\n        > A block quote.\n",
+                "    1.  A paragraph\n        with two lines.\n\n            indented code\n\n\
+                \x20       > A block quote.\n",
                 "<pre><code>1.  A paragraph\n    with two lines.\n\n        indented code\n\n    &gt; A block quote.\n\
                 </code></pre>\n",
             ),

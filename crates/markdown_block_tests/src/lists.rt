@@ -5,7 +5,7 @@ use std::test::Fail;
 #[test]
 fn lists(rt: HostRuntime) -> Result<(), Fail> {
     compare(
-        &rt,
+        rt.alloc(),
         &[
             (
                 "- foo\n- bar\n+ baz\n",

@@ -5,7 +5,7 @@ use std::test::Fail;
 #[test]
 fn tabs(rt: HostRuntime) -> Result<(), Fail> {
     compare(
-        &rt,
+        rt.alloc(),
         &[
             (
                 "\tfoo\tbaz\t\tbim\n",
@@ -84,7 +84,7 @@ fn tabs(rt: HostRuntime) -> Result<(), Fail> {
 #[test]
 fn line_endings(rt: HostRuntime) -> Result<(), Fail> {
     compare(
-        &rt,
+        rt.alloc(),
         &[
             ("a\r\nb\r\rc\n\r\nd\r", "<p>a\nb</p>\n<p>c</p>\n<p>d</p>\n"),
             ("# a\r\n## b\r# c\n", "<h1>a</h1>\n<h2>b</h2>\n<h1>c</h1>\n"),
@@ -118,7 +118,7 @@ fn line_endings(rt: HostRuntime) -> Result<(), Fail> {
 #[test]
 fn precedence(rt: HostRuntime) -> Result<(), Fail> {
     compare(
-        &rt,
+        rt.alloc(),
         &[(
             "- `one\n- two`\n",
             "<ul>\n<li>`one</li>\n<li>two`</li>\n</ul>\n",

@@ -1,4 +1,6 @@
 //! Chains of open items, which a walk resolves when it reaches them.
+use crate::rows::parser_of;
+use crate::walks::skip_some;
 use bitflags::Flags;
 use markdown_base::block_parts::{BlockParts, LinkDef};
 use markdown_base::cow_str::CowStr;
@@ -13,6 +15,7 @@ use markdown_spans::blocks::Blocks;
 use markdown_spans::defs::RefDefs;
 use markdown_tests::builders::{append_block, item, no_parts, one_text, text};
 use markdown_tests::notes::notes_of;
+use markdown_tests::rows::gives;
 use std::alloc::{AllocError, Global};
 use std::test::Fail;
 
@@ -37,89 +40,96 @@ fn open_items(alloc: Global) -> Result<Tree<Item>, AllocError> {
     Ok(tree)
 }
 
-/// A parser of a tree over a text.
-fn parser_of<'a>(
-    alloc: Global,
-    source: &'a str,
-    tree: Tree<Item>,
-    parts: BlockParts<'a>,
-) -> Result<Parser<'a>, Fail> {
-    let blocks = Blocks::checked(alloc, source, Options::empty(), tree, parts)?;
-    Ok(Parser::from_blocks(alloc, blocks, None)?)
+/// A parser of the open items.
+fn open_parser<'a>(alloc: Global) -> Result<Parser<'a>, Fail> {
+    parser_of(
+        alloc,
+        OPEN,
+        Options::empty(),
+        open_items(alloc)?,
+        no_parts(alloc),
+    )
 }
 
 #[test]
 fn open_items_at_which_nothing_is_found(rt: HostRuntime) -> Result<(), Fail> {
-    let alloc = rt.alloc();
-    let parser = parser_of(alloc, OPEN, open_items(alloc)?, no_parts(alloc))?;
+    let parser = open_parser(rt.alloc())?;
+    let notes = notes_of(rt.alloc(), parser.into_offset_iter())?;
     let events =
         "<p>0..11 [x]0..1 [*]1..2 [’]2..3 [$]3..4 [`]4..5 [<]5..6 [[]6..7 [![]7..9 []]9..10 [y]10..11 </p>0..11 ";
-    assert_eq!(rt;
-        notes_of(alloc, parser.into_offset_iter())?.as_str(),
-        events
-    );
-    Ok(())
+    gives(OPEN, notes.as_str(), events)
 }
 
 /// How many items of resolved chains a parser has counted after so many calls of `next`.
 fn items_after(alloc: Global, calls: u64) -> Result<u128, Fail> {
-    let mut parser = parser_of(alloc, OPEN, open_items(alloc)?, no_parts(alloc))?;
-    for _ in 0..calls {
-        drop(parser.next());
-    }
+    let mut parser = open_parser(alloc)?;
+    skip_some(&mut parser, calls);
     Ok(parser.work().items)
 }
 
 #[test]
 fn items_are_counted_once(rt: HostRuntime) -> Result<(), Fail> {
-    let alloc = rt.alloc();
     // the Start and the first Text stand before the chain's first open item
-    for (calls, items) in [(0, 0), (2, 0), (3, 9), (4, 9), (12, 9), (14, 9)] {
-        assert_eq!(rt; items_after(alloc, calls)?, items);
+    for &(calls, items) in &[(0, 0), (2, 0), (3, 9), (4, 9), (12, 9), (14, 9)] {
+        gives(calls, items_after(rt.alloc(), calls)?, items)?;
     }
     Ok(())
 }
 
-#[test]
-fn named_texts(rt: HostRuntime) -> Result<(), Fail> {
-    let alloc = rt.alloc();
+/// A text and one that stands behind it by its number, in a paragraph.
+fn with_a_named_text(alloc: Global) -> Result<Tree<Item>, AllocError> {
     let mut tree = Tree::new(alloc)?;
     let inside = [
         text(0, 1),
         item(1, 2, ItemBody::SynthesizeText(CowIndex(0))),
     ];
     append_block(&mut tree, item(0, 2, ItemBody::Paragraph), &inside)?;
-    let parser = parser_of(alloc, "ab", tree, one_text(alloc)?)?;
+    Ok(tree)
+}
+
+/// The events of it, all at once, and whether no callback comes back.
+fn events_at_once(alloc: Global) -> Result<String, Fail> {
+    let tree = with_a_named_text(alloc)?;
+    let parser = parser_of(alloc, "ab", Options::empty(), tree, one_text(alloc)?)?;
     let (events, callback) = parser.into_offset_iter().into_events(alloc)?;
-    assert!(rt; callback.is_none());
-    assert_eq!(rt; events.len(), 4);
-    assert!(rt; events[1].0 == Event::Text(CowStr::from("a")));
-    assert!(rt; events[2].0 == Event::Text(CowStr::from("x")));
-    assert_eq!(rt; events[2].1.start, 1);
-    Ok(())
+    let is_none = callback.is_none();
+    drop(callback);
+    let printed = format!(in alloc; "{events:?} {is_none}");
+    drop(events);
+    Ok(printed?)
+}
+
+#[test]
+fn named_texts(rt: HostRuntime) -> Result<(), Fail> {
+    let events = events_at_once(rt.alloc())?;
+    let wanted =
+        "[(Start(Paragraph), 0..2), (Text(\"a\"), 0..1), (Text(\"x\"), 1..2), (End(Paragraph), 0..2)] true";
+    gives("ab", events.as_str(), wanted)
 }
 
 /// A paragraph of two hundred thousand open brackets.
-fn brackets(alloc: Global) -> Result<(String, Tree<Item>), Fail> {
-    let mut source = String::new(alloc);
+fn brackets(alloc: Global) -> Result<Tree<Item>, AllocError> {
     let mut tree = Tree::new(alloc)?;
     tree.append(item(0, 200_000, ItemBody::Paragraph))?;
     tree.push()?;
     for start in 0..200_000 {
-        source.push('[')?;
         tree.append(item(start, start + 1, ItemBody::MaybeLinkOpen))?;
     }
-    Ok((source, tree))
+    Ok(tree)
+}
+
+/// How many events they give over their text.
+fn events_of_brackets(alloc: Global, source: &str) -> Result<usize, Fail> {
+    let tree = brackets(alloc)?;
+    let parser = parser_of(alloc, source, Options::empty(), tree, no_parts(alloc))?;
+    Ok(gather_offsets(parser.into_offset_iter(), alloc)?.len())
 }
 
 #[test]
 fn a_long_chain(rt: HostRuntime) -> Result<(), Fail> {
-    let alloc = rt.alloc();
-    let (source, tree) = brackets(alloc)?;
-    let parser = parser_of(alloc, source.as_str(), tree, no_parts(alloc))?;
-    let found = gather_offsets(parser.into_offset_iter(), alloc)?;
-    assert_eq!(rt; found.len(), 200_002);
-    Ok(())
+    let source = "[".repeat(rt.alloc(), 200_000)?;
+    let events = events_of_brackets(rt.alloc(), source.as_str())?;
+    gives("open brackets", events, 200_002)
 }
 
 /// Whether a label is defined.
@@ -127,27 +137,40 @@ fn is_defined(definitions: &RefDefs<'_>, label: &str) -> bool {
     matches!(definitions.get(label), Ok(Some(_)))
 }
 
-#[test]
-fn definitions_stay(rt: HostRuntime) -> Result<(), Fail> {
-    let alloc = rt.alloc();
+/// Parts with a definition of `foo`.
+fn defining_foo(alloc: Global) -> Result<BlockParts<'static>, AllocError> {
     let mut parts = no_parts(alloc);
     let definition = LinkDef {
-        dest: CowStr::from("/u"),
+        dest: CowStr::Borrowed("/u"),
         title: None,
         span: 0..0,
     };
-    parts.definitions.push((CowStr::from("foo"), definition))?;
-    let mut parser = parser_of(alloc, OPEN, open_items(alloc)?, parts)?;
+    parts
+        .definitions
+        .push((CowStr::Borrowed("foo"), definition))?;
+    Ok(parts)
+}
+
+#[test]
+fn definitions_stay(rt: HostRuntime) -> Result<(), Fail> {
+    let alloc = rt.alloc();
+    let mut parser = parser_of(
+        alloc,
+        OPEN,
+        Options::empty(),
+        open_items(alloc)?,
+        defining_foo(alloc)?,
+    )?;
     let at_first = is_defined(parser.reference_definitions(), "FOO");
-    for _ in 0..5 {
-        drop(parser.next());
-    }
+    skip_some(&mut parser, 5);
     let in_between = is_defined(parser.reference_definitions(), "foo");
     let iter = parser.into_offset_iter();
     let at_last = is_defined(iter.reference_definitions(), "foo");
     let items = iter.work().items;
     drop(iter);
-    assert_eq!(rt; [at_first, in_between, at_last], [true; 3]);
-    assert_eq!(rt; items, 9);
-    Ok(())
+    gives(
+        "at first, in between, at last, items",
+        (at_first, in_between, at_last, items),
+        (true, true, true, 9),
+    )
 }

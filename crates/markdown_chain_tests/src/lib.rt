@@ -1,11 +1,12 @@
-//! Tests of what no clause says of chains of inline items, through parsers: a module for each topic. They stand apart
-//! from the libraries, so that no library is proved a second time with its tests.
+//! Tests of what no clause says of chains of inline items, through parsers: a module for each topic.
 #![tactic(auto)]
 
 #[cfg(test)]
 mod chains;
 #[cfg(test)]
 mod footnotes;
+#[cfg(test)]
+mod grown;
 #[cfg(test)]
 mod links;
 #[cfg(test)]
@@ -16,5 +17,7 @@ mod references;
 mod rows;
 #[cfg(test)]
 mod spans;
+#[cfg(test)]
+mod walks;
 #[cfg(test)]
 mod wikilinks;

@@ -1,23 +1,17 @@
 //! Inline links and images (CommonMark 6.3 and 6.4), through parsers of texts and of trees made by hand.
-use crate::rows::{compare, compare_plain, compare_whole};
+use crate::rows::{compare, compare_events, compare_plain, compare_whole, outline_shows};
 use bitflags::Flags;
 use markdown_base::index::AlignmentIndex;
-use markdown_base::item::{Item, ItemBody};
+use markdown_base::item::ItemBody;
 use markdown_base::options::Options;
-use markdown_base::tree::Tree;
-use markdown_inline::walk::Parser;
-use markdown_render::merged::merged_html;
-use markdown_spans::blocks::Blocks;
-use markdown_tests::builders::{item, no_parts, text, tree_of};
-use markdown_tests::notes::notes_of;
-use std::alloc::Global;
-use std::process::Abort;
+use markdown_tests::builders::{item, text};
+use std::alloc::{AllocError, Global};
 use std::test::Fail;
 
 #[test]
 fn destinations(rt: HostRuntime) -> Result<(), Fail> {
     compare(
-        &rt,
+        rt.alloc(),
         Options::empty(),
         &[
             ("[link](/uri)", "<a href=\"/uri\">link</a>"),
@@ -54,7 +48,7 @@ fn destinations(rt: HostRuntime) -> Result<(), Fail> {
         ],
     )?;
     compare_plain(
-        &rt,
+        rt.alloc(),
         &[
             "[link](/my uri)",
             "[link](foo\nbar)",
@@ -67,7 +61,7 @@ fn destinations(rt: HostRuntime) -> Result<(), Fail> {
 #[test]
 fn titles(rt: HostRuntime) -> Result<(), Fail> {
     compare(
-        &rt,
+        rt.alloc(),
         Options::empty(),
         &[
             (
@@ -106,7 +100,7 @@ fn titles(rt: HostRuntime) -> Result<(), Fail> {
         ],
     )?;
     compare_whole(
-        &rt,
+        rt.alloc(),
         Options::empty(),
         &[(
             "> [a](b \"x\n> y\")",
@@ -118,7 +112,7 @@ fn titles(rt: HostRuntime) -> Result<(), Fail> {
 #[test]
 fn nesting(rt: HostRuntime) -> Result<(), Fail> {
     compare(
-        &rt,
+        rt.alloc(),
         Options::empty(),
         &[
             (
@@ -165,7 +159,7 @@ fn nesting(rt: HostRuntime) -> Result<(), Fail> {
 #[test]
 fn images(rt: HostRuntime) -> Result<(), Fail> {
     compare(
-        &rt,
+        rt.alloc(),
         Options::empty(),
         &[
             (
@@ -198,98 +192,94 @@ fn images(rt: HostRuntime) -> Result<(), Fail> {
 
 #[test]
 fn ranges(rt: HostRuntime) -> Result<(), Fail> {
-    let alloc = rt.alloc();
-    let rows = [
-        (
-            "a [b](c) d",
-            "<p>0..10 [a ]0..2 <a c>2..8 [b]3..4 </a>2..8 [ d]8..10 </p>0..10 ",
-        ),
-        (
-            "[*a*](b)",
-            "<p>0..8 <a b>0..8 <em>1..4 [a]2..3 </em>1..4 </a>0..8 </p>0..8 ",
-        ),
-    ];
-    for (source, noted) in rows {
-        let notes = notes_of(alloc, Parser::new(alloc, source)?.into_offset_iter())?;
-        assert_eq!(rt; notes.as_str(), noted, "{source:?}");
-    }
-    Ok(())
+    compare_events(
+        rt.alloc(),
+        Options::empty(),
+        &[
+            (
+                "a [b](c) d",
+                "<p>0..10 [a ]0..2 <a c>2..8 [b]3..4 </a>2..8 [ d]8..10 </p>0..10 ",
+            ),
+            (
+                "[*a*](b)",
+                "<p>0..8 <a b>0..8 <em>1..4 [a]2..3 </em>1..4 </a>0..8 </p>0..8 ",
+            ),
+        ],
+    )
 }
 
-/// The HTML of a table of one cell, which holds the items, over a text.
-fn cell_html(alloc: Global, source: &str, items: &[(usize, Item)]) -> Result<String, Fail> {
+/// A text in the one cell of a table, with a link over its first three bytes and a tail behind it, gives this HTML.
+fn cell_shows(alloc: Global, source: &str, wanted: &str) -> Result<(), Fail> {
     let end = source.len();
-    let mut outline = Vec::new(alloc);
-    outline.push((0usize, item(0, end, ItemBody::Table(AlignmentIndex(0)))))?;
-    outline.push((1usize, item(0, end, ItemBody::TableHead)))?;
-    outline.push((2usize, item(0, end, ItemBody::TableCell)))?;
-    for (depth, inside) in items {
-        outline.push((*depth, *inside))?;
-    }
-    let tree = tree_of(alloc, &outline)?;
-    let mut parts = no_parts(alloc);
-    parts.alignments.push(Vec::new(alloc))?;
-    let blocks = Blocks::checked(alloc, source, Options::empty(), tree, parts)?;
-    let parser: Parser<'_> = Parser::from_blocks(alloc, blocks, None)?;
-    Ok(merged_html(alloc, parser)?)
+    let outline = [
+        (0, item(0, end, ItemBody::Table(AlignmentIndex(0)))),
+        (1, item(0, end, ItemBody::TableHead)),
+        (2, item(0, end, ItemBody::TableCell)),
+        (3, item(0, 1, ItemBody::MaybeLinkOpen)),
+        (3, text(1, 2)),
+        (3, item(2, 3, ItemBody::MaybeLinkClose(true))),
+        (3, text(3, end)),
+    ];
+    outline_shows(alloc, source, Options::empty(), &outline, wanted)
 }
 
 #[test]
 fn titles_in_a_cell(rt: HostRuntime) -> Result<(), Fail> {
-    let rows = [
-        ("[a](b \"x\\\\|y\")", "x|y"),
-        ("[a](b \"x\\\\|.y\")", "x|.y"),
-    ];
-    for (source, title) in rows {
-        let items = [
-            (3, item(0, 1, ItemBody::MaybeLinkOpen)),
-            (3, text(1, 2)),
-            (3, item(2, 3, ItemBody::MaybeLinkClose(true))),
-            (3, text(3, source.len())),
-        ];
-        let html = cell_html(rt.alloc(), source, &items)?;
-        let wanted = format!(in rt.alloc();
-            "<table><thead><tr><th><a href=\"b\" title=\"{title}\">a</a></th></tr></thead><tbody>\n</tbody></table>\n"
-        )?;
-        assert_eq!(rt; html.as_str(), wanted.as_str(), "{source:?}");
+    for &(source, html) in &[
+        (
+            "[a](b \"x\\\\|y\")",
+            "<table><thead><tr><th><a href=\"b\" title=\"x|y\">a</a></th></tr></thead><tbody>\n</tbody></table>\n",
+        ),
+        (
+            "[a](b \"x\\\\|.y\")",
+            "<table><thead><tr><th><a href=\"b\" title=\"x|.y\">a</a></th></tr></thead><tbody>\n</tbody></table>\n",
+        ),
+    ] {
+        cell_shows(rt.alloc(), source, html)?;
     }
     Ok(())
 }
 
-/// A text with others repeated before and behind it.
-fn around(
+/// A text between so many opening and as many closing characters.
+fn between(
     alloc: Global,
-    before: &str,
+    open: &str,
     text: &str,
-    after: &str,
+    close: &str,
     times: usize,
-) -> Result<String, Fail> {
-    let mut whole = String::new(alloc);
-    for _ in 0..times {
-        whole.push_str(before)?;
-    }
-    whole.push_str(text)?;
-    for _ in 0..times {
-        whole.push_str(after)?;
-    }
-    Ok(whole)
+) -> Result<String, AllocError> {
+    let before = open.repeat(alloc, times)?;
+    let after = close.repeat(alloc, times)?;
+    format!(in alloc; "{before}{text}{after}")
+}
+
+/// A link to `b` in so many parentheses.
+fn nested_link(alloc: Global, times: usize) -> Result<String, AllocError> {
+    let inside = between(alloc, "(", "b", ")", times)?;
+    format!(in alloc; "[a]({inside})")
 }
 
 #[test]
 fn parentheses_nest_to_32(rt: HostRuntime) -> Result<(), Fail> {
     let alloc = rt.alloc();
-    let inside = around(alloc, "(", "b", ")", 32)?;
-    let source = format!(in alloc; "[a]({})", inside.as_str())?;
-    let html = merged_html(alloc, Parser::new(alloc, &source)?)?;
-    let wanted = format!(in alloc; "<p><a href=\"{}\">a</a></p>\n", inside.as_str())?;
-    assert_eq!(rt; html.as_str(), wanted.as_str());
-    let inside = around(alloc, "(", "b", ")", 40)?;
-    let source = format!(in alloc; "[a]({})", inside.as_str())?;
-    compare_plain(&rt, &[&source])
+    let destination = between(alloc, "(", "b", ")", 32)?;
+    let wanted = format!(in alloc; "<a href=\"{destination}\">a</a>")?;
+    let source = nested_link(alloc, 32)?;
+    compare(
+        alloc,
+        Options::empty(),
+        &[(source.as_str(), wanted.as_str())],
+    )
+}
+
+#[test]
+fn parentheses_nest_no_deeper(rt: HostRuntime) -> Result<(), Fail> {
+    let source = nested_link(rt.alloc(), 40)?;
+    compare_plain(rt.alloc(), &[source.as_str()])
 }
 
 #[test]
 fn brackets_that_never_close(rt: HostRuntime) -> Result<(), Fail> {
-    let source = around(rt.alloc(), "[", "", "]", 5000)?;
-    compare_plain(&rt, &[&source])
+    let source = between(rt.alloc(), "[", "", "]", 5000)?;
+    compare_plain(rt.alloc(), &[source.as_str()])
 }

@@ -1,22 +1,22 @@
 //! Pairing of delimiter runs, quotes and the last break (CommonMark 6.2), through parsers of texts and of trees made
 //! by hand.
-use crate::rows::{compare, compare_plain, counted, paragraph, work_of};
+use crate::grown::Grown;
+use crate::rows::{
+    compare, compare_events, compare_plain, paragraph_gives, paragraph_shows, work_of,
+};
 use bitflags::Flags;
 use markdown_base::item::{Item, ItemBody};
 use markdown_base::options::Options;
-use markdown_base::tree::Tree;
 use markdown_chains::work::Work;
-use markdown_inline::walk::Parser;
-use markdown_render::merged::merged_html;
 use markdown_tests::builders::{item, text};
-use markdown_tests::notes::notes_of;
+use markdown_tests::rows::gives;
 use std::alloc::{AllocError, Global};
 use std::test::Fail;
 
 #[test]
 fn what_opens_and_closes(rt: HostRuntime) -> Result<(), Fail> {
     compare(
-        &rt,
+        rt.alloc(),
         Options::empty(),
         &[
             ("*foo bar*", "<em>foo bar</em>"),
@@ -40,7 +40,8 @@ fn what_opens_and_closes(rt: HostRuntime) -> Result<(), Fail> {
             ("*(**foo**)*", "<em>(<strong>foo</strong>)</em>"),
             (
                 "**Gomphocarpus (*Gomphocarpus physocarpus*, syn.\n*Asclepias physocarpa*)**",
-                "<strong>Gomphocarpus (<em>Gomphocarpus physocarpus</em>, syn.\n<em>Asclepias physocarpa</em>)</strong>",
+                "<strong>Gomphocarpus (<em>Gomphocarpus physocarpus</em>, syn.\n\
+                <em>Asclepias physocarpa</em>)</strong>",
             ),
             (
                 "**foo \"*bar*\" foo**",
@@ -53,7 +54,7 @@ fn what_opens_and_closes(rt: HostRuntime) -> Result<(), Fail> {
         ],
     )?;
     compare_plain(
-        &rt,
+        rt.alloc(),
         &[
             "a * foo bar*",
             "a*\"foo\"*",
@@ -93,7 +94,7 @@ fn what_opens_and_closes(rt: HostRuntime) -> Result<(), Fail> {
 #[test]
 fn nesting(rt: HostRuntime) -> Result<(), Fail> {
     compare(
-        &rt,
+        rt.alloc(),
         Options::empty(),
         &[
             ("*foo\nbar*", "<em>foo\nbar</em>"),
@@ -148,7 +149,7 @@ fn nesting(rt: HostRuntime) -> Result<(), Fail> {
         ],
     )?;
     compare_plain(
-        &rt,
+        rt.alloc(),
         &[
             "** is not an empty emphasis",
             "**** is not an empty strong emphasis",
@@ -161,7 +162,7 @@ fn nesting(rt: HostRuntime) -> Result<(), Fail> {
 #[test]
 fn lengths(rt: HostRuntime) -> Result<(), Fail> {
     compare(
-        &rt,
+        rt.alloc(),
         Options::empty(),
         &[
             ("foo *\\**", "foo <em>*</em>"),
@@ -201,24 +202,27 @@ fn lengths(rt: HostRuntime) -> Result<(), Fail> {
             ),
         ],
     )?;
-    compare_plain(&rt, &["foo ***", "foo *****", "foo ___", "foo _____"])
+    compare_plain(
+        rt.alloc(),
+        &["foo ***", "foo *****", "foo ___", "foo _____"],
+    )
 }
 
 #[test]
 fn options_that_add_marks(rt: HostRuntime) -> Result<(), Fail> {
     compare(
-        &rt,
+        rt.alloc(),
         Options::ENABLE_SUBSCRIPT,
         &[("~~a *b* c~~", "~~a *b* c~~")],
     )?;
     compare(
-        &rt,
+        rt.alloc(),
         Options::ENABLE_STRIKETHROUGH,
         &[("hi ~~no~~", "hi <del>no</del>")],
     )?;
-    compare(&rt, Options::empty(), &[("hi ~~no~~", "hi ~~no~~")])?;
+    compare(rt.alloc(), Options::empty(), &[("hi ~~no~~", "hi ~~no~~")])?;
     compare(
-        &rt,
+        rt.alloc(),
         Options::ENABLE_SMART_PUNCTUATION,
         &[("'a' \"b\"", "‘a’ “b”")],
     )
@@ -226,24 +230,26 @@ fn options_that_add_marks(rt: HostRuntime) -> Result<(), Fail> {
 
 #[test]
 fn ranges_and_counts(rt: HostRuntime) -> Result<(), Fail> {
-    let alloc = rt.alloc();
-    for (source, events) in [
-        (
-            "*hello* world",
-            "<p>0..13 <em>0..7 [hello]1..6 </em>0..7 [ world]7..13 </p>0..13 ",
-        ),
-        (
-            "***a***",
-            "<p>0..7 <em>0..7 <strong>1..6 [a]3..4 </strong>1..6 </em>0..7 </p>0..7 ",
-        ),
-    ] {
-        let iter = Parser::new(alloc, source)?.into_offset_iter();
-        assert_eq!(rt; notes_of(alloc, iter)?.as_str(), events);
-    }
-    let work = work_of(alloc, "*foo**bar*")?;
-    assert_eq!(rt; work.delimiters, 4);
-    assert_eq!(rt; work.examined, 3);
-    Ok(())
+    compare_events(
+        rt.alloc(),
+        Options::empty(),
+        &[
+            (
+                "*hello* world",
+                "<p>0..13 <em>0..7 [hello]1..6 </em>0..7 [ world]7..13 </p>0..13 ",
+            ),
+            (
+                "***a***",
+                "<p>0..7 <em>0..7 <strong>1..6 [a]3..4 </strong>1..6 </em>0..7 </p>0..7 ",
+            ),
+        ],
+    )?;
+    let work = work_of(rt.alloc(), "*foo**bar*")?;
+    gives(
+        "delimiters and examined",
+        (work.delimiters, work.examined),
+        (4, 3),
+    )
 }
 
 fn run(start: usize, count: usize, opens: bool, closes: bool) -> Item {
@@ -258,19 +264,16 @@ fn run(start: usize, count: usize, opens: bool, closes: bool) -> Item {
 fn tildes_and_carets_made_by_hand(rt: HostRuntime) -> Result<(), Fail> {
     let alloc = rt.alloc();
     let marks = Options::ENABLE_SUBSCRIPT | Options::ENABLE_SUPERSCRIPT;
-    let items = [
+    let apart = [
         run(0, 1, true, false),
         text(1, 4),
         run(4, 1, false, true),
         text(5, 7),
         run(7, 1, false, true),
     ];
-    let parser = paragraph(alloc, "~a b^ c~", marks, &items)?;
-    assert_eq!(rt;
-        notes_of(alloc, parser.into_offset_iter())?.as_str(),
-        "<p>0..8 [~]0..1 [a b]1..4 [^]4..5 [ c]5..7 [~]7..8 </p>0..8 "
-    );
-    let items = [
+    let wanted = "<p>0..8 [~]0..1 [a b]1..4 [^]4..5 [ c]5..7 [~]7..8 </p>0..8 ";
+    paragraph_gives(alloc, "~a b^ c~", marks, &apart, wanted)?;
+    let of_two_lengths = [
         run(0, 1, true, false),
         text(1, 2),
         run(2, 2, false, true),
@@ -278,104 +281,94 @@ fn tildes_and_carets_made_by_hand(rt: HostRuntime) -> Result<(), Fail> {
         text(4, 5),
         run(5, 1, false, true),
     ];
-    let parser = paragraph(alloc, "~a~~b~", Options::ENABLE_SUBSCRIPT, &items)?;
-    assert_eq!(rt;
-        notes_of(alloc, parser.into_offset_iter())?.as_str(),
-        "<p>0..6 [~]0..1 [a]1..2 [~]2..3 [~]3..4 [b]4..5 [~]5..6 </p>0..6 "
-    );
-    Ok(())
+    let wanted = "<p>0..6 [~]0..1 [a]1..2 [~]2..3 [~]3..4 [b]4..5 [~]5..6 </p>0..6 ";
+    paragraph_gives(
+        alloc,
+        "~a~~b~",
+        Options::ENABLE_SUBSCRIPT,
+        &of_two_lengths,
+        wanted,
+    )
 }
 
 #[test]
 fn a_break_at_the_end_made_by_hand(rt: HostRuntime) -> Result<(), Fail> {
-    let alloc = rt.alloc();
-    let items = [
+    let after_emphasis = [
         run(0, 1, true, false),
         text(1, 2),
         run(2, 1, false, true),
         item(3, 4, ItemBody::HardBreak(true)),
     ];
-    let parser = paragraph(alloc, "*a*\\", Options::empty(), &items)?;
-    let html = merged_html(alloc, parser)?;
-    assert_eq!(rt; html.as_str(), "<p><em>a</em>\\</p>\n");
-    let items = [text(0, 1), item(1, 2, ItemBody::HardBreak(true))];
-    let parser = paragraph(alloc, "a\\", Options::empty(), &items)?;
-    let html = merged_html(alloc, parser)?;
-    assert_eq!(rt; html.as_str(), "<p>a<br />\n</p>\n");
-    Ok(())
+    paragraph_shows(
+        rt.alloc(),
+        "*a*\\",
+        &after_emphasis,
+        "<p><em>a</em>\\</p>\n",
+    )?;
+    let after_a_text = [text(0, 1), item(1, 2, ItemBody::HardBreak(true))];
+    paragraph_shows(rt.alloc(), "a\\", &after_a_text, "<p>a<br />\n</p>\n")
 }
 
-/// Appends a run with an `a` behind it to a text and a tree.
+/// Appends a run, and a text behind it.
 fn append_run(
-    source: &mut String,
-    tree: &mut Tree<Item>,
-    mark: char,
+    over: &mut Grown,
+    mark: &str,
     count: usize,
     opens: bool,
     closes: bool,
 ) -> Result<(), AllocError> {
     'marks: for left in 0..count {
-        let start = source.len();
-        source.push(mark)?;
-        tree.append(run(start, count - left, opens, closes))?;
+        over.append(mark, ItemBody::MaybeEmphasis(count - left, opens, closes))?;
     }
-    let start = source.len();
-    source.push('a')?;
-    tree.append(text(start, source.len()))?;
-    Ok(())
+    over.append_a()
+}
+
+/// What is counted in a thousand runs of `*` and `_`, of one, two and three characters.
+fn work_of_three_lengths(alloc: Global) -> Result<Work, Fail> {
+    // 1000 characters `a`, and 1999 of the runs
+    let mut over = Grown::new(alloc, 2999)?;
+    for k in 0..1000 {
+        let mark = if k % 2 == 0 { "*" } else { "_" };
+        append_run(&mut over, mark, 1 + k % 3, k % 4 != 2, k % 4 != 0)?;
+    }
+    let (_, work) = over.counted(alloc)?;
+    Ok(work)
 }
 
 #[test]
 fn a_thousand_runs_of_three_lengths(rt: HostRuntime) -> Result<(), Fail> {
-    let alloc = rt.alloc();
-    let mut source = String::new(alloc);
-    let mut tree = Tree::new(alloc)?;
-    // 1000 characters `a`, and 1999 of the runs
-    tree.append(item(0, 2999, ItemBody::Paragraph))?;
-    tree.push()?;
-    for k in 0..1000 {
-        let mark = if k % 2 == 0 { '*' } else { '_' };
-        append_run(
-            &mut source,
-            &mut tree,
-            mark,
-            1 + k % 3,
-            k % 4 != 2,
-            k % 4 != 0,
-        )?;
-    }
-    let (_, work) = counted(alloc, source.as_str(), tree)?;
-    assert_eq!(rt; work.delimiters, 1999);
-    assert!(rt; work.examined <= 19990);
-    Ok(())
+    let work = work_of_three_lengths(rt.alloc())?;
+    gives(
+        "delimiters, and whether few are examined",
+        (work.delimiters, work.examined <= 19990),
+        (1999, true),
+    )
 }
 
 /// So many runs `_` that can only open, and then as many `*` that can only close, in a text of so many bytes.
 fn apart(alloc: Global, runs: usize, bytes: usize) -> Result<(usize, Work), Fail> {
-    let mut source = String::new(alloc);
-    let mut tree = Tree::new(alloc)?;
-    tree.append(item(0, bytes, ItemBody::Paragraph))?;
-    tree.push()?;
+    let mut over = Grown::new(alloc, bytes)?;
     for _ in 0..runs {
-        append_run(&mut source, &mut tree, '_', 1, true, false)?;
+        append_run(&mut over, "_", 1, true, false)?;
     }
     for _ in 0..runs {
-        append_run(&mut source, &mut tree, '*', 1, false, true)?;
+        append_run(&mut over, "*", 1, false, true)?;
     }
-    counted(alloc, source.as_str(), tree)
+    over.counted(alloc)
 }
 
 #[test]
 fn runs_that_never_pair(rt: HostRuntime) -> Result<(), Fail> {
-    let alloc = rt.alloc();
-    for (runs, bytes, events, delimiters, examined) in [
+    for &(runs, bytes, events, delimiters, examined) in &[
         (500, 2_000, 2_002, 1_000, 10_000),
         (50_000, 200_000, 200_002, 100_000, 1_000_000),
     ] {
-        let (given, work) = apart(alloc, runs, bytes)?;
-        assert_eq!(rt; given, events);
-        assert_eq!(rt; work.delimiters, delimiters);
-        assert!(rt; work.examined <= examined);
+        let (given, work) = apart(rt.alloc(), runs, bytes)?;
+        gives(
+            runs,
+            (given, work.delimiters, work.examined <= examined),
+            (events, delimiters, true),
+        )?;
     }
     Ok(())
 }

@@ -3,6 +3,7 @@
 ghost use Rattle.std.specs.Prelude.{◌≡◌, ◌+◌, ◌%◌, ◌^◌, None};
 
 use crate::rows::{compare_plain, compare_whole};
+use crate::walks::{count_of, said_of, take_some};
 use bitflags::Flags;
 use markdown_base::cow_str::CowStr;
 use markdown_base::event::Event;
@@ -10,14 +11,15 @@ use markdown_base::options::Options;
 use markdown_base::tag::{LinkType, Tag};
 use markdown_inline::walk::Parser;
 use markdown_spans::defs::{BoxedCallback, BrokenLink, BrokenLinkCallback, Closure};
-use std::alloc::Global;
+use markdown_tests::rows::gives;
+use std::alloc::{AllocError, Global};
 use std::ops::Range;
 use std::test::Fail;
 
 #[test]
 fn full_references(rt: HostRuntime) -> Result<(), Fail> {
     compare_whole(
-        &rt,
+        rt.alloc(),
         Options::empty(),
         &[
             (
@@ -93,7 +95,7 @@ fn full_references(rt: HostRuntime) -> Result<(), Fail> {
 #[test]
 fn collapsed_references_and_shortcuts(rt: HostRuntime) -> Result<(), Fail> {
     compare_whole(
-        &rt,
+        rt.alloc(),
         Options::empty(),
         &[
             ("[foo][]\n\n[foo]: /u", "<p><a href=\"/u\">foo</a></p>\n"),
@@ -148,27 +150,38 @@ fn collapsed_references_and_shortcuts(rt: HostRuntime) -> Result<(), Fail> {
             ),
         ],
     )?;
-    compare_plain(&rt, &["[]", "[foo]", "[foo][]", "[foo][bar]"])
+    compare_plain(rt.alloc(), &["[]", "[foo]", "[foo][]", "[foo][bar]"])
 }
 
-/// The ranges and the types of the links of a text.
-fn links_of(alloc: Global, source: &str) -> Result<String, Fail> {
-    let mut noted = String::new(alloc);
-    let mut events = Parser::new(alloc, source)?.into_offset_iter();
-    'events: while let Some(item) = events.next() {
-        let (event, range) = item?;
-        if let Event::Start(Tag::Link { link_type, .. }) = &event {
-            let note = format!(in alloc; "{:?} {}..{} ", *link_type, range.start, range.end)?;
-            noted.push_str(note.as_str())?;
+/// The type and the range of a link.
+fn say_link(alloc: Global, placed: &(Event<'_>, Range<usize>)) -> Result<String, AllocError> {
+    let (event, range) = placed;
+    match event {
+        Event::Start(Tag::Link { link_type, .. }) => {
+            format!(in alloc; "{:?} {}..{} ", *link_type, range.start, range.end)
         }
-        drop(event);
+        _ => Ok(String::new(alloc)),
     }
-    Ok(noted)
+}
+
+/// The types and the ranges of the links of a text.
+fn links_of(alloc: Global, source: &str) -> Result<String, Fail> {
+    said_of(
+        alloc,
+        Parser::new(alloc, source)?.into_offset_iter(),
+        say_link,
+    )
+}
+
+/// A text has links of these ranges and types.
+fn has_links(alloc: Global, source: &str, noted: &str) -> Result<(), Fail> {
+    let links = links_of(alloc, source)?;
+    gives(source, links.as_str(), noted)
 }
 
 #[test]
 fn types_and_ranges(rt: HostRuntime) -> Result<(), Fail> {
-    let rows = [
+    let rows = &[
         ("[foo][]\n\n[foo]: /u", "Collapsed 0..5 "),
         (
             "# H1\n[testing][Some reference]\n\n[Some reference]: https://github.com",
@@ -177,9 +190,8 @@ fn types_and_ranges(rt: HostRuntime) -> Result<(), Fail> {
         ("[foo]\n\n[foo]: /u", "Shortcut 0..5 "),
         ("[foo](u)", "Inline 0..8 "),
     ];
-    for (source, noted) in rows {
-        let links = links_of(rt.alloc(), source)?;
-        assert_eq!(rt; links.as_str(), noted, "{source:?}");
+    for &(source, noted) in rows {
+        has_links(rt.alloc(), source, noted)?;
     }
     Ok(())
 }
@@ -193,234 +205,16 @@ fn take_events<'a, F: BrokenLinkCallback<'a>>(
 ) -> Result<(), Fail>
     requires { F.can_ask callback }
 {
-    let mut parser = Parser::new_with_broken_link_callback(
+    let parser = Parser::new_with_broken_link_callback(
         alloc,
         source,
         Options::empty(),
         Some(callback),
     )?;
-    if events == 0 {
-        return Ok(());
-    }
-    let mut taken = 0usize;
-    'events: while let Some(item) = parser.next() {
-        drop(item?);
-        taken = taken.saturating_add(1);
-        if taken == events {
-            return Ok(());
-        }
-    }
-    Ok(())
+    Ok(take_some(parser, events)?)
 }
 
-/// How many questions a text asks, of which none is answered.
-fn questions_of(alloc: Global, source: &str) -> Result<u64, Fail> {
-    let mut asked = 0u64;
-    let counting = |link: BrokenLink| -> Option<(CowStr, CowStr)>
-        ensures answer { result ≡ None }
-        ensures counted { asked.exit ≡ (asked.entry + 1) % 2 ^ 64 }
-    {
-        asked = asked.wrapping_add(1);
-        drop(link);
-        None
-    };
-    take_events(alloc, source, Closure::new(counting), usize::MAX)?;
-    Ok(asked)
-}
-
-#[test]
-fn each_bracket_asks_once(rt: HostRuntime) -> Result<(), Fail> {
-    let rows = [
-        ("See also [`g()`][crate::g].", 1),
-        ("See also [`g()`][crate::g][].", 1),
-        ("[brokenlink1] some other node [brokenlink2]", 2),
-        ("[a](b) [c]: d", 1),
-        ("[a]: /u\n\n[a]", 0),
-    ];
-    for (source, questions) in rows {
-        assert_eq!(rt; questions_of(rt.alloc(), source)?, questions, "{source:?}");
-    }
-    Ok(())
-}
-
-/// Answers the n-th question by `/n`.
-#[derive(Drop)]
-struct Numbering {
-    alloc: Global,
-    asked: u64,
-}
-
-impl BoxedCallback for Numbering {
-    fn answer(
-        &mut self,
-        _span: Range<usize>,
-        _link_type: LinkType,
-        _reference: &str,
-    ) -> Option<(CowStr<'static>, CowStr<'static>)> {
-        self.asked = self.asked.wrapping_add(1);
-        let destination = format!(in self.alloc; "/{}", self.asked).ok()?;
-        Some((CowStr::from(destination), CowStr::Borrowed("")))
-    }
-}
-
-/// Answers each question by so many bytes `x`, with a title.
-#[derive(Drop)]
-struct Repeating {
-    alloc: Global,
-    bytes: usize,
-    title: &'static str,
-}
-
-impl BoxedCallback for Repeating {
-    fn answer(
-        &mut self,
-        _span: Range<usize>,
-        _link_type: LinkType,
-        _reference: &str,
-    ) -> Option<(CowStr<'static>, CowStr<'static>)> {
-        let mut destination = String::new(self.alloc);
-        for _ in 0..self.bytes {
-            destination.push_str("x").ok()?;
-        }
-        Some((CowStr::from(destination), CowStr::Borrowed(self.title)))
-    }
-}
-
-/// Answers one question alone: about `world`, as a full reference over these bytes.
-#[derive(Drop)]
-struct World;
-
-impl BoxedCallback for World {
-    fn answer(
-        &mut self,
-        span: Range<usize>,
-        link_type: LinkType,
-        reference: &str,
-    ) -> Option<(CowStr<'static>, CowStr<'static>)> {
-        if span == (24..38) && link_type == LinkType::Reference && reference == "world" {
-            Some((CowStr::Borrowed("YOLO"), CowStr::Borrowed("SWAG")))
-        } else {
-            None
-        }
-    }
-}
-
-/// The links of a text with a callback: type, destination, title and label of each.
-fn answered<'a, F: BrokenLinkCallback<'a>>(
-    alloc: Global,
-    source: &'a str,
-    callback: F,
-) -> Result<String, Fail>
-    requires { F.can_ask callback }
-{
-    let mut parser = Parser::new_with_broken_link_callback(
-        alloc,
-        source,
-        Options::empty(),
-        Some(callback),
-    )?;
-    let mut noted = String::new(alloc);
-    'events: while let Some(item) = parser.next() {
-        let event = item?;
-        if let Event::Start(
-            Tag::Link {
-                link_type,
-                dest_url,
-                title,
-                id,
-            },
-        ) = &event
-        {
-            let note = format!(in alloc;
-                "{:?} ({}) ({}) ({}); ",
-                *link_type,
-                dest_url.as_str(),
-                title.as_str(),
-                id.as_str()
-            )?;
-            noted.push_str(note.as_str())?;
-        }
-        drop(event);
-    }
-    Ok(noted)
-}
-
-/// A callback that answers by so many bytes.
-fn answering_by(
-    alloc: Global,
-    bytes: usize,
-    title: &'static str,
-) -> Result<Box<dyn BoxedCallback>, Fail> {
-    let boxed: Box<dyn BoxedCallback> = Box::new(
-        alloc,
-        Repeating {
-            alloc,
-            bytes,
-            title,
-        },
-    )?;
-    Ok(boxed)
-}
-
-#[test]
-fn answers(rt: HostRuntime) -> Result<(), Fail> {
-    let alloc = rt.alloc();
-    let numbering: Box<dyn BoxedCallback> = Box::new(alloc, Numbering { alloc, asked: 0 })?;
-    let links = answered(alloc, "[a] [b]", numbering)?;
-    assert_eq!(rt;
-        links.as_str(),
-        "ShortcutUnknown (/1) () (a); ShortcutUnknown (/2) () (b); "
-    );
-    let world: Box<dyn BoxedCallback> = Box::new(alloc, World)?;
-    let links = answered(alloc, "This is a link w/o def: [hello][world]", world)?;
-    assert_eq!(rt; links.as_str(), "ReferenceUnknown (YOLO) (SWAG) (world); ");
-    let links = answered(alloc, "[a]", answering_by(alloc, 0, "")?)?;
-    assert_eq!(rt; links.as_str(), "ShortcutUnknown () () (a); ");
-    let titled = answering_by(alloc, 1, "my example website")?;
-    let links = answered(alloc, "check out [my website][].", titled)?;
-    assert_eq!(rt;
-        links.as_str(),
-        "CollapsedUnknown (x) (my example website) (my website); "
-    );
-    Ok(())
-}
-
-/// How many links a text has, with a callback.
-fn links_with<'a, F: BrokenLinkCallback<'a>>(
-    alloc: Global,
-    source: &'a str,
-    callback: F,
-) -> Result<usize, Fail>
-    requires { F.can_ask callback }
-{
-    let mut parser = Parser::new_with_broken_link_callback(
-        alloc,
-        source,
-        Options::empty(),
-        Some(callback),
-    )?;
-    let mut links = 0usize;
-    'events: while let Some(item) = parser.next() {
-        let event = item?;
-        if matches!(&event, Event::Start(Tag::Link { .. })) {
-            links = links.saturating_add(1);
-        }
-        drop(event);
-    }
-    Ok(links)
-}
-
-#[test]
-fn references_expand_up_to_a_limit(rt: HostRuntime) -> Result<(), Fail> {
-    let alloc = rt.alloc();
-    let long = answering_by(alloc, 200000, "")?;
-    assert_eq!(rt; links_with(alloc, "[a] [b]", long)?, 1);
-    let shorter = answering_by(alloc, 60000, "")?;
-    assert_eq!(rt; links_with(alloc, "[a] [b] [c] [d]", shorter)?, 2);
-    Ok(())
-}
-
-/// How many questions were asked when so many events were given.
+/// How many questions are asked when so many events of a text are given, or all; none of them is answered.
 fn questions_after(alloc: Global, source: &str, events: usize) -> Result<u64, Fail> {
     let mut asked = 0u64;
     let counting = |link: BrokenLink| -> Option<(CowStr, CowStr)>
@@ -436,13 +230,197 @@ fn questions_after(alloc: Global, source: &str, events: usize) -> Result<u64, Fa
 }
 
 #[test]
+fn each_bracket_asks_once(rt: HostRuntime) -> Result<(), Fail> {
+    let rows = &[
+        ("See also [`g()`][crate::g].", 1),
+        ("See also [`g()`][crate::g][].", 1),
+        ("[brokenlink1] some other node [brokenlink2]", 2),
+        ("[a](b) [c]: d", 1),
+        ("[a]: /u\n\n[a]", 0),
+    ];
+    for &(source, questions) in rows {
+        let asked = questions_after(rt.alloc(), source, usize::MAX)?;
+        gives(source, asked, questions)?;
+    }
+    Ok(())
+}
+
+/// What a callback answers.
+#[derive(Clone, Copy, Drop)]
+enum Reply {
+    /// The n-th question by `/n`.
+    Numbers,
+    /// One question alone: about `world`, as a full reference over these bytes.
+    World,
+    /// Each question by so many bytes `x`, with this title.
+    Bytes(usize, &'static str),
+}
+
+type Answer = Option<(CowStr<'static>, CowStr<'static>)>;
+
+fn by_number(alloc: Global, number: u64) -> Answer {
+    let destination = format!(in alloc; "/{number}").ok()?;
+    Some((CowStr::from(destination), CowStr::Borrowed("")))
+}
+
+fn about_world(span: Range<usize>, link_type: LinkType, reference: &str) -> Answer {
+    if span == (24..38) && link_type == LinkType::Reference && reference == "world" {
+        Some((CowStr::Borrowed("YOLO"), CowStr::Borrowed("SWAG")))
+    } else {
+        None
+    }
+}
+
+fn by_bytes(alloc: Global, bytes: usize, title: &'static str) -> Answer {
+    let destination = "x".repeat(alloc, bytes).ok()?;
+    Some((CowStr::from(destination), CowStr::Borrowed(title)))
+}
+
+/// Answers so, and counts the questions.
+#[derive(Drop)]
+struct Callback {
+    alloc: Global,
+    asked: u64,
+    which: Reply,
+}
+
+impl BoxedCallback for Callback {
+    fn answer(
+        &mut self,
+        span: Range<usize>,
+        link_type: LinkType,
+        reference: &str,
+    ) -> Option<(CowStr<'static>, CowStr<'static>)> {
+        self.asked = self.asked.wrapping_add(1);
+        match self.which {
+            Reply::Numbers => by_number(self.alloc, self.asked),
+            Reply::World => about_world(span, link_type, reference),
+            Reply::Bytes(bytes, title) => by_bytes(self.alloc, bytes, title),
+        }
+    }
+}
+
+fn replying(alloc: Global, which: Reply) -> Callback {
+    Callback {
+        alloc,
+        asked: 0,
+        which,
+    }
+}
+
+/// The type, destination, title and label of a link.
+fn say_all(alloc: Global, event: &Event<'_>) -> Result<String, AllocError> {
+    match event {
+        Event::Start(
+            Tag::Link {
+                link_type,
+                dest_url,
+                title,
+                id,
+            },
+        ) => format!(in alloc;
+            "{:?} ({}) ({}) ({}); ",
+            *link_type,
+            dest_url.as_str(),
+            title.as_str(),
+            id.as_str()
+        ),
+        _ => Ok(String::new(alloc)),
+    }
+}
+
+/// The links of a text with a callback: type, destination, title and label of each.
+fn answered<'a, F: BrokenLinkCallback<'a>>(
+    alloc: Global,
+    source: &'a str,
+    callback: F,
+) -> Result<String, Fail>
+    requires { F.can_ask callback }
+{
+    let parser = Parser::new_with_broken_link_callback(
+        alloc,
+        source,
+        Options::empty(),
+        Some(callback),
+    )?;
+    said_of(alloc, parser, say_all)
+}
+
+/// A text has these links with a callback.
+fn are_answered(alloc: Global, source: &str, which: Reply, wanted: &str) -> Result<(), Fail> {
+    let callback: Box<dyn BoxedCallback> = Box::new(alloc, replying(alloc, which))?;
+    let links = answered(alloc, source, callback)?;
+    gives(source, links.as_str(), wanted)
+}
+
+#[test]
+fn answers(rt: HostRuntime) -> Result<(), Fail> {
+    let alloc = rt.alloc();
+    for &(source, callback, wanted) in &[
+        (
+            "[a] [b]",
+            Reply::Numbers,
+            "ShortcutUnknown (/1) () (a); ShortcutUnknown (/2) () (b); ",
+        ),
+        (
+            "This is a link w/o def: [hello][world]",
+            Reply::World,
+            "ReferenceUnknown (YOLO) (SWAG) (world); ",
+        ),
+        ("[a]", Reply::Bytes(0, ""), "ShortcutUnknown () () (a); "),
+        (
+            "check out [my website][].",
+            Reply::Bytes(1, "my example website"),
+            "CollapsedUnknown (x) (my example website) (my website); ",
+        ),
+    ] {
+        are_answered(alloc, source, callback, wanted)?;
+    }
+    Ok(())
+}
+
+/// Whether an event begins a link.
+fn is_link(event: &Event<'_>) -> bool {
+    matches!(event, Event::Start(Tag::Link { .. }))
+}
+
+/// How many links a text has, with a callback.
+fn links_with<'a, F: BrokenLinkCallback<'a>>(
+    alloc: Global,
+    source: &'a str,
+    callback: F,
+) -> Result<usize, Fail>
+    requires { F.can_ask callback }
+{
+    let parser = Parser::new_with_broken_link_callback(
+        alloc,
+        source,
+        Options::empty(),
+        Some(callback),
+    )?;
+    Ok(count_of(parser, is_link)?)
+}
+
+/// A text has so many links with a callback that answers by so many bytes.
+fn has_so_many_links(alloc: Global, source: &str, bytes: usize, links: usize) -> Result<(), Fail> {
+    let which = Reply::Bytes(bytes, "");
+    let callback: Box<dyn BoxedCallback> = Box::new(alloc, replying(alloc, which))?;
+    gives(source, links_with(alloc, source, callback)?, links)
+}
+
+#[test]
+fn references_expand_up_to_a_limit(rt: HostRuntime) -> Result<(), Fail> {
+    for &(source, bytes, links) in &[("[a] [b]", 200000, 1), ("[a] [b] [c] [d]", 60000, 2)] {
+        has_so_many_links(rt.alloc(), source, bytes, links)?;
+    }
+    Ok(())
+}
+
+#[test]
 fn questions_stand_directly_before_the_next_event(rt: HostRuntime) -> Result<(), Fail> {
-    for (events, questions) in [(0, 0), (1, 0), (2, 1), (6, 1), (7, 2), (20, 2)] {
-        assert_eq!(rt;
-            questions_after(rt.alloc(), "[a]\n\n[b]", events)?,
-            questions,
-            "{events}"
-        );
+    for &(events, questions) in &[(0, 0), (1, 0), (2, 1), (6, 1), (7, 2), (20, 2)] {
+        let asked = questions_after(rt.alloc(), "[a]\n\n[b]", events)?;
+        gives(events, asked, questions)?;
     }
     Ok(())
 }

@@ -1,26 +1,27 @@
 //! Code spans (CommonMark 6.1), math, autolinks (6.5) and raw HTML (6.6), through parsers of texts and of trees made by
 //! hand.
-use crate::rows::{compare, counted, paragraph};
+use crate::grown::Grown;
+use crate::rows::{
+    compare, compare_events, compare_plain, compare_whole, outline_shows, paragraph_gives,
+};
+use crate::walks::count_of;
 use bitflags::Flags;
 use markdown_base::cow_str::CowStr;
 use markdown_base::event::Event;
 use markdown_base::index::AlignmentIndex;
 use markdown_base::item::{Item, ItemBody};
 use markdown_base::options::Options;
-use markdown_base::tree::Tree;
+use markdown_chains::work::Work;
 use markdown_inline::walk::Parser;
-use markdown_render::merged::merged_html;
-use markdown_spans::blocks::Blocks;
-use markdown_tests::builders::{item, no_parts, text, tree_of};
-use markdown_tests::notes::notes_of;
+use markdown_tests::builders::{item, text};
+use markdown_tests::rows::gives;
 use std::alloc::{AllocError, Global};
-use std::process::Abort;
 use std::test::Fail;
 
 #[test]
 fn code(rt: HostRuntime) -> Result<(), Fail> {
     compare(
-        &rt,
+        rt.alloc(),
         Options::empty(),
         &[
             ("`foo`", "<code>foo</code>"),
@@ -51,12 +52,7 @@ fn code(rt: HostRuntime) -> Result<(), Fail> {
             ("```foo``", "```foo``"),
             ("`foo", "`foo"),
             ("`foo``bar``", "`foo<code>bar</code>"),
-        ],
-    )?;
-    compare(
-        &rt,
-        Options::empty(),
-        &[
+            // beyond the examples of CommonMark
             ("`\n `x", "<code>  </code>x"),
             ("`\nx \ny\n`x", "<code>x  y</code>x"),
             ("`a\r\nb`", "<code>a b</code>"),
@@ -69,7 +65,7 @@ fn code(rt: HostRuntime) -> Result<(), Fail> {
 #[test]
 fn math(rt: HostRuntime) -> Result<(), Fail> {
     compare(
-        &rt,
+        rt.alloc(),
         Options::ENABLE_MATH,
         &[
             (
@@ -82,13 +78,13 @@ fn math(rt: HostRuntime) -> Result<(), Fail> {
             ),
         ],
     )?;
-    compare(&rt, Options::empty(), &[("$a$ $$b$$", "$a$ $$b$$")])
+    compare(rt.alloc(), Options::empty(), &[("$a$ $$b$$", "$a$ $$b$$")])
 }
 
 #[test]
 fn autolinks(rt: HostRuntime) -> Result<(), Fail> {
     compare(
-        &rt,
+        rt.alloc(),
         Options::empty(),
         &[
             (
@@ -97,7 +93,8 @@ fn autolinks(rt: HostRuntime) -> Result<(), Fail> {
             ),
             (
                 "<https://foo.bar.baz/test?q=hello&id=22&boolean>",
-                "<a href=\"https://foo.bar.baz/test?q=hello&amp;id=22&amp;boolean\">https://foo.bar.baz/test?q=hello&amp;id=22&amp;boolean</a>",
+                "<a href=\"https://foo.bar.baz/test?q=hello&amp;id=22&amp;boolean\">\
+                https://foo.bar.baz/test?q=hello&amp;id=22&amp;boolean</a>",
             ),
             (
                 "<MAILTO:FOO@BAR.BAZ>",
@@ -130,18 +127,10 @@ fn autolinks(rt: HostRuntime) -> Result<(), Fail> {
     )
 }
 
-/// Each text is one paragraph that shows the text as it stands.
-fn compare_same(rt: &(impl Abort + AllocGlobal), rows: &[&str]) -> Result<(), Fail> {
-    for source in rows {
-        compare(rt, Options::empty(), &[(*source, *source)])?;
-    }
-    Ok(())
-}
-
 #[test]
 fn raw_html(rt: HostRuntime) -> Result<(), Fail> {
-    compare_same(
-        &rt,
+    compare_plain(
+        rt.alloc(),
         &[
             "<a><bab><c2c>",
             "<a/><b2/>",
@@ -158,7 +147,7 @@ fn raw_html(rt: HostRuntime) -> Result<(), Fail> {
         ],
     )?;
     compare(
-        &rt,
+        rt.alloc(),
         Options::empty(),
         &[
             ("<33> <__>", "&lt;33&gt; &lt;__&gt;"),
@@ -188,79 +177,77 @@ fn raw_html(rt: HostRuntime) -> Result<(), Fail> {
 
 #[test]
 fn ranges(rt: HostRuntime) -> Result<(), Fail> {
-    let alloc = rt.alloc();
-    for (source, events) in [
-        ("``a`b``", "<p>0..7 `a`b`0..7 </p>0..7 "),
-        (
-            "> `a\n> b`",
-            "<blockquote>0..9 <p>2..9 `a b`2..9 </p>2..9 </blockquote>0..9 ",
-        ),
-        ("\\``a`", "<p>0..5 [`]1..2 `a`2..5 </p>0..5 "),
-        (
-            "x```a``b`c``d`e`f",
-            "<p>0..17 [x]0..1 [```]1..4 [a]4..5 `b`c`5..12 [d]12..13 `e`13..16 [f]16..17 </p>0..17 ",
-        ),
-        (
-            "<http://a.b>",
-            "<p>0..12 <a http://a.b>0..12 [http://a.b]1..11 </a>0..12 </p>0..12 ",
-        ),
-        ("a <b> c", "<p>0..7 [a ]0..2 (<b>)2..5 [ c]5..7 </p>0..7 "),
-        (
-            "a <!-- x --> c",
-            "<p>0..14 [a ]0..2 (<!-- x -->)2..12 [ c]12..14 </p>0..14 ",
-        ),
-        (
-            "> <foo\n> bar>",
-            "<blockquote>0..13 <p>2..13 (<foo\nbar>)2..13 </p>2..13 </blockquote>0..13 ",
-        ),
-    ] {
-        let iter = Parser::new(alloc, source)?.into_offset_iter();
-        assert_eq!(rt; notes_of(alloc, iter)?.as_str(), events, "{source:?}");
-    }
-    Ok(())
+    compare_events(
+        rt.alloc(),
+        Options::empty(),
+        &[
+            ("``a`b``", "<p>0..7 `a`b`0..7 </p>0..7 "),
+            (
+                "> `a\n> b`",
+                "<blockquote>0..9 <p>2..9 `a b`2..9 </p>2..9 </blockquote>0..9 ",
+            ),
+            ("\\``a`", "<p>0..5 [`]1..2 `a`2..5 </p>0..5 "),
+            (
+                "x```a``b`c``d`e`f",
+                "<p>0..17 [x]0..1 [```]1..4 [a]4..5 `b`c`5..12 [d]12..13 `e`13..16 [f]16..17 </p>0..17 ",
+            ),
+            (
+                "<http://a.b>",
+                "<p>0..12 <a http://a.b>0..12 [http://a.b]1..11 </a>0..12 </p>0..12 ",
+            ),
+            ("a <b> c", "<p>0..7 [a ]0..2 (<b>)2..5 [ c]5..7 </p>0..7 "),
+            (
+                "a <!-- x --> c",
+                "<p>0..14 [a ]0..2 (<!-- x -->)2..12 [ c]12..14 </p>0..14 ",
+            ),
+            (
+                "> <foo\n> bar>",
+                "<blockquote>0..13 <p>2..13 (<foo\nbar>)2..13 </p>2..13 </blockquote>0..13 ",
+            ),
+        ],
+    )
 }
 
 #[test]
 fn html_of_several_blocks(rt: HostRuntime) -> Result<(), Fail> {
-    let alloc = rt.alloc();
-    for (source, html) in [
-        (
-            "> `a\n> b`",
-            "<blockquote>\n<p><code>a b</code></p>\n</blockquote>\n",
-        ),
-        (
-            "x <? a\n\nx <? b ?>",
-            "<p>x &lt;? a</p>\n<p>x <? b ?></p>\n",
-        ),
-    ] {
-        let found = merged_html(alloc, Parser::new(alloc, source)?)?;
-        assert_eq!(rt; found.as_str(), html);
-    }
-    Ok(())
+    compare_whole(
+        rt.alloc(),
+        Options::empty(),
+        &[
+            (
+                "> `a\n> b`",
+                "<blockquote>\n<p><code>a b</code></p>\n</blockquote>\n",
+            ),
+            (
+                "x <? a\n\nx <? b ?>",
+                "<p>x &lt;? a</p>\n<p>x <? b ?></p>\n",
+            ),
+        ],
+    )
+}
+
+/// Whether an event is inline HTML that is a slice of the source.
+fn is_slice(event: &Event<'_>) -> bool {
+    matches!(event, Event::InlineHtml(CowStr::Borrowed(_)))
+}
+
+/// Whether an event is inline HTML that is not.
+fn is_owned(event: &Event<'_>) -> bool {
+    matches!(event, Event::InlineHtml(_)) && !is_slice(event)
 }
 
 /// How many events are inline HTML that is a slice of the source, and how many are inline HTML that is not.
 fn count_html(alloc: Global, source: &str) -> Result<(usize, usize), Fail> {
-    let mut slices = 0usize;
-    let mut owned = 0usize;
-    for item in Parser::new(alloc, source)? {
-        match item? {
-            Event::InlineHtml(CowStr::Borrowed(_)) => slices = slices.saturating_add(1),
-            Event::InlineHtml(text) => {
-                drop(text);
-                owned = owned.saturating_add(1);
-            }
-            other => drop(other),
-        }
-    }
+    let slices = count_of(Parser::new(alloc, source)?, is_slice)?;
+    let owned = count_of(Parser::new(alloc, source)?, is_owned)?;
     Ok((slices, owned))
 }
 
 #[test]
 fn html_is_a_slice_unless_a_prefix_is_removed(rt: HostRuntime) -> Result<(), Fail> {
-    let alloc = rt.alloc();
-    assert_eq!(rt; count_html(alloc, "a <b> c")?, (1, 0));
-    assert_eq!(rt; count_html(alloc, "> <foo\n> bar>")?, (0, 1));
+    for &(source, slices, owned) in &[("a <b> c", 1, 0), ("> <foo\n> bar>", 0, 1)] {
+        gives(source, count_html(rt.alloc(), source)?, (slices, owned))?;
+    }
     Ok(())
 }
 
@@ -274,7 +261,6 @@ fn dollar(start: usize, opens: bool, closes: bool, context: u8) -> Item {
 
 #[test]
 fn dollars_made_by_hand(rt: HostRuntime) -> Result<(), Fail> {
-    let alloc = rt.alloc();
     let items = [
         dollar(0, true, false, 0),
         text(1, 3),
@@ -282,100 +268,79 @@ fn dollars_made_by_hand(rt: HostRuntime) -> Result<(), Fail> {
         text(4, 5),
         dollar(5, false, true, 0),
     ];
-    let parser = paragraph(alloc, "$a $b$", Options::ENABLE_MATH, &items)?;
-    assert_eq!(rt;
-        notes_of(alloc, parser.into_offset_iter())?.as_str(),
-        "<p>0..6 [$]0..1 [a ]1..3 $b$3..6 </p>0..6 "
-    );
-    Ok(())
+    let wanted = "<p>0..6 [$]0..1 [a ]1..3 $b$3..6 </p>0..6 ";
+    paragraph_gives(rt.alloc(), "$a $b$", Options::ENABLE_MATH, &items, wanted)
 }
 
 #[test]
 fn code_in_a_cell(rt: HostRuntime) -> Result<(), Fail> {
-    let alloc = rt.alloc();
-    let source = "`a\\|b`";
-    let tree = tree_of(
-        alloc,
-        &[
-            (0, item(0, 6, ItemBody::Table(AlignmentIndex(0)))),
-            (1, item(0, 6, ItemBody::TableHead)),
-            (2, item(0, 6, ItemBody::TableCell)),
-            (3, item(0, 1, ItemBody::MaybeCode(1, false))),
-            (3, text(1, 5)),
-            (3, item(5, 6, ItemBody::MaybeCode(1, false))),
-        ],
-    )?;
-    let mut parts = no_parts(alloc);
-    parts.alignments.push(Vec::new(alloc))?;
-    let blocks = Blocks::checked(alloc, source, Options::ENABLE_TABLES, tree, parts)?;
-    let parser: Parser<'_> = Parser::from_blocks(alloc, blocks, None)?;
-    let html = merged_html(alloc, parser)?;
-    assert_eq!(rt;
-        html.as_str(),
-        "<table><thead><tr><th><code>a|b</code></th></tr></thead><tbody>\n</tbody></table>\n"
-    );
-    Ok(())
+    let outline = [
+        (0, item(0, 6, ItemBody::Table(AlignmentIndex(0)))),
+        (1, item(0, 6, ItemBody::TableHead)),
+        (2, item(0, 6, ItemBody::TableCell)),
+        (3, item(0, 1, ItemBody::MaybeCode(1, false))),
+        (3, text(1, 5)),
+        (3, item(5, 6, ItemBody::MaybeCode(1, false))),
+    ];
+    outline_shows(
+        rt.alloc(),
+        "`a\\|b`",
+        Options::ENABLE_TABLES,
+        &outline,
+        "<table><thead><tr><th><code>a|b</code></th></tr></thead><tbody>\n</tbody></table>\n",
+    )
 }
 
-/// Appends an item with an `a` behind it to a text and a tree.
-fn append_with_text(
-    source: &mut String,
-    tree: &mut Tree<Item>,
-    mark: &str,
-    body: ItemBody,
-) -> Result<(), AllocError> {
-    let start = source.len();
-    source.push_str(mark)?;
-    tree.append(item(start, source.len(), body))?;
-    let behind = source.len();
-    source.push('a')?;
-    tree.append(text(behind, source.len()))?;
-    Ok(())
+/// Appends a run of backticks, and a text behind it.
+fn append_backticks(alloc: Global, over: &mut Grown, count: usize) -> Result<(), AllocError> {
+    let mark = "`".repeat(alloc, count)?;
+    over.append(mark.as_str(), ItemBody::MaybeCode(count, false))?;
+    over.append_a()
+}
+
+/// How many events runs of 1 up to 100 backticks give, and what is counted.
+fn counted_of_backticks(alloc: Global) -> Result<(usize, Work), Fail> {
+    // 5050 backticks and 100 characters `a`
+    let mut over = Grown::new(alloc, 5150)?;
+    for count in 1..101 {
+        append_backticks(alloc, &mut over, count)?;
+    }
+    over.counted(alloc)
 }
 
 #[test]
 fn backticks_of_rising_lengths(rt: HostRuntime) -> Result<(), Fail> {
-    let alloc = rt.alloc();
-    let mut source = String::new(alloc);
-    let mut tree = Tree::new(alloc)?;
-    // 5050 backticks and 100 characters `a`
-    tree.append(item(0, 5150, ItemBody::Paragraph))?;
-    tree.push()?;
-    let mut mark = String::new(alloc);
-    for count in 1..101 {
-        mark.push('`')?;
-        append_with_text(
-            &mut source,
-            &mut tree,
-            mark.as_str(),
-            ItemBody::MaybeCode(count, false),
-        )?;
+    let (events, work) = counted_of_backticks(rt.alloc())?;
+    let once_each = work.code_visits == 199 || work.code_visits == 200;
+    gives(
+        "events, items, whether each is visited once",
+        (events, work.items, once_each),
+        (202, 200, true),
+    )
+}
+
+/// Appends a dollar, and a text behind it.
+fn append_dollar(over: &mut Grown, context: u8) -> Result<(), AllocError> {
+    over.append("$", ItemBody::MaybeMath(true, true, context))?;
+    over.append_a()
+}
+
+/// How many events a hundred dollars give, each in braces of its own, and what is counted.
+fn counted_of_dollars(alloc: Global) -> Result<(usize, Work), Fail> {
+    let mut over = Grown::new(alloc, 200)?;
+    for context in 0..100 {
+        append_dollar(&mut over, context)?;
     }
-    let (events, work) = counted(alloc, source.as_str(), tree)?;
-    assert_eq!(rt; events, 202);
-    assert_eq!(rt; work.items, 200);
-    assert!(rt; work.code_visits == 199 || work.code_visits == 200);
-    Ok(())
+    over.counted(alloc)
 }
 
 #[test]
 fn dollars_of_a_hundred_contexts(rt: HostRuntime) -> Result<(), Fail> {
-    let alloc = rt.alloc();
-    let mut source = String::new(alloc);
-    let mut tree = Tree::new(alloc)?;
-    tree.append(item(0, 200, ItemBody::Paragraph))?;
-    tree.push()?;
-    for context in 0..100 {
-        append_with_text(
-            &mut source,
-            &mut tree,
-            "$",
-            ItemBody::MaybeMath(true, true, context),
-        )?;
-    }
-    let (events, work) = counted(alloc, source.as_str(), tree)?;
-    assert_eq!(rt; events, 202);
-    assert_eq!(rt; work.items, 200);
-    assert!(rt; work.math_visits == 199 || work.math_visits == 200);
-    Ok(())
+    let (events, work) = counted_of_dollars(rt.alloc())?;
+    let once_each = work.math_visits == 199 || work.math_visits == 200;
+    gives(
+        "events, items, whether each is visited once",
+        (events, work.items, once_each),
+        (202, 200, true),
+    )
 }

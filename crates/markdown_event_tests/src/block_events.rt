@@ -1,45 +1,76 @@
 //! The events of each body of a block result, with their ranges, over trees made by hand.
+use crate::rows::{parser_of, parser_shows};
 use bitflags::Flags;
 use markdown_base::block_parts::{BlockParts, HeadingAttributes};
 use markdown_base::cow_str::CowStr;
+use markdown_base::event::Event;
 use markdown_base::index::{AlignmentIndex, CowIndex, HeadingIndex};
 use markdown_base::item::ItemBody;
 use markdown_base::options::Options;
 use markdown_base::tag::{Alignment, BlockQuoteKind, HeadingLevel, MetadataBlockKind};
-use markdown_inline::walk::Parser;
-use markdown_out::html::push_html;
-use markdown_spans::blocks::Blocks;
 use markdown_tests::builders::{Outline, item, no_parts, one_text, text, tree_of};
+use markdown_tests::rows::gives;
 use std::alloc::{AllocError, Global};
+use std::ops::Range;
 use std::test::Fail;
 
-/// A parser of a tree over a text.
-fn parser_of<'a>(
-    alloc: Global,
-    source: &'a str,
-    outline: Outline<'_>,
-    parts: BlockParts<'a>,
-) -> Result<Parser<'a>, Fail> {
-    let tree = tree_of(alloc, outline)?;
-    let blocks = Blocks::checked(alloc, source, Options::empty(), tree, parts)?;
-    Ok(Parser::from_blocks(alloc, blocks, None)?)
-}
-
-/// Its events as they are printed, each with its range.
-fn events_of(alloc: Global, parser: Parser<'_>) -> Result<String, Fail> {
-    let (events, _callback) = parser.into_offset_iter().into_events(alloc)?;
+/// Events as they are printed, each with its range.
+fn printed(alloc: Global, events: &[(Event<'_>, Range<usize>)]) -> Result<String, AllocError> {
     let mut notes = String::new(alloc);
-    for (event, range) in events.iter() {
+    for (event, range) in events {
         let note = format!(in alloc; "{:?} {}..{} ", event, range.start, range.end)?;
         notes.push_str(note.as_str())?;
     }
     Ok(notes)
 }
 
+/// The events of a tree over a text, as they are printed.
+fn events_of<'a>(
+    alloc: Global,
+    source: &'a str,
+    outline: Outline<'_>,
+    parts: BlockParts<'a>,
+) -> Result<String, Fail> {
+    let tree = tree_of(alloc, outline)?;
+    let parser = parser_of(alloc, source, Options::empty(), tree, parts)?;
+    let (events, callback) = parser.into_offset_iter().into_events(alloc)?;
+    drop(callback);
+    let notes = printed(alloc, events.as_slice());
+    drop(events);
+    Ok(notes?)
+}
+
+/// A tree over `abc` gives these events; it may name one text.
+fn tree_gives(
+    alloc: Global,
+    outline: Outline<'_>,
+    row: ItemBody,
+    wanted: &str,
+) -> Result<(), Fail> {
+    let events = events_of(alloc, "abc", outline, one_text(alloc)?)?;
+    gives(row, events.as_str(), wanted)
+}
+
+/// A body with a text in it gives this Start and this End.
+fn block_gives(alloc: Global, body: ItemBody, start: &str, end: &str) -> Result<(), Fail> {
+    let outline = [(0, item(0, 3, body)), (1, text(1, 2))];
+    let wanted = format!(in alloc; "Start({start}) 0..3 Text(\"b\") 1..2 End({end}) 0..3 ")?;
+    tree_gives(alloc, &outline, body, wanted.as_str())
+}
+
+/// A body in an item gives this event.
+fn leaf_gives(alloc: Global, body: ItemBody, name: &str) -> Result<(), Fail> {
+    let outline = [
+        (0, item(0, 3, ItemBody::ListItem(2))),
+        (1, item(1, 2, body)),
+    ];
+    let wanted = format!(in alloc; "Start(Item) 0..3 {name} 1..2 End(Item) 0..3 ")?;
+    tree_gives(alloc, &outline, body, wanted.as_str())
+}
+
 #[test]
 fn trees(rt: HostRuntime) -> Result<(), Fail> {
-    let alloc = rt.alloc();
-    let rows = [
+    let rows = &[
         (
             ItemBody::BlockQuote(None),
             "BlockQuote(None)",
@@ -98,22 +129,15 @@ fn trees(rt: HostRuntime) -> Result<(), Fail> {
             "FootnoteDefinition",
         ),
     ];
-    for (body, start, end) in rows {
-        let outline = [(0, item(0, 3, body)), (1, text(1, 2))];
-        let parser = parser_of(alloc, "abc", &outline, one_text(alloc)?)?;
-        let events = format!(in alloc;
-            "Start({}) 0..3 Text(\"b\") 1..2 End({}) 0..3 ",
-            start, end
-        )?;
-        assert_eq!(rt; events_of(alloc, parser)?.as_str(), events.as_str());
+    for &(body, start, end) in rows {
+        block_gives(rt.alloc(), body, start, end)?;
     }
     Ok(())
 }
 
 #[test]
 fn single_events(rt: HostRuntime) -> Result<(), Fail> {
-    let alloc = rt.alloc();
-    let rows = [
+    let rows = &[
         (
             ItemBody::Text {
                 backslash_escaped: true,
@@ -131,24 +155,23 @@ fn single_events(rt: HostRuntime) -> Result<(), Fail> {
         (ItemBody::HardBreak(false), "HardBreak"),
         (ItemBody::Rule, "Rule"),
     ];
-    for (body, name) in rows {
-        let outline = [
-            (0, item(0, 3, ItemBody::ListItem(2))),
-            (1, item(1, 2, body)),
-        ];
-        let parser = parser_of(alloc, "abc", &outline, one_text(alloc)?)?;
-        let events = format!(in alloc; "Start(Item) 0..3 {} 1..2 End(Item) 0..3 ", name)?;
-        assert_eq!(rt; events_of(alloc, parser)?.as_str(), events.as_str());
+    for &(body, name) in rows {
+        leaf_gives(rt.alloc(), body, name)?;
     }
     Ok(())
+}
+
+/// Parts with the alignments of two columns.
+fn two_columns(alloc: Global) -> Result<BlockParts<'static>, AllocError> {
+    let alignments = vec![in alloc; Alignment::None, Alignment::Right]?;
+    let mut parts = no_parts(alloc);
+    parts.alignments.push(alignments)?;
+    Ok(parts)
 }
 
 #[test]
 fn a_table(rt: HostRuntime) -> Result<(), Fail> {
     let alloc = rt.alloc();
-    let mut parts = no_parts(alloc);
-    let alignments = vec![in alloc; Alignment::None, Alignment::Right]?;
-    parts.alignments.push(alignments)?;
     let outline = [
         (0, item(0, 3, ItemBody::Table(AlignmentIndex(0)))),
         (1, item(0, 2, ItemBody::TableHead)),
@@ -157,16 +180,15 @@ fn a_table(rt: HostRuntime) -> Result<(), Fail> {
         (2, item(1, 2, ItemBody::TableCell)),
         (1, item(2, 3, ItemBody::TableRow)),
     ];
-    let parser = parser_of(alloc, "abc", &outline, parts)?;
+    let found = events_of(alloc, "abc", &outline, two_columns(alloc)?)?;
     let events = "Start(Table([None, Right])) 0..3 Start(TableHead) 0..2 Start(TableCell) 0..1 \
         Text(\"a\") 0..1 End(TableCell) 0..1 Start(TableCell) 1..2 End(TableCell) 1..2 \
         End(TableHead) 0..2 Start(TableRow) 2..3 End(TableRow) 2..3 End(Table) 0..3 ";
-    assert_eq!(rt; events_of(alloc, parser)?.as_str(), events);
-    Ok(())
+    gives("a table", found.as_str(), events)
 }
 
 /// Attributes with an identifier, a class, a name with a value and one without.
-fn attributes<'a>(alloc: Global) -> Result<HeadingAttributes<'a>, AllocError> {
+fn attributes(alloc: Global) -> Result<HeadingAttributes<'static>, AllocError> {
     let classes = vec![in alloc; CowStr::Borrowed("c")]?;
     let attrs = vec![in alloc;
         (CowStr::Borrowed("k"), Some(CowStr::Borrowed("v"))),
@@ -179,27 +201,31 @@ fn attributes<'a>(alloc: Global) -> Result<HeadingAttributes<'a>, AllocError> {
     })
 }
 
+/// Parts with these attributes.
+fn attributed(alloc: Global) -> Result<BlockParts<'static>, AllocError> {
+    let held = attributes(alloc)?;
+    let mut parts = no_parts(alloc);
+    parts.headings.push(held)?;
+    Ok(parts)
+}
+
 #[test]
 fn headings_that_share_attributes(rt: HostRuntime) -> Result<(), Fail> {
     let alloc = rt.alloc();
-    let mut parts = no_parts(alloc);
-    parts.headings.push(attributes(alloc)?)?;
     let shared = ItemBody::Heading(HeadingLevel::H2, Some(HeadingIndex(1)));
     let outline = [
         (0, item(0, 1, ItemBody::Heading(HeadingLevel::H6, None))),
         (0, item(1, 2, shared)),
         (0, item(2, 3, shared)),
     ];
-    let parser = parser_of(alloc, "abc", &outline, parts)?;
-    let shown = "Heading { level: H2, id: Some(\"i\"), classes: [\"c\"], \
-        attrs: [(\"k\", Some(\"v\")), (\"n\", None)] }";
-    let events = format!(in alloc;
-        "Start(Heading {{ level: H6, id: None, classes: [], attrs: [] }}) 0..1 End(Heading(H6)) 0..1 \
-        Start({}) 1..2 End(Heading(H2)) 1..2 Start({}) 2..3 End(Heading(H2)) 2..3 ",
-        shown, shown
-    )?;
-    assert_eq!(rt; events_of(alloc, parser)?.as_str(), events.as_str());
-    Ok(())
+    let events =
+        "Start(Heading { level: H6, id: None, classes: [], attrs: [] }) 0..1 End(Heading(H6)) 0..1 \
+        Start(Heading { level: H2, id: Some(\"i\"), classes: [\"c\"], \
+        attrs: [(\"k\", Some(\"v\")), (\"n\", None)] }) 1..2 End(Heading(H2)) 1..2 \
+        Start(Heading { level: H2, id: Some(\"i\"), classes: [\"c\"], \
+        attrs: [(\"k\", Some(\"v\")), (\"n\", None)] }) 2..3 End(Heading(H2)) 2..3 ";
+    let found = events_of(alloc, "abc", &outline, attributed(alloc)?)?;
+    gives("headings", found.as_str(), events)
 }
 
 #[test]
@@ -210,9 +236,7 @@ fn a_list_with_an_empty_tight_paragraph(rt: HostRuntime) -> Result<(), Fail> {
         (1, item(0, 2, ItemBody::ListItem(2))),
         (2, item(2, 2, ItemBody::TightParagraph)),
     ];
-    let parser = parser_of(alloc, "- ", &outline, no_parts(alloc))?;
-    let mut html = String::new(alloc);
-    push_html(alloc, &mut html, parser)?;
-    assert_eq!(rt; html.as_str(), "<ul>\n<li></li>\n</ul>\n");
-    Ok(())
+    let tree = tree_of(alloc, &outline)?;
+    let parser = parser_of(alloc, "- ", Options::empty(), tree, no_parts(alloc))?;
+    parser_shows(alloc, "- ", parser, "<ul>\n<li></li>\n</ul>\n")
 }

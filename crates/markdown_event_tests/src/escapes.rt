@@ -1,13 +1,12 @@
 //! What stands in HTML for each byte that can stand in a text.
-use crate::events::{Item, link};
-use markdown_base::cow_str::CowStr;
-use markdown_base::event::Event;
+use crate::rows::html_of;
+use crate::signs::{Made, Sign};
 use markdown_base::tag::LinkType;
-use markdown_out::html::push_html;
-use std::alloc::Global;
+use markdown_tests::rows::gives;
+use std::alloc::{AllocError, Global};
 use std::test::Fail;
 
-fn push_code(all: &mut String, code: u32) -> Result<(), Fail> {
+fn push_code(all: &mut String, code: u32) -> Result<(), AllocError> {
     if let Some(c) = char::from_u32(code) {
         all.push(c)?;
     }
@@ -15,7 +14,7 @@ fn push_code(all: &mut String, code: u32) -> Result<(), Fail> {
 }
 
 /// Each character of one byte, and one with each first byte and each later byte that UTF-8 has.
-fn all_bytes(alloc: Global) -> Result<String, Fail> {
+fn all_bytes(alloc: Global) -> Result<String, AllocError> {
     let mut all = String::new(alloc);
     for code in 0u32..192 {
         push_code(&mut all, code)?;
@@ -34,14 +33,24 @@ fn all_bytes(alloc: Global) -> Result<String, Fail> {
     Ok(all)
 }
 
-/// What stands for a byte of a text, by the table; for a quote this.
-fn push_escaped(expected: &mut Vec<u8>, byte: u8, quote: &str) -> Result<(), Fail> {
+/// What stands for a byte of a text, by the table, where another text does; for a quote this.
+fn escaped(byte: u8, quote: &str) -> Option<&str> {
     match byte {
-        b'&' => expected.extend_from_slice("&amp;".as_bytes())?,
-        b'<' => expected.extend_from_slice("&lt;".as_bytes())?,
-        b'>' => expected.extend_from_slice("&gt;".as_bytes())?,
-        b'"' => expected.extend_from_slice(quote.as_bytes())?,
-        other => expected.push(other)?,
+        b'&' => Some("&amp;"),
+        b'<' => Some("&lt;"),
+        b'>' => Some("&gt;"),
+        b'"' => Some(quote),
+        _ => None,
+    }
+}
+
+/// Appends what stands for the bytes of a text, with this for a quote.
+fn push_escaped(expected: &mut Vec<u8>, text: &str, quote: &str) -> Result<(), AllocError> {
+    for byte in text.as_bytes() {
+        match escaped(*byte, quote) {
+            Some(other) => expected.extend_from_slice(other.as_bytes())?,
+            None => expected.push(*byte)?,
+        }
     }
     Ok(())
 }
@@ -51,7 +60,7 @@ const KEPT: &str =
     "ABCDEFGHIJKLMNOPQRSTUVWXYZabcdefghijklmnopqrstuvwxyz0123456789!#$%()*+,-./:;=?@_~";
 
 /// `%` and two digits.
-fn push_percent(expected: &mut Vec<u8>, byte: u8) -> Result<(), Fail> {
+fn push_percent(expected: &mut Vec<u8>, byte: u8) -> Result<(), AllocError> {
     let digits = "0123456789ABCDEF".as_bytes();
     expected.push(b'%')?;
     for digit in [byte >> 4, byte & 15] {
@@ -62,8 +71,8 @@ fn push_percent(expected: &mut Vec<u8>, byte: u8) -> Result<(), Fail> {
     Ok(())
 }
 
-/// What stands for a byte of a destination, by the table.
-fn push_destination(expected: &mut Vec<u8>, byte: u8) -> Result<(), Fail> {
+/// Appends what stands for a byte of a destination, by the table.
+fn push_destination(expected: &mut Vec<u8>, byte: u8) -> Result<(), AllocError> {
     match byte {
         b'&' => expected.extend_from_slice("&amp;".as_bytes())?,
         b'\'' => expected.extend_from_slice("&#x27;".as_bytes())?,
@@ -73,39 +82,81 @@ fn push_destination(expected: &mut Vec<u8>, byte: u8) -> Result<(), Fail> {
     Ok(())
 }
 
-/// Whether the HTML of one event is that.
-fn is_written<'a>(alloc: Global, event: Item<'a>, expected: &[u8]) -> Result<bool, Fail> {
-    let mut html = String::new(alloc);
-    let events = vec![in alloc; event]?;
-    let done = push_html(alloc, &mut html, events.into_iter());
-    Ok(done == Ok(()) && html.as_str().as_bytes() == expected)
+/// Appends what stands for the bytes of a destination.
+fn push_destinations(expected: &mut Vec<u8>, text: &str) -> Result<(), AllocError> {
+    for byte in text.as_bytes() {
+        push_destination(expected, *byte)?;
+    }
+    Ok(())
+}
+
+/// What stands for a text, with this for a quote, between two others.
+fn between(
+    alloc: Global,
+    before: &str,
+    text: &str,
+    quote: &str,
+    after: &str,
+) -> Result<Vec<u8>, AllocError> {
+    let mut expected = Vec::new(alloc);
+    expected.extend_from_slice(before.as_bytes())?;
+    push_escaped(&mut expected, text, quote)?;
+    expected.extend_from_slice(after.as_bytes())?;
+    Ok(expected)
+}
+
+/// What stands for the Start of a link there.
+fn link_to(alloc: Global, destination: &str) -> Result<Vec<u8>, AllocError> {
+    let mut expected = Vec::new(alloc);
+    expected.extend_from_slice("<a href=\"".as_bytes())?;
+    push_destinations(&mut expected, destination)?;
+    expected.extend_from_slice("\">".as_bytes())?;
+    Ok(expected)
+}
+
+/// The HTML of these events is that.
+fn is_written<'s>(
+    alloc: Global,
+    row: &str,
+    signs: &'s [Sign<'s>],
+    expected: &[u8],
+) -> Result<(), Fail> {
+    let html = html_of(alloc, Made::of(alloc, signs))?;
+    gives(row, html.as_str().as_bytes() == expected, true)
 }
 
 #[test]
-fn each_byte_is_escaped(rt: HostRuntime) -> Result<(), Fail> {
+fn each_byte_of_a_text_is_escaped(rt: HostRuntime) -> Result<(), Fail> {
     let alloc = rt.alloc();
     let all = all_bytes(alloc)?;
-    let mut expected = Vec::new(alloc);
-    for byte in all.as_str().as_bytes() {
-        push_escaped(&mut expected, *byte, "\"")?;
-    }
-    let text = Ok(Event::Text(CowStr::Borrowed(all.as_str())));
-    assert!(rt; is_written(alloc, text, expected.as_slice())?);
-    expected.clear();
-    expected.extend_from_slice("<span class=\"math math-inline\">".as_bytes())?;
-    for byte in all.as_str().as_bytes() {
-        push_escaped(&mut expected, *byte, "&quot;")?;
-    }
-    expected.extend_from_slice("</span>".as_bytes())?;
-    let math = Ok(Event::InlineMath(CowStr::Borrowed(all.as_str())));
-    assert!(rt; is_written(alloc, math, expected.as_slice())?);
-    expected.clear();
-    expected.extend_from_slice("<a href=\"".as_bytes())?;
-    for byte in all.as_str().as_bytes() {
-        push_destination(&mut expected, *byte)?;
-    }
-    expected.extend_from_slice("\">".as_bytes())?;
-    let address = link(LinkType::Inline, all.as_str(), "");
-    assert!(rt; is_written(alloc, address, expected.as_slice())?);
-    Ok(())
+    let expected = between(alloc, "", all.as_str(), "\"", "")?;
+    is_written(
+        alloc,
+        "text",
+        &[Sign::Words(all.as_str())],
+        expected.as_slice(),
+    )
+}
+
+#[test]
+fn each_byte_of_math_is_escaped(rt: HostRuntime) -> Result<(), Fail> {
+    let alloc = rt.alloc();
+    let all = all_bytes(alloc)?;
+    let before = "<span class=\"math math-inline\">";
+    let expected = between(alloc, before, all.as_str(), "&quot;", "</span>")?;
+    is_written(
+        alloc,
+        "math",
+        &[Sign::InlineMath(all.as_str())],
+        expected.as_slice(),
+    )
+}
+
+#[test]
+fn each_byte_of_a_destination_is_escaped(rt: HostRuntime) -> Result<(), Fail> {
+    let alloc = rt.alloc();
+    let all = all_bytes(alloc)?;
+    let expected = link_to(alloc, all.as_str())?;
+    let link = Sign::Link(LinkType::Inline, all.as_str(), "");
+    is_written(alloc, "destination", &[link], expected.as_slice())
 }

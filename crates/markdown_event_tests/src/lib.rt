@@ -19,6 +19,8 @@ mod parser;
 #[cfg(test)]
 mod program;
 #[cfg(test)]
+mod rows;
+#[cfg(test)]
 mod signs;
 #[cfg(test)]
 mod whole_runs;

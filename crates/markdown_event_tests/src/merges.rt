@@ -1,143 +1,165 @@
 //! What the merges give, with ample memory.
 use crate::events::{Item, is_nothing, text};
-use markdown_base::cow_str::CowStr;
+use crate::rows::said_of;
+use crate::signs::{Made, Sign, item_of};
 use markdown_base::event::Event;
 use markdown_base::fault::Fault;
-use markdown_base::tag::{CodeBlockKind, Tag, TagEnd};
+use markdown_base::tag::TagEnd;
 use markdown_out::merge::{TextMergeStream, TextMergeWithOffset};
-use std::alloc::Global;
+use markdown_tests::rows::gives;
+use std::alloc::{AllocError, Global};
 use std::ops::Range;
 use std::test::Fail;
 
-/// Writes an item down: a text in brackets, a rule as a dash, an error as `!`.
-fn push_item<'a>(notes: &mut String, item: &Item<'a>) -> Result<(), Fail> {
+/// An item written down: a text in brackets, a rule as a dash, an error as `!`.
+fn say_item(alloc: Global, item: &Item<'_>) -> Result<String, AllocError> {
     match item {
-        Ok(Event::Text(text)) => {
-            notes.push('[')?;
-            notes.push_str(text.as_str())?;
-            notes.push(']')?;
-        }
-        Ok(_) => notes.push('-')?,
-        Err(_) => notes.push('!')?,
+        Ok(Event::Text(text)) => format!(in alloc; "[{}]", text.as_str()),
+        Ok(_) => String::from_str(alloc, "-"),
+        Err(_) => String::from_str(alloc, "!"),
     }
-    Ok(())
-}
-
-/// Writes an item down, which then goes.
-fn push_and_drop<'a>(notes: &mut String, item: Item<'a>) -> Result<(), Fail> {
-    let done = push_item(notes, &item);
-    drop(item);
-    done
 }
 
 /// The merge of these items up to its first None, written down.
-fn merged<'a>(alloc: Global, items: Vec<Item<'a>>) -> Result<String, Fail> {
-    let mut notes = String::new(alloc);
-    for item in TextMergeStream::new(alloc, items.into_iter()) {
-        push_and_drop(&mut notes, item)?;
-    }
-    Ok(notes)
+fn merged<'s>(alloc: Global, signs: &'s [Sign<'s>]) -> Result<String, Fail> {
+    let merge = TextMergeStream::new(alloc, Made::of(alloc, signs));
+    said_of(alloc, merge, say_item)
 }
 
-/// A text of the letter `a`, `b` or `c`, a rule for a dash, an error for `!`, and else an empty text.
-fn item_of<'a>(sign: char) -> Item<'a> {
-    match sign {
-        'a' => text("a"),
-        'b' => text("b"),
-        'c' => text("c"),
-        '-' => Ok(Event::Rule),
-        '!' => Err(Fault::Memory),
-        _ => text(""),
-    }
-}
-
-/// Such an item for each character.
-fn items_of<'a>(alloc: Global, signs: &str) -> Result<Vec<Item<'a>>, Fail> {
-    let mut items = Vec::new(alloc);
-    for sign in signs.chars() {
-        items.push(item_of(sign))?;
-    }
-    Ok(items)
+/// The merge of these items is that.
+fn merge_gives<'s>(alloc: Global, signs: &'s [Sign<'s>], wanted: &str) -> Result<(), Fail> {
+    let notes = merged(alloc, signs)?;
+    gives(wanted, notes.as_str(), wanted)
 }
 
 #[test]
 fn runs(rt: HostRuntime) -> Result<(), Fail> {
     let alloc = rt.alloc();
-    for (signs, expected) in [
-        ("-__-", "--"),
-        ("__", ""),
-        ("-_-", "-[]-"),
-        ("ab!c", "[ab]![c]"),
-    ] {
-        let notes = merged(alloc, items_of(alloc, signs)?)?;
-        assert_eq!(rt; notes.as_str(), expected);
-    }
-    Ok(())
+    let [a, b, c] = [Sign::Words("a"), Sign::Words("b"), Sign::Words("c")];
+    let [empty, rule] = [Sign::Words(""), Sign::Rule];
+    merge_gives(alloc, &[rule, empty, empty, rule], "--")?;
+    merge_gives(alloc, &[empty, empty], "")?;
+    merge_gives(alloc, &[rule, empty, rule], "-[]-")?;
+    merge_gives(alloc, &[a, b, Sign::Refused(Fault::Memory), c], "[ab]![c]")
 }
 
 type Ranged<'a> = Result<(Event<'a>, Range<usize>), Fault>;
 
-fn ranged<'a>(event: Event<'a>, range: Range<usize>) -> Ranged<'a> {
+/// An item with its range.
+fn ranged<'a>(item: Item<'a>, range: Range<usize>) -> Ranged<'a> {
+    let event = item?;
     Ok((event, range))
 }
 
-/// Writes an item down as `push_item` does, and then its range.
-fn push_ranged<'a>(alloc: Global, notes: &mut String, item: Ranged<'a>) -> Result<(), Fail> {
-    let (event, range) = item?;
-    push_and_drop(notes, Ok(event))?;
-    let place = format!(in alloc; "{}..{} ", range.start, range.end)?;
-    notes.push_str(place.as_str())?;
-    Ok(())
+/// The items that signs stand for, with their ranges.
+#[derive(Drop)]
+struct MadeRanged<'s> {
+    alloc: Global,
+    rows: &'s [(Sign<'s>, usize, usize)],
+    at: usize,
+    left: usize,
 }
 
-/// The merge of these items up to its first None or error, written down, each with its range.
-fn merged_ranges<'a>(alloc: Global, items: Vec<Ranged<'a>>) -> Result<String, Fail> {
-    let mut notes = String::new(alloc);
-    for item in TextMergeWithOffset::new(alloc, items.into_iter()) {
-        push_ranged(alloc, &mut notes, item)?;
+impl<'s> Iterator for MadeRanged<'s> {
+    type Item = Ranged<'s>;
+
+    ghost use Rattle.std.specs.Prelude.{◌≤◌};
+    ghost use Rattle.std.specs.Iterator.{at_most};
+
+    ghost next_gives = { λ s r t. t.left ≤ s.left };
+
+    ghost remaining = { λ s. at_most s.left };
+
+    fn size_hint(&self) -> (usize, Option<usize>) {
+        (0, None)
     }
-    Ok(notes)
+
+    fn next(&mut self) -> Option<Ranged<'s>> {
+        if self.left == 0 {
+            return None;
+        }
+        self.left -= 1;
+        let (sign, start, end) = *self.rows.get(self.at)?;
+        self.at = self.at.saturating_add(1);
+        Some(ranged(item_of(self.alloc, sign), start..end))
+    }
+}
+
+/// An item written down as `say_item` does, and then its range.
+fn say_ranged(alloc: Global, item: &Ranged<'_>) -> Result<String, AllocError> {
+    match item {
+        Ok((Event::Text(text), range)) => {
+            format!(in alloc; "[{}]{}..{} ", text.as_str(), range.start, range.end)
+        }
+        Ok((_, range)) => format!(in alloc; "-{}..{} ", range.start, range.end),
+        Err(_) => String::from_str(alloc, "!"),
+    }
+}
+
+/// The merge of these items up to its first None, written down, each with its range.
+fn merged_ranges<'s>(alloc: Global, rows: &'s [(Sign<'s>, usize, usize)]) -> Result<String, Fail> {
+    let items = MadeRanged {
+        alloc,
+        rows,
+        at: 0,
+        left: rows.len(),
+    };
+    said_of(alloc, TextMergeWithOffset::new(alloc, items), say_ranged)
 }
 
 #[test]
 fn runs_with_ranges(rt: HostRuntime) -> Result<(), Fail> {
-    let alloc = rt.alloc();
-    let items = vec![in alloc;
-        ranged(Event::Start(Tag::CodeBlock(CodeBlockKind::Indented)), 5..32),
-        ranged(Event::Text(CowStr::Borrowed("first line\n")), 5..16),
-        ranged(Event::Text(CowStr::Borrowed("second line\n")), 20..32),
-        ranged(Event::End(TagEnd::CodeBlock), 5..32),
-    ]?;
-    let expected = "-5..32 [first line\nsecond line\n]5..32 -5..32 ";
-    assert_eq!(rt; merged_ranges(alloc, items)?.as_str(), expected);
-    Ok(())
+    let items = [
+        (Sign::Open(TagEnd::CodeBlock), 5, 32),
+        (Sign::Words("first line\n"), 5, 16),
+        (Sign::Words("second line\n"), 20, 32),
+        (Sign::Close(TagEnd::CodeBlock), 5, 32),
+    ];
+    let notes = merged_ranges(rt.alloc(), &items)?;
+    let wanted = "-5..32 [first line\nsecond line\n]5..32 -5..32 ";
+    gives("code", notes.as_str(), wanted)
 }
 
-/// Gives answers that are None in the middle; the last of the list comes first.
+/// Gives answers that are None in the middle: a text for a letter, and None for any other sign.
 #[derive(Drop)]
 struct Answers<'a> {
-    left: Vec<Option<Item<'a>>>,
+    signs: &'a [u8],
+    at: usize,
+    left: usize,
+}
+
+/// The answer for a sign.
+fn answer_of<'a>(sign: u8) -> Option<Item<'a>> {
+    match sign {
+        b'a' => Some(text("a")),
+        b'b' => Some(text("b")),
+        b'c' => Some(text("c")),
+        _ => None,
+    }
 }
 
 impl<'a> Iterator for Answers<'a> {
     type Item = Item<'a>;
 
-    ghost use Rattle.std.specs.Prelude.{◌≤◌, length};
+    ghost use Rattle.std.specs.Prelude.{◌≤◌};
     ghost use Rattle.std.specs.Iterator.{at_most};
 
-    ghost next_gives = { λ s r t. length t.left.items ≤ length s.left.items };
+    ghost next_gives = { λ s r t. t.left ≤ s.left };
 
-    ghost remaining = { λ s. at_most (length s.left.items) };
+    ghost remaining = { λ s. at_most s.left };
 
     fn size_hint(&self) -> (usize, Option<usize>) {
         (0, None)
     }
 
     fn next(&mut self) -> Option<Item<'a>> {
-        match self.left.pop() {
-            Some(answer) => answer,
-            None => None,
+        if self.left == 0 {
+            return None;
         }
+        self.left -= 1;
+        let sign = *self.signs.get(self.at)?;
+        self.at = self.at.saturating_add(1);
+        answer_of(sign)
     }
 }
 
@@ -148,31 +170,17 @@ fn is_text<'a>(answer: Option<Item<'a>>, words: &str) -> bool {
     is
 }
 
-/// A text of the letter, or None for any other sign; the last sign comes first.
-fn answers_of<'a>(alloc: Global, signs: &str) -> Result<Vec<Option<Item<'a>>>, Fail> {
-    let mut answers = Vec::new(alloc);
-    for sign in signs.chars() {
-        answers.push(answer_of(sign))?;
-    }
-    Ok(answers)
-}
-
-fn answer_of<'a>(sign: char) -> Option<Item<'a>> {
-    match sign {
-        'a' => Some(text("a")),
-        'b' => Some(text("b")),
-        'c' => Some(text("c")),
-        _ => None,
-    }
-}
-
 #[test]
 fn stretches_between_nones(rt: HostRuntime) -> Result<(), Fail> {
-    let alloc = rt.alloc();
-    let left = answers_of(alloc, "..cb.a")?;
-    let mut merge = TextMergeStream::new(alloc, Answers { left });
-    assert!(rt; is_text(merge.next(), "a"));
-    assert!(rt; is_text(merge.next(), "bc"));
-    assert!(rt; is_nothing(merge.next()));
-    Ok(())
+    let answers = Answers {
+        signs: b"a.bc..",
+        at: 0,
+        left: 6,
+    };
+    let mut merge = TextMergeStream::new(rt.alloc(), answers);
+    let first = is_text(merge.next(), "a");
+    let second = is_text(merge.next(), "bc");
+    let third = is_nothing(merge.next());
+    drop(merge);
+    gives("a, bc, nothing", (first, second, third), (true, true, true))
 }

@@ -1,6 +1,7 @@
 //! The program's texts and statuses.
 use markdown_render::run::run;
-use std::alloc::Global;
+use markdown_tests::rows::gives;
+use std::alloc::{AllocError, Global};
 use std::io::{self, ErrorKind, Read, Write};
 use std::test::Fail;
 
@@ -51,9 +52,20 @@ fn printed<R: Read>(alloc: Global, words: &[String], input: &mut R) -> Result<St
     Ok(format!(in alloc; "{status}{html}")?)
 }
 
+/// What is printed of a text, with no words.
+fn without_words(alloc: Global, input: &str) -> Result<String, Fail> {
+    printed(alloc, &[], &mut input.as_bytes())
+}
+
+/// This is printed of a text, with no words.
+fn prints(alloc: Global, input: &str, wanted: &str) -> Result<(), Fail> {
+    let found = without_words(alloc, input)?;
+    gives(input, found.as_str(), wanted)
+}
+
 #[test]
 fn prints_html(rt: HostRuntime) -> Result<(), Fail> {
-    let rows = [
+    let rows = &[
         ("", "0 "),
         ("hello world", "0 <p>hello world</p>\n"),
         ("a\nb", "0 <p>a\nb</p>\n"),
@@ -67,31 +79,45 @@ fn prints_html(rt: HostRuntime) -> Result<(), Fail> {
         ("[test]:\\", "0 "),
         ("[a]:", "0 <p>[a]:</p>\n"),
     ];
-    for (input, wanted) in rows {
-        let found = printed(rt.alloc(), &[], &mut input.as_bytes())?;
-        assert_eq!(rt; found.as_str(), wanted);
+    for &(input, wanted) in rows {
+        prints(rt.alloc(), input, wanted)?;
     }
     Ok(())
 }
 
-/// Two words, of which the second is unknown.
-fn two_words(alloc: Global) -> Result<Vec<String>, Fail> {
+/// Words of the program.
+fn words_of(alloc: Global, list: &[&str]) -> Result<Vec<String>, AllocError> {
     let mut words = Vec::new(alloc);
-    words.push(String::from_str(alloc, "tables")?)?;
-    words.push(String::from_str(alloc, "nosuch")?)?;
+    for word in list {
+        words.push(String::from_str(alloc, word)?)?;
+    }
     Ok(words)
 }
 
+/// Of two words the second is unknown.
+const UNKNOWN: [&str; 2] = ["tables", "nosuch"];
+
 /// What is printed of a text, with one word.
 fn with_word(alloc: Global, word: &str, input: &str) -> Result<String, Fail> {
-    let mut words = Vec::new(alloc);
-    words.push(String::from_str(alloc, word)?)?;
+    let words = words_of(alloc, &[word])?;
     printed(alloc, &words, &mut input.as_bytes())
+}
+
+/// This is printed of a text with one word.
+fn word_prints(alloc: Global, word: &str, input: &str, wanted: &str) -> Result<(), Fail> {
+    let found = with_word(alloc, word, input)?;
+    gives(word, found.as_str(), wanted)
+}
+
+/// Something else is printed of a text with no words.
+fn needs_a_word(alloc: Global, word: &str, input: &str, wanted: &str) -> Result<(), Fail> {
+    let plain = without_words(alloc, input)?;
+    gives((word, "alone"), plain.as_str() == wanted, false)
 }
 
 #[test]
 fn words_turn_options_on(rt: HostRuntime) -> Result<(), Fail> {
-    let rows = [
+    let rows = &[
         (
             "strikethrough",
             "Hello world, this is a ~~complicated~~ *very simple* example.",
@@ -109,7 +135,9 @@ fn words_turn_options_on(rt: HostRuntime) -> Result<(), Fail> {
         (
             "footnotes",
             "a[^b]\n\n[^b]: c",
-            "0 <p>a<sup class=\"footnote-reference\"><a href=\"#b\">1</a></sup></p>\n<div class=\"footnote-definition\" id=\"b\"><sup class=\"footnote-definition-label\">1</sup>\n<p>c</p>\n</div>\n",
+            "0 <p>a<sup class=\"footnote-reference\"><a href=\"#b\">1</a></sup></p>\n\
+            <div class=\"footnote-definition\" id=\"b\"><sup class=\"footnote-definition-label\">1</sup>\n\
+            <p>c</p>\n</div>\n",
         ),
         (
             "old-footnotes",
@@ -117,11 +145,9 @@ fn words_turn_options_on(rt: HostRuntime) -> Result<(), Fail> {
             "0 <p>a<sup class=\"footnote-reference\"><a href=\"#b\">1</a></sup></p>\n",
         ),
     ];
-    for (word, input, wanted) in rows {
-        let found = with_word(rt.alloc(), word, input)?;
-        assert_eq!(rt; found.as_str(), wanted, "{word}");
-        let plain = printed(rt.alloc(), &[], &mut input.as_bytes())?;
-        assert_ne!(rt; plain.as_str(), wanted, "{word}");
+    for &(word, input, wanted) in rows {
+        word_prints(rt.alloc(), word, input, wanted)?;
+        needs_a_word(rt.alloc(), word, input, wanted)?;
     }
     Ok(())
 }
@@ -129,7 +155,7 @@ fn words_turn_options_on(rt: HostRuntime) -> Result<(), Fail> {
 /// These options are read, and no item is made of them.
 #[test]
 fn words_that_change_no_text(rt: HostRuntime) -> Result<(), Fail> {
-    let rows = [
+    let rows = &[
         ("tables", "| a |\n| - |", "0 <p>| a |\n| - |</p>\n"),
         ("tasklists", "- [x] a", "0 <ul>\n<li>[x] a</li>\n</ul>\n"),
         ("heading-attributes", "# a {#b}", "0 <h1>a {#b}</h1>\n"),
@@ -142,39 +168,51 @@ fn words_that_change_no_text(rt: HostRuntime) -> Result<(), Fail> {
         ),
         ("definitions", "a\n: b", "0 <p>a\n: b</p>\n"),
     ];
-    for (word, input, wanted) in rows {
-        let found = with_word(rt.alloc(), word, input)?;
-        assert_eq!(rt; found.as_str(), wanted, "{word}");
+    for &(word, input, wanted) in rows {
+        word_prints(rt.alloc(), word, input, wanted)?;
     }
     Ok(())
 }
 
 #[test]
-fn says_what_failed(rt: HostRuntime) -> Result<(), Fail> {
-    let alloc = rt.alloc();
+fn says_that_the_input_is_no_text(rt: HostRuntime) -> Result<(), Fail> {
     let mut bad: &[u8] = &[255];
-    let found = printed(alloc, &[], &mut bad)?;
-    assert_eq!(rt; found.as_str(), "1 input is not UTF-8\n");
-    let found = printed(alloc, &two_words(alloc)?, &mut NoReader)?;
-    assert_eq!(rt; found.as_str(), "2 unknown option: nosuch\n");
-    let found = printed(alloc, &[], &mut NoReader)?;
-    assert_eq!(rt; found.as_str(), "1 read failed\n");
-    let found = said(alloc, &[], &mut "a".as_bytes(), &mut NoWriter)?;
-    assert_eq!(rt; found.as_str(), "1 write failed\n");
-    Ok(())
+    let found = printed(rt.alloc(), &[], &mut bad)?;
+    gives("input", found.as_str(), "1 input is not UTF-8\n")
+}
+
+#[test]
+fn says_that_a_word_is_unknown(rt: HostRuntime) -> Result<(), Fail> {
+    let words = words_of(rt.alloc(), &UNKNOWN)?;
+    let found = printed(rt.alloc(), &words, &mut NoReader)?;
+    gives("word", found.as_str(), "2 unknown option: nosuch\n")
+}
+
+#[test]
+fn says_that_a_read_failed(rt: HostRuntime) -> Result<(), Fail> {
+    let found = printed(rt.alloc(), &[], &mut NoReader)?;
+    gives("read", found.as_str(), "1 read failed\n")
+}
+
+#[test]
+fn says_that_a_write_failed(rt: HostRuntime) -> Result<(), Fail> {
+    let found = said(rt.alloc(), &[], &mut "a".as_bytes(), &mut NoWriter)?;
+    gives("write", found.as_str(), "1 write failed\n")
+}
+
+/// The status of a run that can say nothing, and how many bytes it prints.
+fn silent<R: Read>(alloc: Global, words: &[String], input: &mut R) -> (u8, usize) {
+    let mut out = Vec::new(alloc);
+    let status = run(alloc, words, input, &mut out, &mut NoWriter);
+    (status, out.len())
 }
 
 #[test]
 fn answers_the_same_where_nothing_can_be_said(rt: HostRuntime) -> Result<(), Fail> {
-    let alloc = rt.alloc();
-    let mut out = Vec::new(alloc);
+    let words = words_of(rt.alloc(), &UNKNOWN)?;
+    let of_words = silent(rt.alloc(), &words, &mut NoReader);
+    drop(words);
     let mut bad: &[u8] = &[255];
-    assert_eq!(rt; run(alloc, &[], &mut bad, &mut out, &mut NoWriter), 1);
-    let words = two_words(alloc)?;
-    assert_eq!(rt;
-        run(alloc, &words, &mut NoReader, &mut out, &mut NoWriter),
-        2
-    );
-    assert_eq!(rt; out.len(), 0);
-    Ok(())
+    gives("input", silent(rt.alloc(), &[], &mut bad), (1, 0))?;
+    gives("word", of_words, (2, 0))
 }

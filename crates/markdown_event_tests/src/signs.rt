@@ -1,36 +1,39 @@
-//! Events of tests, each by a sign that can be copied, so that lists of them are constants.
+//! Events of tests, each by a sign that can be copied, so that lists of them are constants. An event is made when it is
+//! asked for: no list of events goes at the end of a scope, for which a proof takes many seconds.
 use crate::events::{Item, end, image, link, reference, start, text};
 use markdown_base::cow_str::CowStr;
 use markdown_base::event::Event;
 use markdown_base::fault::Fault;
-use markdown_base::tag::{CodeBlockKind, LinkType, Tag, TagEnd};
-use std::alloc::Global;
-use std::test::Fail;
+use markdown_base::tag::{Alignment, CodeBlockKind, HeadingLevel, LinkType, Tag, TagEnd};
+use std::alloc::{AllocError, Global};
 
 /// An event, or an error.
 #[derive(Clone, Copy, Drop)]
-pub enum Sign {
+pub enum Sign<'s> {
     /// The Start that holds least of what this ends: a heading without attributes, an indented code block, a list that
     /// begins with 1 or has bullets.
     Open(TagEnd),
     Close(TagEnd),
     Ordered(u64),
-    Fenced(&'static str),
-    Definition(&'static str),
-    Link(LinkType, &'static str, &'static str),
-    Image(&'static str, &'static str),
-    Words(&'static str),
-    Code(&'static str),
-    InlineMath(&'static str),
-    DisplayMath(&'static str),
-    Html(&'static str),
-    InlineHtml(&'static str),
-    Reference(&'static str),
+    Fenced(&'s str),
+    Definition(&'s str),
+    Link(LinkType, &'s str, &'s str),
+    Image(&'s str, &'s str),
+    Words(&'s str),
+    Code(&'s str),
+    InlineMath(&'s str),
+    DisplayMath(&'s str),
+    Html(&'s str),
+    InlineHtml(&'s str),
+    Reference(&'s str),
     SoftBreak,
     HardBreak,
     Rule,
     Task(bool),
     Refused(Fault),
+    Table(&'s [Alignment]),
+    /// The Start of a heading with an identifier, two classes, an attribute with a value and one without.
+    FullHeading,
 }
 
 /// The tag of a Start that holds least.
@@ -67,8 +70,38 @@ fn tag_of<'a>(alloc: Global, tag: TagEnd) -> Tag<'a> {
     }
 }
 
+/// The Start of a table.
+fn table<'a>(alloc: Global, alignments: &[Alignment]) -> Item<'a> {
+    start(Tag::Table(alignments.to_vec(alloc)?))
+}
+
+/// Two classes.
+fn classes<'a>(alloc: Global) -> Result<Vec<CowStr<'a>>, AllocError> {
+    Ok(vec![in alloc; CowStr::Borrowed("a"), CowStr::Borrowed("b\"")]?)
+}
+
+/// An attribute with a value and one without.
+fn attributes<'a>(alloc: Global) -> Result<Vec<(CowStr<'a>, Option<CowStr<'a>>)>, AllocError> {
+    Ok(vec![in alloc;
+        (CowStr::Borrowed("k"), Some(CowStr::Borrowed("v"))),
+        (CowStr::Borrowed("x"), None),
+    ]?)
+}
+
+/// The Start of a heading with all of these.
+fn full_heading<'a>(alloc: Global) -> Item<'a> {
+    let classes = classes(alloc)?;
+    let attrs = attributes(alloc)?;
+    start(Tag::Heading {
+        level: HeadingLevel::H2,
+        id: Some(CowStr::Borrowed("i")),
+        classes,
+        attrs,
+    })
+}
+
 /// The item that a sign stands for.
-fn item_of<'a>(alloc: Global, sign: Sign) -> Item<'a> {
+pub fn item_of<'s>(alloc: Global, sign: Sign<'s>) -> Item<'s> {
     match sign {
         Sign::Open(tag) => start(tag_of(alloc, tag)),
         Sign::Close(tag) => end(tag),
@@ -89,32 +122,52 @@ fn item_of<'a>(alloc: Global, sign: Sign) -> Item<'a> {
         Sign::Rule => Ok(Event::Rule),
         Sign::Task(done) => Ok(Event::TaskListMarker(done)),
         Sign::Refused(fault) => Err(fault),
+        Sign::Table(alignments) => table(alloc, alignments),
+        Sign::FullHeading => full_heading(alloc),
     }
 }
 
-/// Puts the items that signs stand for behind these.
-fn push_signs<'a>(alloc: Global, items: &mut Vec<Item<'a>>, signs: &[Sign]) -> Result<(), Fail> {
-    for sign in signs {
-        items.push(item_of(alloc, *sign))?;
-    }
-    Ok(())
-}
-
-/// The items that signs stand for.
-pub fn items_of<'a>(alloc: Global, signs: &[Sign]) -> Result<Vec<Item<'a>>, Fail> {
-    let mut items = Vec::new(alloc);
-    push_signs(alloc, &mut items, signs)?;
-    Ok(items)
-}
-
-/// The Start of a tag, and then the items that signs stand for.
-pub fn items_behind<'a>(
+/// The items that signs stand for, in order.
+#[derive(Drop)]
+pub struct Made<'s> {
     alloc: Global,
-    tag: Tag<'a>,
-    signs: &[Sign],
-) -> Result<Vec<Item<'a>>, Fail> {
-    let mut items = Vec::new(alloc);
-    items.push(start(tag))?;
-    push_signs(alloc, &mut items, signs)?;
-    Ok(items)
+    signs: &'s [Sign<'s>],
+    at: usize,
+    left: usize,
+}
+
+impl<'s> Made<'s> {
+    pub fn of(alloc: Global, signs: &'s [Sign<'s>]) -> Made<'s> {
+        Made {
+            alloc,
+            signs,
+            at: 0,
+            left: signs.len(),
+        }
+    }
+}
+
+impl<'s> Iterator for Made<'s> {
+    type Item = Item<'s>;
+
+    ghost use Rattle.std.specs.Prelude.{◌≤◌};
+    ghost use Rattle.std.specs.Iterator.{at_most};
+
+    ghost next_gives = { λ s r t. t.left ≤ s.left };
+
+    ghost remaining = { λ s. at_most s.left };
+
+    fn size_hint(&self) -> (usize, Option<usize>) {
+        (0, None)
+    }
+
+    fn next(&mut self) -> Option<Item<'s>> {
+        if self.left == 0 {
+            return None;
+        }
+        self.left -= 1;
+        let sign = self.signs.get(self.at)?;
+        self.at = self.at.saturating_add(1);
+        Some(item_of(self.alloc, *sign))
+    }
 }

@@ -1,13 +1,12 @@
 //! Whole runs with a callback: the HTML of a text, all events in a list, and what became of the callback.
 use bitflags::Flags;
 use markdown_base::cow_str::CowStr;
-use markdown_base::event::Event;
 use markdown_base::options::Options;
 use markdown_inline::walk::Parser;
 use markdown_render::{merged_html, render};
 use markdown_spans::defs::{BrokenLink, BrokenLinkCallback, DefaultBrokenLinkCallback};
+use markdown_tests::rows::gives;
 use std::alloc::Global;
-use std::ops::Range;
 use std::test::Fail;
 
 /// Answers each question alike, and counts them.
@@ -44,34 +43,46 @@ fn answering(destination: &'static str, title: &'static str) -> Counting {
     }
 }
 
+/// A text is rendered as this, with nobody to ask.
+fn is_rendered(alloc: Global, source: &str, wanted: &str) -> Result<(), Fail> {
+    let nobody = None::<DefaultBrokenLinkCallback>;
+    let html = render(alloc, source, Options::ENABLE_SUBSCRIPT, nobody)?;
+    gives(source, html.as_str(), wanted)
+}
+
 #[test]
 fn html_of_texts(rt: HostRuntime) -> Result<(), Fail> {
-    let rows = [
+    let rows = &[
         ("", ""),
         ("hello world", "<p>hello world</p>\n"),
         ("a~b~ [c]", "<p>a<sub>b</sub> [c]</p>\n"),
     ];
-    for (source, html) in rows {
-        let nobody = None::<DefaultBrokenLinkCallback>;
-        let found = render(rt.alloc(), source, Options::ENABLE_SUBSCRIPT, nobody)?;
-        assert_eq!(rt; found.as_str(), html);
+    for &(source, html) in rows {
+        is_rendered(rt.alloc(), source, html)?;
     }
     Ok(())
 }
 
+/// A text with a label that is defined nowhere, and its HTML where that is answered.
+const ASKING: (&str, &str) = (
+    "Hello world, check out [my website][].",
+    "<p>Hello world, check out <a href=\"http://example.com\" title=\"my example website\">my website</a>.</p>\n",
+);
+
 #[test]
 fn html_with_a_callback(rt: HostRuntime) -> Result<(), Fail> {
-    let alloc = rt.alloc();
-    let source = "Hello world, check out [my website][].";
-    let wanted =
-        "<p>Hello world, check out <a href=\"http://example.com\" title=\"my example website\">my website</a>.</p>\n";
+    let (source, wanted) = ASKING;
     let callback = answering("http://example.com", "my example website");
-    let html = render(alloc, source, Options::empty(), Some(callback))?;
-    assert_eq!(rt; html.as_str(), wanted);
+    let html = render(rt.alloc(), source, Options::empty(), Some(callback))?;
+    gives(source, html.as_str(), wanted)
+}
+
+#[test]
+fn merged_html_with_a_callback(rt: HostRuntime) -> Result<(), Fail> {
+    let (source, wanted) = ASKING;
     let callback = answering("http://example.com", "my example website");
-    let html = merged_with(alloc, source, callback)?;
-    assert_eq!(rt; html.as_str(), wanted);
-    Ok(())
+    let html = merged_with(rt.alloc(), source, callback)?;
+    gives(source, html.as_str(), wanted)
 }
 
 /// The HTML of a text, merged, with a callback.
@@ -91,37 +102,34 @@ fn merged_with<'a, F: BrokenLinkCallback<'a>>(
     Ok(merged_html(alloc, parser)?)
 }
 
-type Ranged<'a> = (Event<'a>, Range<usize>);
-
-/// All events of a text, and the callback as they leave it.
-fn events_with<'a, F: BrokenLinkCallback<'a>>(
+/// How many events a text has, and how often its callback was asked.
+fn given_and_asked(
     alloc: Global,
-    source: &'a str,
-    callback: F,
-) -> Result<(Vec<Ranged<'a>>, Option<F>), Fail>
-    requires { F.can_ask callback }
-{
+    source: &str,
+    callback: Counting,
+) -> Result<(usize, Option<u64>), Fail> {
     let parser = Parser::new_with_broken_link_callback(
         alloc,
         source,
         Options::empty(),
         Some(callback),
     )?;
-    Ok(parser.into_offset_iter().into_events(alloc)?)
+    let (events, callback) = parser.into_offset_iter().into_events(alloc)?;
+    let given = events.len();
+    drop(events);
+    Ok((given, callback.map(|it| it.asked)))
 }
 
 #[test]
 fn callbacks_come_back(rt: HostRuntime) -> Result<(), Fail> {
-    let rows = [
+    let rows = &[
         ("This is a link w/o def: [hello][world]", 6, 1),
         ("[a] [b]", 9, 2),
         ("[a]\n\n[a]: /u", 5, 0),
     ];
-    for (source, given, asked) in rows {
-        let callback = answering("YOLO", "SWAG");
-        let (events, callback) = events_with(rt.alloc(), source, callback)?;
-        assert_eq!(rt; events.len(), given);
-        assert_eq!(rt; callback.map(|it| it.asked), Some(asked));
+    for &(source, given, asked) in rows {
+        let found = given_and_asked(rt.alloc(), source, answering("YOLO", "SWAG"))?;
+        gives(source, found, (given, Some(asked)))?;
     }
     Ok(())
 }

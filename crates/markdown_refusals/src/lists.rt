@@ -13,8 +13,8 @@ const TEXT: &str = "a  \nb\n\nc";
 
 const HTML: &str = "<p>a<br />\nb</p>\n<p>c</p>\n";
 
-const MIXED: &str =
-    "<ol start=\"7\">\n<sup class=\"footnote-reference\"><a href=\"#a\">1</a></sup><img src=\"u\" alt=\"[2]&lt;\" title=\"t\" /><span class=\"math math-inline\">x</span></ol>\n";
+const MIXED: &str = "<ol start=\"7\">\n<sup class=\"footnote-reference\"><a href=\"#a\">1</a></sup>\
+    <img src=\"u\" alt=\"[2]&lt;\" title=\"t\" /><span class=\"math math-inline\">x</span></ol>\n";
 
 fn text<'a>(words: &'a str) -> Event<'a> {
     Event::Text(CowStr::Borrowed(words))

@@ -1,4 +1,5 @@
 //! Autolinks: the examples of CommonMark 6.5, and the bounds of a scheme.
+use crate::rows::gives;
 use markdown_scan::autolink::scan_uri_autolink;
 use std::test::Fail;
 
@@ -13,7 +14,7 @@ fn autolink_of(text: &str) -> Option<(usize, &str)> {
 
 #[test]
 fn autolinks(rt: HostRuntime) -> Result<(), Fail> {
-    for uri in [
+    for &uri in &[
         "http://foo.bar.baz",
         "https://foo.bar.baz/test?q=hello&id=22&boolean",
         "irc://foo.bar:2233/baz",
@@ -31,14 +32,14 @@ fn autolinks(rt: HostRuntime) -> Result<(), Fail> {
     ] {
         let text = format!(in rt.alloc(); "<{uri}> <b>")?;
         let end = uri.as_bytes().len() + 2;
-        assert_eq!(rt; autolink_of(text.as_str()), Some((end, uri)));
+        gives(uri, autolink_of(text.as_str()), Some((end, uri)))?;
     }
     Ok(())
 }
 
 #[test]
-fn other_texts(rt: HostRuntime) {
-    for text in [
+fn other_texts() -> Result<(), Fail> {
+    for &text in &[
         "<",
         "<>",
         "< https://foo.bar >",
@@ -58,16 +59,18 @@ fn other_texts(rt: HostRuntime) {
         // a scheme of 33 characters
         "<abcdefghijklmnopqrstuvwxyz0123456:x>",
     ] {
-        assert_eq!(rt; autolink_of(text), None, "{text}");
+        gives(text, autolink_of(text), None)?;
     }
+    Ok(())
 }
 
 #[test]
-fn fronts_of_an_autolink(rt: HostRuntime) {
+fn fronts_of_an_autolink() -> Result<(), Fail> {
     let text = "<https://example.com/?search=a&b=(c)#d>";
     for end in 1..38 {
         if text.is_char_boundary(end) {
-            assert_eq!(rt; autolink_of(&text[..end]), None, "{end}");
+            gives(end, autolink_of(&text[..end]), None)?;
         }
     }
+    Ok(())
 }

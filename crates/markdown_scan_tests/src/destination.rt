@@ -1,5 +1,7 @@
 //! Link destinations: the examples of CommonMark 6.3, and the bound on parentheses.
+use crate::rows::gives;
 use markdown_scan::destination::scan_link_destination;
+use std::test::Fail;
 
 // The destination that a text begins with.
 fn destination_of(text: &str, max_nesting: usize) -> Option<(usize, &str)> {
@@ -11,8 +13,8 @@ fn destination_of(text: &str, max_nesting: usize) -> Option<(usize, &str)> {
 }
 
 #[test]
-fn destinations_in_angle_brackets(rt: HostRuntime) {
-    for (text, length, destination) in [
+fn destinations_in_angle_brackets() -> Result<(), Fail> {
+    for &(text, length, destination) in &[
         ("<>)", 2, ""),
         ("</my uri>)", 9, "/my uri"),
         ("<b)c>)", 5, "b)c"),
@@ -20,18 +22,15 @@ fn destinations_in_angle_brackets(rt: HostRuntime) {
         ("<foo(and(bar)>)", 14, "foo(and(bar)"),
         ("<a\\>b\\<c>", 9, "a\\>b\\<c"),
     ] {
-        assert_eq!(rt;
-            destination_of(text, 32),
-            Some((length, destination)),
-            "{text}"
-        );
+        gives(text, destination_of(text, 32), Some((length, destination)))?;
     }
+    Ok(())
 }
 
 // The destination is the text's first bytes, as many as the row says.
 #[test]
-fn destinations_in_no_brackets(rt: HostRuntime) {
-    for (text, length) in [
+fn destinations_in_no_brackets() -> Result<(), Fail> {
+    for &(text, length) in &[
         ("/uri \"title\")", 4),
         ("./target.md)", 11),
         (")", 0),
@@ -53,18 +52,19 @@ fn destinations_in_no_brackets(rt: HostRuntime) {
         ("foo\\", 4),
         ("a<b>)", 4),
     ] {
-        assert_eq!(rt;
+        gives(
+            text,
             destination_of(text, 32),
             text.get(..length).map(|bytes| (length, bytes)),
-            "{text}"
-        );
+        )?;
     }
-    assert_eq!(rt; scan_link_destination("[é](é)", 5, 32), Some((2, "é")));
+    let behind_others = scan_link_destination("[é](é)", 5, 32);
+    gives("[é](é)", behind_others, Some((2, "é")))
 }
 
 #[test]
-fn other_texts(rt: HostRuntime) {
-    for text in [
+fn other_texts() -> Result<(), Fail> {
+    for &text in &[
         "<foo\nbar>)",
         "<foo\rbar>)",
         "<foo\\>)",
@@ -74,13 +74,14 @@ fn other_texts(rt: HostRuntime) {
         "(",
         "a( b)",
     ] {
-        assert_eq!(rt; destination_of(text, 32), None, "{text}");
+        gives(text, destination_of(text, 32), None)?;
     }
+    Ok(())
 }
 
 #[test]
-fn nested_parentheses(rt: HostRuntime) {
-    for (text, max_nesting, is_one) in [
+fn nested_parentheses() -> Result<(), Fail> {
+    for &(text, max_nesting, is_one) in &[
         ("(a)", 0, true),
         ("((a))", 0, false),
         ("(a)(b)", 0, true),
@@ -101,10 +102,7 @@ fn nested_parentheses(rt: HostRuntime) {
             false,
         ),
     ] {
-        assert_eq!(rt;
-            destination_of(text, max_nesting).is_some(),
-            is_one,
-            "{text}"
-        );
+        gives(text, destination_of(text, max_nesting).is_some(), is_one)?;
     }
+    Ok(())
 }

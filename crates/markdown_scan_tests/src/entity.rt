@@ -1,9 +1,11 @@
 //! Entities: the examples of CommonMark 2.5 that one reference decides, and the boundaries.
+use crate::rows::gives;
 use markdown_scan::entity::scan_entity;
+use std::test::Fail;
 
 #[test]
-fn references(rt: HostRuntime) {
-    for (text, length, character) in [
+fn references() -> Result<(), Fail> {
+    for &(text, length, character) in &[
         ("&amp;", 5, '&'),
         ("&lt;b", 4, '<'),
         ("&gt;&gt;", 4, '>'),
@@ -36,17 +38,18 @@ fn references(rt: HostRuntime) {
         ("&#1114112;", 10, '\u{FFFD}'),
         ("&#x0;", 5, '\u{FFFD}'),
     ] {
-        assert_eq!(rt;
+        gives(
+            text,
             scan_entity(text.as_bytes()),
             Some((length, character)),
-            "{text}"
-        );
+        )?;
     }
+    Ok(())
 }
 
 #[test]
-fn other_texts(rt: HostRuntime) {
-    for text in [
+fn other_texts() -> Result<(), Fail> {
+    for &text in &[
         "",
         "&",
         "&amp",
@@ -81,6 +84,7 @@ fn other_texts(rt: HostRuntime) {
         "\\&amp;",
         "&;",
     ] {
-        assert_eq!(rt; scan_entity(text.as_bytes()), None, "{text}");
+        gives(text, scan_entity(text.as_bytes()), None)?;
     }
+    Ok(())
 }

@@ -1,4 +1,5 @@
 //! Tags: the examples of CommonMark 6.6 that one scan decides, and lines with prefixes.
+use crate::rows::gives;
 use markdown_raw_html::html_tag::scan_html_tag;
 use markdown_scan::line_rule::{LineRule, NoPrefix, OneLine};
 use std::alloc::{AllocError, Global};
@@ -33,13 +34,17 @@ fn has_tag(alloc: Global, text: &str, length: usize) -> Result<bool, AllocError>
     }
 }
 
+fn is_tag_of_one_line(alloc: Global, text: &str) -> Result<bool, AllocError> {
+    Ok(scan_html_tag(alloc, text, 0, &OneLine)?.is_some())
+}
+
 fn has_no_tag(alloc: Global, text: &str) -> Result<bool, AllocError> {
     Ok(scan_html_tag(alloc, text, 0, &NoPrefix)?.is_none())
 }
 
 #[test]
 fn tags(rt: HostRuntime) -> Result<(), Fail> {
-    for (text, length) in [
+    for &(text, length) in &[
         // open tags
         ("<a><bab><c2c>", 3),
         ("<bab><c2c>", 5),
@@ -67,14 +72,14 @@ fn tags(rt: HostRuntime) -> Result<(), Fail> {
         ("</foo >", 7),
         ("</a\n>", 5),
     ] {
-        assert!(rt; has_tag(rt.alloc(), text, length)?, "{text}");
+        gives(text, has_tag(rt.alloc(), text, length)?, true)?;
     }
     Ok(())
 }
 
 #[test]
 fn other_texts(rt: HostRuntime) -> Result<(), Fail> {
-    for text in [
+    for &text in &[
         "<33>",
         "<__>",
         "<a h*#ref=\"hi\">",
@@ -98,7 +103,7 @@ fn other_texts(rt: HostRuntime) -> Result<(), Fail> {
         "a",
         "<é>",
     ] {
-        assert!(rt; has_no_tag(rt.alloc(), text)?, "{text}");
+        gives(text, has_no_tag(rt.alloc(), text)?, true)?;
     }
     Ok(())
 }
@@ -108,35 +113,46 @@ fn no_front_of_a_tag_is_one(rt: HostRuntime) -> Result<(), Fail> {
     let text = "<a foo=\"bar\" bam = 'baz <em>\"</em>'\n_boolean zoop:33=zoop:33 />";
     for end in 0..text.as_bytes().len() {
         if let Some(front) = text.get(..end) {
-            assert!(rt; has_no_tag(rt.alloc(), front)?, "{front}");
+            gives(front, has_no_tag(rt.alloc(), front)?, true)?;
         }
     }
     Ok(())
 }
 
+/// The bytes as a text, which is empty for none.
+fn text_of(alloc: Global, bytes: Option<Vec<u8>>) -> Result<String, Fail> {
+    match bytes {
+        Some(bytes) => Ok(String::from_utf8(bytes)?),
+        None => Ok(String::new(alloc)),
+    }
+}
+
+/// The end of the tag that begins at the third byte, and its bytes without the prefixes of its lines.
+fn tag_at_two<R: LineRule>(alloc: Global, text: &str, rule: &R) -> Result<String, Fail> {
+    if text.as_bytes().len() < 2 {
+        return Ok(String::from_str(alloc, "too short")?);
+    }
+    let Some(tag) = scan_html_tag(alloc, text, 2, rule)? else {
+        return Ok(String::from_str(alloc, "none")?);
+    };
+    let end = tag.end;
+    let bytes = text_of(alloc, tag.without_prefixes)?;
+    Ok(format!(in alloc; "{end} {bytes}")?)
+}
+
 #[test]
 fn prefixes_of_lines_are_left_out(rt: HostRuntime) -> Result<(), Fail> {
     let text = "x <a\n> b='c\r\n>d' e\r> > f";
-    let Some(tag) = scan_html_tag(rt.alloc(), text, 2, &Quoted)? else {
-        return Err("no tag with prefixes".into());
-    };
-    assert_eq!(rt; tag.end, 22);
-    let Some(bytes) = tag.without_prefixes else {
-        return Err("no bytes without prefixes".into());
-    };
-    assert_eq!(rt; bytes.as_slice(), b"<a\nb='c\r\nd' e\r>".as_slice());
-    let Some(tag) = scan_html_tag(rt.alloc(), text, 2, &NoPrefix)? else {
-        return Err("no tag without prefixes".into());
-    };
-    assert_eq!(rt; tag.end, 6);
-    assert!(rt; tag.without_prefixes.is_none());
-    Ok(())
+    let quoted = tag_at_two(rt.alloc(), text, &Quoted)?;
+    gives("quoted", quoted.as_str(), "22 <a\nb='c\r\nd' e\r>")?;
+    let plain = tag_at_two(rt.alloc(), text, &NoPrefix)?;
+    gives("not quoted", plain.as_str(), "6 ")
 }
 
 #[test]
 fn a_line_that_may_not_end_ends_no_tag(rt: HostRuntime) -> Result<(), Fail> {
-    assert!(rt; scan_html_tag(rt.alloc(), "<a\nb>", 0, &OneLine)?.is_none());
-    assert!(rt; scan_html_tag(rt.alloc(), "<a b='\n'>", 0, &OneLine)?.is_none());
-    assert!(rt; scan_html_tag(rt.alloc(), "<a b>\n", 0, &OneLine)?.is_some());
+    for &(text, is_tag) in &[("<a\nb>", false), ("<a b='\n'>", false), ("<a b>\n", true)] {
+        gives(text, is_tag_of_one_line(rt.alloc(), text)?, is_tag)?;
+    }
     Ok(())
 }

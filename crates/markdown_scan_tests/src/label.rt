@@ -1,9 +1,16 @@
 //! Link labels: the examples of CommonMark 6.3, and the bound on their characters.
+use crate::rows::gives;
 use markdown_base::cow_str::CowStr;
 use markdown_scan::label::scan_link_label;
 use markdown_scan::line_rule::{NoPrefix, OneLine};
 use std::alloc::{AllocError, Global};
 use std::test::Fail;
+
+// Whether a text is that, a slice of the source where this begins with it.
+fn is_read(found: &CowStr<'_>, source: &str, text: &str) -> bool {
+    let is_slice = matches!(found, CowStr::Borrowed(_));
+    found.as_str() == text && is_slice == source.starts_with(text)
+}
 
 // Whether a label of this length and text is read there, a slice of the source where that begins with it.
 fn has_label(
@@ -13,13 +20,12 @@ fn has_label(
     length: usize,
     label: &str,
 ) -> Result<bool, AllocError> {
-    match scan_link_label(alloc, text, &NoPrefix, in_table)? {
-        Some((end, found)) => {
-            let is_slice = matches!(&found, CowStr::Borrowed(_));
-            Ok(end == length && found.as_str() == label && is_slice == text.starts_with(label))
-        }
-        None => Ok(false),
-    }
+    let Some((end, found)) = scan_link_label(alloc, text, &NoPrefix, in_table)? else {
+        return Ok(false);
+    };
+    let is_same = is_read(&found, text, label);
+    drop(found);
+    Ok(is_same && end == length)
 }
 
 fn has_no_label(alloc: Global, text: &str) -> Result<bool, AllocError> {
@@ -28,7 +34,7 @@ fn has_no_label(alloc: Global, text: &str) -> Result<bool, AllocError> {
 
 #[test]
 fn labels(rt: HostRuntime) -> Result<(), Fail> {
-    for (text, length, label) in [
+    for &(text, length, label) in &[
         ("foo] bar", 4, "foo"),
         ("ref\\[]", 6, "ref\\["),
         ("bar\\\\]", 6, "bar\\\\"),
@@ -44,17 +50,18 @@ fn labels(rt: HostRuntime) -> Result<(), Fail> {
         ("ẞ]", 4, "ẞ"),
         ("a\\|b]", 5, "a\\|b"),
     ] {
-        assert!(rt;
+        gives(
+            text,
             has_label(rt.alloc(), text, false, length, label)?,
-            "{text}"
-        );
+            true,
+        )?;
     }
     Ok(())
 }
 
 #[test]
 fn labels_in_a_table(rt: HostRuntime) -> Result<(), Fail> {
-    for (text, length, label) in [
+    for &(text, length, label) in &[
         ("a\\|b]", 5, "a|b"),
         ("a\\*b]", 5, "a\\*b"),
         ("a\\\\|b]", 6, "a\\|b"),
@@ -62,14 +69,18 @@ fn labels_in_a_table(rt: HostRuntime) -> Result<(), Fail> {
         ("\\|\\|]", 5, "||"),
         ("\\\\]", 3, "\\\\"),
     ] {
-        assert!(rt; has_label(rt.alloc(), text, true, length, label)?, "{text}");
+        gives(
+            text,
+            has_label(rt.alloc(), text, true, length, label)?,
+            true,
+        )?;
     }
     Ok(())
 }
 
 #[test]
 fn other_texts(rt: HostRuntime) -> Result<(), Fail> {
-    for text in [
+    for &text in &[
         "",
         "]",
         " ]",
@@ -81,32 +92,28 @@ fn other_texts(rt: HostRuntime) -> Result<(), Fail> {
         "foo\\]",
         "\t\u{b}\u{c}\r]",
     ] {
-        assert!(rt; has_no_label(rt.alloc(), text)?, "{text}");
+        gives(text, has_no_label(rt.alloc(), text)?, true)?;
     }
-    assert!(rt; scan_link_label(rt.alloc(), "a\nb]", &OneLine, false)?.is_none());
-    Ok(())
+    let of_two_lines = scan_link_label(rt.alloc(), "a\nb]", &OneLine, false)?;
+    gives("a\nb]", of_two_lines.is_none(), true)
 }
 
 #[test]
 fn labels_of_999_characters(rt: HostRuntime) -> Result<(), Fail> {
-    for (character, length, is_none) in [
+    for &(character, length, is_none) in &[
         ("a", 999, false),
         ("a", 1000, true),
         ("é", 999, false),
         ("é", 1000, true),
     ] {
         let text = format!(in rt.alloc(); "{}]", character.repeat(rt.alloc(), length)?)?;
-        assert_eq!(rt;
-            has_no_label(rt.alloc(), text.as_str())?,
-            is_none,
-            "{length}"
-        );
+        gives(length, has_no_label(rt.alloc(), text.as_str())?, is_none)?;
     }
     // 997 letters, two backslashes and a pipe are 999 characters in a table, and else 1000.
     let text = format!(in rt.alloc(); "{}\\\\|]", "a".repeat(rt.alloc(), 997)?)?;
-    for in_table in [true, false] {
+    for &in_table in &[true, false] {
         let found = scan_link_label(rt.alloc(), text.as_str(), &NoPrefix, in_table)?;
-        assert_eq!(rt; found.is_some(), in_table);
+        gives(in_table, found.is_some(), in_table)?;
     }
     Ok(())
 }

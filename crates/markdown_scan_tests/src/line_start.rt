@@ -1,10 +1,12 @@
 //! Line endings, and white space by columns: the examples of CommonMark 2.2, and the bounds.
+use crate::rows::gives;
 use markdown_scan::line_end::scan_line_ending;
 use markdown_scan::line_start::LineStart;
+use std::test::Fail;
 
 #[test]
-fn line_endings(rt: HostRuntime) {
-    for (text, length) in [
+fn line_endings() -> Result<(), Fail> {
+    for &(text, length) in &[
         ("\n", Some(1)),
         ("\n\r", Some(1)),
         ("\r", Some(1)),
@@ -17,8 +19,9 @@ fn line_endings(rt: HostRuntime) {
         ("\u{85}", None),
         ("\u{2028}", None),
     ] {
-        assert_eq!(rt; scan_line_ending(text.as_bytes()), length, "{text}");
+        gives(text, scan_line_ending(text.as_bytes()), length)?;
     }
+    Ok(())
 }
 
 // At most so many columns of space of a line: how many, and the bytes scanned.
@@ -29,8 +32,8 @@ fn space_of(line: &str, most: usize) -> (usize, usize) {
 }
 
 #[test]
-fn a_tab_goes_to_the_next_stop(rt: HostRuntime) {
-    for (line, columns, bytes) in [
+fn a_tab_goes_to_the_next_stop() -> Result<(), Fail> {
+    for &(line, columns, bytes) in &[
         ("", 0, 0),
         ("a", 0, 0),
         (" a", 1, 1),
@@ -43,8 +46,9 @@ fn a_tab_goes_to_the_next_stop(rt: HostRuntime) {
         ("\t \ta", 8, 3),
         ("\n", 0, 0),
     ] {
-        assert_eq!(rt; space_of(line, 100), (columns, bytes), "{line}");
+        gives(line, space_of(line, 100), (columns, bytes))?;
     }
+    Ok(())
 }
 
 // The bytes scanned, and the columns that the last tab owes.
@@ -53,28 +57,28 @@ fn state_of(start: &LineStart<'_>) -> (usize, usize) {
 }
 
 #[test]
-fn a_cut_tab_owes_its_other_columns(rt: HostRuntime) {
+fn a_cut_tab_owes_its_other_columns() -> Result<(), Fail> {
     let mut start = LineStart::new(" \t\tfoo".as_bytes());
-    assert_eq!(rt; start.scan_space_upto(2), 2);
-    assert_eq!(rt; state_of(&start), (2, 2));
-    assert_eq!(rt; start.scan_space_upto(1), 1);
-    assert_eq!(rt; state_of(&start), (2, 1));
-    assert!(rt; !start.scan_space(6));
-    assert_eq!(rt; state_of(&start), (2, 1));
-    assert!(rt; start.scan_space(5));
-    assert_eq!(rt; state_of(&start), (3, 0));
-    assert!(rt; !start.is_at_eol());
+    gives("up to 2", start.scan_space_upto(2), 2)?;
+    gives("up to 2: state", state_of(&start), (2, 2))?;
+    gives("up to 1", start.scan_space_upto(1), 1)?;
+    gives("up to 1: state", state_of(&start), (2, 1))?;
+    gives("6", start.scan_space(6), false)?;
+    gives("6: state", state_of(&start), (2, 1))?;
+    gives("5", start.scan_space(5), true)?;
+    gives("5: state", state_of(&start), (3, 0))?;
+    gives("is at the end", start.is_at_eol(), false)
 }
 
 // `>\t\tfoo` is a block quote with the indented code `  foo`.
 #[test]
-fn a_marker_takes_one_column_of_a_tab(rt: HostRuntime) {
+fn a_marker_takes_one_column_of_a_tab() -> Result<(), Fail> {
     let mut start = LineStart::new(">\t\tfoo".as_bytes());
-    assert!(rt; start.scan_blockquote_marker());
-    assert_eq!(rt; state_of(&start), (2, 2));
-    assert!(rt; start.scan_space(4));
-    assert_eq!(rt; state_of(&start), (3, 2));
-    assert_eq!(rt; start.scan_space_upto(100), 2);
+    gives("marker", start.scan_blockquote_marker(), true)?;
+    gives("marker: state", state_of(&start), (2, 2))?;
+    gives("4", start.scan_space(4), true)?;
+    gives("4: state", state_of(&start), (3, 2))?;
+    gives("up to 100", start.scan_space_upto(100), 2)
 }
 
 // Whether a block quote marker stands after so many columns of space, and the bytes scanned.
@@ -85,8 +89,8 @@ fn marker_of(line: &str, spaces: usize) -> (bool, usize) {
 }
 
 #[test]
-fn markers(rt: HostRuntime) {
-    for (line, spaces, is_marker, bytes) in [
+fn markers() -> Result<(), Fail> {
+    for &(line, spaces, is_marker, bytes) in &[
         ("> a", 0, true, 2),
         (">a", 0, true, 1),
         (">  a", 0, true, 2),
@@ -98,8 +102,9 @@ fn markers(rt: HostRuntime) {
         ("\t> a", 3, false, 1),
         ("\t> a", 4, true, 3),
     ] {
-        assert_eq!(rt; marker_of(line, spaces), (is_marker, bytes), "{line}");
+        gives(line, marker_of(line, spaces), (is_marker, bytes))?;
     }
+    Ok(())
 }
 
 // Whether all the space of a line goes to its end; no column is owed then.
@@ -110,8 +115,8 @@ fn is_blank(line: &str) -> bool {
 }
 
 #[test]
-fn blank_lines(rt: HostRuntime) {
-    for (line, blank) in [
+fn blank_lines() -> Result<(), Fail> {
+    for &(line, blank) in &[
         ("", true),
         ("\n", true),
         ("\r\n", true),
@@ -119,6 +124,7 @@ fn blank_lines(rt: HostRuntime) {
         ("  a", false),
         ("\u{b}", false),
     ] {
-        assert_eq!(rt; is_blank(line), blank, "{line}");
+        gives(line, is_blank(line), blank)?;
     }
+    Ok(())
 }

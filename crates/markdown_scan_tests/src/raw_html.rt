@@ -1,6 +1,8 @@
 //! Comments, CDATA sections, declarations and processing instructions: the examples of CommonMark
 //! 6.6 that one scan decides, each from its `<` on, with the length of what it begins with.
+use crate::rows::gives;
 use markdown_raw_html::raw_html::RawHtmlScanner;
+use std::test::Fail;
 
 #[derive(Clone, Copy, Drop)]
 enum Kind {
@@ -25,8 +27,8 @@ fn end_of(kind: Kind, text: &str) -> Option<usize> {
 }
 
 #[test]
-fn comments(rt: HostRuntime) {
-    for (text, end) in [
+fn comments() -> Result<(), Fail> {
+    for &(text, end) in &[
         ("<!-- this is a --\ncomment - with hyphens -->", Some(44)),
         ("<!--> foo -->", Some(5)),
         ("<!---> foo -->", Some(6)),
@@ -43,13 +45,14 @@ fn comments(rt: HostRuntime) {
         ("<!- a -->", None),
         ("<!-- a", None),
     ] {
-        assert_eq!(rt; end_of(Kind::Comment, text), end, "{text}");
+        gives(text, end_of(Kind::Comment, text), end)?;
     }
+    Ok(())
 }
 
 #[test]
-fn other_kinds(rt: HostRuntime) {
-    for (kind, text, end) in [
+fn other_kinds() -> Result<(), Fail> {
+    for &(kind, text, end) in &[
         (Kind::CdataSection, "<![CDATA[>&<]]>", Some(15)),
         (Kind::CdataSection, "<![CDATA[]]>", Some(12)),
         (Kind::CdataSection, "<![CDATA[]]]>", Some(13)),
@@ -75,19 +78,21 @@ fn other_kinds(rt: HostRuntime) {
         (Kind::Instruction, "<?a>", None),
         (Kind::Instruction, "<?", None),
     ] {
-        assert_eq!(rt; end_of(kind, text), end, "{text}");
+        gives(text, end_of(kind, text), end)?;
     }
+    Ok(())
 }
 
 #[test]
-fn a_scan_that_failed_changes_no_other(rt: HostRuntime) {
+fn a_scan_that_failed_changes_no_other() -> Result<(), Fail> {
     let mut scanner = RawHtmlScanner::new(b"<!-- a --> <!-- b <!-- c <!a> <?x");
-    assert_eq!(rt; scanner.scan_comment(13), None);
-    assert_eq!(rt; scanner.scan_comment(20), None);
-    assert_eq!(rt; scanner.scan_comment(13), None);
-    assert_eq!(rt; scanner.scan_comment(2), Some(10));
-    assert_eq!(rt; scanner.scan_declaration(27), Some(29));
-    assert_eq!(rt; scanner.scan_processing_instruction(32), None);
-    assert_eq!(rt; scanner.scan_cdata_section(2), None);
-    assert_eq!(rt; scanner.scan_comment(33), None);
+    gives(1, scanner.scan_comment(13), None)?;
+    gives(2, scanner.scan_comment(20), None)?;
+    gives(3, scanner.scan_comment(13), None)?;
+    gives(4, scanner.scan_comment(2), Some(10))?;
+    gives(5, scanner.scan_declaration(27), Some(29))?;
+    gives(6, scanner.scan_processing_instruction(32), None)?;
+    gives(7, scanner.scan_cdata_section(2), None)?;
+    gives(8, scanner.scan_comment(33), None)?;
+    Ok(())
 }

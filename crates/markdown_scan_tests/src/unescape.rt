@@ -1,8 +1,15 @@
 //! Escapes and entities: the examples of CommonMark 2.4 and 2.5 that a text alone decides.
+use crate::rows::gives;
 use markdown_base::cow_str::CowStr;
 use markdown_scan::unescape::unescape;
 use std::alloc::{AllocError, Global};
 use std::test::Fail;
+
+// Whether a text is that, a slice of the source where it should be.
+fn is_read(made: &CowStr<'_>, as_slice: bool, text: &str) -> bool {
+    let is_slice = matches!(made, CowStr::Borrowed(_));
+    made.as_str() == text && is_slice == as_slice
+}
 
 // Whether the text stands for this one, as a slice of the source where it is the same.
 fn stands_for(
@@ -12,13 +19,14 @@ fn stands_for(
     expected: &str,
 ) -> Result<bool, AllocError> {
     let made = unescape(alloc, text, in_table)?;
-    let is_slice = matches!(&made, CowStr::Borrowed(_));
-    Ok(made.as_str() == expected && is_slice == (text == expected))
+    let is_same = is_read(&made, text == expected, expected);
+    drop(made);
+    Ok(is_same)
 }
 
 #[test]
 fn escapes(rt: HostRuntime) -> Result<(), Fail> {
-    for (text, expected) in [
+    for &(text, expected) in &[
         // escaped punctuation, each of its 32 characters
         (
             "\\!\\\"\\#\\$\\%\\&\\'\\(\\)\\*\\+\\,\\-\\.\\/\\:\\;\\<\\=\\>\\?\\@\\[\\\\\\]\\^\\_\\`\\{\\|\\}\\~",
@@ -37,14 +45,14 @@ fn escapes(rt: HostRuntime) -> Result<(), Fail> {
         ("\\&amp;", "&amp;"),
         ("\\\\&amp;", "\\&"),
     ] {
-        assert!(rt; stands_for(rt.alloc(), text, false, expected)?, "{text}");
+        gives(text, stands_for(rt.alloc(), text, false, expected)?, true)?;
     }
     Ok(())
 }
 
 #[test]
 fn entities(rt: HostRuntime) -> Result<(), Fail> {
-    for (text, expected) in [
+    for &(text, expected) in &[
         ("a &amp; b &lt;c&gt; &quot;d&quot;", "a & b <c> \"d\""),
         ("&#35; &#1234; &#992; &#0;", "# Ӓ Ϡ \u{FFFD}"),
         ("&#X22; &#XD06; &#xcab;", "\" ആ ಫ"),
@@ -58,14 +66,14 @@ fn entities(rt: HostRuntime) -> Result<(), Fail> {
         ("a\\", "a\\"),
         ("\\*a\\", "*a\\"),
     ] {
-        assert!(rt; stands_for(rt.alloc(), text, false, expected)?, "{text}");
+        gives(text, stands_for(rt.alloc(), text, false, expected)?, true)?;
     }
     Ok(())
 }
 
 #[test]
 fn texts_that_stay(rt: HostRuntime) -> Result<(), Fail> {
-    for text in [
+    for &text in &[
         "",
         "a",
         "é",
@@ -80,18 +88,19 @@ fn texts_that_stay(rt: HostRuntime) -> Result<(), Fail> {
         "\\\n",
         "a | b",
     ] {
-        assert!(rt; stands_for(rt.alloc(), text, false, text)?, "{text}");
-        assert!(rt;
+        gives(text, stands_for(rt.alloc(), text, false, text)?, true)?;
+        gives(
+            (text, "in a table"),
             stands_for(rt.alloc(), text, true, text)?,
-            "{text} in a table"
-        );
+            true,
+        )?;
     }
     Ok(())
 }
 
 #[test]
 fn pipes_in_a_table(rt: HostRuntime) -> Result<(), Fail> {
-    for (text, inside, outside) in [
+    for &(text, inside, outside) in &[
         ("\\\\|", "|", "\\|"),
         ("\\|", "|", "|"),
         ("a\\\\|b", "a|b", "a\\|b"),
@@ -99,8 +108,8 @@ fn pipes_in_a_table(rt: HostRuntime) -> Result<(), Fail> {
         ("\\\\\\|", "\\|", "\\|"),
         ("\\\\*", "\\*", "\\*"),
     ] {
-        assert!(rt; stands_for(rt.alloc(), text, true, inside)?, "{text}");
-        assert!(rt; stands_for(rt.alloc(), text, false, outside)?, "{text}");
+        gives(text, stands_for(rt.alloc(), text, true, inside)?, true)?;
+        gives(text, stands_for(rt.alloc(), text, false, outside)?, true)?;
     }
     Ok(())
 }

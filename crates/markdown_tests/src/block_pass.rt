@@ -1,5 +1,6 @@
 //! The block pass on small texts, and the items of a line.
 use crate::builders::text;
+use crate::rows::gives;
 use markdown_base::item::{Item, ItemBody};
 use markdown_base::options::Options;
 use markdown_base::tree::Tree;
@@ -41,6 +42,12 @@ fn push_items(alloc: Global, list: &mut String, tree: &mut Tree<Item>) -> Result
     Ok(())
 }
 
+/// A text has blocks of these items.
+fn has_blocks(alloc: Global, text: &str, want: &str) -> Result<(), Fail> {
+    let list = listed(alloc, text)?;
+    gives(text, list.as_str(), want)
+}
+
 /// The items of a text's blocks.
 fn listed(alloc: Global, text: &str) -> Result<String, AllocError> {
     let (mut tree, parts) = blocks(alloc, text, Options::ENABLE_GFM)?;
@@ -54,7 +61,7 @@ fn listed(alloc: Global, text: &str) -> Result<String, AllocError> {
 
 #[test]
 fn paragraphs(rt: HostRuntime) -> Result<(), Fail> {
-    for (text, want) in [
+    for &(text, want) in &[
         ("", ""),
         (" \t\r\n\n  \r \t", ""),
         ("hello world", "0 Paragraph 0..11;1 Text 0..11;"),
@@ -65,14 +72,14 @@ fn paragraphs(rt: HostRuntime) -> Result<(), Fail> {
             "0 Paragraph 0..2;1 Text 0..1;0 Paragraph 6..7;1 Text 6..7;",
         ),
     ] {
-        assert_eq!(rt; listed(rt.alloc(), text)?.as_str(), want, "{text:?}");
+        has_blocks(rt.alloc(), text, want)?;
     }
     Ok(())
 }
 
 #[test]
 fn breaks(rt: HostRuntime) -> Result<(), Fail> {
-    for (text, want) in [
+    for &(text, want) in &[
         (
             "a\nb",
             "0 Paragraph 0..3;1 Text 0..1;1 SoftBreak 1..2;1 Text 2..3;",
@@ -107,7 +114,7 @@ fn breaks(rt: HostRuntime) -> Result<(), Fail> {
             "0 Paragraph 0..6;1 Text 0..1;1 SoftBreak 1..3;1 Text 3..4;",
         ),
     ] {
-        assert_eq!(rt; listed(rt.alloc(), text)?.as_str(), want, "{text:?}");
+        has_blocks(rt.alloc(), text, want)?;
     }
     Ok(())
 }
@@ -115,11 +122,17 @@ fn breaks(rt: HostRuntime) -> Result<(), Fail> {
 #[test]
 fn nothing_is_named(rt: HostRuntime) -> Result<(), Fail> {
     let (tree, parts) = blocks(rt.alloc(), "a  \nb\\\n\nc", Options::ENABLE_GFM)?;
-    assert_eq!(rt; tree.len(), 7);
-    assert!(rt; parts.definitions.is_empty() && parts.footnotes.is_empty());
-    assert!(rt; parts.cows.is_empty() && parts.alignments.is_empty());
-    assert!(rt; parts.headings.is_empty());
-    Ok(())
+    let nodes = tree.len();
+    let named = [
+        parts.definitions.len(),
+        parts.footnotes.len(),
+        parts.cows.len(),
+        parts.alignments.len(),
+        parts.headings.len(),
+    ];
+    drop(tree);
+    drop(parts);
+    gives("nodes, and each kind of part", (nodes, named), (7, [0; 5]))
 }
 
 #[test]
@@ -209,9 +222,9 @@ fn each_call_fits(rt: HostRuntime) -> Result<(), Fail> {
     let mut seed = 1;
     for _ in 0..1000 {
         let text = random_text(rt.alloc(), &mut seed)?;
-        for options in [Options::ENABLE_FOOTNOTES, Options::ENABLE_OLD_FOOTNOTES] {
+        for &options in &[Options::ENABLE_FOOTNOTES, Options::ENABLE_OLD_FOOTNOTES] {
             let count = misfits(rt.alloc(), text.as_str(), options)?;
-            assert_eq!(rt; count, 0, "{text:?}");
+            gives(text.as_str(), count, 0)?;
         }
     }
     Ok(())

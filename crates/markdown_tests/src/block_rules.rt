@@ -1,7 +1,6 @@
 //! The nine rules of a block result: trees that break one rule each, and trees that keep them all.
-use crate::builders::{Outline, item, no_parts, text, tree_of};
-use markdown_base::block_parts::{BlockParts, HeadingAttributes};
-use markdown_base::cow_str::CowStr;
+use crate::builders::{Outline, item, one_of_each, text, tree_of};
+use crate::rows::gives;
 use markdown_base::index::{AlignmentIndex, CowIndex, HeadingIndex, LinkIndex};
 use markdown_base::item::{Item, ItemBody};
 use markdown_base::options::Options;
@@ -10,19 +9,6 @@ use markdown_base::tree::Tree;
 use markdown_spans::blocks::{Blocks, Fault};
 use std::alloc::{AllocError, Global};
 use std::test::Fail;
-
-/// Parts with one text, one list of alignments and the attributes of one heading.
-fn one_of_each<'a>(alloc: Global) -> Result<BlockParts<'a>, AllocError> {
-    let mut parts = no_parts(alloc);
-    parts.cows.push(CowStr::Borrowed("x"))?;
-    parts.alignments.push(Vec::new(alloc))?;
-    parts.headings.push(HeadingAttributes {
-        id: None,
-        classes: Vec::new(alloc),
-        attrs: Vec::new(alloc),
-    })?;
-    Ok(parts)
-}
 
 /// Whether a tree is a well-formed block result over a text.
 pub fn is_well_formed(alloc: Global, over: &'static str, tree: Tree<Item>) -> Result<bool, Fault> {
@@ -121,10 +107,11 @@ fn each_rule_is_tested(rt: HostRuntime) -> Result<(), Fail> {
     ];
     for (row, (what, over, outline)) in rows.iter().enumerate() {
         let tree = tree_of(rt.alloc(), *outline)?;
-        assert!(rt;
-            !is_well_formed(rt.alloc(), *over, tree)?,
-            "row {row}: {what}"
-        );
+        gives(
+            (row, *what),
+            is_well_formed(rt.alloc(), *over, tree)?,
+            false,
+        )?;
     }
     Ok(())
 }
@@ -196,11 +183,7 @@ fn each_body_keeps_its_rules(rt: HostRuntime) -> Result<(), Fail> {
     for (row, (over, body, is_kept)) in rows.iter().enumerate() {
         let block = item(0, over.len(), ItemBody::Paragraph);
         let tree = tree_of(rt.alloc(), &[(0, block), (1, item(0, over.len(), *body))])?;
-        assert_eq!(rt;
-            is_well_formed(rt.alloc(), *over, tree)?,
-            *is_kept,
-            "row {row}"
-        );
+        gives(row, is_well_formed(rt.alloc(), *over, tree)?, *is_kept)?;
     }
     Ok(())
 }
@@ -280,10 +263,11 @@ fn numbers_and_links_keep_the_rules(rt: HostRuntime) -> Result<(), Fail> {
         for (from, link, to) in *links {
             set_link(&mut tree, *from, *link, *to);
         }
-        assert!(rt;
-            !is_well_formed(rt.alloc(), *over, tree)?,
-            "row {row}: {what}"
-        );
+        gives(
+            (row, *what),
+            is_well_formed(rt.alloc(), *over, tree)?,
+            false,
+        )?;
     }
     Ok(())
 }
@@ -352,11 +336,7 @@ fn whole_chains_keep_the_rules(rt: HostRuntime) -> Result<(), Fail> {
     ];
     for (row, (over, outline, is_kept)) in rows.iter().enumerate() {
         let tree = tree_of(rt.alloc(), *outline)?;
-        assert_eq!(rt;
-            is_well_formed(rt.alloc(), *over, tree)?,
-            *is_kept,
-            "row {row}"
-        );
+        gives(row, is_well_formed(rt.alloc(), *over, tree)?, *is_kept)?;
     }
     Ok(())
 }

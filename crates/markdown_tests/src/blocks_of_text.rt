@@ -1,4 +1,5 @@
 //! The blocks that the block pass makes of small texts, by the sections of CommonMark.
+use crate::rows::gives;
 use markdown_base::block_parts::LinkDef;
 use markdown_base::cow_str::CowStr;
 use markdown_base::item::Item;
@@ -6,7 +7,6 @@ use markdown_base::options::Options;
 use markdown_base::tree::Tree;
 use markdown_plain::blocks;
 use std::alloc::{AllocError, Global};
-use std::process::Abort;
 use std::test::Fail;
 
 /// Lists the items of a tree in preorder, each with how deep it stands, its body and its range.
@@ -85,12 +85,16 @@ fn shown(alloc: Global, text: &str, options: Options) -> Result<String, AllocErr
     short
 }
 
+/// A text is made into this.
+fn assert_made(alloc: Global, text: &str, options: Options, want: &str) -> Result<(), Fail> {
+    let made = shown(alloc, text, options)?;
+    gives(text, made.as_str(), want)
+}
+
 /// Compares what is made of each text with its row.
-fn compare(rt: &(impl Abort + AllocGlobal), rows: &[(&str, &str)]) -> Result<(), Fail> {
+fn compare(alloc: Global, rows: &[(&str, &str)]) -> Result<(), Fail> {
     for (text, want) in rows {
-        let made = shown(rt.alloc(), text, Options::ENABLE_GFM)?;
-        assert_eq!(rt; made.as_str(), *want, "{text:?}");
-        drop(made);
+        assert_made(alloc, text, Options::ENABLE_GFM, want)?;
     }
     Ok(())
 }
@@ -98,7 +102,7 @@ fn compare(rt: &(impl Abort + AllocGlobal), rows: &[(&str, &str)]) -> Result<(),
 #[test]
 fn headings_and_breaks(rt: HostRuntime) -> Result<(), Fail> {
     compare(
-        &rt,
+        rt.alloc(),
         &[
             ("***\n", "0 Rule 0..4;"),
             (" - - -", "0 Rule 1..6;"),
@@ -132,7 +136,7 @@ fn headings_and_breaks(rt: HostRuntime) -> Result<(), Fail> {
 #[test]
 fn code_blocks(rt: HostRuntime) -> Result<(), Fail> {
     compare(
-        &rt,
+        rt.alloc(),
         &[
             (
                 "\n    first line\n    second line\n",
@@ -179,7 +183,7 @@ fn code_blocks(rt: HostRuntime) -> Result<(), Fail> {
 #[test]
 fn tabs(rt: HostRuntime) -> Result<(), Fail> {
     compare(
-        &rt,
+        rt.alloc(),
         &[
             (
                 "- foo\n\n\tbar\n",
@@ -207,7 +211,7 @@ fn tabs(rt: HostRuntime) -> Result<(), Fail> {
 #[test]
 fn html_blocks(rt: HostRuntime) -> Result<(), Fail> {
     compare(
-        &rt,
+        rt.alloc(),
         &[
             (
                 "<script>\na\n\n</script> b\nc",
@@ -267,7 +271,7 @@ fn html_blocks(rt: HostRuntime) -> Result<(), Fail> {
 #[test]
 fn definitions(rt: HostRuntime) -> Result<(), Fail> {
     compare(
-        &rt,
+        rt.alloc(),
         &[
             ("[test]:\\", "[test]: <\\> \"\" 0..8;"),
             (
@@ -301,7 +305,7 @@ fn definitions(rt: HostRuntime) -> Result<(), Fail> {
 #[test]
 fn quotes(rt: HostRuntime) -> Result<(), Fail> {
     compare(
-        &rt,
+        rt.alloc(),
         &[
             (
                 "> a\nb\n",
@@ -345,7 +349,7 @@ fn quotes(rt: HostRuntime) -> Result<(), Fail> {
 #[test]
 fn lists(rt: HostRuntime) -> Result<(), Fail> {
     compare(
-        &rt,
+        rt.alloc(),
         &[
             (
                 "* a\n* b\n",
@@ -419,7 +423,7 @@ fn lists(rt: HostRuntime) -> Result<(), Fail> {
 
 #[test]
 fn footnotes(rt: HostRuntime) -> Result<(), Fail> {
-    for (options, text, want) in [
+    for &(options, text, want) in &[
         (
             Options::ENABLE_FOOTNOTES,
             "[^a]: b\n\n    c\n",
@@ -431,9 +435,7 @@ fn footnotes(rt: HostRuntime) -> Result<(), Fail> {
             "0 FootnoteDefinition(CowIndex(0)) 0..8;1 Paragraph 6..8;2 T 6..7;0 Paragraph 9..11;1 T 9..10;",
         ),
     ] {
-        let made = shown(rt.alloc(), text, options)?;
-        assert_eq!(rt; made.as_str(), want, "{text:?}");
-        drop(made);
+        assert_made(rt.alloc(), text, options, want)?;
     }
     Ok(())
 }

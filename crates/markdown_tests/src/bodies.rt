@@ -1,4 +1,5 @@
 //! Tags with their ends, the kinds of item bodies, and the bits of the options.
+use crate::rows::gives;
 use bitflags::Flags;
 use markdown_base::cow_str::CowStr;
 use markdown_base::fault::Fault;
@@ -104,12 +105,12 @@ fn options_have_upstream_bits(rt: HostRuntime) -> Result<(), Fail> {
 }
 
 #[test]
-fn bodies_are_of_kinds(rt: HostRuntime) {
+fn bodies_are_of_kinds() -> Result<(), Fail> {
     let heading = ItemBody::Heading(HeadingLevel::H1, Some(HeadingIndex(1)));
     let [code, other_code] = [ItemBody::Code(CowIndex(3)), ItemBody::Code(CowIndex(2))];
     let link = ItemBody::Link(LinkIndex(0));
     let table = ItemBody::Table(AlignmentIndex(2));
-    for (told, wanted) in [
+    for &(told, wanted) in &[
         (ItemBody::MaybeLinkOpen.is_open(), true),
         (ItemBody::SoftBreak.is_open(), false),
         (ItemBody::SoftBreak.is_inline(), true),
@@ -126,6 +127,7 @@ fn bodies_are_of_kinds(rt: HostRuntime) {
         (heading == ItemBody::Heading(HeadingLevel::H1, None), false),
         (Fault::from(AllocError) == Fault::Memory, true),
     ] {
-        assert_eq!(rt; told, wanted);
+        gives("a kind", told, wanted)?;
     }
+    Ok(())
 }

@@ -3,6 +3,7 @@
 ghost use Rattle.std.specs.Prelude.{◌≡◌, ◌+◌, ◌%◌, IfSome};
 
 use crate::builders::{item, no_parts, text};
+use crate::rows::gives;
 use markdown_base::block_parts::LinkDef;
 use markdown_base::cow_str::CowStr;
 use markdown_base::fault::Fault;
@@ -50,7 +51,7 @@ fn is_tail(
 
 #[test]
 fn tails_of_links(rt: HostRuntime) -> Result<(), Fail> {
-    let rows = [
+    let rows = &[
         ("(c)", false, "c", "", true),
         ("()", false, "", "", true),
         ("(c \"t\")", false, "c", "t", true),
@@ -66,9 +67,9 @@ fn tails_of_links(rt: HostRuntime) -> Result<(), Fail> {
         // a line ending stays where no item follows
         ("(c 'a\r\nb')", false, "c", "a\r\nb", true),
     ];
-    for (text, in_table, destination, title, are_slices) in rows {
+    for &(text, in_table, destination, title, are_slices) in rows {
         let is_so = is_tail(rt.alloc(), text, in_table, destination, title, are_slices)?;
-        assert!(rt; is_so, "{text}");
+        gives(text, is_so, true)?;
     }
     Ok(())
 }
@@ -83,7 +84,7 @@ fn is_no_tail(alloc: Global, text: &str) -> Result<bool, AllocError> {
 
 #[test]
 fn no_tails_of_links(rt: HostRuntime) -> Result<(), Fail> {
-    for text in [
+    for &text in &[
         "",
         "c",
         "(c",
@@ -94,7 +95,7 @@ fn no_tails_of_links(rt: HostRuntime) -> Result<(), Fail> {
         "(<c)",
         "(c 't' x)",
     ] {
-        assert!(rt; is_no_tail(rt.alloc(), text)?, "{text}");
+        gives(text, is_no_tail(rt.alloc(), text)?, true)?;
     }
     Ok(())
 }
@@ -131,26 +132,23 @@ fn label_of(
 fn forms_of_references(rt: HostRuntime) -> Result<(), Fail> {
     let open = |at: usize| Some(item(at, at + 1, ItemBody::MaybeLinkOpen));
     let close = Some(item(6, 7, ItemBody::MaybeLinkClose(true)));
-    let alloc = rt.alloc();
-    assert_eq!(rt;
-        label_of(alloc, "[foo][]", 5, open(5), close)?,
-        Some((0, true))
-    );
-    let source = "[testing][Some reference]";
-    assert_eq!(rt;
-        label_of(alloc, source, 9, open(9), Some(text(10, 24)))?,
-        Some((25, true))
-    );
-    // an escaped bracket begins no label, and a footnote label is none
-    assert_eq!(rt;
-        label_of(alloc, "[a]\\[b]", 3, Some(text(4, 5)), Some(text(5, 6)))?,
-        None
-    );
-    assert_eq!(rt;
-        label_of(alloc, "[a][^b]", 3, open(3), Some(text(4, 6)))?,
-        None
-    );
-    assert_eq!(rt; label_of(alloc, "[a]", 3, None, None)?, None);
+    for (source, at, next, after, wanted) in [
+        ("[foo][]", 5, open(5), close, Some((0, true))),
+        (
+            "[testing][Some reference]",
+            9,
+            open(9),
+            Some(text(10, 24)),
+            Some((25, true)),
+        ),
+        // an escaped bracket begins no label, and a footnote label is none
+        ("[a]\\[b]", 3, Some(text(4, 5)), Some(text(5, 6)), None),
+        ("[a][^b]", 3, open(3), Some(text(4, 6)), None),
+        ("[a]", 3, None, None, None),
+    ] {
+        let found = label_of(rt.alloc(), source, at, next, after)?;
+        gives(source, found, wanted)?;
+    }
     Ok(())
 }
 
@@ -263,7 +261,7 @@ fn shown_by(source: &str, end: usize, name: &str) -> Option<(Shown, bool)> {
 
 #[test]
 fn bodies_of_wikilinks(rt: HostRuntime) -> Result<(), Fail> {
-    let rows = [
+    let rows = &[
         ("[[foo]]", 5, "foo", Some(Shown::Name)),
         ("[[bar|baz]]", 9, "bar", Some(Shown::From(6))),
         ("[[a|\\*b]]", 7, "a", Some(Shown::From(4))),
@@ -271,9 +269,9 @@ fn bodies_of_wikilinks(rt: HostRuntime) -> Result<(), Fail> {
         ("[[|b]]", 4, "", None),
         ("[[]]", 2, "", None),
     ];
-    for (source, end, name, shown) in rows {
-        let found = shown_by(source, end, name);
-        assert_eq!(rt; found, shown.map(|kind| (kind, true)), "{source}");
+    for &(source, end, name, shown) in rows {
+        let wanted = shown.map(|kind| (kind, true));
+        gives(source, shown_by(source, end, name), wanted)?;
     }
     Ok(())
 }
@@ -282,7 +280,7 @@ fn bodies_of_wikilinks(rt: HostRuntime) -> Result<(), Fail> {
 #[test]
 fn links_disable_earlier_brackets_and_images_do_not(rt: HostRuntime) -> Result<(), Fail> {
     let mut openers = ChainOpeners::new(rt.alloc());
-    for (outer, inner, live) in [
+    for &(outer, inner, live) in &[
         (false, false, false),
         (true, false, true),
         (false, true, true),

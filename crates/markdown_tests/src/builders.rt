@@ -1,5 +1,5 @@
 //! Items, parts and trees made by hand.
-use markdown_base::block_parts::BlockParts;
+use markdown_base::block_parts::{BlockParts, HeadingAttributes};
 use markdown_base::cow_str::CowStr;
 use markdown_base::item::{Item, ItemBody};
 use markdown_base::tree::Tree;
@@ -33,6 +33,19 @@ pub fn no_parts<'a>(alloc: Global) -> BlockParts<'a> {
 pub fn one_text(alloc: Global) -> Result<BlockParts<'static>, AllocError> {
     let mut parts = no_parts(alloc);
     parts.cows.push(CowStr::Borrowed("x"))?;
+    Ok(parts)
+}
+
+/// Parts with one text, one list of alignments and the attributes of one heading.
+pub fn one_of_each<'a>(alloc: Global) -> Result<BlockParts<'a>, AllocError> {
+    let mut parts = no_parts(alloc);
+    parts.cows.push(CowStr::Borrowed("x"))?;
+    parts.alignments.push(Vec::new(alloc))?;
+    parts.headings.push(HeadingAttributes {
+        id: None,
+        classes: Vec::new(alloc),
+        attrs: Vec::new(alloc),
+    })?;
     Ok(parts)
 }
 

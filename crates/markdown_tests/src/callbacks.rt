@@ -78,7 +78,7 @@ fn a_boxed_object_answers_and_the_default_does_not(rt: HostRuntime) -> Result<()
     let mut none = DefaultBrokenLinkCallback;
     assert!(rt; answers(&mut none, None));
     let mut boxed: Box<dyn BoxedCallback> = Box::new(rt.alloc(), Second { asked: 0 })?;
-    for wanted in [None, Some("url")] {
+    for &wanted in &[None, Some("url")] {
         assert!(rt; answers(&mut boxed, wanted));
     }
     drop(boxed);

@@ -1,4 +1,5 @@
 //! Texts of code and math spans, and what stands after a `<`, in a paragraph directly under the document.
+use crate::rows::gives;
 use markdown_base::cow_str::CowStr;
 use markdown_base::tree::Tree;
 use markdown_code::after_less::{MarkupFound, scan_after_less};
@@ -26,9 +27,21 @@ fn shown(
     Ok((made.into_string(alloc)?, is_slice))
 }
 
+/// A span with this text shows that, as a slice of the source or not.
+fn shows(
+    alloc: Global,
+    text: &str,
+    kind: SpanKind,
+    in_table: bool,
+    wanted: (&str, bool),
+) -> Result<(), Fail> {
+    let (made, is_slice) = shown(alloc, text, kind, in_table)?;
+    gives(text, (made.as_str(), is_slice), wanted)
+}
+
 #[test]
 fn texts_of_code(rt: HostRuntime) -> Result<(), Fail> {
-    for (text, in_table, expected, is_slice) in [
+    for &(text, in_table, expected, is_slice) in &[
         ("a`b", false, "a`b", true),
         // a line feed, and a space
         ("\n ", false, "  ", false),
@@ -46,26 +59,32 @@ fn texts_of_code(rt: HostRuntime) -> Result<(), Fail> {
         ("a|b", true, "a|b", true),
         ("é\né", false, "é é", false),
     ] {
-        let made = shown(rt.alloc(), text, SpanKind::Code, in_table)?;
-        assert_eq!(rt; made.0.as_str(), expected);
-        assert_eq!(rt; made.1, is_slice);
-        drop(made);
+        shows(
+            rt.alloc(),
+            text,
+            SpanKind::Code,
+            in_table,
+            (expected, is_slice),
+        )?;
     }
     Ok(())
 }
 
 #[test]
 fn texts_of_math(rt: HostRuntime) -> Result<(), Fail> {
-    for (text, in_table, expected, is_slice) in [
+    for &(text, in_table, expected, is_slice) in &[
         (" a ", false, " a ", true),
         ("a\r\nb", false, "a\r\nb", false),
         ("a\\|b\\|", true, "a|b|", false),
         ("é", true, "é", true),
     ] {
-        let made = shown(rt.alloc(), text, SpanKind::Math, in_table)?;
-        assert_eq!(rt; made.0.as_str(), expected);
-        assert_eq!(rt; made.1, is_slice);
-        drop(made);
+        shows(
+            rt.alloc(),
+            text,
+            SpanKind::Math,
+            in_table,
+            (expected, is_slice),
+        )?;
     }
     Ok(())
 }
@@ -95,9 +114,15 @@ fn markup(alloc: Global, text: &str, start: usize) -> Result<String, AllocError>
     described(alloc, found)
 }
 
+/// This stands from the `<` at `start` on.
+fn has_markup(alloc: Global, text: &str, start: usize, expected: &str) -> Result<(), Fail> {
+    let found = markup(alloc, text, start)?;
+    gives(text, found.as_str(), expected)
+}
+
 #[test]
 fn markup_after_a_less_than_sign(rt: HostRuntime) -> Result<(), Fail> {
-    for (text, start, expected) in [
+    for &(text, start, expected) in &[
         ("<http://a.b>", 0, "autolink 12 http://a.b"),
         ("a <b> c", 2, "html 5"),
         ("a <!-- x --> c", 2, "html 12"),
@@ -112,9 +137,7 @@ fn markup_after_a_less_than_sign(rt: HostRuntime) -> Result<(), Fail> {
         // a backslash stands between
         ("<\\!-- x -->", 0, "none"),
     ] {
-        let found = markup(rt.alloc(), text, start)?;
-        assert_eq!(rt; found.as_str(), expected);
-        drop(found);
+        has_markup(rt.alloc(), text, start, expected)?;
     }
     Ok(())
 }

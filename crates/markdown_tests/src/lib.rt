@@ -28,6 +28,7 @@ mod line_items;
 #[cfg(test)]
 mod look_ups;
 pub mod notes;
+pub mod rows;
 #[cfg(test)]
 mod texts;
 #[cfg(test)]

@@ -3,13 +3,13 @@ ghost use Rattle.std.specs.Prelude.{◌≡◌, ◌≤◌, false, length, IfOk};
 ghost use Rattle.std.specs.Str.{IsCharBoundary};
 
 use crate::block_rules::is_well_formed;
+use crate::rows::gives;
 use markdown_base::item::{Item, ItemBody};
 use markdown_base::options::Options;
 use markdown_base::tree::Tree;
 use markdown_builder::builder::Builder;
 use markdown_items::items;
 use std::alloc::{AllocError, Global};
-use std::process::Abort;
 use std::test::Fail;
 
 /// An item and its range.
@@ -88,20 +88,30 @@ fn listed(alloc: Global, text: &str, options: Options) -> Result<String, AllocEr
     part_listed(alloc, text, 0, text.as_bytes().len(), options)
 }
 
+/// A text has these items.
+fn has_items(alloc: Global, text: &str, options: Options, want: &str) -> Result<(), Fail> {
+    let list = listed(alloc, text, options)?;
+    gives(text, list.as_str(), want)
+}
+
 /// Each text has these items, with GFM's options.
-fn compare(rt: &(impl Abort + AllocGlobal), rows: &[(&str, &str)]) -> Result<(), Fail> {
-    let alloc = rt.alloc();
+fn compare(alloc: Global, rows: &[(&str, &str)]) -> Result<(), Fail> {
     for (text, want) in rows {
-        let list = listed(alloc, text, Options::ENABLE_GFM)?;
-        assert_eq!(rt; list.as_str(), *want, "{text:?}");
+        has_items(alloc, text, Options::ENABLE_GFM, want)?;
     }
     Ok(())
+}
+
+/// The part of a text from `start` up to `end` has these items, with GFM's options.
+fn part_has(alloc: Global, text: &str, start: usize, end: usize, want: &str) -> Result<(), Fail> {
+    let list = part_listed(alloc, text, start, end, Options::ENABLE_GFM)?;
+    gives(text, list.as_str(), want)
 }
 
 #[test]
 fn delimiter_runs(rt: HostRuntime) -> Result<(), Fail> {
     compare(
-        &rt,
+        rt.alloc(),
         &[
             ("", ""),
             ("hello world", "Text 0..11;"),
@@ -161,7 +171,7 @@ fn delimiter_runs(rt: HostRuntime) -> Result<(), Fail> {
 #[test]
 fn escapes_and_code(rt: HostRuntime) -> Result<(), Fail> {
     compare(
-        &rt,
+        rt.alloc(),
         &[
             ("\\*a*", "Escaped 1..3;MaybeEmphasis(1, false, true) 3..4;"),
             (
@@ -191,7 +201,7 @@ fn escapes_and_code(rt: HostRuntime) -> Result<(), Fail> {
 #[test]
 fn brackets_and_entities(rt: HostRuntime) -> Result<(), Fail> {
     compare(
-        &rt,
+        rt.alloc(),
         &[
             (
                 "[a]",
@@ -215,7 +225,7 @@ fn brackets_and_entities(rt: HostRuntime) -> Result<(), Fail> {
 
 #[test]
 fn options_add_items(rt: HostRuntime) -> Result<(), Fail> {
-    for (text, options, want) in [
+    for &(text, options, want) in &[
         (
             "~a~~",
             Options::ENABLE_STRIKETHROUGH,
@@ -252,18 +262,14 @@ fn options_add_items(rt: HostRuntime) -> Result<(), Fail> {
             MaybeMath(false, false, 0) 4..5;",
         ),
     ] {
-        assert_eq!(rt;
-            listed(rt.alloc(), text, options)?.as_str(),
-            want,
-            "{text:?}"
-        );
+        has_items(rt.alloc(), text, options, want)?;
     }
     Ok(())
 }
 
 #[test]
 fn a_line_is_read_alone(rt: HostRuntime) -> Result<(), Fail> {
-    for (text, start, end, want) in [
+    for &(text, start, end, want) in &[
         ("hello world", 6, 11, "Text 6..11;"),
         (
             "x*a* y",
@@ -289,8 +295,7 @@ fn a_line_is_read_alone(rt: HostRuntime) -> Result<(), Fail> {
         ("a\\*", 0, 2, "Text 0..2;"),
         ("a``", 0, 2, "Text 0..1;MaybeCode(1, false) 1..2;"),
     ] {
-        let list = part_listed(rt.alloc(), text, start, end, Options::ENABLE_GFM)?;
-        assert_eq!(rt; list.as_str(), want, "{text:?}");
+        part_has(rt.alloc(), text, start, end, want)?;
     }
     Ok(())
 }

@@ -1,5 +1,6 @@
 //! Definitions and footnotes looked up by the folding of their names, and uses of footnotes.
 use crate::builders::no_parts;
+use crate::rows::gives;
 use markdown_base::block_parts::{BlockParts, LinkDef};
 use markdown_base::cow_str::CowStr;
 use markdown_base::fault::Fault;
@@ -46,7 +47,7 @@ fn keys_find_the_first_of_equal_folding(rt: HostRuntime) -> Result<(), Fail> {
         ("A", "/1"),
         ("a", "/2"),
     ];
-    let rows = [
+    let rows = &[
         ("A b C", Some("http://example.com")),
         ("SS", Some("/u")),
         ("ẞ", Some("/u")),
@@ -61,9 +62,8 @@ fn keys_find_the_first_of_equal_folding(rt: HostRuntime) -> Result<(), Fail> {
         ("", None),
         ("s", None),
     ];
-    for (key, dest) in rows {
-        let is_so = finds(rt.alloc(), &definitions, key, dest)?;
-        assert!(rt; is_so, "{key}");
+    for &(key, dest) in rows {
+        gives(key, finds(rt.alloc(), &definitions, key, dest)?, true)?;
     }
     Ok(())
 }
@@ -81,7 +81,7 @@ fn find_each_other(
 }
 
 /// Pairs that match, of statuses C and F of CaseFolding.txt.
-const MATCHING: [(&str, &str); 17] = [
+static MATCHING: [(&str, &str); 17] = [
     ("Weiß", "WEISS"),
     ("ﬀ", "FF"),
     ("ﬃ", "fFi"),
@@ -102,7 +102,7 @@ const MATCHING: [(&str, &str); 17] = [
 ];
 
 /// Pairs that default matching keeps apart.
-const APART: [(&str, &str); 6] = [
+static APART: [(&str, &str); 6] = [
     ("\u{130}", "i"),
     ("ı", "i"),
     ("é", "e\u{301}"),
@@ -113,17 +113,13 @@ const APART: [(&str, &str); 6] = [
 
 #[test]
 fn foldings_are_unicodes(rt: HostRuntime) -> Result<(), Fail> {
-    for (label, key) in MATCHING {
-        assert!(rt;
-            find_each_other(rt.alloc(), label, key, Some("/u"))?,
-            "{label} and {key}"
-        );
+    for &(label, key) in &MATCHING {
+        let is_so = find_each_other(rt.alloc(), label, key, Some("/u"))?;
+        gives((label, key), is_so, true)?;
     }
-    for (label, key) in APART {
-        assert!(rt;
-            find_each_other(rt.alloc(), label, key, None)?,
-            "{label} and {key}"
-        );
+    for &(label, key) in &APART {
+        let is_so = find_each_other(rt.alloc(), label, key, None)?;
+        gives((label, key), is_so, true)?;
     }
     Ok(())
 }
@@ -139,6 +135,12 @@ fn listed(alloc: Global, definitions: &[(&str, &str)]) -> Result<String, Fault> 
     Ok(seen)
 }
 
+/// These can be found.
+fn are_listed(alloc: Global, definitions: &[(&str, &str)], wanted: &str) -> Result<(), Fail> {
+    let seen = listed(alloc, definitions)?;
+    gives(wanted, seen.as_str(), wanted)
+}
+
 #[test]
 fn definitions_are_listed_in_order(rt: HostRuntime) -> Result<(), Fail> {
     let repeated = [
@@ -149,15 +151,14 @@ fn definitions_are_listed_in_order(rt: HostRuntime) -> Result<(), Fail> {
         ("B", "5"),
         ("C", "6"),
     ];
-    assert_eq!(rt; listed(rt.alloc(), &repeated)?.as_str(), "Z1b2A4C6");
-    assert_eq!(rt; listed(rt.alloc(), &[])?.as_str(), "");
-    Ok(())
+    are_listed(rt.alloc(), &repeated, "Z1b2A4C6")?;
+    are_listed(rt.alloc(), &[], "")
 }
 
 /// Allocations with the footnotes `a` and `Straße`, the first of them named twice.
 fn footnotes<'a>(alloc: Global) -> Result<Allocations<'a>, Fault> {
     let mut names = Vec::new(alloc);
-    for name in ["a", "Straße", "A"] {
+    for &name in &["a", "Straße", "A"] {
         names.push(CowStr::from(name))?;
     }
     let mut parts = no_parts(alloc);
@@ -186,7 +187,7 @@ fn count_one_use(
 #[test]
 fn uses_of_footnotes_are_counted(rt: HostRuntime) -> Result<(), Fail> {
     let mut held = footnotes(rt.alloc())?;
-    let rows = [
+    let rows = &[
         ("a", Some(0), Some(1)),
         ("A", Some(1), Some(2)),
         ("b", None, None),
@@ -194,7 +195,7 @@ fn uses_of_footnotes_are_counted(rt: HostRuntime) -> Result<(), Fail> {
         ("STRASSE", Some(0), Some(1)),
         ("a", Some(2), Some(3)),
     ];
-    for (name, before, after) in rows {
+    for &(name, before, after) in rows {
         let counted = count_one_use(&mut held, name)?;
         assert_eq!(rt;
             counted,

@@ -1,4 +1,5 @@
 //! Texts in their three forms, and what holds texts: equality, copies, definitions.
+use crate::rows::gives;
 use markdown_base::block_parts::LinkDef;
 use markdown_base::cow_str::CowStr;
 use markdown_base::event::Event;
@@ -83,48 +84,40 @@ fn is_held(text: Result<CowStr<'_>, AllocError>, wanted: &str, form: &str) -> bo
     }
 }
 
+/// Whether the copy and the `'static` form of a slice, and those of a text on the heap, have the right forms.
+fn are_held(alloc: Global, text: &str, form: &str) -> Result<[bool; 4], AllocError> {
+    Ok([
+        is_held(CowStr::from(text).try_clone(alloc), text, "borrowed"),
+        is_held(CowStr::from(text).into_static(alloc), text, form),
+        is_held(boxed(alloc, text)?.try_clone(alloc), text, form),
+        is_held(boxed(alloc, text)?.into_static(alloc), text, "boxed"),
+    ])
+}
+
 #[test]
 fn texts_are_copied(rt: HostRuntime) -> Result<(), Fail> {
     let alloc = rt.alloc();
     // 22 and 23 bytes
-    for (text, form) in [
+    for &(text, form) in &[
         ("", "in place"),
         ("1234567890123456789012", "in place"),
         ("12345678901234567890123", "boxed"),
     ] {
-        assert!(rt;
-            is_held(CowStr::from(text).try_clone(alloc), text, "borrowed"),
-            "{text}"
-        );
-        assert!(rt;
-            is_held(CowStr::from(text).into_static(alloc), text, form),
-            "{text}"
-        );
-        assert!(rt;
-            is_held(boxed(alloc, text)?.try_clone(alloc), text, form),
-            "{text}"
-        );
-        assert!(rt;
-            is_held(boxed(alloc, text)?.into_static(alloc), text, "boxed"),
-            "{text}"
-        );
-        assert_eq!(rt;
-            InlineStr::new(text).is_some(),
-            form == "in place",
-            "{text}"
-        );
+        gives(text, are_held(alloc, text, form)?, [true; 4])?;
+        gives(text, InlineStr::new(text).is_some(), form == "in place")?;
     }
-    assert!(rt; is_held(CowStr::from('a').try_clone(alloc), "a", "in place"));
-    assert!(rt; is_held(CowStr::from('a').into_static(alloc), "a", "in place"));
-    Ok(())
+    let in_place = [
+        is_held(CowStr::from('a').try_clone(alloc), "a", "in place"),
+        is_held(CowStr::from('a').into_static(alloc), "a", "in place"),
+    ];
+    gives("a", in_place, [true; 2])
 }
 
 #[test]
 fn texts_are_printed(rt: HostRuntime) -> Result<(), Fail> {
     let printed = format!(in rt.alloc(); "{} {:?}", CowStr::from("b"), CowStr::from("c"))?;
-    assert_eq!(rt; printed.as_str(), "b \"c\"");
-    assert_eq!(rt; lent_bytes(&CowStr::from("bc")), 2);
-    Ok(())
+    gives("printed", printed.as_str(), "b \"c\"")?;
+    gives("lent", lent_bytes(&CowStr::from("bc")), 2)
 }
 
 /// How many bytes are lent.
@@ -135,11 +128,11 @@ fn lent_bytes<T: AsStr>(text: &T) -> usize {
 #[test]
 fn faults_say_what_failed(rt: HostRuntime) -> Result<(), Fail> {
     let said = format!(in rt.alloc(); "{}; {}; {}", Fault::Memory, Fault::Blocks, Fault::Depth)?;
-    assert_eq!(rt;
+    gives(
+        "faults",
         said.as_str(),
-        "out of memory; bad block result; image nested too deeply"
-    );
-    Ok(())
+        "out of memory; bad block result; image nested too deeply",
+    )
 }
 
 /// A link's Start that outlives the text from which it was made.
@@ -176,23 +169,21 @@ fn printed_twice(alloc: Global, event: Result<Event<'static>, Fault>) -> Result<
     Ok(printed)
 }
 
+/// An event and a copy of it are printed so.
+fn outlives(alloc: Global, event: Result<Event<'static>, Fault>, start: &str) -> Result<(), Fail> {
+    let printed = printed_twice(alloc, event)?;
+    let twice = format!(in alloc; "{start}; {start}")?;
+    gives(start, printed.as_str(), twice.as_str())
+}
+
 #[test]
 fn events_outlive_their_text(rt: HostRuntime) -> Result<(), Fail> {
     let alloc = rt.alloc();
-    let link = printed_twice(alloc, outliving_link(alloc, "/a"))?;
     let link_start = "Start(Link { link_type: Inline, dest_url: \"/a\", title: \"t\", id: \"\" })";
-    assert_eq!(rt;
-        link.as_str(),
-        format!(in alloc; "{link_start}; {link_start}")?.as_str()
-    );
-    let heading = printed_twice(alloc, outliving_heading(alloc, "a"))?;
+    outlives(alloc, outliving_link(alloc, "/a"), link_start)?;
     let heading_start =
         "Start(Heading { level: H2, id: Some(\"a\"), classes: [\"a\", \"b\"], attrs: [(\"c\", Some(\"a\"))] })";
-    assert_eq!(rt;
-        heading.as_str(),
-        format!(in alloc; "{heading_start}; {heading_start}")?.as_str()
-    );
-    Ok(())
+    outlives(alloc, outliving_heading(alloc, "a"), heading_start)
 }
 
 const LONG: &str = "http://example.com/a/long/destination";
