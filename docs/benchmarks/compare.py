@@ -1,6 +1,7 @@
-"""The program beside `cmark` and `pulldown-cmark` on the same texts, as a table: `compare.py PROGRAM`.
+"""The program beside `cmark`, `pulldown-cmark` and `md4c` on the same texts, as a table: `compare.py PROGRAM`.
 
-Instructions are counted by valgrind; seconds are the best of seven runs, memory the most of one.
+Instructions are counted by valgrind; seconds are the best of seven runs, memory the most of one. `md4c` is a library, so
+`md4c.c` is compiled over it.
 """
 import os
 import re
@@ -44,11 +45,17 @@ def memory(program, text):
 
 
 def main():
-    programs = {"ours": [sys.argv[1]], "`cmark`": ["cmark", "--unsafe"], "`pulldown-cmark`": ["pulldown-cmark"]}
     print("| Text | Program | Instructions in millions | Ours to it | Seconds | Memory to the text |")
     print("|---|---|---|---|---|---|")
     with tempfile.TemporaryDirectory() as room:
-        text = os.path.join(room, "text.md")
+        text, md4c = os.path.join(room, "text.md"), os.path.join(room, "md4c")
+        subprocess.run(["cc", "-O2", os.path.join(HERE, "md4c.c"), "-lmd4c-html", "-o", md4c], check=True)
+        programs = {
+            "ours": [sys.argv[1]],
+            "`cmark`": ["cmark", "--unsafe"],
+            "`pulldown-cmark`": ["pulldown-cmark"],
+            "`md4c`": [md4c],
+        }
         for name, (script, *words) in TEXTS.items():
             with open(text, "w") as made:
                 subprocess.run([sys.executable, os.path.join(HERE, script), *words], stdout=made, check=True)
