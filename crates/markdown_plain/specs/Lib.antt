@@ -1,1 +1,9 @@
--- no definitions of its own
+-- the builder, and the calls asked of it
+pub mod OpenBlocks
+pub mod CodeLines
+pub mod Fitting
+-- what the pass keeps between lines
+pub mod ListLooseness
+pub mod Paragraphs
+pub mod Containers
+pub mod NewContainers

@@ -240,7 +240,8 @@ impl<'a> Pass<'a> {
             return self.read_text(rest, at);
         };
         self.make_room(rest.depth)?;
-        self.add_heading(rest.line, at, heading)?;
+        self.placing.step_to(at);
+        self.add_heading(rest.line, heading)?;
         Ok(false)
     }
 
@@ -315,7 +316,8 @@ impl<'a> Pass<'a> {
             match thematic_break(bytes_of(self.placing.text(), at, rest.line.stop)) {
                 Ok(()) => {
                     self.make_room(rest.depth)?;
-                    self.add_thematic_break(rest.line, at)?;
+                    self.placing.step_to(at);
+                    self.add_thematic_break(rest.line)?;
                     return Ok(false);
                 }
                 Err(length) => rest.unbroken = at.saturating_add(length),

@@ -1,13 +1,26 @@
 //! Block quotes (CommonMark 5.1), list items (5.2), and footnote definitions: how they go on in a line, and how
 //! they are opened.
-ghost use Rattle.std.specs.Prelude.{◌≡◌, ◌≤◌, IfOk};
+ghost use Rattle.std.specs.Prelude.{◌≡◌, ℕ, ◌+◌, ◌<◌, ◌≤◌, ◌^◌, ◌++◌, ◌∷◌, [], true, false, None, List};
+ghost use Rattle.std.specs.Prelude.{nat_le, take, IfOk, IfSome, MatchOption};
+ghost use Rattle.std.specs.Option.{option_map};
+ghost use Rattle.markdown_base.specs.CowText.{text_of};
+ghost use Rattle.markdown_lines.specs.LineBytes.{IsPartOf};
+ghost use Rattle.markdown_lines.specs.Places.{left_from};
+ghost use Rattle.markdown_scan.specs.LineStart.{past_marker};
+ghost use Rattle.markdown_plain.specs.declared.pass.Pass.{Pass};
+ghost use Rattle.markdown_plain.specs.Containers as spec;
+ghost use Rattle.markdown_plain.specs.NewContainers as opening;
+ghost use Rattle.markdown_plain.specs.Fitting.{IfFitted, opened};
+ghost use Rattle.markdown_plain.specs.OpenBlocks.{room_in, without_leaf};
+ghost use Rattle.markdown_base.specs.declared.item.ItemBody.TheVariants as body;
 
 use crate::pass::{Pass, innermost};
 use bitflags::Flags;
 use markdown_base::cow_str::CowStr;
 use markdown_base::item::ItemBody;
 use markdown_base::options::Options;
-use markdown_lines::bytes::{byte_at, content_start, part_of};
+use markdown_builder::open_block::OpenBlock;
+use markdown_lines::bytes::{byte_at, bytes_of, content_start, part_of};
 use markdown_lines::line::Line;
 use markdown_lines::list_marker::ListMarker;
 use markdown_lines::place::Place;
@@ -32,7 +45,9 @@ pub struct Reached {
 }
 
 /// Whether a body is a container's; lists count as such.
-fn is_container(body: ItemBody) -> bool {
+fn is_container(body: ItemBody) -> bool
+    ensures { result ≡ spec.is_container body }
+{
     match body {
         ItemBody::BlockQuote(_) | ItemBody::List(_, _, _) | ItemBody::ListItem(_) => true,
         ItemBody::FootnoteDefinition(_) => true,
@@ -41,10 +56,11 @@ fn is_container(body: ItemBody) -> bool {
 }
 
 /// Behind the marker of a block quote, of which at most one column of space is a part.
-fn past_quote(text: &str, place: Place, stop: usize) -> Option<Place> {
+fn past_quote(text: &str, place: Place, stop: usize) -> Option<Place>
+    ensures { spec.LeftAt text.now stop (spec.past_quote (left_from text.now place stop)) result }
+{
     let before = read_space(text, place, stop, 4);
-    let at = before.behind.at;
-    if before.columns < 4 && byte_at(text, at) == Some(b'>') {
+    if before.columns < 4 && bytes_of(text, before.behind.at, stop).starts_with(b">") {
         Some(read_space(text, before.behind.past(1), stop, 1).behind)
     } else {
         None
@@ -52,7 +68,9 @@ fn past_quote(text: &str, place: Place, stop: usize) -> Option<Place> {
 }
 
 /// Behind so many columns of space, or the white space of a line that is blank from here on.
-fn past_indent(text: &str, place: Place, stop: usize, indent: usize, blank: bool) -> Option<Place> {
+fn past_indent(text: &str, place: Place, stop: usize, indent: usize, blank: bool) -> Option<Place>
+    ensures { spec.LeftAt text.now stop (spec.past_indent indent blank (left_from text.now place stop)) result }
+{
     let found = read_space(text, place, stop, indent);
     if blank || found.columns == indent {
         Some(found.behind)
@@ -63,14 +81,10 @@ fn past_indent(text: &str, place: Place, stop: usize, indent: usize, blank: bool
 
 /// Behind what a footnote definition takes of a line: in the style of GFM four columns, in the old style
 /// nothing, but that a blank line ends it.
-fn past_footnote(
-    text: &str,
-    place: Place,
-    stop: usize,
-    options: Options,
-    blank: bool,
-) -> Option<Place> {
-    if !options.contains(Options::ENABLE_OLD_FOOTNOTES) {
+fn past_footnote(text: &str, place: Place, stop: usize, old: bool, blank: bool) -> Option<Place>
+    ensures { spec.LeftAt text.now stop (spec.past_footnote old blank (left_from text.now place stop)) result }
+{
+    if !old {
         past_indent(text, place, stop, 4, blank)
     } else if blank {
         None
@@ -79,37 +93,44 @@ fn past_footnote(
     }
 }
 
-/// Behind what the open container with a number takes of a line, if it goes on in it; what was reached so far.
+/// Behind what an open container takes of a line, if it goes on in it; what was reached so far, whether footnote
+/// definitions are those of the old style, and whether it is an item in which nothing stands.
 fn past_container(
-    pass: &Pass<'_>,
+    text: &str,
     body: ItemBody,
+    old: bool,
     empty: bool,
     line: Line,
     reached: Reached,
-) -> Option<Place> {
-    let text = pass.placing.text();
+) -> Option<Place>
+    ensures { spec.LeftAt text.now line.stop (spec.past_container old empty (nat_le line.stop reached.content) body
+        (left_from text.now reached.place line.stop)) result }
+{
     let blank = reached.content >= line.stop;
     match body {
         ItemBody::BlockQuote(_) => past_quote(text, reached.place, line.stop),
         ItemBody::ListItem(_) if blank && empty => None,
         ItemBody::ListItem(indent) => past_indent(text, reached.place, line.stop, indent, blank),
         ItemBody::FootnoteDefinition(_) => {
-            past_footnote(text, reached.place, line.stop, pass.options, blank)
+            past_footnote(text, reached.place, line.stop, old, blank)
         }
         _ => Some(reached.place),
     }
 }
 
-/// What is reached behind the container with a number, which goes on up to a place.
+/// What is reached behind one container more, which goes on up to a place.
 fn behind_container(
     text: &str,
-    number: usize,
     body: ItemBody,
     place: Place,
     line: Line,
     reached: Reached,
-) -> Reached {
-    let depth = number.saturating_add(1);
+) -> Reached
+    requires { reached.depth + 1 < 2 ^ 64 }
+    ensures { spec.reach_of text.now line.stop result
+        ≡ spec.reach_behind body (left_from text.now place line.stop) (spec.reach_of text.now line.stop reached) }
+{
+    let depth = reached.depth + 1;
     match body {
         ItemBody::BlockQuote(_) => Reached {
             depth,
@@ -128,10 +149,18 @@ fn behind_container(
     }
 }
 
-/// How far the open containers go on in a line.
-pub fn reach(pass: &Pass<'_>, line: Line) -> Reached {
-    let text = pass.placing.text();
-    let blocks = pass.placing.open_blocks();
+/// How far open blocks go on in a line: with footnote definitions of the old style or not, and whether nothing
+/// stands in the item opened last.
+fn reach_blocks(
+    text: &str,
+    blocks: &[OpenBlock],
+    old: bool,
+    item_is_empty: bool,
+    line: Line,
+) -> Reached
+    ensures { spec.reach_of text.now line.stop result ≡ spec.reach_from old item_is_empty line.stop blocks.now
+        (spec.reach_start (spec.whole_line text.now line)) }
+{
     let mut reached = Reached {
         depth: 0,
         all: true,
@@ -139,14 +168,15 @@ pub fn reach(pass: &Pass<'_>, line: Line) -> Reached {
         content: content_start(text, line.start, line.stop),
         quoted: 0,
     };
-    for (number, block) in blocks.iter().enumerate() {
-        if !is_container(block.body) {
+    'blocks: for number in 0..blocks.len() {
+        let body = blocks[number].body;
+        if !is_container(body) {
             return reached;
         }
-        let empty = number.saturating_add(1) == blocks.len() && pass.looseness.is_item_empty();
-        match past_container(pass, block.body, empty, line, reached) {
+        let empty = (number + 1 == blocks.len()) & item_is_empty;
+        match past_container(text, body, old, empty, line, reached) {
             Some(place) => {
-                reached = behind_container(text, number, block.body, place, line, reached);
+                reached = behind_container(text, body, place, line, reached);
             }
             None => {
                 return Reached {
@@ -162,10 +192,28 @@ pub fn reach(pass: &Pass<'_>, line: Line) -> Reached {
     reached
 }
 
+/// How far the open containers go on in a line.
+pub fn reach(pass: &Pass<'_>, line: Line) -> Reached
+    ensures { spec.reach_of pass.now.placing.builder.text line.stop result
+        ≡ spec.reach_from (spec.old_footnotes pass.now.options) pass.now.looseness.item_is_empty line.stop
+        pass.now.placing.builder.blocks (spec.reach_start (spec.whole_line pass.now.placing.builder.text line)) }
+{
+    reach_blocks(
+        pass.placing.text(),
+        pass.placing.open_blocks(),
+        pass.options.contains(Options::ENABLE_OLD_FOOTNOTES),
+        pass.looseness.is_item_empty(),
+        line,
+    )
+}
+
 /// Where the content of an item begins, by the place behind its marker, and how many columns of space part them.
 /// An item that begins with a blank line or with indented code is parted by one.
 fn item_content(text: &str, behind: Place, stop: usize) -> Space
-    ensures { result.columns ≤ 5 }
+    ensures columns { result.columns ≡ (opening.item_space stop (left_from text.now behind stop)).columns }
+    ensures behind { left_from text.now result.behind stop
+        ≡ (opening.item_space stop (left_from text.now behind stop)).after }
+    ensures few { result.columns ≤ 5 }
 {
     let padding = read_space(text, behind, stop, 5);
     if padding.behind.at < stop && 0 < padding.columns && padding.columns < 5 {
@@ -181,7 +229,10 @@ fn item_content(text: &str, behind: Place, stop: usize) -> Space
 fn footnote_label<'a>(
     alloc: Global,
     content: &'a str,
-) -> Result<Option<(CowStr<'a>, usize)>, AllocError> {
+) -> Result<Option<(CowStr<'a>, usize)>, AllocError>
+    ensures { IfOk result (λ found. option_map (λ marker. (text_of marker.0, marker.1)) found
+        ≡ opening.note_of content.now) }
+{
     let Some(rest) = content.strip_prefix("[^") else {
         return Ok(None);
     };
@@ -199,7 +250,13 @@ fn footnote_label<'a>(
 impl<'a> Pass<'a> {
     /// Opens a block quote whose marker stands here, and goes behind it.
     pub fn open_quote(&mut self, line: Line, here: Place) -> Result<Place, AllocError>
-        ensures { IfOk result (λ _. self.new.placing.builder.text ≡ self.old.placing.builder.text) }
+        ensures text { IfOk result (λ _. self.new.placing.builder.text ≡ self.old.placing.builder.text) }
+        ensures opens { IfOk result (λ _. IfFitted self.old.placing self.new.placing (self.new.placing.builder
+            ≡ opened self.old.placing.builder here.at (body.BlockQuote None))) }
+        ensures inside { IfOk result (λ inside. here.at < line.stop
+            → left_from self.old.placing.builder.text inside line.stop
+            ≡ past_marker (left_from self.old.placing.builder.text here line.stop)) }
+        ensures same { self.new ≡ record self.old { placing = self.new.placing } }
     {
         self.placing.step_to(here.at);
         self.placing.open_block(ItemBody::BlockQuote(None))?;
@@ -215,7 +272,24 @@ impl<'a> Pass<'a> {
         marker: ListMarker,
         depth: usize,
     ) -> Result<Place, AllocError>
-        ensures { IfOk result (λ _. self.new.placing.builder.text ≡ self.old.placing.builder.text) }
+        ensures text { IfOk result (λ _. self.new.placing.builder.text ≡ self.old.placing.builder.text) }
+        ensures around { IfOk result (λ _. IfFitted self.old.placing self.new.placing ((indent : ℕ)
+            × (self.new.placing.builder.blocks ≡ opening.around_item before.behind.at marker
+            (take depth (without_leaf self.old.placing.builder))
+            ++ record { start = before.behind.at; body = body.ListItem indent } ∷ []))) }
+        ensures here { IfOk result (λ _. IfFitted self.old.placing self.new.placing
+            (self.new.placing.builder.at ≡ before.behind.at)) }
+        ensures inside { IfOk result (λ inside. before.behind.at + marker.width ≤ line.stop
+            → left_from self.old.placing.builder.text inside line.stop
+            ≡ (opening.item_space line.stop (opening.past_bytes marker.width
+            (left_from self.old.placing.builder.text before.behind line.stop))).after) }
+        ensures ended { IfOk result (λ _. self.new.lines.items ≡ []) }
+        ensures empty { IfOk result (λ _. self.new.looseness.item_is_empty ≡ true) }
+        ensures same { self.new ≡ record self.old {
+          placing = self.new.placing;
+          lines = self.new.lines;
+          looseness = self.new.looseness;
+        } }
     {
         self.close_down(depth)?;
         self.open_list(marker, before.behind.at)?;
@@ -233,7 +307,13 @@ impl<'a> Pass<'a> {
 
     /// Opens a list for an item, where the innermost open block is none of the same kind.
     fn open_list(&mut self, marker: ListMarker, at: usize) -> Result<(), AllocError>
-        ensures { IfOk result (λ _. self.new.placing.builder.text ≡ self.old.placing.builder.text) }
+        ensures text { IfOk result (λ _. self.new.placing.builder.text ≡ self.old.placing.builder.text) }
+        ensures around { IfOk result (λ _. IfFitted self.old.placing self.new.placing
+            (self.new.placing.builder.blocks ≡ opening.around_item at marker self.old.placing.builder.blocks)) }
+        ensures same { self.new ≡ record self.old {
+          placing = self.new.placing;
+          looseness = self.new.looseness;
+        } }
     {
         if let Some(ItemBody::List(_, character, _)) = innermost(&self.placing) {
             if character == marker.character {
@@ -256,7 +336,24 @@ impl<'a> Pass<'a> {
         here: Place,
         depth: usize,
     ) -> Result<Option<Place>, AllocError>
-        ensures { IfOk result (λ _. self.new.placing.builder.text ≡ self.old.placing.builder.text) }
+        ensures text { IfOk result (λ _. self.new.placing.builder.text ≡ self.old.placing.builder.text) }
+        ensures off { IfOk result (λ found. opening.footnotes_on self.old.options ≡ false → found ≡ None) }
+        ensures on { IfOk result (λ found. opening.footnotes_on self.old.options ≡ true → (content : List ℕ)
+            × IsPartOf self.old.placing.builder.text here.at line.stop content
+            × MatchOption found (opening.note_of content ≡ None)
+            (opening.InsideNote self.old.placing.builder.text here line.stop content)) }
+        ensures none { IfOk result (λ found. found ≡ None → self.new ≡ self.old) }
+        ensures opens { IfOk result (λ found. IfSome found (λ _. IfFitted self.old.placing self.new.placing ((ix : _)
+            × (self.new.placing.builder.blocks ≡ room_in depth (without_leaf self.old.placing.builder)
+            ++ record { start = here.at; body = body.FootnoteDefinition ix } ∷ [])))) }
+        ensures here { IfOk result (λ found. IfSome found (λ _. IfFitted self.old.placing self.new.placing
+            (self.new.placing.builder.at ≡ here.at))) }
+        ensures ended { IfOk result (λ found. IfSome found (λ _. self.new.lines.items ≡ [])) }
+        ensures same { self.new ≡ record self.old {
+          placing = self.new.placing;
+          lines = self.new.lines;
+          looseness = self.new.looseness;
+        } }
     {
         if !self.options.contains(Options::ENABLE_FOOTNOTES) {
             return Ok(None);

@@ -1,5 +1,10 @@
 //! Leaf blocks other than paragraphs (CommonMark 4.1 to 4.6): how they are opened, and how they go on.
-ghost use Rattle.std.specs.Prelude.{◌≡◌, IfOk};
+ghost use Rattle.std.specs.Prelude.{◌≡◌, ◌++◌, ◌∷◌, [], true, false, IfOk};
+ghost use Rattle.markdown_base.specs.declared.item.ItemBody.TheVariants as body;
+ghost use Rattle.markdown_plain.specs.declared.pass.LeafKind.TheVariants as leaf_kind;
+ghost use Rattle.markdown_plain.specs.CodeLines.{behind_line, code_behind, ends_html_at, held, is_closed_at};
+ghost use Rattle.markdown_plain.specs.Fitting.{IfFitted, GoesOn, OpensHtml, closed, extended, opened};
+ghost use Rattle.markdown_plain.specs.Paragraphs.{placed_to};
 
 use crate::pass::{LeafKind, Pass};
 use crate::placing::Placing;
@@ -17,7 +22,9 @@ use std::alloc::AllocError;
 
 /// Appends a line of a code block, with its line ending: a Text, behind the columns that a cut tab owes.
 fn add_code(placing: &mut Placing<'_>, line: HeldLine) -> Result<(), AllocError>
-    ensures { IfOk result (λ _. placing.new.builder.text ≡ placing.old.builder.text) }
+    ensures text { IfOk result (λ _. placing.new.builder.text ≡ placing.old.builder.text) }
+    ensures goes_on { IfOk result (λ _. IfFitted placing.old placing.new
+        (GoesOn placing.old.builder placing.new.builder (behind_line line.start line.next))) }
 {
     placing.step_to(line.start);
     placing.add_owed(line.owed)?;
@@ -32,7 +39,9 @@ fn add_code(placing: &mut Placing<'_>, line: HeldLine) -> Result<(), AllocError>
 
 /// Appends lines of a code block.
 fn add_codes(placing: &mut Placing<'_>, lines: &[HeldLine]) -> Result<(), AllocError>
-    ensures { IfOk result (λ _. placing.new.builder.text ≡ placing.old.builder.text) }
+    ensures text { IfOk result (λ _. placing.new.builder.text ≡ placing.old.builder.text) }
+    ensures goes_on { IfOk result (λ _. IfFitted placing.old placing.new
+        (GoesOn placing.old.builder placing.new.builder placing.new.builder.at)) }
 {
     'lines: for line in lines {
         add_code(placing, *line)?;
@@ -41,7 +50,9 @@ fn add_codes(placing: &mut Placing<'_>, lines: &[HeldLine]) -> Result<(), AllocE
 }
 
 /// What is left of a line from a place on.
-fn rest_of(line: Line, place: Place) -> HeldLine {
+fn rest_of(line: Line, place: Place) -> HeldLine
+    ensures { result ≡ record { start = place.at; stop = line.stop; next = line.next; owed = place.owed } }
+{
     HeldLine {
         start: place.at,
         stop: line.stop,
@@ -51,24 +62,24 @@ fn rest_of(line: Line, place: Place) -> HeldLine {
 }
 
 impl<'a> Pass<'a> {
-    /// Adds a thematic break.
-    pub fn add_thematic_break(&mut self, line: Line, at: usize) -> Result<(), AllocError>
-        ensures { IfOk result (λ _. self.new.placing.builder.text ≡ self.old.placing.builder.text) }
+    /// Adds a thematic break that begins here.
+    pub fn add_thematic_break(&mut self, line: Line) -> Result<(), AllocError>
+        ensures text { IfOk result (λ _. self.new.placing.builder.text ≡ self.old.placing.builder.text) }
+        ensures adds { IfOk result (λ _. IfFitted self.old.placing self.new.placing
+            (self.new.placing.builder ≡ extended self.old.placing.builder line.next)) }
+        ensures same { self.new ≡ record self.old { placing = self.new.placing } }
     {
-        self.placing.step_to(at);
         self.placing.add_rule(line.next)
     }
 
     /// Adds an ATX heading that begins here.
-    pub fn add_heading(
-        &mut self,
-        line: Line,
-        at: usize,
-        heading: AtxHeading,
-    ) -> Result<(), AllocError>
-        ensures { IfOk result (λ _. self.new.placing.builder.text ≡ self.old.placing.builder.text) }
+    #[tactic(auto, using(crate::proofs::OpenBlocksLemmas::outer_of_opened))]
+    pub fn add_heading(&mut self, line: Line, heading: AtxHeading) -> Result<(), AllocError>
+        ensures text { IfOk result (λ _. self.new.placing.builder.text ≡ self.old.placing.builder.text) }
+        ensures adds { IfOk result (λ _. IfFitted self.old.placing self.new.placing
+            (self.new.placing.builder ≡ placed_to self.old.placing.builder line.next)) }
+        ensures same { self.new ≡ record self.old { placing = self.new.placing } }
     {
-        self.placing.step_to(at);
         self.placing
             .open_block(ItemBody::Heading(heading.level, None))?;
         self.placing.step_to(heading.from);
@@ -85,7 +96,12 @@ impl<'a> Pass<'a> {
         at: usize,
         opening: OpeningFence,
     ) -> Result<(), AllocError>
-        ensures { IfOk result (λ _. self.new.placing.builder.text ≡ self.old.placing.builder.text) }
+        ensures text { IfOk result (λ _. self.new.placing.builder.text ≡ self.old.placing.builder.text) }
+        ensures opens { IfOk result (λ _. IfFitted self.old.placing self.new.placing
+            ((ix : _) × (self.new.placing.builder
+            ≡ record (opened self.old.placing.builder at (body.FencedCodeBlock ix)) { at = line.next }))) }
+        ensures kind { IfOk result (λ _. self.new.leaf ≡ leaf_kind.Fenced opening.fence) }
+        ensures same { self.new ≡ record self.old { placing = self.new.placing; leaf = self.new.leaf } }
     {
         self.placing.step_to(at);
         let source = part_of(self.placing.text(), opening.from, opening.to);
@@ -98,7 +114,14 @@ impl<'a> Pass<'a> {
 
     /// Adds a line to the fenced code block that is open, or closes it.
     pub fn add_fenced(&mut self, fence: Fence, line: Line, place: Place) -> Result<(), AllocError>
-        ensures { IfOk result (λ _. self.new.placing.builder.text ≡ self.old.placing.builder.text) }
+        ensures text { IfOk result (λ _. self.new.placing.builder.text ≡ self.old.placing.builder.text) }
+        ensures closes { IfOk result (λ _. is_closed_at self.old.placing.builder.text place line fence ≡ true →
+            IfFitted self.old.placing self.new.placing (self.new.placing.builder
+            ≡ record (closed self.old.placing.builder) { at = line.next })) }
+        ensures code { IfOk result (λ _. is_closed_at self.old.placing.builder.text place line fence ≡ false →
+            IfFitted self.old.placing self.new.placing (GoesOn self.old.placing.builder self.new.placing.builder
+            (behind_line (code_behind self.old.placing.builder.text place line fence.indent).scanned line.next))) }
+        ensures same { self.new ≡ record self.old { placing = self.new.placing } }
     {
         let text = self.placing.text();
         let before = read_space(text, place, line.stop, 4);
@@ -113,8 +136,17 @@ impl<'a> Pass<'a> {
 
     /// Opens an HTML block with a line that begins here. The block begins at the line's first content byte, its Html
     /// with the spaces before that.
+    #[tactic(auto, using(crate::proofs::OpenBlocksLemmas::outer_of_opened))]
     pub fn open_html(&mut self, line: Line, place: Place, kind: HtmlKind) -> Result<(), AllocError>
-        ensures { IfOk result (λ _. self.new.placing.builder.text ≡ self.old.placing.builder.text) }
+        ensures text { IfOk result (λ _. self.new.placing.builder.text ≡ self.old.placing.builder.text) }
+        ensures ends { IfOk result (λ _. ends_html_at self.old.placing.builder.text place line kind ≡ true →
+            IfFitted self.old.placing self.new.placing (self.new.placing.builder
+            ≡ placed_to self.old.placing.builder (behind_line place.at line.next))) }
+        ensures opens { IfOk result (λ _. ends_html_at self.old.placing.builder.text place line kind ≡ false →
+            IfFitted self.old.placing self.new.placing
+            (OpensHtml self.old.placing.builder self.new.placing.builder place.at line.next)) }
+        ensures kind { IfOk result (λ _. self.new.leaf ≡ leaf_kind.Html kind) }
+        ensures same { self.new ≡ record self.old { placing = self.new.placing; leaf = self.new.leaf } }
     {
         self.placing.step_to(place.at);
         self.placing.open_block(ItemBody::HtmlBlock)?;
@@ -127,7 +159,14 @@ impl<'a> Pass<'a> {
 
     /// Adds a line to the HTML block that is open, and closes it if the line ends it.
     pub fn add_html(&mut self, kind: HtmlKind, line: Line, place: Place) -> Result<(), AllocError>
-        ensures { IfOk result (λ _. self.new.placing.builder.text ≡ self.old.placing.builder.text) }
+        ensures text { IfOk result (λ _. self.new.placing.builder.text ≡ self.old.placing.builder.text) }
+        ensures ends { IfOk result (λ _. ends_html_at self.old.placing.builder.text place line kind ≡ true →
+            IfFitted self.old.placing self.new.placing (self.new.placing.builder
+            ≡ record (closed self.old.placing.builder) { at = behind_line place.at line.next })) }
+        ensures goes_on { IfOk result (λ _. ends_html_at self.old.placing.builder.text place line kind ≡ false →
+            IfFitted self.old.placing self.new.placing
+            (GoesOn self.old.placing.builder self.new.placing.builder (behind_line place.at line.next))) }
+        ensures same { self.new ≡ record self.old { placing = self.new.placing } }
     {
         self.add_html_line(line, place)?;
         self.end_html(kind, line, place);
@@ -136,7 +175,10 @@ impl<'a> Pass<'a> {
 
     /// Appends what is left of a line from a place on: an Html, behind the columns that a cut tab owes.
     fn add_html_line(&mut self, line: Line, place: Place) -> Result<(), AllocError>
-        ensures { IfOk result (λ _. self.new.placing.builder.text ≡ self.old.placing.builder.text) }
+        ensures text { IfOk result (λ _. self.new.placing.builder.text ≡ self.old.placing.builder.text) }
+        ensures goes_on { IfOk result (λ _. IfFitted self.old.placing self.new.placing
+            (GoesOn self.old.placing.builder self.new.placing.builder (behind_line place.at line.next))) }
+        ensures same { self.new ≡ record self.old { placing = self.new.placing } }
     {
         self.placing.step_to(place.at);
         self.placing.add_owed(place.owed)?;
@@ -148,7 +190,12 @@ impl<'a> Pass<'a> {
 
     /// Closes the HTML block that is open, if its kind ends with a line that holds what is left of this one.
     fn end_html(&mut self, kind: HtmlKind, line: Line, place: Place)
-        ensures { self.new.placing.builder.text ≡ self.old.placing.builder.text }
+        ensures text { self.new.placing.builder.text ≡ self.old.placing.builder.text }
+        ensures ends { ends_html_at self.old.placing.builder.text place line kind ≡ true
+            → IfFitted self.old.placing self.new.placing (self.new.placing.builder ≡ closed self.old.placing.builder) }
+        ensures goes_on { ends_html_at self.old.placing.builder.text place line kind ≡ false
+            → self.new ≡ self.old }
+        ensures same { self.new ≡ record self.old { placing = self.new.placing } }
     {
         if kind.ends_in(bytes_of(self.placing.text(), place.at, line.stop)) {
             self.placing.close();
@@ -157,7 +204,14 @@ impl<'a> Pass<'a> {
 
     /// Opens an indented code block with a line whose code begins here.
     pub fn open_indented(&mut self, line: Line, place: Place) -> Result<(), AllocError>
-        ensures { IfOk result (λ _. self.new.placing.builder.text ≡ self.old.placing.builder.text) }
+        ensures text { IfOk result (λ _. self.new.placing.builder.text ≡ self.old.placing.builder.text) }
+        ensures opens { IfOk result (λ _. IfFitted self.old.placing self.new.placing
+            (self.new.placing.builder ≡ record (opened self.old.placing.builder place.at body.IndentCodeBlock) {
+              at = behind_line place.at line.next;
+              run = self.new.placing.builder.run;
+            })) }
+        ensures kind { IfOk result (λ _. self.new.leaf ≡ leaf_kind.Indented) }
+        ensures same { self.new ≡ record self.old { placing = self.new.placing; leaf = self.new.leaf } }
     {
         self.placing.step_to(place.at);
         self.placing.open_block(ItemBody::IndentCodeBlock)?;
@@ -167,7 +221,11 @@ impl<'a> Pass<'a> {
 
     /// Adds a line to the indented code block that is open, behind the blank lines that were held back.
     pub fn add_indented(&mut self, line: Line, place: Place) -> Result<(), AllocError>
-        ensures { IfOk result (λ _. self.new.placing.builder.text ≡ self.old.placing.builder.text) }
+        ensures text { IfOk result (λ _. self.new.placing.builder.text ≡ self.old.placing.builder.text) }
+        ensures goes_on { IfOk result (λ _. IfFitted self.old.placing self.new.placing
+            (GoesOn self.old.placing.builder self.new.placing.builder (behind_line place.at line.next))) }
+        ensures emptied { IfOk result (λ _. self.new.lines.items ≡ []) }
+        ensures same { self.new ≡ record self.old { placing = self.new.placing; lines = self.new.lines } }
     {
         add_codes(&mut self.placing, &self.lines)?;
         self.lines.clear();
@@ -176,7 +234,9 @@ impl<'a> Pass<'a> {
 
     /// Holds back a blank line of the indented code block that is open.
     pub fn hold_blank(&mut self, line: Line, place: Place) -> Result<(), AllocError>
-        ensures { IfOk result (λ _. self.new.placing.builder.text ≡ self.old.placing.builder.text) }
+        ensures held { IfOk result (λ _. self.new.lines.items ≡ self.old.lines.items
+            ++ held line (code_behind self.old.placing.builder.text place line 4) ∷ []) }
+        ensures same { self.new ≡ record self.old { lines = self.new.lines } }
     {
         let code = read_space(self.placing.text(), place, line.stop, 4).behind;
         self.lines.push(rest_of(line, code))?;

@@ -1,5 +1,11 @@
 //! A paragraph: its lines, the breaks between them, and what else it may turn out to be (CommonMark 4.3, 4.7, 4.8).
-ghost use Rattle.std.specs.Prelude.{◌≡◌, IfOk};
+ghost use Rattle.std.specs.Prelude.{◌≡◌, ◌<◌, ◌≤◌, ◌++◌, ◌∷◌, [], true, false, None, length, IfOk, MatchOption};
+ghost use Rattle.std.specs.Prelude.{if◌then◌else◌};
+ghost use Rattle.markdown_base.specs.declared.item.ItemBody.TheVariants as body;
+ghost use Rattle.markdown_builder.specs.Bodies.{is_plain_block};
+ghost use Rattle.markdown_plain.specs.Fitting.{IfFitted, GoesOn, stepped};
+ghost use Rattle.markdown_plain.specs.OpenBlocks.{room_in, without_leaf};
+ghost use Rattle.markdown_plain.specs.Paragraphs.{has_paragraph, lines_end, paragraph_end, placed_to};
 
 use crate::pass::Pass;
 use crate::placing::Placing;
@@ -21,7 +27,9 @@ fn take_definition<'a>(
     placing: &mut Placing<'a>,
     lines: &[HeldLine],
 ) -> Result<usize, AllocError>
-    ensures { IfOk result (λ _. placing.new.builder.text ≡ placing.old.builder.text) }
+    ensures text { IfOk result (λ _. placing.new.builder.text ≡ placing.old.builder.text) }
+    ensures steps { IfOk result (λ _. IfFitted placing.old placing.new
+        (placing.new.builder ≡ stepped placing.old.builder placing.new.builder.at)) }
 {
     let text = placing.text();
     let Some(first) = lines.first() else {
@@ -45,7 +53,9 @@ fn take_definitions<'a>(
     placing: &mut Placing<'a>,
     lines: &[HeldLine],
 ) -> Result<usize, AllocError>
-    ensures { IfOk result (λ _. placing.new.builder.text ≡ placing.old.builder.text) }
+    ensures text { IfOk result (λ _. placing.new.builder.text ≡ placing.old.builder.text) }
+    ensures steps { IfOk result (λ _. IfFitted placing.old placing.new
+        (placing.new.builder ≡ stepped placing.old.builder placing.new.builder.at)) }
 {
     let mut taken = 0;
     'definitions: for _ in 0..lines.len() {
@@ -67,10 +77,13 @@ fn add_broken_line(
     line: HeldLine,
     options: Options,
 ) -> Result<(), AllocError>
-    ensures { IfOk result (λ _. placing.new.builder.text ≡ placing.old.builder.text) }
+    ensures text { IfOk result (λ _. placing.new.builder.text ≡ placing.old.builder.text) }
+    ensures goes_on { IfOk result (λ _. IfFitted placing.old placing.new
+        (GoesOn placing.old.builder placing.new.builder line.next)) }
 {
     let text = placing.text();
     if line.stop < line.start || !text.is_char_boundary(line.stop) {
+        placing.miss();
         return Ok(());
     }
     let between = line_break(text, line.start, line.stop);
@@ -85,7 +98,9 @@ fn add_last_line(
     line: HeldLine,
     options: Options,
 ) -> Result<(), AllocError>
-    ensures { IfOk result (λ _. placing.new.builder.text ≡ placing.old.builder.text) }
+    ensures text { IfOk result (λ _. placing.new.builder.text ≡ placing.old.builder.text) }
+    ensures goes_on { IfOk result (λ _. IfFitted placing.old placing.new
+        (GoesOn placing.old.builder placing.new.builder line.next)) }
 {
     let content = bytes_of(placing.text(), line.start, line.stop);
     let end = line.start.saturating_add(trimmed_length(content));
@@ -101,7 +116,9 @@ fn add_lines(
     from: usize,
     options: Options,
 ) -> Result<(), AllocError>
-    ensures { IfOk result (λ _. placing.new.builder.text ≡ placing.old.builder.text) }
+    ensures text { IfOk result (λ _. placing.new.builder.text ≡ placing.old.builder.text) }
+    ensures goes_on { IfOk result (λ _. from < length lines.now → IfFitted placing.old placing.new
+        (GoesOn placing.old.builder placing.new.builder (lines_end lines.now))) }
 {
     'lines: for number in from..lines.len() {
         let line = lines[number];
@@ -115,7 +132,19 @@ fn add_lines(
     Ok(())
 }
 
+/// The body of a paragraph, or of the heading that it is.
+fn body_of(heading: Option<(HeadingLevel, Line)>) -> ItemBody
+    ensures value { MatchOption heading (result ≡ body.Paragraph) (λ h. result ≡ body.Heading h.0 None) }
+    ensures plain { is_plain_block result ≡ true }
+{
+    match heading {
+        Some((level, _)) => ItemBody::Heading(level, None),
+        None => ItemBody::Paragraph,
+    }
+}
+
 /// Places lines from a number on as a paragraph, or as a heading that ends with the line of its underline.
+#[tactic(auto, using(crate::proofs::OpenBlocksLemmas::outer_of_opened))]
 fn place_paragraph(
     placing: &mut Placing<'_>,
     lines: &[HeldLine],
@@ -123,21 +152,17 @@ fn place_paragraph(
     heading: Option<(HeadingLevel, Line)>,
     options: Options,
 ) -> Result<(), AllocError>
-    ensures { IfOk result (λ _. placing.new.builder.text ≡ placing.old.builder.text) }
+    ensures text { IfOk result (λ _. placing.new.builder.text ≡ placing.old.builder.text) }
+    ensures placed { IfOk result (λ _. from < length lines.now → IfFitted placing.old placing.new
+        (placing.new.builder ≡ placed_to placing.old.builder (paragraph_end lines.now heading))) }
 {
     if let Some(first) = lines.get(from) {
         placing.step_to(first.start);
     }
-    match heading {
-        Some((level, underline)) => {
-            placing.open_block(ItemBody::Heading(level, None))?;
-            add_lines(placing, lines, from, options)?;
-            placing.step_to(underline.next);
-        }
-        None => {
-            placing.open_block(ItemBody::Paragraph)?;
-            add_lines(placing, lines, from, options)?;
-        }
+    placing.open_block(body_of(heading))?;
+    add_lines(placing, lines, from, options)?;
+    if let Some((_, underline)) = heading {
+        placing.step_to(underline.next);
     }
     placing.close();
     Ok(())
@@ -147,7 +172,15 @@ impl<'a> Pass<'a> {
     /// Begins a paragraph with what stands in a line from its first content byte at `start` on, where the blocks
     /// outside it are so many of those that are open; or goes on with the one that is open.
     pub fn add_text(&mut self, line: Line, start: usize, depth: usize) -> Result<(), AllocError>
-        ensures { IfOk result (λ _. self.new.placing.builder.text ≡ self.old.placing.builder.text) }
+        ensures text { IfOk result (λ _. self.new.placing.builder.text ≡ self.old.placing.builder.text) }
+        ensures goes_on { has_paragraph self.old ≡ true → self.new ≡ record self.old { lines = self.new.lines } }
+        ensures begins { IfOk result (λ _. has_paragraph self.old ≡ false → IfFitted self.old.placing self.new.placing
+            (self.new.placing.builder.blocks ≡ room_in depth (without_leaf self.old.placing.builder))) }
+        ensures outside { IfOk result (λ _. has_paragraph self.old ≡ false → IfFitted self.old.placing self.new.placing
+            (self.new.placing.builder.leaf ≡ false)) }
+        ensures line { IfOk result (λ _. self.new.lines.items
+            ≡ (if has_paragraph self.old then self.old.lines.items else [])
+            ++ record { start = start; stop = line.stop; next = line.next; owed = 0 } ∷ []) }
     {
         if !self.has_paragraph() {
             self.make_room(depth)?;
@@ -168,7 +201,14 @@ impl<'a> Pass<'a> {
         &mut self,
         heading: Option<(HeadingLevel, Line)>,
     ) -> Result<bool, AllocError>
-        ensures { IfOk result (λ _. self.new.placing.builder.text ≡ self.old.placing.builder.text) }
+        ensures text { IfOk result (λ _. self.new.placing.builder.text ≡ self.old.placing.builder.text) }
+        ensures ends { IfOk result (λ left. left ≡ true → IfFitted self.old.placing self.new.placing
+            (self.new.placing.builder
+            ≡ placed_to self.old.placing.builder (paragraph_end self.old.lines.items heading))) }
+        ensures defines { IfOk result (λ left. left ≡ false → IfFitted self.old.placing self.new.placing
+            (self.new.placing.builder ≡ stepped self.old.placing.builder self.new.placing.builder.at)) }
+        ensures emptied { IfOk result (λ _. self.new.lines.items ≡ []) }
+        ensures same { self.new ≡ record self.old { placing = self.new.placing; lines = self.new.lines } }
     {
         let taken = take_definitions(self.alloc, &mut self.placing, &self.lines)?;
         let left = taken < self.lines.len();

@@ -1,5 +1,12 @@
 //! The state of the block pass between two lines, and the closing of blocks.
-ghost use Rattle.std.specs.Prelude.{◌≡◌, IfOk};
+ghost use Rattle.std.specs.Prelude.{◌≡◌, ◌++◌, [], false, None, length, take, IfOk, if◌then◌else◌};
+ghost use Rattle.std.specs.Option.{option_map};
+ghost use Rattle.markdown_builder.specs.BuilderView.{innermost_block};
+ghost use Rattle.markdown_plain.specs.declared.pass.LeafKind.TheVariants as kind;
+ghost use Rattle.markdown_plain.specs.Fitting.{AllFitted, IfFitted, closed};
+ghost use Rattle.markdown_plain.specs.OpenBlocks.{innermost_is, is_list, room_in, without_leaf};
+ghost use Rattle.markdown_plain.specs.Containers.{closing_place};
+ghost use Rattle.markdown_plain.specs.Paragraphs.{has_paragraph};
 
 use crate::looseness::Looseness;
 use crate::placing::Placing;
@@ -40,7 +47,12 @@ pub struct Pass<'a> {
 impl<'a> Pass<'a> {
     /// Nothing is read yet.
     pub fn new(alloc: Global, text: &'a str, options: Options) -> Result<Pass<'a>, AllocError>
-        ensures { IfOk result (λ made. made.placing.builder.text ≡ text.now) }
+        ensures made { IfOk result (λ made.
+            made.placing.builder ≡ record { text = text.now; at = 0; blocks = []; leaf = false; run = None }) }
+        ensures fitted { IfOk result (λ made. AllFitted made.placing) }
+        ensures options { IfOk result (λ made. made.options ≡ options) }
+        ensures lines { IfOk result (λ made. made.lines.items ≡ []) }
+        ensures placed { IfOk result (λ made. made.placed ≡ 0) }
     {
         Ok(Pass {
             alloc,
@@ -61,17 +73,23 @@ impl<'a> Pass<'a> {
     }
 
     /// Whether a paragraph is open.
-    pub fn has_paragraph(&self) -> bool {
+    pub fn has_paragraph(&self) -> bool
+        ensures { result ≡ has_paragraph self.now }
+    {
         !self.placing.is_in_leaf() && !self.lines.is_empty()
     }
 
     /// How many blocks are open.
-    pub fn depth(&self) -> usize {
+    pub fn depth(&self) -> usize
+        ensures { result ≡ length self.now.placing.builder.blocks }
+    {
         self.placing.open_blocks().len()
     }
 
     /// Whether the innermost open block is a list.
-    fn is_in_list(&self) -> bool {
+    fn is_in_list(&self) -> bool
+        ensures { result ≡ innermost_is is_list self.now.placing.builder.blocks }
+    {
         match innermost(&self.placing) {
             Some(ItemBody::List(_, _, _)) => true,
             _ => false,
@@ -80,7 +98,11 @@ impl<'a> Pass<'a> {
 
     /// Closes the innermost open block, of which the last line was read.
     pub fn close_block(&mut self)
-        ensures { self.new.placing.builder.text ≡ self.old.placing.builder.text }
+        ensures text { self.new.placing.builder.text ≡ self.old.placing.builder.text }
+        ensures closes { IfFitted self.old.placing self.new.placing (self.new.placing.builder
+            ≡ record (closed self.old.placing.builder) { at = closing_place self.old }) }
+        ensures same { self.new ≡ record self.old { placing = self.new.placing; looseness = self.new.looseness } }
+        ensures looseness { self.new.looseness ≡ record self.old.looseness { lists = self.new.looseness.lists } }
     {
         match innermost(&self.placing) {
             Some(ItemBody::List(_, character, first)) => {
@@ -97,10 +119,21 @@ impl<'a> Pass<'a> {
 
     /// Ends the open leaf, and closes the open blocks down to so many.
     pub fn close_down(&mut self, depth: usize) -> Result<(), AllocError>
-        ensures { IfOk result (λ _. self.new.placing.builder.text ≡ self.old.placing.builder.text) }
+        ensures text { IfOk result (λ _. self.new.placing.builder.text ≡ self.old.placing.builder.text) }
+        ensures closes { IfOk result (λ _. IfFitted self.old.placing self.new.placing
+            (self.new.placing.builder.blocks ≡ take depth (without_leaf self.old.placing.builder))) }
+        ensures outside { IfOk result (λ _. IfFitted self.old.placing self.new.placing
+            (self.new.placing.builder.leaf ≡ false)) }
+        ensures ended { IfOk result (λ _. self.new.lines.items ≡ []) }
+        ensures same { self.new ≡ record self.old {
+          placing = self.new.placing;
+          lines = self.new.lines;
+          looseness = self.new.looseness;
+        } }
+        ensures looseness { self.new.looseness ≡ record self.old.looseness { lists = self.new.looseness.lists } }
     {
         self.end_leaf()?;
-        'blocks: for _ in depth..self.depth() {
+        'blocks: for _closed in depth..self.depth() {
             self.close_block();
         }
         Ok(())
@@ -108,7 +141,19 @@ impl<'a> Pass<'a> {
 
     /// Closes down to so many blocks, and the list that is then the innermost one, for a block that is no item.
     pub fn make_room(&mut self, depth: usize) -> Result<(), AllocError>
-        ensures { IfOk result (λ _. self.new.placing.builder.text ≡ self.old.placing.builder.text) }
+        ensures text { IfOk result (λ _. self.new.placing.builder.text ≡ self.old.placing.builder.text) }
+        ensures closes { IfOk result (λ _. IfFitted self.old.placing self.new.placing
+            (self.new.placing.builder.blocks ≡ room_in depth (without_leaf self.old.placing.builder))) }
+        ensures outside { IfOk result (λ _. IfFitted self.old.placing self.new.placing
+            (self.new.placing.builder.leaf ≡ false)) }
+        ensures ended { IfOk result (λ _. self.new.lines.items ≡ []) }
+        ensures same { self.new ≡ record self.old {
+          placing = self.new.placing;
+          lines = self.new.lines;
+          looseness = self.new.looseness;
+        } }
+        ensures looseness { IfOk result (λ _. self.new.looseness
+            ≡ record self.old.looseness { lists = self.new.looseness.lists; item_is_empty = false }) }
     {
         self.close_down(depth)?;
         if self.is_in_list() {
@@ -120,7 +165,13 @@ impl<'a> Pass<'a> {
 
     /// Ends the leaf that is open: what is held back of it is placed, or was no part of it.
     pub fn end_leaf(&mut self) -> Result<(), AllocError>
-        ensures { IfOk result (λ _. self.new.placing.builder.text ≡ self.old.placing.builder.text) }
+        ensures text { IfOk result (λ _. self.new.placing.builder.text ≡ self.old.placing.builder.text) }
+        ensures ends { IfOk result (λ _. IfFitted self.old.placing self.new.placing
+            (self.new.placing.builder.blocks ≡ without_leaf self.old.placing.builder)) }
+        ensures outside { IfOk result (λ _. IfFitted self.old.placing self.new.placing
+            (self.new.placing.builder.leaf ≡ false)) }
+        ensures ended { IfOk result (λ _. self.new.lines.items ≡ []) }
+        ensures same { self.new ≡ record self.old { placing = self.new.placing; lines = self.new.lines } }
     {
         if self.placing.is_in_leaf() {
             self.lines.clear();
@@ -133,7 +184,9 @@ impl<'a> Pass<'a> {
 }
 
 /// The body of the innermost open block.
-pub fn innermost(placing: &Placing<'_>) -> Option<ItemBody> {
+pub fn innermost(placing: &Placing<'_>) -> Option<ItemBody>
+    ensures { result ≡ option_map (λ block. block.body) (innermost_block placing.now.builder.blocks) }
+{
     match placing.open_blocks().last() {
         Some(block) => Some(block.body),
         None => None,
@@ -141,8 +194,10 @@ pub fn innermost(placing: &Placing<'_>) -> Option<ItemBody> {
 }
 
 /// Closes the innermost open block, a list that is loose or not.
+#[tactic(auto, using(crate::proofs::OpenBlocksLemmas::outer_of_opened))]
 fn close_list(placing: &mut Placing<'_>, character: u8, first: u64, loose: bool)
-    ensures { placing.new.builder.text ≡ placing.old.builder.text }
+    ensures text { placing.new.builder.text ≡ placing.old.builder.text }
+    ensures closes { IfFitted placing.old placing.new (placing.new.builder ≡ closed placing.old.builder) }
 {
     if loose {
         placing.change(ItemBody::List(false, character, first));

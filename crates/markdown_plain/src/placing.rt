@@ -21,14 +21,21 @@ pub struct Placing<'a> {
 }
 
 impl<'a> Placing<'a> {
-    ghost use Rattle.std.specs.Prelude.{◌≡◌, ◌≤◌, [], true, false, length, slice_index, IfOk, IfSome};
+    ghost use Rattle.std.specs.Prelude.{◌≡◌, ◌≤◌, ◌<◌, ◌==◌, [], true, false, Some, None, length};
+    ghost use Rattle.std.specs.Prelude.{slice_index, slice_get, IfOk, IfSome};
     ghost use Rattle.std.specs.Str.{IsCharBoundary};
+    ghost use Rattle.markdown_base.specs.declared.item.ItemBody.TheVariants as body;
     ghost use Rattle.markdown_builder.specs.Bodies.{is_leaf, is_plain_block, is_settled};
-    ghost use Rattle.markdown_builder.specs.BuilderView.{IsWhite, innermost_block};
+    ghost use Rattle.markdown_builder.specs.BuilderView.{IsWhite, innermost_block, Opens};
+    ghost use Rattle.markdown_lines.specs.Lines.{IsNextContent};
+    ghost use Rattle.markdown_plain.specs.Fitting.{AllFitted, IfFitted, IsAhead, IsWhiteOutside};
+    ghost use Rattle.markdown_plain.specs.Fitting.{BeginsAtContent, HasBody, closed, extended, stepped};
 
     /// Nothing is made yet.
     pub fn new(alloc: Global, text: &'a str) -> Result<Placing<'a>, AllocError>
-        ensures { IfOk result (λ made. made.builder.text ≡ text.now) }
+        ensures made { IfOk result (λ made.
+            made.builder ≡ record { text = text.now; at = 0; blocks = []; leaf = false; run = None }) }
+        ensures fitted { IfOk result (λ made. AllFitted made) }
     {
         Ok(Placing {
             builder: Builder::new(alloc, text)?,
@@ -58,8 +65,9 @@ impl<'a> Placing<'a> {
     }
 
     /// A call does not fit.
-    fn miss(&mut self)
-        ensures { self.new.builder ≡ self.old.builder }
+    pub fn miss(&mut self)
+        ensures nothing { self.new.builder ≡ self.old.builder }
+        ensures counted { AllFitted self.new → ⊥ }
     {
         self.misfits = self.misfits.saturating_add(1);
     }
@@ -68,13 +76,17 @@ impl<'a> Placing<'a> {
     fn is_ahead(&self, to: usize) -> bool
         ensures low { result ≡ true → self.now.builder.at ≤ to }
         ensures boundary { result ≡ true → IsCharBoundary self.now.builder.text to }
+        ensures behind { result ≡ false → IsAhead self.now.builder to → ⊥ }
     {
         self.builder.at() <= to && self.builder.text().is_char_boundary(to)
     }
 
     /// Steps on to a place. Where no block is open, only white space lies before it.
     pub fn step_to(&mut self, to: usize)
-        ensures { self.new.builder.text ≡ self.old.builder.text }
+        ensures text { self.new.builder.text ≡ self.old.builder.text }
+        ensures steps { IfFitted self.old self.new (self.new.builder ≡ stepped self.old.builder to) }
+        ensures fits { IsAhead self.old.builder to → IsWhiteOutside self.old.builder to
+            → self.new.misfits ≡ self.old.misfits }
     {
         if !self.is_ahead(to) {
             self.miss();
@@ -96,7 +108,9 @@ impl<'a> Placing<'a> {
     /// Opens a block here.
     pub fn open_block(&mut self, body: ItemBody) -> Result<(), AllocError>
         requires { is_plain_block body ≡ true }
-        ensures { IfOk result (λ _. self.new.builder.text ≡ self.old.builder.text) }
+        ensures text { IfOk result (λ _. self.new.builder.text ≡ self.old.builder.text) }
+        ensures opens { IfOk result (λ _. IfFitted self.old self.new (Opens self.old.builder self.new.builder body)) }
+        ensures fits { IfOk result (λ _. self.old.builder.leaf ≡ false → self.new.misfits ≡ self.old.misfits) }
     {
         if self.builder.is_in_leaf() {
             self.miss();
@@ -108,7 +122,10 @@ impl<'a> Placing<'a> {
 
     /// Opens a fenced code block here.
     pub fn open_code(&mut self, info: CowStr<'a>) -> Result<(), AllocError>
-        ensures { IfOk result (λ _. self.new.builder.text ≡ self.old.builder.text) }
+        ensures text { IfOk result (λ _. self.new.builder.text ≡ self.old.builder.text) }
+        ensures opens { IfOk result (λ _. IfFitted self.old self.new
+            ((ix : _) × Opens self.old.builder self.new.builder (body.FencedCodeBlock ix))) }
+        ensures fits { IfOk result (λ _. self.old.builder.leaf ≡ false → self.new.misfits ≡ self.old.misfits) }
     {
         if self.builder.is_in_leaf() {
             self.miss();
@@ -121,7 +138,10 @@ impl<'a> Placing<'a> {
 
     /// Opens a footnote definition here.
     pub fn open_note(&mut self, name: CowStr<'a>, listed: CowStr<'a>) -> Result<(), AllocError>
-        ensures { IfOk result (λ _. self.new.builder.text ≡ self.old.builder.text) }
+        ensures text { IfOk result (λ _. self.new.builder.text ≡ self.old.builder.text) }
+        ensures opens { IfOk result (λ _. IfFitted self.old self.new
+            ((ix : _) × Opens self.old.builder self.new.builder (body.FootnoteDefinition ix))) }
+        ensures fits { IfOk result (λ _. self.old.builder.leaf ≡ false → self.new.misfits ≡ self.old.misfits) }
     {
         if self.builder.is_in_leaf() {
             self.miss();
@@ -139,6 +159,9 @@ impl<'a> Placing<'a> {
         ensures boundary { IfSome result (λ content. IsCharBoundary self.now.builder.text content) }
         ensures white { IfSome result (λ content. IfSome (innermost_block self.now.builder.blocks) (λ block.
             IsWhite self.now.builder.text block.start content)) }
+        ensures next { IfSome result (λ content. IfSome (innermost_block self.now.builder.blocks) (λ block.
+            IsNextContent self.now.builder.text block.start (Some content))) }
+        ensures open { IfSome result (λ _. self.now.builder.blocks ≡ [] → ⊥) }
     {
         let text = self.builder.text();
         let start = self.builder.open_blocks().last()?.start;
@@ -155,7 +178,8 @@ impl<'a> Placing<'a> {
 
     /// Lets the innermost open block begin at its first content byte, though its first item begins before.
     pub fn begin_at_content(&mut self)
-        ensures { self.new.builder.text ≡ self.old.builder.text }
+        ensures same { self.new.builder ≡ record self.old.builder { blocks = self.new.builder.blocks } }
+        ensures begins { IfFitted self.old self.new (BeginsAtContent self.old.builder self.new.builder) }
     {
         match self.content_of_block() {
             Some(content) => self.builder.begin_later(content),
@@ -167,9 +191,11 @@ impl<'a> Placing<'a> {
     pub fn change(&mut self, body: ItemBody)
         requires block { is_plain_block body ≡ true }
         requires outside { is_leaf body ≡ false }
-        ensures { self.new.builder.text ≡ self.old.builder.text }
+        ensures same { self.new.builder ≡ record self.old.builder { blocks = self.new.builder.blocks } }
+        ensures changes { IfFitted self.old self.new
+            (HasBody self.old.builder self.new.builder body) }
     {
-        if self.builder.is_in_leaf() {
+        if self.builder.is_in_leaf() || self.builder.open_blocks().is_empty() {
             self.miss();
             return;
         }
@@ -179,7 +205,11 @@ impl<'a> Placing<'a> {
     /// Appends a settled inline item up to a place.
     pub fn add_inline(&mut self, body: ItemBody, end: usize) -> Result<(), AllocError>
         requires { is_settled body ≡ true }
-        ensures { IfOk result (λ _. self.new.builder.text ≡ self.old.builder.text) }
+        ensures text { IfOk result (λ _. self.new.builder.text ≡ self.old.builder.text) }
+        ensures appends { IfOk result (λ _. IfFitted self.old self.new
+            (self.new.builder ≡ extended self.old.builder end)) }
+        ensures fits { IfOk result (λ _. self.old.builder.leaf ≡ true → IsAhead self.old.builder end
+            → self.new.misfits ≡ self.old.misfits) }
     {
         if !self.builder.is_in_leaf() || !self.is_ahead(end) {
             self.miss();
@@ -191,7 +221,11 @@ impl<'a> Placing<'a> {
 
     /// Appends the columns that a cut tab owes here.
     pub fn add_owed(&mut self, owed: usize) -> Result<(), AllocError>
-        ensures { IfOk result (λ _. self.new.builder.text ≡ self.old.builder.text) }
+        ensures text { IfOk result (λ _. self.new.builder.text ≡ self.old.builder.text) }
+        ensures owed { IfOk result (λ _. 0 < owed → IfFitted self.old self.new
+            (self.new.builder ≡ record self.old.builder { run = None })) }
+        ensures nothing { IfOk result (λ _. owed ≡ 0 → self.new ≡ self.old) }
+        ensures fits { IfOk result (λ _. self.old.builder.leaf ≡ true → self.new.misfits ≡ self.old.misfits) }
     {
         let spaces = match owed {
             0 => return Ok(()),
@@ -210,7 +244,11 @@ impl<'a> Placing<'a> {
 
     /// Appends the inline items of a line's content up to a place.
     pub fn add_items(&mut self, end: usize, options: Options) -> Result<(), AllocError>
-        ensures { IfOk result (λ _. self.new.builder.text ≡ self.old.builder.text) }
+        ensures text { IfOk result (λ _. self.new.builder.text ≡ self.old.builder.text) }
+        ensures appends { IfOk result (λ _. IfFitted self.old self.new
+            (self.new.builder ≡ record self.old.builder { at = end; run = self.new.builder.run })) }
+        ensures fits { IfOk result (λ _. self.old.builder.leaf ≡ true → IsAhead self.old.builder end
+            → self.new.misfits ≡ self.old.misfits) }
     {
         if !self.builder.is_in_leaf() || !self.is_ahead(end) {
             self.miss();
@@ -222,7 +260,11 @@ impl<'a> Placing<'a> {
 
     /// Appends a thematic break up to a place.
     pub fn add_rule(&mut self, end: usize) -> Result<(), AllocError>
-        ensures { IfOk result (λ _. self.new.builder.text ≡ self.old.builder.text) }
+        ensures text { IfOk result (λ _. self.new.builder.text ≡ self.old.builder.text) }
+        ensures appends { IfOk result (λ _. IfFitted self.old self.new
+            (self.new.builder ≡ extended self.old.builder end)) }
+        ensures fits { IfOk result (λ _. self.old.builder.leaf ≡ false → IsAhead self.old.builder end
+            → self.new.misfits ≡ self.old.misfits) }
     {
         if self.builder.is_in_leaf() || !self.is_ahead(end) {
             self.miss();
@@ -234,7 +276,8 @@ impl<'a> Placing<'a> {
 
     /// Whether a `[` stands here.
     fn is_at_bracket(&self) -> bool
-        ensures { result ≡ true → slice_index self.now.builder.text self.now.builder.at ≡ 91 }
+        ensures here { result ≡ true → slice_index self.now.builder.text self.now.builder.at ≡ 91 }
+        ensures elsewhere { result ≡ false → slice_get self.now.builder.text self.now.builder.at ≡ Some 91 → ⊥ }
     {
         let bytes = self.builder.text().as_bytes();
         let at = self.builder.at();
@@ -243,7 +286,12 @@ impl<'a> Placing<'a> {
 
     /// Adds a link reference definition whose `[` stands here.
     pub fn add_definition(&mut self, found: Definition<'a>) -> Result<(), AllocError>
-        ensures { IfOk result (λ _. self.new.builder.text ≡ self.old.builder.text) }
+        ensures text { IfOk result (λ _. self.new.builder.text ≡ self.old.builder.text) }
+        ensures adds { IfOk result (λ _. IfFitted self.old self.new
+            (self.new.builder ≡ stepped self.old.builder found.entry.end)) }
+        ensures fits { IfOk result (λ _. IsAhead self.old.builder found.entry.end
+            → slice_get self.old.builder.text self.old.builder.at ≡ Some 91
+            → self.new.misfits ≡ self.old.misfits) }
     {
         let Definition {
             label,
@@ -264,16 +312,23 @@ impl<'a> Placing<'a> {
     }
 
     /// Closes the innermost open block, which ends here.
+    #[tactic(auto, using(crate::proofs::OpenBlocksLemmas::outer_of_these))]
     pub fn close(&mut self)
-        ensures { self.new.builder.text ≡ self.old.builder.text }
+        ensures text { self.new.builder.text ≡ self.old.builder.text }
+        ensures closes { IfFitted self.old self.new (self.new.builder ≡ closed self.old.builder) }
+        ensures fits { (self.old.builder.blocks ≡ [] → ⊥) → self.new.misfits ≡ self.old.misfits }
     {
-        self.builder.close();
+        if self.builder.close().is_none() {
+            self.miss();
+        }
     }
 
     /// Closes all open blocks.
     pub fn close_all(&mut self)
         ensures text { self.new.builder.text ≡ self.old.builder.text }
         ensures closed { self.new.builder.blocks ≡ [] }
+        ensures fitted { IfFitted self.old self.new (self.new.builder ≡ self.old.builder) }
+        ensures none { self.old.builder.blocks ≡ [] → self.new ≡ self.old }
     {
         'blocks: while !self.builder.open_blocks().is_empty() {
             self.builder.close();
@@ -287,6 +342,8 @@ impl<'a> Placing<'a> {
         ensures text { IfOk result (λ _. self.new.builder.text ≡ self.old.builder.text) }
         ensures closed { IfOk result (λ _. self.new.builder.blocks ≡ []) }
         ensures read { IfOk result (λ _. self.new.builder.at ≡ length self.old.builder.text) }
+        ensures fitted { IfOk result (λ _. IfFitted self.old self.new
+            (self.new.builder ≡ stepped self.old.builder (length self.old.builder.text))) }
     {
         let text = self.builder.text();
         let end = text.as_bytes().len();

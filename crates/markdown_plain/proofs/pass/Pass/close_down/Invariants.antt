@@ -1,6 +1,22 @@
--- The text stays.
-use Rattle.std.proofs.Common.{◌≡◌}
+-- The text stays, and each turn closes one of the blocks that were open without the leaf.
+use Rattle.std.proofs.Common.{◌≡◌, ◌+◌, [], false, length, take}
+use Rattle.markdown_plain.specs.Fitting.{IfFitted}
+use Rattle.markdown_plain.specs.OpenBlocks.{without_leaf}
 use Rattle.markdown_plain.proofs.pass.Pass.close_down.Given as goal
 
 abbrev pub invariant-blocks-2 : goal.invariant-blocks-2
-invariant-blocks-2 l = l.self.placing.builder.text ≡ l.fn.self.placing.builder.text
+invariant-blocks-2 l = record {
+  text : l.self.placing.builder.text ≡ l.fn.self.placing.builder.text;
+  closes : IfFitted l.fn.self.placing l.self.placing
+      (take l.depth l.self.placing.builder.blocks ≡ take l.depth (without_leaf l.fn.self.placing.builder));
+  left : IfFitted l.fn.self.placing l.self.placing
+      (length l.self.placing.builder.blocks + l._closed ≡ length l.initial.self.placing.builder.blocks + l.depth);
+  outside : IfFitted l.fn.self.placing l.self.placing (l.self.placing.builder.leaf ≡ false);
+  ended : l.self.lines.items ≡ [];
+  same : l.self ≡ record l.fn.self {
+    placing = l.self.placing;
+    lines = l.self.lines;
+    looseness = l.self.looseness;
+  };
+  looseness : l.self.looseness ≡ record l.fn.self.looseness { lists = l.self.looseness.lists };
+}

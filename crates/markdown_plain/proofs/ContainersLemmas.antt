@@ -1,0 +1,155 @@
+-- How containers go on, by places in a text and by what is left of the line there.
+use Rattle.std.proofs.Common.{◌≡◌, ℕ, ◌+◌, ◌-◌, ◌<◌, ◌≤◌, ◌%◌, List, Some, true, ◌==◌, length, take, drop, slice_range, codes, nat_lt}
+use Rattle.std.proofs.Common.{refl, sym, ◌∙◌, ap, arith, Bool, false, ◌&&◌, None, [], ◌∷◌, zero, suc, nat_le, get_or, drop-cons}
+use Rattle.std.proofs.lemmas.Bool.Decides.{nat_tests}
+use Rattle.std.proofs.lemmas.List.{drop_all, drop-drop, drop-take}
+use Rattle.markdown_scan.specs.Beginnings.{begins_with}
+use Rattle.markdown_scan.specs.LineStart.{LineLeft, next_column, past_byte, past_marker, space}
+use Rattle.markdown_scan.specs.LineStart as scan
+use Rattle.markdown_lines.specs.declared.place.Place.{Place}
+use Rattle.markdown_lines.specs.declared.space.Space.{Space}
+use Rattle.markdown_lines.specs.Places.{left_from, IsSpaceAt}
+use Rattle.markdown_builder.specs.declared.open_block.OpenBlock.{OpenBlock}
+use Rattle.markdown_plain.specs.NewContainers.{item_space, past_bytes}
+use Rattle.markdown_plain.specs.Containers.{Reach, is_container, is_innermost, marker_behind, past_container, reach_behind, reach_from}
+
+-- a part of a text without its first bytes
+rest_of_part : (text : List ℕ) (at stop count : ℕ) → at + count ≤ stop
+    → drop count (slice_range text at stop) ≡ slice_range text (at + count) stop
+rest_of_part text at stop count within =
+    let size : stop - at ≡ count + (stop - (at + count)) = omega (arith, within) in
+    ap (λ n. drop count (take n (drop at text))) size
+    ∙ (drop-take count (stop - (at + count)) (drop at text)
+    ∙ ap (λ (xs : List ℕ). take (stop - (at + count)) xs) (drop-drop count at text))
+
+column_is : (column : ℕ) → column < 4 → (column + 1) % 4 ≡ next_column column
+column_is column low = grind (arith, nat_tests)
+
+-- behind bytes of one column each that stand at a place
+pub past_bytes_is : (text : List ℕ) (place behind : Place) (stop count : ℕ) → place.at + count ≤ stop
+    → behind.at ≡ place.at + count → behind.column ≡ (place.column + count) % 4 → behind.owed ≡ 0
+    → left_from text behind stop ≡ past_bytes count (left_from text place stop)
+past_bytes_is text place behind stop count within at column owed =
+    let bytes = ap (λ n. slice_range text n stop) at ∙ sym (rest_of_part text place.at stop count within) in
+    cc
+
+-- behind one byte
+pub past_byte_is : (text : List ℕ) (place behind : Place) (stop : ℕ) → place.at < stop → behind.at ≡ place.at + 1
+    → behind.column ≡ (place.column + 1) % 4 → behind.owed ≡ 0
+    → left_from text behind stop ≡ past_byte (left_from text place stop)
+past_byte_is text place behind stop more at column owed =
+    let bytes = ap (λ n. slice_range text n stop) at ∙ sym (rest_of_part text place.at stop 1 (omega (arith, more))) in
+    let columns = column ∙ column_is place.column place.before_stop in
+    cc
+
+-- behind that and a column of space
+pub past_marker_is : (text read_in : List ℕ) (here after : Place) (stop : ℕ) (read : Space) → read_in ≡ text
+    → left_from text after stop ≡ past_byte (left_from text here stop) → IsSpaceAt read_in after stop 1 read
+    → left_from text read.behind stop ≡ past_marker (left_from text here stop)
+past_marker_is text read_in here after stop read same past space =
+    ap (λ (t : List ℕ). left_from t read.behind stop) (sym same)
+    ∙ (space.behind
+    ∙ (ap (λ (t : List ℕ). (scan.space 1 (left_from t after stop)).after) same ∙ ap (λ (l : LineLeft). (scan.space 1 l).after) past))
+
+-- behind the space that follows a marker of a list
+pub past_item_is : (text read_in : List ℕ) (place behind inside : Place) (stop count : ℕ) → read_in ≡ text
+    → left_from text behind stop ≡ past_bytes count (left_from text place stop)
+    → left_from read_in inside stop ≡ (item_space stop (left_from read_in behind stop)).after
+    → left_from text inside stop ≡ (item_space stop (past_bytes count (left_from text place stop))).after
+past_item_is text read_in place behind inside stop count same past content =
+    ap (λ (t : List ℕ). left_from t inside stop) (sym same)
+    ∙ (content
+    ∙ (ap (λ (t : List ℕ). (item_space stop (left_from t behind stop)).after) same
+    ∙ ap (λ (l : LineLeft). (item_space stop l).after) past))
+
+-- behind the marker of a block quote and the space that is a part of it
+pub marker_behind_is : (text : List ℕ) (before : scan.Space) (columns : ℕ) (place after : Place) (stop : ℕ) (read : Space)
+    → columns ≡ before.columns → left_from text place stop ≡ before.after → columns < 4
+    → begins_with (codes ">") (slice_range text place.at stop) ≡ true → left_from text after stop ≡ past_byte (left_from text place stop)
+    → IsSpaceAt text after stop 1 read → marker_behind before ≡ Some (left_from text read.behind stop)
+marker_behind_is text before columns place after stop read c left few marker past space =
+    let test : nat_lt before.columns 4 ≡ true = grind (arith, nat_tests) in
+    let begins = ap (λ (l : LineLeft). begins_with (codes ">") l.bytes) (sym left) ∙ marker in
+    let behind : past_marker before.after ≡ left_from text read.behind stop = ap (λ (l : LineLeft). past_marker l) (sym left) ∙ (ap (λ (l : LineLeft). (scan.space 1 l).after) (sym past) ∙ sym space.behind) in
+    rw (test, begins) (ap (λ (l : LineLeft). Some l) behind)
+
+-- open blocks from a number on are the block with it, and those inside that
+inside_of : (blocks : List OpenBlock) (number : ℕ) (or : OpenBlock) → number < length blocks
+    → drop number blocks ≡ get_or blocks number or ∷ drop (number + 1) blocks
+inside_of blocks number or more =
+    let next : suc number ≡ number + 1 = omega arith in
+    drop-cons blocks number or more ∙ ap (λ n. get_or blocks number or ∷ drop n blocks) next
+
+-- it is the innermost where no number is left
+innermost_at : (blocks : List OpenBlock) (number : ℕ) → number < length blocks
+    → is_innermost (drop (number + 1) blocks) ≡ (number + 1 == length blocks)
+innermost_at [] number more = absurd (omega (arith, more))
+innermost_at (block ∷ []) zero more = refl
+innermost_at (block ∷ []) (suc number) more = absurd (omega (arith, more))
+innermost_at (block ∷ inner ∷ blocks) zero more = grind (arith, nat_tests)
+innermost_at (block ∷ inner ∷ blocks) (suc number) more =
+    let inside = innermost_at (inner ∷ blocks) number (omega (arith, more)) in
+    let later : suc number + 1 ≡ suc (number + 1) = omega arith in
+    let next : drop (suc number + 1) (block ∷ inner ∷ blocks) ≡ drop (number + 1) (inner ∷ blocks) =
+    ap (λ n. drop n (block ∷ inner ∷ blocks)) later in
+    let same : (suc number + 1 == suc (suc (length blocks))) ≡ (number + 1 == suc (length blocks)) =
+    grind (arith, nat_tests) in
+    ap (λ (b : List OpenBlock). is_innermost b) next ∙ (inside ∙ sym same)
+
+-- no block is left
+pub none_left : (old empty : Bool) (stop : ℕ) (blocks : List OpenBlock) (number : ℕ) (reach : Reach)
+    → length blocks ≤ number → reach_from old empty stop (drop number blocks) reach ≡ reach
+unfolding reach_from
+none_left old empty stop blocks number reach all =
+    ap (λ (b : List OpenBlock). reach_from old empty stop b reach) (drop_all number blocks all)
+
+-- the next one is a leaf
+leaf_is_reached : (old empty : Bool) (stop : ℕ) (block : OpenBlock) (blocks : List OpenBlock) (reach : Reach)
+    → is_container block.body ≡ false → reach_from old empty stop (block ∷ blocks) reach ≡ reach
+unfolding reach_from
+leaf_is_reached old empty stop block blocks reach leaf = rw leaf refl
+
+pub next_is_leaf : (old empty : Bool) (stop : ℕ) (blocks : List OpenBlock) (number : ℕ) (or : OpenBlock) (reach : Reach)
+    → number < length blocks → is_container (get_or blocks number or).body ≡ false
+    → reach_from old empty stop (drop number blocks) reach ≡ reach
+next_is_leaf old empty stop blocks number or reach more leaf =
+    ap (λ (b : List OpenBlock). reach_from old empty stop b reach) (inside_of blocks number or more)
+    ∙ leaf_is_reached old empty stop (get_or blocks number or) (drop (number + 1) blocks) reach leaf
+
+-- it is a container that does not go on
+container_ends : (old empty last : Bool) (stop : ℕ) (block : OpenBlock) (blocks : List OpenBlock) (reach : Reach)
+    → is_container block.body ≡ true → is_innermost blocks ≡ last
+    → past_container old (last && empty) (nat_le stop reach.content) block.body reach.left ≡ None
+    → reach_from old empty stop (block ∷ blocks) reach ≡ record reach { all = false }
+unfolding reach_from
+container_ends old empty last stop block blocks reach container is none = rw (container, is, none) refl
+
+pub next_ends : (old empty : Bool) (stop : ℕ) (blocks : List OpenBlock) (number : ℕ) (or : OpenBlock) (reach : Reach)
+    → number < length blocks → is_container (get_or blocks number or).body ≡ true
+    → past_container old ((number + 1 == length blocks) && empty) (nat_le stop reach.content) (get_or blocks number or).body
+    reach.left ≡ None
+    → reach_from old empty stop (drop number blocks) reach ≡ record reach { all = false }
+next_ends old empty stop blocks number or reach more container none =
+    ap (λ (b : List OpenBlock). reach_from old empty stop b reach) (inside_of blocks number or more)
+    ∙ container_ends old empty (number + 1 == length blocks) stop (get_or blocks number or) (drop (number + 1) blocks) reach
+    container (innermost_at blocks number more) none
+
+-- it goes on
+container_goes_on : (old empty last : Bool) (stop : ℕ) (block : OpenBlock) (blocks : List OpenBlock) (reach : Reach)
+    (left : LineLeft) → is_container block.body ≡ true → is_innermost blocks ≡ last
+    → past_container old (last && empty) (nat_le stop reach.content) block.body reach.left ≡ Some left
+    → reach_from old empty stop (block ∷ blocks) reach
+    ≡ reach_from old empty stop blocks (reach_behind block.body left reach)
+unfolding reach_from
+container_goes_on old empty last stop block blocks reach left container is some = rw (container, is, some) refl
+
+pub next_goes_on : (old empty : Bool) (stop : ℕ) (blocks : List OpenBlock) (number : ℕ) (or : OpenBlock) (reach : Reach)
+    (left : LineLeft) → number < length blocks → is_container (get_or blocks number or).body ≡ true
+    → past_container old ((number + 1 == length blocks) && empty) (nat_le stop reach.content) (get_or blocks number or).body
+    reach.left ≡ Some left
+    → reach_from old empty stop (drop number blocks) reach
+    ≡ reach_from old empty stop (drop (number + 1) blocks) (reach_behind (get_or blocks number or).body left reach)
+next_goes_on old empty stop blocks number or reach left more container some =
+    ap (λ (b : List OpenBlock). reach_from old empty stop b reach) (inside_of blocks number or more)
+    ∙ container_goes_on old empty (number + 1 == length blocks) stop (get_or blocks number or) (drop (number + 1) blocks)
+    reach left container (innermost_at blocks number more) some

@@ -1,0 +1,21 @@
+-- The innermost block, apart from the others, is the one that begins later.
+use Rattle.std.proofs.Common.{◌∙◌, ap}
+use Rattle.markdown_builder.specs.BuilderView.{innermost_block}
+use Rattle.markdown_plain.specs.OpenBlocks.{outer_of}
+use Rattle.markdown_plain.proofs.OpenBlocksLemmas.{innermost_of_opened, last_apart}
+use Rattle.markdown_plain.proofs.placing.Placing.begin_at_content.Goals as goal
+
+pub returns-in-Some-clause-begins : goal.returns-in-Some-clause-begins
+returns-in-Some-clause-begins c = λ fitted.
+    let p = last_apart c.args.self.now.builder.blocks c.in-Some.ensures.open in (
+      fitted,
+      record {
+        start = c.in-Some.content;
+        blocks = record {
+          block = p.block;
+          was = p.is;
+          becomes = c.begin_later.ensures.begins (outer_of c.args.self.now.builder.blocks) p.block p.is;
+        };
+        content = rw (ap innermost_block p.is ∙ innermost_of_opened (outer_of c.args.self.now.builder.blocks) p.block) at c.in-Some.ensures.next;
+      },
+    )

@@ -1,0 +1,33 @@
+-- Lines of code and HTML blocks: what is left of a line from a place on, and where it stops.
+use Rattle.std.specs.Prelude.{ℕ, max, Bool, ◌&&◌, nat_lt, List, slice_range}
+use Rattle.markdown_scan.specs.LineStart.{LineLeft, space}
+use Rattle.markdown_lines.specs.declared.fence.Fence.{Fence}
+use Rattle.markdown_lines.specs.declared.held_line.HeldLine.{HeldLine}
+use Rattle.markdown_lines.specs.declared.html_kind.HtmlKind.{HtmlKind}
+use Rattle.markdown_lines.specs.declared.line.Line.{Line}
+use Rattle.markdown_lines.specs.declared.place.Place.{Place}
+use Rattle.markdown_lines.specs.CodeFences.{closes_fence}
+use Rattle.markdown_lines.specs.HtmlKinds.{ends_in}
+use Rattle.markdown_lines.specs.Places.{left_from}
+
+-- behind a line of which what is left begins at a place
+abbrev pub behind_line : ℕ → ℕ → ℕ
+behind_line start next = max start next
+
+-- what is left of a line behind at most so many columns of space from a place on
+abbrev pub code_behind : List ℕ → Place → Line → ℕ → LineLeft
+code_behind text place line columns = (space columns (left_from text place line.stop)).after
+
+-- a line that is held back, of which this is left
+abbrev pub held : Line → LineLeft → HeldLine
+held line left = record { start = left.scanned; stop = line.stop; next = line.next; owed = left.owed }
+
+-- less than four columns of space stand at a place, and behind them a fence that closes a code block
+abbrev pub is_closed_at : List ℕ → Place → Line → Fence → Bool
+is_closed_at text place line fence =
+    nat_lt (space 4 (left_from text place line.stop)).columns 4
+    && closes_fence text (code_behind text place line 4).scanned line.stop fence
+
+-- what is left of a line from a place on ends an HTML block of a kind
+abbrev pub ends_html_at : List ℕ → Place → Line → HtmlKind → Bool
+ends_html_at text place line kind = ends_in kind (slice_range text place.at line.stop)

@@ -1,0 +1,76 @@
+-- Containers that begin (CommonMark 5.1, 5.2, and footnote definitions): which blocks are open then, and what is left
+-- of the line inside them.
+use Rattle.std.specs.Prelude.{◌≡◌, ℕ, ◌+◌, ◌≤◌, ◌%◌, Bool, true, false, ◌&&◌, ◌==◌, nat_lt, List, [], ◌∷◌, ◌++◌}
+use Rattle.std.specs.Prelude.{Option, Some, None, drop, slice_get, codes, if◌then◌else◌}
+use Rattle.std.specs.Int.RustNames.{bit_and}
+use Rattle.markdown_base.specs.declared.item.ItemBody.{ItemBody}
+use Rattle.markdown_base.specs.declared.item.ItemBody.TheVariants as body
+use Rattle.markdown_base.specs.declared.options.Options.{Options}
+use Rattle.markdown_builder.specs.declared.open_block.OpenBlock.{OpenBlock}
+use Rattle.markdown_scan.specs.Beginnings.{begins_with}
+use Rattle.markdown_scan.specs.LineStart.{LineLeft, Space, space}
+use Rattle.markdown_scan.specs.Label.{link_label}
+use Rattle.markdown_lines.specs.declared.list_marker.ListMarker.{ListMarker}
+use Rattle.markdown_lines.specs.declared.place.Place.{Place}
+use Rattle.markdown_lines.specs.Places.{left_from}
+use Rattle.markdown_lines.specs.HtmlBeginnings.{in_one_line}
+use Rattle.markdown_plain.specs.OpenBlocks.{innermost_is, without_list}
+
+-- a list whose markers have this character
+abbrev pub is_list_of : ℕ → ItemBody → Bool
+is_list_of character (body.List tight other first) = other == character
+is_list_of character other = false
+
+-- a list begins at a place
+abbrev pub new_list : ℕ → ListMarker → OpenBlock
+new_list at marker = record { start = at; body = body.List true marker.character marker.first }
+
+-- the blocks around an item: the list that goes on, or else a new one
+abbrev pub around_item : ℕ → ListMarker → List OpenBlock → List OpenBlock
+around_item at marker blocks =
+    if innermost_is (is_list_of marker.character) blocks then blocks
+    else without_list blocks ++ new_list at marker ∷ []
+
+-- behind so many bytes of one column each
+abbrev pub past_bytes : ℕ → LineLeft → LineLeft
+past_bytes count left = record {
+  scanned = left.scanned + count;
+  owed = 0;
+  column = (left.column + count) % 4;
+  bytes = drop count left.bytes;
+}
+
+-- the space between a marker and the content of its item: one to four columns, or one where the item begins with a
+-- blank line or with indented code
+abbrev pub item_space : ℕ → LineLeft → Space
+item_space stop left =
+    if nat_lt (space 5 left).after.scanned stop && nat_lt 0 (space 5 left).columns && nat_lt (space 5 left).columns 5
+    then space 5 left else record { columns = 1; after = (space 1 left).after }
+
+-- footnotes are on, in either style
+abbrev pub footnotes_on : Options → Bool
+footnotes_on options = bit_and options.0 4 == 4
+
+-- a colon comes next
+abbrev pub is_colon : Option ℕ → Bool
+is_colon None = false
+is_colon (Some byte) = byte == 58
+
+-- the label of a footnote definition, and the length of its marker, by what the label was found to be
+abbrev pub note_marker : List ℕ → Option (ℕ × List ℕ) → Option (List ℕ × ℕ)
+note_marker content None = None
+note_marker content (Some label) =
+    if is_colon (slice_get content (label.0 + 2)) then Some (label.1, label.0 + 3) else None
+
+-- of the definition with which a line's content begins: a `[^`, a label in this line, and a colon
+abbrev pub note_of : List ℕ → Option (List ℕ × ℕ)
+note_of content =
+    if begins_with (codes "[^") content then note_marker content (link_label in_one_line false (drop 2 content))
+    else None
+
+-- such a definition begins at a place in a line, and another place is inside it
+pub record InsideNote (text : List ℕ) (here : Place) (stop : ℕ) (content : List ℕ) (inside : Place) : Type 0 where
+  pub label : List ℕ
+  pub width : ℕ
+  pub marker : note_of content ≡ Some (label, width)
+  pub left : here.at + width ≤ stop → left_from text inside stop ≡ past_bytes width (left_from text here stop)

@@ -1,0 +1,26 @@
+-- Where paragraphs end, and headings that are made of them.
+use Rattle.std.specs.Prelude.{ℕ, ◌-◌, Bool, false, ◌&&◌, not, ◌==◌, List, Option, Some, None, length}
+use Rattle.std.specs.Prelude.{slice_get}
+use Rattle.std.specs.Option.{option_map_or}
+use Rattle.markdown_base.specs.declared.tag.HeadingLevel.{HeadingLevel}
+use Rattle.markdown_lines.specs.declared.held_line.HeldLine.{HeldLine}
+use Rattle.markdown_lines.specs.declared.line.Line.{Line}
+use Rattle.markdown_builder.specs.BuilderView.{BuilderView}
+use Rattle.markdown_plain.specs.declared.pass.Pass.{Pass}
+
+-- behind the last of some lines
+abbrev pub lines_end : List HeldLine → ℕ
+lines_end lines = option_map_or (λ line. line.next) (slice_get lines (length lines - 1)) 0
+
+-- behind a paragraph, or behind the underline of the heading that it is
+abbrev pub paragraph_end : List HeldLine → Option (HeadingLevel × Line) → ℕ
+paragraph_end lines None = lines_end lines
+paragraph_end lines (Some heading) = heading.1.next
+
+-- a builder behind a block that was opened and closed, and stops at a place
+abbrev pub placed_to : BuilderView → ℕ → BuilderView
+placed_to builder to = record builder { at = to; leaf = false; run = None }
+
+-- a paragraph is open
+abbrev pub has_paragraph : Pass → Bool
+has_paragraph pass = not pass.placing.builder.leaf && not (length pass.lines.items == 0)
