@@ -16,8 +16,8 @@ use Rattle.markdown_base.specs.Item.{is_childless}
 use Rattle.markdown_base.specs.WellFormed.{PartCounts, source_of, is_delimiter}
 use Rattle.markdown_builder.specs.declared.open_block.OpenBlock.{OpenBlock}
 use Rattle.markdown_builder.specs.Bodies.{is_leaf, is_plain_block, is_settled, mark_byte}
-use Rattle.markdown_builder.specs.BuilderView.{BuilderView, IsWhite, IsRunOf, follows_run, innermost_block, LastHasBody, LastBegins}
-use Rattle.markdown_builder.specs.Standing.{State, seen, open_item, with_item, AreOpen, IsSound}
+use Rattle.markdown_builder.specs.BuilderView.{IsWhite, IsRunOf, follows_run, innermost_block, LastHasBody, LastBegins}
+use Rattle.markdown_builder.specs.Standing.{State, Standpoint, seen, open_item, with_item, AreOpen, IsSound}
 use Rattle.markdown_builder.specs.TreeSteps.{Tightens, texts_appended, run_marked}
 use Rattle.markdown_builder.proofs.BodiesLemmas.{item_over, MayBePlaced, plain_placed, placed_fits, placed_new, block_plain, block_parent}
 use Rattle.markdown_builder.proofs.BodiesLemmas.{settled_plain, settled_inline, settled_markup, rule_plain, plain, one_text_more, NamesText}
@@ -29,21 +29,21 @@ use Rattle.markdown_builder.proofs.StepLemmas.{skipped, added, after_item, opene
 use Rattle.markdown_builder.proofs.WrittenLemmas.{StandsClosed, tightens_keeps, changed, begun_later}
 
 -- `skip`
-pub skip_keeps : {s : State} (now : BuilderView) (to : ℕ) → IsSound s → seen s ≡ now → now.at ≤ to → IsCharBoundary now.text to
+pub skip_keeps : {s : State} (now : Standpoint) (to : ℕ) → IsSound s → seen s ≡ now → now.at ≤ to → IsCharBoundary now.text to
     → (now.leaf ≡ false → now.blocks ≡ [] → IsWhite now.text now.at to) → IsSound (record s { at = to })
 skip_keeps {s} now to k e =
-    subst (λ (v : BuilderView). v.at ≤ to → IsCharBoundary v.text to → (v.leaf ≡ false → v.blocks ≡ [] → IsWhite v.text v.at to)
+    subst (λ (v : Standpoint). v.at ≤ to → IsCharBoundary v.text to → (v.leaf ≡ false → v.blocks ≡ [] → IsWhite v.text v.at to)
     → IsSound (record s { at = to })) e
     (skipped s to k)
 
 -- a block that goes into the tree with its parts
-pub placed_keeps : {s : State} (now : BuilderView) (many : PartCounts) (b : ItemBody) → IsSound s → seen s ≡ now → now.leaf ≡ false
+pub placed_keeps : {s : State} (now : Standpoint) (many : PartCounts) (b : ItemBody) → IsSound s → seen s ≡ now → now.leaf ≡ false
     → MayBePlaced s.counts many b
     → is_childless b ≡ false → IsSound (after_opening s many b)
-placed_keeps {s} now many b k e outside placed parent = opened s many b k (ap (λ (v : BuilderView). v.leaf) e ∙ outside) placed parent
+placed_keeps {s} now many b k e outside placed parent = opened s many b k (ap (λ (v : Standpoint). v.leaf) e ∙ outside) placed parent
 
 -- a block whose parts were pushed, and that was not gone into
-pub refused_keeps : {s : State} (now : BuilderView) (many : PartCounts) (b : ItemBody) (tree : Arena Item) → IsSound s → seen s ≡ now
+pub refused_keeps : {s : State} (now : Standpoint) (many : PartCounts) (b : ItemBody) (tree : Arena Item) → IsSound s → seen s ≡ now
     → now.leaf ≡ false
     → MayBePlaced s.counts many b → is_childless b ≡ false → (tree ≡ s.tree) ⊎ (tree ≡ appended s.tree (item_over s.at s.at b))
     → IsSound (record s { counts = many; tree = tree })
@@ -52,17 +52,17 @@ refused_keeps {s} now many b tree k e outside placed parent =
     (more_parts s many placed.more k))
     (λ (q : tree ≡ appended s.tree (item_over s.at s.at b)). subst (λ (t : Arena Item). IsSound (record s { counts = many; tree = t }))
     (sym q)
-    (opened_alone s many b s.run k (ap (λ (v : BuilderView). v.leaf) e ∙ outside) placed parent))
+    (opened_alone s many b s.run k (ap (λ (v : Standpoint). v.leaf) e ∙ outside) placed parent))
 
 -- a block that names the text which was pushed: it goes into the tree
-pub named_keeps : {s : State} (now : BuilderView) (many : PartCounts) (b : ItemBody) (ix : CowIndex) → IsSound s → seen s ≡ now
+pub named_keeps : {s : State} (now : Standpoint) (many : PartCounts) (b : ItemBody) (ix : CowIndex) → IsSound s → seen s ≡ now
     → now.leaf ≡ false
     → ix.0 ≡ s.counts.texts → one_text_more s.counts many → NamesText b ix.0 → is_childless b ≡ false → IsSound (after_opening s many b)
 named_keeps {s} now many b ix k e outside n more names parent = placed_keeps now many b k e outside (text_placed s.counts many b ix.0 n more
     names) parent
 
 -- or it was not gone into
-pub named_refused : {s : State} (now : BuilderView) (many : PartCounts) (b : ItemBody) (ix : CowIndex) (tree : Arena Item) → IsSound s
+pub named_refused : {s : State} (now : Standpoint) (many : PartCounts) (b : ItemBody) (ix : CowIndex) (tree : Arena Item) → IsSound s
     → seen s ≡ now → now.leaf ≡ false
     → ix.0 ≡ s.counts.texts → one_text_more s.counts many → NamesText b ix.0 → is_childless b ≡ false
     → (tree ≡ s.tree) ⊎ (tree ≡ appended s.tree (item_over s.at s.at b)) → IsSound (record s { counts = many; tree = tree })
@@ -70,22 +70,22 @@ named_refused {s} now many b ix tree k e outside n more names parent =
     refused_keeps now many b tree k e outside (text_placed s.counts many b ix.0 n more names) parent
 
 -- `open`
-pub open_keeps : {s : State} (now : BuilderView) (b : ItemBody) → IsSound s → seen s ≡ now → is_plain_block b ≡ true → now.leaf ≡ false
+pub open_keeps : {s : State} (now : Standpoint) (b : ItemBody) → IsSound s → seen s ≡ now → is_plain_block b ≡ true → now.leaf ≡ false
     → IsSound (after_opening s s.counts b)
 open_keeps {s} now b k e h outside = placed_keeps now s.counts b k e outside (plain_placed s.counts b (block_plain b h)) (block_parent b h)
 
-pub open_refused : {s : State} (now : BuilderView) (b : ItemBody) (tree : Arena Item) → IsSound s → seen s ≡ now → is_plain_block b ≡ true
+pub open_refused : {s : State} (now : Standpoint) (b : ItemBody) (tree : Arena Item) → IsSound s → seen s ≡ now → is_plain_block b ≡ true
     → now.leaf ≡ false
     → (tree ≡ s.tree) ⊎ (tree ≡ appended s.tree (item_over s.at s.at b)) → IsSound (record s { tree = tree })
 open_refused {s} now b tree k e h outside = refused_keeps now s.counts b tree k e outside (plain_placed s.counts b (block_plain b h))
     (block_parent b h)
 
 -- `inline`
-pub inline_keeps : {s : State} (now : BuilderView) (end : ℕ) (b : ItemBody) → IsSound s → seen s ≡ now → is_settled b ≡ true
+pub inline_keeps : {s : State} (now : Standpoint) (end : ℕ) (b : ItemBody) → IsSound s → seen s ≡ now → is_settled b ≡ true
     → now.leaf ≡ true → now.at ≤ end
     → IsCharBoundary now.text end → IsSound (after_item s s.counts end b None)
 inline_keeps {s} now end b k e h =
-    subst (λ (v : BuilderView). v.leaf ≡ true → v.at ≤ end → IsCharBoundary v.text end → IsSound (after_item s s.counts end b None)) e
+    subst (λ (v : Standpoint). v.leaf ≡ true → v.at ≤ end → IsCharBoundary v.text end → IsSound (after_item s s.counts end b None)) e
     (λ within low boundary.
     let placed = plain_placed s.counts b (settled_plain b h) in
     added s s.counts end b None k placed.more
@@ -127,11 +127,11 @@ close_keeps {s} rest block new k e left =
     (closed s l.0 rest l.1 block k e l.2)
 
 -- `rule`
-pub rule_keeps : {s : State} (now : BuilderView) (end : ℕ) → IsSound s → seen s ≡ now → now.leaf ≡ false → now.at ≤ end
+pub rule_keeps : {s : State} (now : Standpoint) (end : ℕ) → IsSound s → seen s ≡ now → now.leaf ≡ false → now.at ≤ end
     → IsCharBoundary now.text end
     → IsSound (after_item s s.counts end body.Rule None)
 rule_keeps {s} now end k e =
-    subst (λ (v : BuilderView). v.leaf ≡ false → v.at ≤ end → IsCharBoundary v.text end
+    subst (λ (v : Standpoint). v.leaf ≡ false → v.at ≤ end → IsCharBoundary v.text end
     → IsSound (after_item s s.counts end body.Rule None)) e
     (λ outside low boundary. let placed = plain_placed s.counts body.Rule rule_plain in
     added s s.counts end body.Rule None k placed.more
@@ -140,12 +140,12 @@ rule_keeps {s} now end k e =
     (placed_new s.counts s.counts s.at end body.Rule placed) (sym outside) refl refl)
 
 -- `synthesize`
-pub synthesize_keeps : {s : State} (now : BuilderView) (many : PartCounts) (end : ℕ) (ix : CowIndex) → IsSound s → seen s ≡ now
+pub synthesize_keeps : {s : State} (now : Standpoint) (many : PartCounts) (end : ℕ) (ix : CowIndex) → IsSound s → seen s ≡ now
     → ix.0 ≡ s.counts.texts
     → one_text_more s.counts many → now.leaf ≡ true → now.at ≤ end → IsCharBoundary now.text end
     → IsSound (after_item s many end (body.SynthesizeText ix) None)
 synthesize_keeps {s} now many end ix k e n more =
-    subst (λ (v : BuilderView). v.leaf ≡ true → v.at ≤ end → IsCharBoundary v.text end
+    subst (λ (v : Standpoint). v.leaf ≡ true → v.at ≤ end → IsCharBoundary v.text end
     → IsSound (after_item s many end (body.SynthesizeText ix) None)) e
     (λ within low boundary. let placed = text_placed s.counts many (body.SynthesizeText ix) ix.0 n more (synthesized_names ix) in
     added s many end (body.SynthesizeText ix) None k placed.more
@@ -159,10 +159,10 @@ pushed_keeps {s} many k more =
     more_parts s many (record { texts = omega (arith, more.0); alignments = omega (arith, more.1); attributes = omega (arith, more.2) }) k
 
 -- `mark`
-pub mark_keeps : {s : State} (now : BuilderView) (b : ItemBody) → IsSound s → seen s ≡ now → now.leaf ≡ true → now.at < length now.text
+pub mark_keeps : {s : State} (now : Standpoint) (b : ItemBody) → IsSound s → seen s ≡ now → now.leaf ≡ true → now.at < length now.text
     → mark_byte b ≡ Some (slice_index now.text now.at) → IsSound (after_item s s.counts (s.at + 1) b None)
 mark_keeps {s} now b k e =
-    subst (λ (v : BuilderView). v.leaf ≡ true → v.at < length v.text → mark_byte b ≡ Some (slice_index v.text v.at)
+    subst (λ (v : Standpoint). v.leaf ≡ true → v.at < length v.text → mark_byte b ≡ Some (slice_index v.text v.at)
     → IsSound (after_item s s.counts (s.at + 1) b None)) e
     (λ within low byte. let m = mark_facts b (slice_index s.text s.at) byte in
     let placed = plain_placed s.counts b m.plain in
@@ -172,11 +172,11 @@ mark_keeps {s} now b k e =
     (placed_new s.counts s.counts s.at (s.at + 1) b placed) (m.inline ∙ sym within) m.plain.no_run m.plain.loose)
 
 -- `image`
-pub image_keeps : {s : State} (now : BuilderView) → IsSound s → seen s ≡ now → now.leaf ≡ true → now.at + 1 < length now.text
+pub image_keeps : {s : State} (now : Standpoint) → IsSound s → seen s ≡ now → now.leaf ≡ true → now.at + 1 < length now.text
     → slice_index now.text now.at ≡ 33 → slice_index now.text (now.at + 1) ≡ 91
     → IsSound (after_item s s.counts (s.at + 2) body.MaybeImage None)
 image_keeps {s} now k e =
-    subst (λ (v : BuilderView). v.leaf ≡ true → v.at + 1 < length v.text → slice_index v.text v.at ≡ 33 → slice_index v.text (v.at + 1) ≡ 91
+    subst (λ (v : Standpoint). v.leaf ≡ true → v.at + 1 < length v.text → slice_index v.text v.at ≡ 33 → slice_index v.text (v.at + 1) ≡ 91
     → IsSound (after_item s s.counts (s.at + 2) body.MaybeImage None)) e (λ within low first second.
     let placed = plain_placed s.counts body.MaybeImage (plain refl refl refl refl refl refl refl) in
     let end : IsCharBoundary s.text ((s.at + 1) + 1) = IsCharBoundary-after_ascii s.text (s.at + 1) k.utf8 low (omega (arith, second)) in
@@ -187,11 +187,11 @@ image_keeps {s} now k e =
     (placed_new s.counts s.counts s.at (s.at + 2) body.MaybeImage placed) (sym within) refl refl)
 
 -- `backticks`
-pub backticks_keeps : {s : State} (now : BuilderView) (end : ℕ) (escaped : Bool) → IsSound s → seen s ≡ now → now.leaf ≡ true
+pub backticks_keeps : {s : State} (now : Standpoint) (end : ℕ) (escaped : Bool) → IsSound s → seen s ≡ now → now.leaf ≡ true
     → IsRunOf 96 now.text now.at end
     → IsSound (after_item s s.counts end (body.MaybeCode (end - s.at) escaped) None)
 backticks_keeps {s} now end escaped k e =
-    subst (λ (v : BuilderView). v.leaf ≡ true → IsRunOf 96 v.text v.at end
+    subst (λ (v : Standpoint). v.leaf ≡ true → IsRunOf 96 v.text v.at end
     → IsSound (after_item s s.counts end (body.MaybeCode (end - s.at) escaped) None)) e
     (λ within run. let b = body.MaybeCode (end - s.at) escaped in
     let placed = plain_placed s.counts b (plain refl refl refl refl refl refl refl) in
@@ -206,7 +206,7 @@ backticks_keeps {s} now end escaped k e =
     (placed_new s.counts s.counts s.at end b placed) (sym within) refl refl)
 
 -- `run`: what it asks for
-pub record RunMayCome (now : BuilderView) (byte end : ℕ) : Type 0 where
+pub record RunMayCome (now : Standpoint) (byte end : ℕ) : Type 0 where
   pub inside : now.leaf ≡ true
   pub delimiter : is_delimiter byte ≡ true
   pub whole : IsRunOf byte now.text now.at end
@@ -219,18 +219,18 @@ run_texts s byte end count k may low = texts_stand s byte end count k may.inside
     low
 
 -- there are nodes enough to make characters of
-pub run_nodes : {s : State} (now : BuilderView) (byte end : ℕ) → IsSound s → seen s ≡ now → RunMayCome now byte end
+pub run_nodes : {s : State} (now : Standpoint) (byte end : ℕ) → IsSound s → seen s ≡ now → RunMayCome now byte end
     → end - s.at ≤ length (texts_appended s.tree s.at (end - s.at)).nodes
 run_nodes {s} now byte end k e may =
-    let here : RunMayCome (seen s) byte end = subst (λ (v : BuilderView). RunMayCome v byte end) (sym e) may in
+    let here : RunMayCome (seen s) byte end = subst (λ (v : Standpoint). RunMayCome v byte end) (sym e) may in
     let p = run_texts s byte end (end - s.at) k here (omega (arith, here.whole.more)) in omega (arith, p.size)
 
 -- after a refusal some of its bytes are Texts
-pub run_refused : {s : State} (now : BuilderView) (byte end count : ℕ) → IsSound s → seen s ≡ now → RunMayCome now byte end
+pub run_refused : {s : State} (now : Standpoint) (byte end count : ℕ) → IsSound s → seen s ≡ now → RunMayCome now byte end
     → s.at + count ≤ end
     → IsSound (record s { tree = texts_appended s.tree s.at count; at = end })
 run_refused {s} now byte end count k e may low =
-    let here : RunMayCome (seen s) byte end = subst (λ (v : BuilderView). RunMayCome v byte end) (sym e) may in
+    let here : RunMayCome (seen s) byte end = subst (λ (v : Standpoint). RunMayCome v byte end) (sym e) may in
     let p = run_texts s byte end count k here low in
     let ascii = delimiter_ascii byte here.delimiter in
     skipped (record s { tree = texts_appended s.tree s.at count; at = s.at + count }) end p.sound low
@@ -238,7 +238,7 @@ run_refused {s} now byte end count k e may low =
     (λ outside. let none : ⊥ = cc (here.inside, outside) in absurd none)
 
 -- and else all are its characters
-pub run_keeps : {s : State} (now : BuilderView) (byte end : ℕ) (opens closes : Bool) → IsSound s → seen s ≡ now → RunMayCome now byte end
+pub run_keeps : {s : State} (now : Standpoint) (byte end : ℕ) (opens closes : Bool) → IsSound s → seen s ≡ now → RunMayCome now byte end
     → IsSound (record s {
       tree = run_marked (texts_appended s.tree s.at (end - s.at)) end opens closes (end - s.at);
       at = end;
@@ -246,16 +246,16 @@ pub run_keeps : {s : State} (now : BuilderView) (byte end : ℕ) (opens closes :
           Some byte;
     })
 run_keeps {s} now byte end opens closes k e may =
-    let here : RunMayCome (seen s) byte end = subst (λ (v : BuilderView). RunMayCome v byte end) (sym e) may in
+    let here : RunMayCome (seen s) byte end = subst (λ (v : Standpoint). RunMayCome v byte end) (sym e) may in
     run_sound s byte end (end - s.at) opens closes k here.inside here.whole here.delimiter here.other (omega (arith, here.whole.more))
 
 -- `define`
-pub define_keeps : {s : State} (now : BuilderView) (to : ℕ) (d : CowStr × LinkDef) → IsSound s → seen s ≡ now → now.at ≤ to
+pub define_keeps : {s : State} (now : Standpoint) (to : ℕ) (d : CowStr × LinkDef) → IsSound s → seen s ≡ now → now.at ≤ to
     → IsCharBoundary now.text to
     → slice_index now.text now.at ≡ 91 → d.1.span ≡ record { start = s.at; end = to }
     → IsSound (record s { definitions = s.definitions ++ d ∷ []; at = to })
 define_keeps {s} now to d k e =
-    subst (λ (v : BuilderView). v.at ≤ to → IsCharBoundary v.text to → slice_index v.text v.at ≡ 91
+    subst (λ (v : Standpoint). v.at ≤ to → IsCharBoundary v.text to → slice_index v.text v.at ≡ 91
     → d.1.span ≡ record { start = s.at; end = to }
     → IsSound (record s { definitions = s.definitions ++ d ∷ []; at = to })) e (defined s to d k)
 
@@ -296,7 +296,7 @@ abbrev pub IsReplaced : List OpenBlock → List OpenBlock → OpenBlock → Type
 IsReplaced old new block = (outer : List OpenBlock) (last : OpenBlock) → old ≡ outer ++ last ∷ [] → new ≡ outer ++ block ∷ []
 
 -- `change`
-pub change_keeps : {s : State} (now : BuilderView) (inner : OpenBlock) (b : ItemBody) (blocks : List OpenBlock) (new : Arena Item)
+pub change_keeps : {s : State} (now : Standpoint) (inner : OpenBlock) (b : ItemBody) (blocks : List OpenBlock) (new : Arena Item)
     → IsSound s → seen s ≡ now
     → is_plain_block b ≡ true → is_leaf b ≡ now.leaf → Some inner ≡ innermost_block s.blocks
     → IsReplaced s.blocks blocks (record inner { body = b })
@@ -306,7 +306,7 @@ change_keeps {s} now inner b blocks new k e h leaf last replace write =
     let l = innermost_open s r.outer inner k r.whole in
     let p = block_plain b h in
     rw (replace r.outer inner r.whole, write l.0 l.1 l.2)
-    (changed s l.0 r.outer l.1 inner b k r.whole l.2 (leaf ∙ sym (ap (λ (v : BuilderView). v.leaf) e)) (plain_placed s.counts b p) p.texts
+    (changed s l.0 r.outer l.1 inner b k r.whole l.2 (leaf ∙ sym (ap (λ (v : Standpoint). v.leaf) e)) (plain_placed s.counts b p) p.texts
     p.alignments
     (block_parent b h))
 
@@ -320,13 +320,13 @@ body_changed old new inner b last replace outer block h =
     replace outer block h ∙ rw same.1 refl
 
 -- `begin_later`
-pub begin_later_keeps : {s : State} (now : BuilderView) (inner : OpenBlock) (start : ℕ) (blocks : List OpenBlock) (new : Arena Item)
+pub begin_later_keeps : {s : State} (now : Standpoint) (inner : OpenBlock) (start : ℕ) (blocks : List OpenBlock) (new : Arena Item)
     → IsSound s → seen s ≡ now
     → start ≤ now.at → IsCharBoundary now.text start → IfSome (innermost_block now.blocks) (λ block. IsWhite now.text block.start start)
     → Some inner ≡ innermost_block s.blocks → IsReplaced s.blocks blocks (record inner { start = start })
     → IsRewritten s.tree new (record inner { start = start }) → IsSound (record s { tree = new; blocks = blocks })
 begin_later_keeps {s} now inner start blocks new k e low boundary white last replace write =
-    subst (λ (v : BuilderView). start ≤ v.at → IsCharBoundary v.text start
+    subst (λ (v : Standpoint). start ≤ v.at → IsCharBoundary v.text start
     → IfSome (innermost_block v.blocks) (λ block. IsWhite v.text block.start start)
     → IsSound (record s { tree = new; blocks = blocks })) e (λ here between behind.
     let r = ends_with s.blocks inner last in
@@ -345,7 +345,7 @@ start_changed old new inner start last replace outer block h =
     replace outer block h ∙ rw same.1 refl
 
 -- `finish`
-pub finish_keeps : {s : State} (now : BuilderView) (new : Arena Item) → IsSound s → seen s ≡ now → now.blocks ≡ [] → Tightens s.tree new
+pub finish_keeps : {s : State} (now : Standpoint) (new : Arena Item) → IsSound s → seen s ≡ now → now.blocks ≡ [] → Tightens s.tree new
     → StandsClosed (record s { tree = new })
 finish_keeps {s} now new k e closed steps =
-    tightens_keeps s new (record { closed = ap (λ (v : BuilderView). v.blocks) e ∙ closed; stands = k.stands; runs = k.runs }) steps
+    tightens_keeps s new (record { closed = ap (λ (v : Standpoint). v.blocks) e ∙ closed; stands = k.stands; runs = k.runs }) steps

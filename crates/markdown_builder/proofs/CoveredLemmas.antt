@@ -12,10 +12,9 @@ use Rattle.markdown_base.specs.Forest.{Forest, nil, node, roots, relabelled}
 use Rattle.markdown_base.specs.Item.{range_of, is_inline, is_block}
 use Rattle.markdown_base.specs.WellFormed.{PartCounts}
 use Rattle.markdown_builder.specs.Bodies.{is_leaf}
-use Rattle.markdown_builder.specs.BuilderView.{BuilderView}
 use Rattle.markdown_builder.specs.Rising.{IsOnTop, first_block, next_block}
 use Rattle.markdown_builder.specs.BuilderRules.{StandsUnder, StandsAfter, KeepsNodes}
-use Rattle.markdown_builder.specs.Standing.{State, seen, IsUnderTop, is_in_definition, Stands}
+use Rattle.markdown_builder.specs.Standing.{State, Standpoint, seen, IsUnderTop, is_in_definition, Stands}
 use Rattle.markdown_builder.proofs.RisingLemmas.{IsRoot, top_is_root}
 use Rattle.markdown_builder.proofs.StepLemmas.{either_passes}
 
@@ -72,10 +71,10 @@ in_tree text counts nodes at k b =
     (rw (top_block text counts nodes b.number k b.top, b.inside) refl)
 
 -- what is made when all blocks are closed and the whole text is read covers it
-pub covers_at_end : {s : State} (now : BuilderView) (parts : BlockParts) → Stands s → seen s ≡ now → s.definitions ≡ parts.definitions.items
+pub covers_at_end : {s : State} (now : Standpoint) (parts : BlockParts) → Stands s → seen s ≡ now → s.definitions ≡ parts.definitions.items
     → now.blocks ≡ [] → now.at ≡ length now.text → Covers now.text s.tree.nodes parts
 covers_at_end {s} now parts k e same =
-    subst (λ (v : BuilderView). v.blocks ≡ [] → v.at ≡ length v.text → Covers v.text s.tree.nodes parts) e (λ closed read. record {
+    subst (λ (v : Standpoint). v.blocks ≡ [] → v.at ≡ length v.text → Covers v.text s.tree.nodes parts) e (λ closed read. record {
       bytes = λ at low dark. either_passes (is_in_block (tree_of s.tree.nodes) at)
           (list_any (λ d. is_inside at d.1.span) parts.definitions.items)
           (⊎_elim (λ (b : IsUnderTop s.tree.nodes at). inl (in_tree s.text s.counts s.tree.nodes at k.nodes b))

@@ -2,6 +2,7 @@
 use Rattle.std.specs.Prelude.{◌≡◌, ℕ, ◌-◌, ◌<◌, ◌≤◌, Bool, true, false, ◌==◌, List, [], ◌∷◌, ◌++◌, Option, Some, None}
 use Rattle.std.specs.Prelude.{length, slice_index, slice_get}
 use Rattle.std.specs.Char.{is_ascii_whitespace}
+use Rattle.markdown_base.specs.declared.index.CowIndex.{CowIndex}
 use Rattle.markdown_base.specs.declared.item.ItemBody.{ItemBody}
 use Rattle.markdown_builder.specs.declared.open_block.OpenBlock.{OpenBlock}
 use Rattle.markdown_builder.specs.Bodies.{is_leaf}
@@ -17,6 +18,15 @@ pub record BuilderView : Type 0 where
   pub leaf : Bool
   -- the character of the delimiter run that was appended last, if no item came after it
   pub run : Option ℕ
+  -- the texts that blocks and items name by number
+  pub texts : List (List ℕ)
+  -- the labels of the footnotes that are defined
+  pub footnotes : List (List ℕ)
+
+-- nothing is made yet of a text
+abbrev pub nothing_made : List ℕ → BuilderView
+nothing_made text =
+    record { text = text; at = 0; blocks = []; leaf = false; run = None; texts = []; footnotes = [] }
 
 -- each byte from one place up to another is white space
 abbrev pub IsWhite : List ℕ → ℕ → ℕ → Type 0
@@ -40,6 +50,17 @@ Opens old new body = new ≡ record old {
   leaf =
       is_leaf body;
   run = None;
+}
+
+-- such a block begins here and names a text, which is added to those that are named
+abbrev pub OpensNaming : BuilderView → BuilderView → (CowIndex → ItemBody) → List ℕ → Type 0
+OpensNaming old new body text = new ≡ record old {
+  blocks = old.blocks ++ record { start = old.at; body = body (record { 0 = length old.texts }) } ∷ [];
+  leaf =
+      is_leaf (body (record { 0 = length old.texts }));
+  run = None;
+  texts = old.texts ++ text ∷ [];
+  footnotes = new.footnotes;
 }
 
 -- the innermost of the open blocks

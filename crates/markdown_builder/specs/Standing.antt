@@ -31,9 +31,21 @@ pub record State : Type 0 where
   pub run : Option ℕ
   pub at : ℕ
 
--- what callers see of it
-abbrev pub seen : State → BuilderView
+-- where it stands, as callers see it
+pub record Standpoint : Type 0 where
+  pub text : List ℕ
+  pub at : ℕ
+  pub blocks : List OpenBlock
+  pub leaf : Bool
+  pub run : Option ℕ
+
+abbrev pub seen : State → Standpoint
 seen s = record { text = s.text; at = s.at; blocks = s.blocks; leaf = s.leaf; run = s.run }
+
+-- the same, of what callers see
+abbrev pub standpoint : BuilderView → Standpoint
+standpoint view =
+    record { text = view.text; at = view.at; blocks = view.blocks; leaf = view.leaf; run = view.run }
 
 -- the item of an open block: its end is not known yet
 abbrev pub open_item : OpenBlock → Item

@@ -31,13 +31,22 @@ pub struct Builder<'a> {
 }
 
 impl<'a> Model for Builder<'a> {
-    ghost use Rattle.std.specs.Prelude.{length};
+    ghost use Rattle.std.specs.Prelude.{length, map};
+    ghost use Rattle.markdown_base.specs.CowText.{text_of};
     ghost use Rattle.markdown_builder.specs.BuilderView.{BuilderView};
     ghost use Rattle.markdown_builder.specs.Standing.{IsSound};
 
     ghost Value = { BuilderView };
 
-    ghost view = { λ b. record { text = b.text.now; at = b.at; blocks = b.blocks.items; leaf = b.leaf; run = b.run } };
+    ghost view = { λ b. record {
+      text = b.text.now;
+      at = b.at;
+      blocks = b.blocks.items;
+      leaf = b.leaf;
+      run = b.run;
+      texts = map text_of b.cows.items;
+      footnotes = map text_of b.footnotes.items;
+    } };
 
     ghost invariant = { λ b. IsSound (record {
       text = b.text.now;
@@ -61,18 +70,18 @@ impl<'a> Builder<'a> {
     ghost use Rattle.std.specs.Prelude.{slice_index, slice_get, IfOk, IfSome, MatchOption};
     ghost use Rattle.std.specs.Str.{IsCharBoundary};
     ghost use Rattle.markdown_base.specs.declared.item.ItemBody.TheVariants as variant;
+    ghost use Rattle.markdown_base.specs.CowText.{text_of};
     ghost use Rattle.markdown_base.specs.Coverage.{Covers};
     ghost use Rattle.markdown_base.specs.WellFormed.{IsWellFormed, is_delimiter};
     ghost use Rattle.markdown_builder.specs.declared.open_block.OpenBlock.{OpenBlock};
     ghost use Rattle.markdown_builder.specs.Bodies.{is_leaf, is_plain_block, is_settled, mark_byte};
-    ghost use Rattle.markdown_builder.specs.BuilderView.{IsWhite, IsRunOf, follows_run, innermost_block, Opens};
-    ghost use Rattle.markdown_builder.specs.BuilderView.{LastHasBody, LastBegins};
+    ghost use Rattle.markdown_builder.specs.BuilderView.{IsWhite, IsRunOf, follows_run, innermost_block, nothing_made};
+    ghost use Rattle.markdown_builder.specs.BuilderView.{LastHasBody, LastBegins, Opens, OpensNaming};
     ghost use Rattle.markdown_builder.specs.Tightness.{TightInTightLists};
 
     /// Nothing is made yet.
     pub fn new(alloc: Global, text: &'a str) -> Result<Builder<'a>, AllocError>
-        ensures { IfOk result (λ made.
-            made ≡ record { text = text.now; at = 0; blocks = []; leaf = false; run = None }) }
+        ensures { IfOk result (λ made. made ≡ nothing_made text.now) }
     {
         Ok(Builder {
             text,
@@ -190,7 +199,9 @@ impl<'a> Builder<'a> {
     /// Opens a fenced code block with an info string.
     pub fn open_fenced(&mut self, info: CowStr<'a>) -> Result<(), AllocError>
         requires { self.old.leaf ≡ false }
-        ensures { IfOk result (λ _. (ix : _) × Opens self.old self.new (variant.FencedCodeBlock ix)) }
+        ensures opens { IfOk result (λ _.
+            OpensNaming self.old self.new variant.FencedCodeBlock (text_of info.entry)) }
+        ensures listed { self.new.footnotes ≡ self.old.footnotes }
     {
         let ix = push_text(&mut self.cows, info)?;
         let body = ItemBody::FencedCodeBlock(ix);
@@ -203,7 +214,9 @@ impl<'a> Builder<'a> {
     /// Opens a footnote definition with a name, which is listed as defined.
     pub fn open_footnote(&mut self, name: CowStr<'a>, listed: CowStr<'a>) -> Result<(), AllocError>
         requires { self.old.leaf ≡ false }
-        ensures { IfOk result (λ _. (ix : _) × Opens self.old self.new (variant.FootnoteDefinition ix)) }
+        ensures opens { IfOk result (λ _.
+            OpensNaming self.old self.new variant.FootnoteDefinition (text_of name.entry)) }
+        ensures listed { IfOk result (λ _. self.new.footnotes ≡ self.old.footnotes ++ text_of listed.entry ∷ []) }
     {
         self.footnotes.push(listed)?;
         let ix = push_text(&mut self.cows, name)?;
@@ -303,7 +316,11 @@ impl<'a> Builder<'a> {
         requires inside { self.old.leaf ≡ true }
         requires low { self.old.at ≤ end }
         requires boundary { IsCharBoundary self.old.text end }
-        ensures { IfOk result (λ _. self.new ≡ record self.old { at = end; run = None }) }
+        ensures { IfOk result (λ _. self.new ≡ record self.old {
+          at = end;
+          run = None;
+          texts = self.old.texts ++ text_of text.entry ∷ [];
+        }) }
     {
         let ix = push_text(&mut self.cows, text)?;
         self.tree.append(Item {

@@ -98,6 +98,7 @@ pub fn replace_last(blocks: &mut Vec<OpenBlock>, block: OpenBlock)
 pub fn push_text<'a>(texts: &mut Vec<CowStr<'a>>, text: CowStr<'a>) -> Result<CowIndex, AllocError>
     ensures number { IfOk result (λ ix. ix.0 ≡ length texts.old.items) }
     ensures more { IfOk result (λ _. length texts.new.items ≡ length texts.old.items + 1) }
+    ensures pushed { IfOk result (λ _. texts.new.items ≡ texts.old.items ++ text.entry ∷ []) }
     ensures refused { OnErr result (texts.new.items ≡ texts.old.items) }
 {
     let ix = CowIndex(texts.len());

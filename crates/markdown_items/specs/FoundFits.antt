@@ -1,5 +1,6 @@
 -- For private clauses: what is found in a line's content fits it, and how a builder goes on with it.
-use Rattle.std.specs.Prelude.{◌≡◌, ℕ, ◌+◌, ◌<◌, ◌≤◌, true, nat_lt, List, Option, Some, None, slice_index, if◌then◌else◌}
+use Rattle.std.specs.Prelude.{◌≡◌, ℕ, ◌+◌, ◌<◌, ◌≤◌, true, nat_lt, List, [], ◌∷◌, ◌++◌, Option, Some, None}
+use Rattle.std.specs.Prelude.{slice_index, encode_utf8, if◌then◌else◌}
 use Rattle.std.specs.Str.{IsCharBoundary}
 use Rattle.markdown_base.specs.WellFormed.{is_delimiter}
 use Rattle.markdown_builder.specs.Bodies.{mark_byte}
@@ -51,4 +52,5 @@ view_after view at (found.EscapedBackticks stop) = record view { at = stop; run 
 view_after view at (found.Run stop flags) =
     if follows_run (run_after_text view at) (slice_index view.text at) then view
     else record view { at = stop; run = Some (slice_index view.text at) }
-view_after view at (found.Entity stop character) = record view { at = stop; run = None }
+view_after view at (found.Entity stop character) =
+    record view { at = stop; run = None; texts = view.texts ++ encode_utf8 character ∷ [] }

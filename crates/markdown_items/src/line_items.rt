@@ -112,7 +112,11 @@ pub fn items(builder: &mut Builder<'_>, end: usize, options: Options) -> Result<
     requires inside { builder.old.leaf ≡ true }
     requires low { builder.old.at ≤ end }
     requires boundary { IsCharBoundary builder.old.text end }
-    ensures { IfOk result (λ _. builder.new ≡ record builder.old { at = end; run = builder.new.run }) }
+    ensures { IfOk result (λ _. builder.new ≡ record builder.old {
+      at = end;
+      run = builder.new.run;
+      texts = builder.new.texts;
+    }) }
 {
     let line = Line {
         start: builder.at(),

@@ -1,5 +1,5 @@
 -- Lines of code and HTML blocks: what is left of a line from a place on, and where it stops.
-use Rattle.std.specs.Prelude.{ℕ, max, Bool, ◌&&◌, nat_lt, List, slice_range}
+use Rattle.std.specs.Prelude.{ℕ, max, Bool, ◌==◌, ◌&&◌, nat_lt, List, [], ◌∷◌, slice_range, if◌then◌else◌}
 use Rattle.markdown_scan.specs.LineStart.{LineLeft, space}
 use Rattle.markdown_lines.specs.declared.fence.Fence.{Fence}
 use Rattle.markdown_lines.specs.declared.held_line.HeldLine.{HeldLine}
@@ -27,6 +27,11 @@ abbrev pub is_closed_at : List ℕ → Place → Line → Fence → Bool
 is_closed_at text place line fence =
     nat_lt (space 4 (left_from text place line.stop)).columns 4
     && closes_fence text (code_behind text place line 4).scanned line.stop fence
+
+-- the columns of space that a cut tab owes: one to three
+abbrev pub owed_spaces : ℕ → List ℕ
+owed_spaces columns =
+    if columns == 1 then 32 ∷ [] else if columns == 2 then 32 ∷ 32 ∷ [] else 32 ∷ 32 ∷ 32 ∷ []
 
 -- what is left of a line from a place on ends an HTML block of a kind
 abbrev pub ends_html_at : List ℕ → Place → Line → HtmlKind → Bool

@@ -1,6 +1,6 @@
 -- Calls that fit where they come. What a call does is said where it and all calls before it fitted: one that does not
 -- fit is counted, and nothing is made then.
-use Rattle.std.specs.Prelude.{◌≡◌, ℕ, ◌≤◌, false, [], ◌∷◌, ◌++◌, Some, None}
+use Rattle.std.specs.Prelude.{◌≡◌, ℕ, ◌≤◌, false, [], ◌∷◌, ◌++◌, List, Some, None, length}
 use Rattle.std.specs.Str.{IsCharBoundary}
 use Rattle.markdown_base.specs.declared.item.ItemBody.{ItemBody}
 use Rattle.markdown_base.specs.declared.item.ItemBody.TheVariants as body
@@ -41,7 +41,7 @@ closed builder = record builder { blocks = outer_of builder.blocks; leaf = false
 
 -- one to which more was appended in the open leaf, up to a place
 abbrev pub GoesOn : BuilderView → BuilderView → ℕ → Type 0
-GoesOn old new to = new ≡ record old { at = to; run = new.run }
+GoesOn old new to = new ≡ record old { at = to; run = new.run; texts = new.texts }
 
 -- one in which a block was opened at a place
 abbrev pub opened : BuilderView → ℕ → ItemBody → BuilderView
@@ -62,8 +62,18 @@ pub record BeginsAtContent (old new : BuilderView) : Type 0 where
   pub blocks : InnermostBecomes old.blocks new.blocks (λ block. record block { start = start })
   pub content : IsNextContent old.text blocks.block.start (Some start)
 
+-- a fenced code block was opened at a place, with an info string, and its first line stops before another
+abbrev pub OpensFenced : BuilderView → BuilderView → (at next : ℕ) → List ℕ → Type 0
+OpensFenced old new at next info =
+    new ≡ record (opened old at (body.FencedCodeBlock (record { 0 = length old.texts })))
+    { at = next; texts = old.texts ++ info ∷ [] }
+
 -- an HTML block was opened with a line of which what is left begins at a place, and it begins at its first content byte
 pub record OpensHtml (old new : BuilderView) (from next : ℕ) : Type 0 where
   pub start : ℕ
   pub content : IsNextContent old.text from (Some start)
-  pub opens : new ≡ record (opened old start body.HtmlBlock) { at = behind_line from next; run = new.run }
+  pub opens : new ≡ record (opened old start body.HtmlBlock) {
+    at = behind_line from next;
+    run = new.run;
+    texts = new.texts;
+  }

@@ -1,5 +1,5 @@
 -- Where paragraphs end, and headings that are made of them.
-use Rattle.std.specs.Prelude.{ℕ, ◌-◌, Bool, false, ◌&&◌, not, ◌==◌, List, Option, Some, None, length}
+use Rattle.std.specs.Prelude.{◌≡◌, ℕ, ◌-◌, Bool, false, ◌&&◌, not, ◌==◌, List, Option, Some, None, length}
 use Rattle.std.specs.Prelude.{slice_get}
 use Rattle.std.specs.Option.{option_map_or}
 use Rattle.markdown_base.specs.declared.tag.HeadingLevel.{HeadingLevel}
@@ -17,9 +17,9 @@ abbrev pub paragraph_end : List HeldLine → Option (HeadingLevel × Line) → �
 paragraph_end lines None = lines_end lines
 paragraph_end lines (Some heading) = heading.1.next
 
--- a builder behind a block that was opened and closed, and stops at a place
-abbrev pub placed_to : BuilderView → ℕ → BuilderView
-placed_to builder to = record builder { at = to; leaf = false; run = None }
+-- a block was opened, filled and closed, and stops at a place
+abbrev pub IsPlacedTo : BuilderView → BuilderView → ℕ → Type 0
+IsPlacedTo old new to = new ≡ record old { at = to; leaf = false; run = None; texts = new.texts }
 
 -- a paragraph is open
 abbrev pub has_paragraph : Pass → Bool

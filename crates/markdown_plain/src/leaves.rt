@@ -1,10 +1,12 @@
 //! Leaf blocks other than paragraphs (CommonMark 4.1 to 4.6): how they are opened, and how they go on.
-ghost use Rattle.std.specs.Prelude.{◌≡◌, ◌++◌, ◌∷◌, [], true, false, IfOk};
+ghost use Rattle.std.specs.Prelude.{◌≡◌, ◌++◌, ◌∷◌, [], true, false, ℕ, List, IfOk};
 ghost use Rattle.markdown_base.specs.declared.item.ItemBody.TheVariants as body;
+ghost use Rattle.markdown_scan.specs.Unescape.{unescaped};
+ghost use Rattle.markdown_lines.specs.LineBytes.{IsPartOf};
 ghost use Rattle.markdown_plain.specs.declared.pass.LeafKind.TheVariants as leaf_kind;
 ghost use Rattle.markdown_plain.specs.CodeLines.{behind_line, code_behind, ends_html_at, held, is_closed_at};
-ghost use Rattle.markdown_plain.specs.Fitting.{IfFitted, GoesOn, OpensHtml, closed, extended, opened};
-ghost use Rattle.markdown_plain.specs.Paragraphs.{placed_to};
+ghost use Rattle.markdown_plain.specs.Fitting.{IfFitted, GoesOn, OpensFenced, OpensHtml, closed, extended, opened};
+ghost use Rattle.markdown_plain.specs.Paragraphs.{IsPlacedTo};
 
 use crate::pass::{LeafKind, Pass};
 use crate::placing::Placing;
@@ -77,7 +79,7 @@ impl<'a> Pass<'a> {
     pub fn add_heading(&mut self, line: Line, heading: AtxHeading) -> Result<(), AllocError>
         ensures text { IfOk result (λ _. self.new.placing.builder.text ≡ self.old.placing.builder.text) }
         ensures adds { IfOk result (λ _. IfFitted self.old.placing self.new.placing
-            (self.new.placing.builder ≡ placed_to self.old.placing.builder line.next)) }
+            (IsPlacedTo self.old.placing.builder self.new.placing.builder line.next)) }
         ensures same { self.new ≡ record self.old { placing = self.new.placing } }
     {
         self.placing
@@ -97,9 +99,10 @@ impl<'a> Pass<'a> {
         opening: OpeningFence,
     ) -> Result<(), AllocError>
         ensures text { IfOk result (λ _. self.new.placing.builder.text ≡ self.old.placing.builder.text) }
-        ensures opens { IfOk result (λ _. IfFitted self.old.placing self.new.placing
-            ((ix : _) × (self.new.placing.builder
-            ≡ record (opened self.old.placing.builder at (body.FencedCodeBlock ix)) { at = line.next }))) }
+        ensures opens { IfOk result (λ _. (info : List ℕ)
+            × IsPartOf self.old.placing.builder.text opening.from opening.to info
+            × IfFitted self.old.placing self.new.placing (OpensFenced self.old.placing.builder self.new.placing.builder
+            at line.next (unescaped false info))) }
         ensures kind { IfOk result (λ _. self.new.leaf ≡ leaf_kind.Fenced opening.fence) }
         ensures same { self.new ≡ record self.old { placing = self.new.placing; leaf = self.new.leaf } }
     {
@@ -140,8 +143,8 @@ impl<'a> Pass<'a> {
     pub fn open_html(&mut self, line: Line, place: Place, kind: HtmlKind) -> Result<(), AllocError>
         ensures text { IfOk result (λ _. self.new.placing.builder.text ≡ self.old.placing.builder.text) }
         ensures ends { IfOk result (λ _. ends_html_at self.old.placing.builder.text place line kind ≡ true →
-            IfFitted self.old.placing self.new.placing (self.new.placing.builder
-            ≡ placed_to self.old.placing.builder (behind_line place.at line.next))) }
+            IfFitted self.old.placing self.new.placing
+            (IsPlacedTo self.old.placing.builder self.new.placing.builder (behind_line place.at line.next))) }
         ensures opens { IfOk result (λ _. ends_html_at self.old.placing.builder.text place line kind ≡ false →
             IfFitted self.old.placing self.new.placing
             (OpensHtml self.old.placing.builder self.new.placing.builder place.at line.next)) }
@@ -162,7 +165,10 @@ impl<'a> Pass<'a> {
         ensures text { IfOk result (λ _. self.new.placing.builder.text ≡ self.old.placing.builder.text) }
         ensures ends { IfOk result (λ _. ends_html_at self.old.placing.builder.text place line kind ≡ true →
             IfFitted self.old.placing self.new.placing (self.new.placing.builder
-            ≡ record (closed self.old.placing.builder) { at = behind_line place.at line.next })) }
+            ≡ record (closed self.old.placing.builder) {
+              at = behind_line place.at line.next;
+              texts = self.new.placing.builder.texts;
+            })) }
         ensures goes_on { IfOk result (λ _. ends_html_at self.old.placing.builder.text place line kind ≡ false →
             IfFitted self.old.placing self.new.placing
             (GoesOn self.old.placing.builder self.new.placing.builder (behind_line place.at line.next))) }
@@ -209,6 +215,7 @@ impl<'a> Pass<'a> {
             (self.new.placing.builder ≡ record (opened self.old.placing.builder place.at body.IndentCodeBlock) {
               at = behind_line place.at line.next;
               run = self.new.placing.builder.run;
+              texts = self.new.placing.builder.texts;
             })) }
         ensures kind { IfOk result (λ _. self.new.leaf ≡ leaf_kind.Indented) }
         ensures same { self.new ≡ record self.old { placing = self.new.placing; leaf = self.new.leaf } }

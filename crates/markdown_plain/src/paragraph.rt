@@ -5,7 +5,7 @@ ghost use Rattle.markdown_base.specs.declared.item.ItemBody.TheVariants as body;
 ghost use Rattle.markdown_builder.specs.Bodies.{is_plain_block};
 ghost use Rattle.markdown_plain.specs.Fitting.{IfFitted, GoesOn, stepped};
 ghost use Rattle.markdown_plain.specs.OpenBlocks.{room_in, without_leaf};
-ghost use Rattle.markdown_plain.specs.Paragraphs.{has_paragraph, lines_end, paragraph_end, placed_to};
+ghost use Rattle.markdown_plain.specs.Paragraphs.{has_paragraph, lines_end, paragraph_end, IsPlacedTo};
 
 use crate::pass::Pass;
 use crate::placing::Placing;
@@ -154,7 +154,7 @@ fn place_paragraph(
 ) -> Result<(), AllocError>
     ensures text { IfOk result (λ _. placing.new.builder.text ≡ placing.old.builder.text) }
     ensures placed { IfOk result (λ _. from < length lines.now → IfFitted placing.old placing.new
-        (placing.new.builder ≡ placed_to placing.old.builder (paragraph_end lines.now heading))) }
+        (IsPlacedTo placing.old.builder placing.new.builder (paragraph_end lines.now heading))) }
 {
     if let Some(first) = lines.get(from) {
         placing.step_to(first.start);
@@ -203,8 +203,8 @@ impl<'a> Pass<'a> {
     ) -> Result<bool, AllocError>
         ensures text { IfOk result (λ _. self.new.placing.builder.text ≡ self.old.placing.builder.text) }
         ensures ends { IfOk result (λ left. left ≡ true → IfFitted self.old.placing self.new.placing
-            (self.new.placing.builder
-            ≡ placed_to self.old.placing.builder (paragraph_end self.old.lines.items heading))) }
+            (IsPlacedTo self.old.placing.builder self.new.placing.builder
+            (paragraph_end self.old.lines.items heading))) }
         ensures defines { IfOk result (λ left. left ≡ false → IfFitted self.old.placing self.new.placing
             (self.new.placing.builder ≡ stepped self.old.placing.builder self.new.placing.builder.at)) }
         ensures emptied { IfOk result (λ _. self.new.lines.items ≡ []) }

@@ -1,7 +1,7 @@
 //! The state of the block pass between two lines, and the closing of blocks.
 ghost use Rattle.std.specs.Prelude.{◌≡◌, ◌++◌, [], false, None, length, take, IfOk, if◌then◌else◌};
 ghost use Rattle.std.specs.Option.{option_map};
-ghost use Rattle.markdown_builder.specs.BuilderView.{innermost_block};
+ghost use Rattle.markdown_builder.specs.BuilderView.{innermost_block, nothing_made};
 ghost use Rattle.markdown_plain.specs.declared.pass.LeafKind.TheVariants as kind;
 ghost use Rattle.markdown_plain.specs.Fitting.{AllFitted, IfFitted, closed};
 ghost use Rattle.markdown_plain.specs.OpenBlocks.{innermost_is, is_list, room_in, without_leaf};
@@ -47,8 +47,7 @@ pub struct Pass<'a> {
 impl<'a> Pass<'a> {
     /// Nothing is read yet.
     pub fn new(alloc: Global, text: &'a str, options: Options) -> Result<Pass<'a>, AllocError>
-        ensures made { IfOk result (λ made.
-            made.placing.builder ≡ record { text = text.now; at = 0; blocks = []; leaf = false; run = None }) }
+        ensures made { IfOk result (λ made. made.placing.builder ≡ nothing_made text.now) }
         ensures fitted { IfOk result (λ made. AllFitted made.placing) }
         ensures options { IfOk result (λ made. made.options ≡ options) }
         ensures lines { IfOk result (λ made. made.lines.items ≡ []) }

@@ -21,20 +21,21 @@ pub struct Placing<'a> {
 }
 
 impl<'a> Placing<'a> {
-    ghost use Rattle.std.specs.Prelude.{◌≡◌, ◌≤◌, ◌<◌, ◌==◌, [], true, false, Some, None, length};
+    ghost use Rattle.std.specs.Prelude.{◌≡◌, ◌≤◌, ◌<◌, ◌==◌, ◌++◌, ◌∷◌, [], true, false, Some, None, length};
     ghost use Rattle.std.specs.Prelude.{slice_index, slice_get, IfOk, IfSome};
     ghost use Rattle.std.specs.Str.{IsCharBoundary};
     ghost use Rattle.markdown_base.specs.declared.item.ItemBody.TheVariants as body;
+    ghost use Rattle.markdown_base.specs.CowText.{text_of};
+    ghost use Rattle.markdown_plain.specs.CodeLines.{owed_spaces};
     ghost use Rattle.markdown_builder.specs.Bodies.{is_leaf, is_plain_block, is_settled};
-    ghost use Rattle.markdown_builder.specs.BuilderView.{IsWhite, innermost_block, Opens};
+    ghost use Rattle.markdown_builder.specs.BuilderView.{IsWhite, innermost_block, nothing_made, Opens, OpensNaming};
     ghost use Rattle.markdown_lines.specs.Lines.{IsNextContent};
     ghost use Rattle.markdown_plain.specs.Fitting.{AllFitted, IfFitted, IsAhead, IsWhiteOutside};
-    ghost use Rattle.markdown_plain.specs.Fitting.{BeginsAtContent, HasBody, closed, extended, stepped};
+    ghost use Rattle.markdown_plain.specs.Fitting.{BeginsAtContent, GoesOn, HasBody, closed, extended, stepped};
 
     /// Nothing is made yet.
     pub fn new(alloc: Global, text: &'a str) -> Result<Placing<'a>, AllocError>
-        ensures made { IfOk result (λ made.
-            made.builder ≡ record { text = text.now; at = 0; blocks = []; leaf = false; run = None }) }
+        ensures made { IfOk result (λ made. made.builder ≡ nothing_made text.now) }
         ensures fitted { IfOk result (λ made. AllFitted made) }
     {
         Ok(Placing {
@@ -124,7 +125,8 @@ impl<'a> Placing<'a> {
     pub fn open_code(&mut self, info: CowStr<'a>) -> Result<(), AllocError>
         ensures text { IfOk result (λ _. self.new.builder.text ≡ self.old.builder.text) }
         ensures opens { IfOk result (λ _. IfFitted self.old self.new
-            ((ix : _) × Opens self.old.builder self.new.builder (body.FencedCodeBlock ix))) }
+            (OpensNaming self.old.builder self.new.builder body.FencedCodeBlock (text_of info.entry))) }
+        ensures listed { IfOk result (λ _. self.new.builder.footnotes ≡ self.old.builder.footnotes) }
         ensures fits { IfOk result (λ _. self.old.builder.leaf ≡ false → self.new.misfits ≡ self.old.misfits) }
     {
         if self.builder.is_in_leaf() {
@@ -140,7 +142,9 @@ impl<'a> Placing<'a> {
     pub fn open_note(&mut self, name: CowStr<'a>, listed: CowStr<'a>) -> Result<(), AllocError>
         ensures text { IfOk result (λ _. self.new.builder.text ≡ self.old.builder.text) }
         ensures opens { IfOk result (λ _. IfFitted self.old self.new
-            ((ix : _) × Opens self.old.builder self.new.builder (body.FootnoteDefinition ix))) }
+            (OpensNaming self.old.builder self.new.builder body.FootnoteDefinition (text_of name.entry))) }
+        ensures listed { IfOk result (λ _. IfFitted self.old self.new
+            (self.new.builder.footnotes ≡ self.old.builder.footnotes ++ text_of listed.entry ∷ [])) }
         ensures fits { IfOk result (λ _. self.old.builder.leaf ≡ false → self.new.misfits ≡ self.old.misfits) }
     {
         if self.builder.is_in_leaf() {
@@ -223,7 +227,8 @@ impl<'a> Placing<'a> {
     pub fn add_owed(&mut self, owed: usize) -> Result<(), AllocError>
         ensures text { IfOk result (λ _. self.new.builder.text ≡ self.old.builder.text) }
         ensures owed { IfOk result (λ _. 0 < owed → IfFitted self.old self.new
-            (self.new.builder ≡ record self.old.builder { run = None })) }
+            (self.new.builder
+            ≡ record self.old.builder { run = None; texts = self.old.builder.texts ++ owed_spaces owed ∷ [] })) }
         ensures nothing { IfOk result (λ _. owed ≡ 0 → self.new ≡ self.old) }
         ensures fits { IfOk result (λ _. self.old.builder.leaf ≡ true → self.new.misfits ≡ self.old.misfits) }
     {
@@ -246,7 +251,7 @@ impl<'a> Placing<'a> {
     pub fn add_items(&mut self, end: usize, options: Options) -> Result<(), AllocError>
         ensures text { IfOk result (λ _. self.new.builder.text ≡ self.old.builder.text) }
         ensures appends { IfOk result (λ _. IfFitted self.old self.new
-            (self.new.builder ≡ record self.old.builder { at = end; run = self.new.builder.run })) }
+            (GoesOn self.old.builder self.new.builder end)) }
         ensures fits { IfOk result (λ _. self.old.builder.leaf ≡ true → IsAhead self.old.builder end
             → self.new.misfits ≡ self.old.misfits) }
     {

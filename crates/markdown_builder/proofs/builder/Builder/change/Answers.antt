@@ -1,12 +1,13 @@
 -- The block has another body.
 use Rattle.std.proofs.Common.{◌∙◌, ap}
 use Rattle.markdown_builder.specs.BuilderView.{innermost_block}
+use Rattle.markdown_builder.specs.Standing.{standpoint}
 use Rattle.markdown_builder.proofs.CallLemmas.{change_keeps}
 use Rattle.markdown_builder.proofs.builder.Builder.change.Goals as goal
 
 pub invariant_of-self : goal.invariant_of-self
 invariant_of-self c =
-    change_keeps c.args.self.now c.in-Some.open.now c.args.body c.replace_last.new.blocks.items c.rewrite.new.tree c.self.invariant
-    c.self.view_is
+    change_keeps (standpoint c.args.self.now) c.in-Some.open.now c.args.body c.replace_last.new.blocks.items c.rewrite.new.tree c.self.invariant
+    (ap standpoint c.self.view_is)
     c.requires.block c.requires.same (c.in-Some.ensures.value ∙ ap innermost_block c.deref.ensures.value) c.replace_last.ensures
     c.rewrite.ensures

@@ -1,6 +1,7 @@
 -- The definition is added.
-use Rattle.std.proofs.Common.{refl}
+use Rattle.std.proofs.Common.{ap, refl}
 use Rattle.markdown_base.specs.declared.block_parts.LinkDef.{LinkDef}
+use Rattle.markdown_builder.specs.Standing.{standpoint}
 use Rattle.markdown_builder.proofs.CallLemmas.{define_keeps}
 use Rattle.markdown_builder.proofs.builder.Builder.define.Goals as goal
 
@@ -9,5 +10,5 @@ invariant_of-self-2 c =
     let made : LinkDef = record { dest = c.args.dest; title = c.args.title; span = record { start = c.self.inside.at; end = c.args.end } }
     in
     rw c.in_ok-push.ensures.items
-    (define_keeps c.args.self.now c.args.end (c.args.label, made) c.self.invariant c.self.view_is c.requires.low c.requires.boundary
+    (define_keeps (standpoint c.args.self.now) c.args.end (c.args.label, made) c.self.invariant (ap standpoint c.self.view_is) c.requires.low c.requires.boundary
     c.requires.bracket refl)

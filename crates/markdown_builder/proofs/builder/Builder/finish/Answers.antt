@@ -1,5 +1,6 @@
 -- What was made is well formed, covers the text, and has its tight paragraphs.
-use Rattle.std.proofs.Common.{refl}
+use Rattle.std.proofs.Common.{ap, refl}
+use Rattle.markdown_builder.specs.Standing.{standpoint}
 use Rattle.markdown_builder.proofs.FormedLemmas.{keeps_formed}
 use Rattle.markdown_builder.proofs.CoveredLemmas.{covers_at_end}
 use Rattle.markdown_builder.proofs.TightLemmas.{tight_in_tight_lists}
@@ -11,22 +12,22 @@ tighten_lists-requires c = c.self.invariant.stands.nodes.rising
 
 pub returns-clause-formed : goal.returns-clause-formed
 returns-clause-formed c =
-    let k = finish_keeps c.args.self c.tighten_lists.new.tree c.self.invariant c.self.view_is c.requires.closed
+    let k = finish_keeps (standpoint c.args.self) c.tighten_lists.new.tree c.self.invariant (ap standpoint c.self.view_is) c.requires.closed
     c.tighten_lists.ensures.steps in
     rw (← c.self.view_is) (keeps_formed c.self.inside.text.now c.tighten_lists.new.tree.nodes _ k.stands.nodes k.runs)
 
 pub returns-clause-covered : goal.returns-clause-covered
 returns-clause-covered c =
-    let k = finish_keeps c.args.self c.tighten_lists.new.tree c.self.invariant c.self.view_is c.requires.closed
+    let k = finish_keeps (standpoint c.args.self) c.tighten_lists.new.tree c.self.invariant (ap standpoint c.self.view_is) c.requires.closed
     c.tighten_lists.ensures.steps in
-    covers_at_end c.args.self
+    covers_at_end (standpoint c.args.self)
     (record {
       definitions = c.self.inside.definitions;
       footnotes = c.self.inside.footnotes;
       cows = c.self.inside.cows;
       alignments = c.self.inside.alignments;
       headings = c.self.inside.headings;
-    }) k.stands c.self.view_is refl c.requires.closed c.requires.read
+    }) k.stands (ap standpoint c.self.view_is) refl c.requires.closed c.requires.read
 
 pub returns-clause-tight : goal.returns-clause-tight
 returns-clause-tight c = tight_in_tight_lists c.self.inside.tree.nodes c.tighten_lists.new.tree.nodes c.self.invariant.loose

@@ -1,6 +1,7 @@
 -- The block is gone into, or stands alone, or only its text was kept.
-use Rattle.std.proofs.Common.{refl}
+use Rattle.std.proofs.Common.{ap, refl}
 use Rattle.markdown_base.specs.declared.item.ItemBody.TheVariants as body
+use Rattle.markdown_builder.specs.Standing.{standpoint}
 use Rattle.markdown_builder.proofs.BodiesLemmas.{fenced_names}
 use Rattle.markdown_builder.proofs.CallLemmas.{named_keeps, named_refused}
 use Rattle.markdown_builder.proofs.builder.Builder.open_fenced.Goals as goal
@@ -9,7 +10,7 @@ pub invariant_of-self-in_err-enter : goal.invariant_of-self-in_err-enter
 invariant_of-self-in_err-enter c =
     let ix = c.in_ok-ix.ix in
     rw c.in_err-enter.ensures.stays
-    (named_refused c.args.self.now _ (body.FencedCodeBlock ix) ix c.enter.new.tree c.self.invariant c.self.view_is c.requires
+    (named_refused (standpoint c.args.self.now) _ (body.FencedCodeBlock ix) ix c.enter.new.tree c.self.invariant (ap standpoint c.self.view_is) c.requires
     c.in_ok-ix.ensures.number
     (c.in_ok-ix.ensures.more, refl, refl) (fenced_names ix) refl c.in_err-enter.ensures.refused)
 
@@ -17,8 +18,5 @@ pub invariant_of-self-2 : goal.invariant_of-self-2
 invariant_of-self-2 c =
     let ix = c.in_ok-ix.ix in
     rw (c.in_ok-enter.ensures.entered, c.in_ok-enter.ensures.opened)
-    (named_keeps c.args.self.now _ (body.FencedCodeBlock ix) ix c.self.invariant c.self.view_is c.requires c.in_ok-ix.ensures.number
+    (named_keeps (standpoint c.args.self.now) _ (body.FencedCodeBlock ix) ix c.self.invariant (ap standpoint c.self.view_is) c.requires c.in_ok-ix.ensures.number
     (c.in_ok-ix.ensures.more, refl, refl) (fenced_names ix) refl)
-
-pub returns : goal.returns
-returns c = rw (← c.self.view_is) (c.in_ok-ix.ix, rw c.in_ok-enter.ensures.opened refl)

@@ -3,6 +3,7 @@ use Rattle.std.proofs.Common.{◌≡◌, ◌+◌, Some, length, refl, ap, ◌∙
 use Rattle.std.proofs.lemmas.List.{length-append}
 use Rattle.markdown_base.specs.declared.index.HeadingIndex.{HeadingIndex}
 use Rattle.markdown_base.specs.declared.item.ItemBody.TheVariants as body
+use Rattle.markdown_builder.specs.Standing.{standpoint}
 use Rattle.markdown_builder.proofs.BodiesLemmas.{heading_placed}
 use Rattle.markdown_builder.proofs.CallLemmas.{placed_keeps, refused_keeps}
 use Rattle.markdown_builder.proofs.builder.Builder.open_heading.Goals as goal
@@ -14,7 +15,7 @@ invariant_of-self-in_err-enter c =
     ∙ length-append c.self.inside.headings.items _ in
     let last : ix.0 ≡ length c.push.new.self.items = omega (arith, c.len.ensures, c.push.new.self.ok.0) in
     rw c.in_err-enter.ensures.stays
-    (refused_keeps c.args.self.now _ (body.Heading c.args.level (Some ix)) c.enter.new.tree c.self.invariant c.self.view_is c.requires
+    (refused_keeps (standpoint c.args.self.now) _ (body.Heading c.args.level (Some ix)) c.enter.new.tree c.self.invariant (ap standpoint c.self.view_is) c.requires
     (heading_placed _ _ c.args.level ix last more refl refl)
     refl c.in_err-enter.ensures.refused)
 
@@ -25,7 +26,7 @@ invariant_of-self-2 c =
     ∙ length-append c.self.inside.headings.items _ in
     let last : ix.0 ≡ length c.push.new.self.items = omega (arith, c.len.ensures, c.push.new.self.ok.0) in
     rw (c.in_ok-enter.ensures.entered, c.in_ok-enter.ensures.opened)
-    (placed_keeps c.args.self.now _ (body.Heading c.args.level (Some ix)) c.self.invariant c.self.view_is c.requires
+    (placed_keeps (standpoint c.args.self.now) _ (body.Heading c.args.level (Some ix)) c.self.invariant (ap standpoint c.self.view_is) c.requires
     (heading_placed _ _ c.args.level ix last more refl refl)
     refl)
 

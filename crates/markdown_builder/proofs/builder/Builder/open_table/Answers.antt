@@ -3,6 +3,7 @@ use Rattle.std.proofs.Common.{◌≡◌, ◌+◌, length, refl, ap, ◌∙◌, a
 use Rattle.std.proofs.lemmas.List.{length-append}
 use Rattle.markdown_base.specs.declared.index.AlignmentIndex.{AlignmentIndex}
 use Rattle.markdown_base.specs.declared.item.ItemBody.TheVariants as body
+use Rattle.markdown_builder.specs.Standing.{standpoint}
 use Rattle.markdown_builder.proofs.BodiesLemmas.{table_placed}
 use Rattle.markdown_builder.proofs.CallLemmas.{placed_keeps, refused_keeps}
 use Rattle.markdown_builder.proofs.builder.Builder.open_table.Goals as goal
@@ -14,7 +15,7 @@ invariant_of-self-in_err-enter c =
     ∙ length-append c.self.inside.alignments.items _ in
     let last : ix.0 ≡ length c.self.inside.alignments.items = omega (arith, c.len.ensures, c.self.inside.alignments.ok.0) in
     rw c.in_err-enter.ensures.stays
-    (refused_keeps c.args.self.now _ (body.Table ix) c.enter.new.tree c.self.invariant c.self.view_is c.requires
+    (refused_keeps (standpoint c.args.self.now) _ (body.Table ix) c.enter.new.tree c.self.invariant (ap standpoint c.self.view_is) c.requires
     (table_placed _ _ ix last more refl refl)
     refl c.in_err-enter.ensures.refused)
 
@@ -25,7 +26,7 @@ invariant_of-self-2 c =
     ∙ length-append c.self.inside.alignments.items _ in
     let last : ix.0 ≡ length c.self.inside.alignments.items = omega (arith, c.len.ensures, c.self.inside.alignments.ok.0) in
     rw (c.in_ok-enter.ensures.entered, c.in_ok-enter.ensures.opened)
-    (placed_keeps c.args.self.now _ (body.Table ix) c.self.invariant c.self.view_is c.requires (table_placed _ _ ix last more refl refl)
+    (placed_keeps (standpoint c.args.self.now) _ (body.Table ix) c.self.invariant (ap standpoint c.self.view_is) c.requires (table_placed _ _ ix last more refl refl)
     refl)
 
 pub returns : goal.returns

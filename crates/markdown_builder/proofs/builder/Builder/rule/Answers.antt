@@ -1,8 +1,10 @@
 -- The thematic break is appended.
+use Rattle.std.proofs.Common.{ap}
+use Rattle.markdown_builder.specs.Standing.{standpoint}
 use Rattle.markdown_builder.proofs.CallLemmas.{rule_keeps}
 use Rattle.markdown_builder.proofs.builder.Builder.rule.Goals as goal
 
 pub invariant_of-self-2 : goal.invariant_of-self-2
 invariant_of-self-2 c =
     rw c.in_ok-append.ensures.made
-    (rule_keeps c.args.self.now c.args.end c.self.invariant c.self.view_is c.requires.outside c.requires.low c.requires.boundary)
+    (rule_keeps (standpoint c.args.self.now) c.args.end c.self.invariant (ap standpoint c.self.view_is) c.requires.outside c.requires.low c.requires.boundary)
