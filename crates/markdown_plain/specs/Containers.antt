@@ -76,7 +76,7 @@ pub record Reach : Type 0 where
   pub all : Bool
   -- what is left of the line
   pub left : LineLeft
-  -- its first byte that is no space or tab, unless columns of a tab stand before it
+  -- its first byte that is no space or tab
   pub content : ℕ
   -- how many of the open blocks stand outside the innermost block quote that goes on, and it with them
   pub quoted : ℕ

@@ -7,7 +7,6 @@ ghost use Rattle.markdown_base.specs.CowText.{text_of};
 ghost use Rattle.markdown_lines.specs.LineBytes.{IsPartOf};
 ghost use Rattle.markdown_lines.specs.Places.{left_from};
 ghost use Rattle.markdown_scan.specs.LineStart.{past_marker};
-ghost use Rattle.markdown_plain.specs.declared.pass.Pass.{Pass};
 ghost use Rattle.markdown_plain.specs.Containers as spec;
 ghost use Rattle.markdown_plain.specs.NewContainers as opening;
 ghost use Rattle.markdown_plain.specs.Fitting.{IfFitted, opened};

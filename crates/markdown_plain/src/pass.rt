@@ -1,8 +1,7 @@
 //! The state of the block pass between two lines, and the closing of blocks.
-ghost use Rattle.std.specs.Prelude.{◌≡◌, ◌++◌, [], false, None, length, take, IfOk, if◌then◌else◌};
+ghost use Rattle.std.specs.Prelude.{◌≡◌, [], false, length, take, IfOk};
 ghost use Rattle.std.specs.Option.{option_map};
 ghost use Rattle.markdown_builder.specs.BuilderView.{innermost_block, nothing_made};
-ghost use Rattle.markdown_plain.specs.declared.pass.LeafKind.TheVariants as kind;
 ghost use Rattle.markdown_plain.specs.Fitting.{AllFitted, IfFitted, closed};
 ghost use Rattle.markdown_plain.specs.OpenBlocks.{innermost_is, is_list, room_in, without_leaf};
 ghost use Rattle.markdown_plain.specs.Containers.{closing_place};
