@@ -76,26 +76,25 @@ fn append_found(
 {
     match found {
         Found::Text(_) => return Ok(()),
-        Found::Run(stop, flags) => {
-            append_run(builder, line, at, stop, flags)?;
-            return Ok(());
-        }
+        Found::Run(stop, flags) => return append_run(builder, line, at, stop, flags),
         _ => {}
     }
     append_text(builder, line, at)?;
     match found {
-        Found::Escape => builder.skip(at + 1),
-        Found::Mark(body) => builder.mark(body)?,
-        Found::Image => builder.image()?,
-        Found::Backticks(stop) => builder.backticks(stop, false)?,
+        Found::Escape => {
+            builder.skip(at + 1);
+            Ok(())
+        }
+        Found::Mark(body) => builder.mark(body),
+        Found::Image => builder.image(),
+        Found::Backticks(stop) => builder.backticks(stop, false),
         Found::EscapedBackticks(stop) => {
             builder.skip(at + 1);
-            builder.backticks(stop, true)?;
+            builder.backticks(stop, true)
         }
-        Found::Entity(stop, character) => builder.synthesize(CowStr::from(character), stop)?,
-        Found::Text(_) | Found::Run(_, _) => {}
+        Found::Entity(stop, character) => builder.synthesize(CowStr::from(character), stop),
+        Found::Text(_) | Found::Run(_, _) => Ok(()),
     }
-    Ok(())
 }
 
 /// Appends the inline items of one line's content, which goes on where the builder stands, up to `end`.
