@@ -8,7 +8,7 @@ ghost use Rattle.markdown_raw_html.specs.RawHtml.{end_from, through_first};
 #[derive(Debug, Drop)]
 pub(crate) struct ClosingGuard<'t> {
     pub(crate) text: &'t [u8],
-    pub(crate) closing: &'static [u8],
+    pub(crate) closing: &'t [u8],
     none_from: usize,
     ghost in_text: { none_from ≤ length text.now },
     ghost none: { through_first closing.now (drop none_from text.now) ≡ None },
@@ -33,7 +33,7 @@ fn find_closing(bytes: &[u8], closing: &[u8]) -> Option<usize>
 
 impl<'t> ClosingGuard<'t> {
     /// No search has failed yet.
-    pub(crate) fn new(text: &'t [u8], closing: &'static [u8]) -> ClosingGuard<'t>
+    pub(crate) fn new(text: &'t [u8], closing: &'t [u8]) -> ClosingGuard<'t>
         ensures text { result.text.now ≡ text.now }
         ensures closing { result.closing.now ≡ closing.now }
     {

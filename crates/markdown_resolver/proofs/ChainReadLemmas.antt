@@ -1,6 +1,6 @@
 -- A chain is read where it stands, from its first node on: what is so of what was read and of what is left, item by item, and
 -- that the rules and the blocks above the chain stay the same.
-use Rattle.std.proofs.Common.{◌≡◌, ℕ, ◌<◌, Bool, List, [], ◌∷◌, Option, Some, None, refl, sym, ap, ◌∙◌, subst, arith}
+use Rattle.std.proofs.Common.{◌≡◌, ℕ, Bool, List, [], ◌∷◌, Option, Some, None, refl, sym, ap, ◌∙◌, subst}
 use Rattle.std.proofs.Math.Path.{fun_ext}
 use Rattle.std.specs.Prelude.{is_some}
 use Rattle.markdown_base.specs.Arena.{Arena}
@@ -9,6 +9,7 @@ use Rattle.markdown_base.specs.Questions.{Question, Answer}
 use Rattle.markdown_base.specs.declared.item.Item.{Item}
 use Rattle.markdown_base.specs.declared.node.Node.{Node}
 use Rattle.markdown_base.specs.declared.options.Options.{Options}
+use Rattle.markdown_brackets.specs.LeftList.{Entry}
 use Rattle.markdown_brackets.specs.Openers.{Waiting}
 use Rattle.markdown_brackets.specs.declared.spent_ends.SpentEnds.{SpentEnds}
 use Rattle.markdown_chains.specs.Above.{Above, above_at, above_cursor, inside_all, inside_item, no_blocks}
@@ -22,7 +23,6 @@ use Rattle.markdown_resolver.specs.Chains.{AreAbove, CanResolve, ChangesChain, R
 use Rattle.markdown_resolver.specs.PassOne.{pass_one}
 use Rattle.markdown_resolver.specs.ReadOn.{AreSpent, ReadsOn, StopsInPassOne, StopsOn}
 use Rattle.markdown_resolver.specs.declared.chain_place.ChainPlace.{ChainPlace}
-use Rattle.markdown_resolver.proofs.ReadingLemmas.{LookedUpTo}
 use Rattle.markdown_resolver.proofs.ReadOnLemmas.{reads_on_all, reads_on_none, reads_on_twice, stops_later, stops_pass_one}
 use Rattle.markdown_resolver.proofs.StandsToLemmas.{above_changed, above_rest, stands_rest}
 use Rattle.markdown_spans.specs.Allocations.{Allocated}
@@ -40,16 +40,6 @@ same_setting text text' options options' held held' asks asks' of_text of_option
     rw (of_text, of_options, definitions, same) (ap (λ (names : List ℕ → Bool). let x : Setting =
     record { text = text; rules = record { options = options; definitions = held.refdefs; is_footnote = names; asks = asks } } in x) names)
 
--- searches that were not made have looked at no item, where fewer are left
-pub looked_same : (failed : Bool) (old now all items items' : ℕ) → items' < items → LookedUpTo failed old now all items
-    → LookedUpTo failed old now all items'
-looked_same failed old now all items items' fewer l = record {
-  more = l.more;
-  counted = l.counted;
-  within = l.within;
-  past = λ e. omega (arith, l.past e, fewer);
-}
-
 -- the blocks above a chain stay where it is changed
 inside_changed : (source : List ℕ) (l : Option ℕ) (old new : List (Node Item)) (tables tables' : Tables) (spine : List ℕ) (outer : Above)
     → ChangesChain source l old new tables tables' → AreAbove source old l spine → inside_all new spine outer ≡ inside_all old spine outer
@@ -58,6 +48,16 @@ inside_changed source l old new tables tables' (n ∷ deeper) outer c above =
     let at = above.0 in
     ap (λ (item : Item). inside_all new deeper (inside_item item outer)) (c.outside n at.within at.apart).item
     ∙ inside_changed source l old new tables tables' deeper (inside_item (item_at old n) outer) c above.1
+
+-- where a chain was read up to an item, that item may be read
+pub can_read_item : {place : ChainPlace} {tree : Arena Item} {held : Allocated} {brackets wikilinks : List Waiting} {first ix : ℕ}
+    {left : List (Entry ℕ)}
+    → CanReadOn place tree held brackets wikilinks first ix left → CanReadItem place tree held ix
+can_read_item {place} {tree} {held} {brackets} {wikilinks} {first} {ix} {left} can = record {
+  stands = can.stands;
+  ready = stands_rest place.text.now (tables_of held) tree.nodes first (Some ix) left can.so_far;
+  above = above_rest place.text.now (tables_of held) tree.nodes first (Some ix) left tree.spine can.so_far can.above;
+}
 
 -- a chain was read where it stands from the node `first` up to a link
 pub record ReadsUpTo {C : Type 0} (step : C → Question → Option Answer → C → Type 0) (s : Setting) (first : ℕ) (at : Option ℕ)
@@ -122,16 +122,6 @@ module _ {C : Type 0} {step : C → Question → Option Answer → C → Type 0}
         above = rw text still_above;
         so_far = rw (text, ← is) r.reads.stands;
         openers = r.reads.held;
-      }
-
-  pub can_read_item : (place : ChainPlace) (ix : ℕ) → at ≡ Some ix → place.text.now ≡ s.text → IsPlaceOf place old
-      → CanReadItem place now held' ix
-  can_read_item place ix is text stands =
-      let c = can_read_on place ix is text stands in
-      record {
-        stands = c.stands;
-        ready = stands_rest place.text.now (tables_of held') now.nodes first (Some ix) r.reads.left_then c.so_far;
-        above = above_rest place.text.now (tables_of held') now.nodes first (Some ix) r.reads.left_then now.spine c.so_far c.above;
       }
 
   -- more was read

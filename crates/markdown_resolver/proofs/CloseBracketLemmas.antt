@@ -40,7 +40,7 @@ use Rattle.markdown_resolver.specs.Chains.{CanResolve}
 use Rattle.markdown_resolver.specs.Closes.{ClosesAt, PutsClosed, closing_at}
 use Rattle.markdown_resolver.specs.PassOne.{around}
 use Rattle.markdown_resolver.specs.ReadOn.{IsOpener, ReadsOn, StandsTo}
-use Rattle.markdown_resolver.specs.ReadsBracket.{CanReadBracket, DecidesClosing, ReadsBracket, StopsAtBracket, WasReadTo}
+use Rattle.markdown_resolver.specs.ReadsBracket.{CanReadNode, DecidesClosing, ReadsBracket, StopsAtNode, WasReadTo}
 use Rattle.markdown_resolver.specs.ReadsBracket.{setting_by, stage_by}
 use Rattle.markdown_resolver.specs.declared.chain_place.ChainPlace.{ChainPlace}
 use Rattle.markdown_resolver.specs.declared.resolver.Resolver.{Resolver}
@@ -226,7 +226,7 @@ decides_here step place bracket prefix tree options inside held held' limit limi
 -- a resolver has decided what a `]` becomes
 module _ {C : Type 0} (step : C → Question → Option Answer → C → Type 0) (place : ChainPlace) (tree : Arena Item) (old : Resolver C)
     (held1 : Allocated) (limit1 : ℕ) (spent1 : SpentEnds) (callback1 : Option C) (openers1 : ChainOpeners) (found : ClosedBracket) (ix : ℕ)
-    (could_be : Bool) (can : CanReadBracket place tree old ix) (text_is : IsUtf8 place.text.now)
+    (could_be : Bool) (can : CanReadNode place tree old ix) (text_is : IsUtf8 place.text.now)
     (is : (item_at tree.nodes ix).body ≡ body.MaybeLinkClose could_be) (kept : held1 ≡ record old.tables { footdefs = held1.footdefs })
     (decision : DecidesClosing step place place.text.now old.options tree ix could_be old.tables held1 old.limit limit1 old.spent spent1
     old.callback callback1 old.openers openers1 found) where
@@ -326,27 +326,29 @@ module _ {C : Type 0} (step : C → Question → Option Answer → C → Type 0)
     reads_closed (Ok next) footdefs finishes puts place_is =
         let here = puts_here next can.first can.left can.was_read puts in
         record {
-          reads = λ first left was_read.
-              let d = decides.decides first left was_read in
-              let m = closes_here first left was_read in
-              subst (λ (f : FootnoteDefs). ReadsOn step (setting_by old) (above_cursor old.text.now tree) first (Some ix) next left
-              (stage_by tree old) (record (stage_by tree' put_then) { uses = uses_of f }) old.spent mid.spent openers.brackets
-              openers.wikilinks) (sym footdefs)
-              (reads_on_closer step (setting_by old) (above_cursor old.text.now tree) first ix left could_be (stage_by tree old)
-              (record (stage_by tree' put_then) { uses = uses_of mid.tables.footdefs }) old.spent mid.spent mid.openers.brackets
-              mid.openers.wikilinks found next openers.brackets openers.wikilinks d (here_stands first left was_read) is
-              (puts_here next first left was_read puts)
-              (record {
-                holds = λ q e. finishes around_here closing_here ix d.left_then d.becomes q m.before m.rises d.splits d.is d.brackets_are
-                    d.wikilinks_are e;
-              }));
-          fewer = here.fewer;
-          place_is = place_is;
+          goes_on = record {
+            reads = λ first left was_read.
+                let d = decides.decides first left was_read in
+                let m = closes_here first left was_read in
+                subst (λ (f : FootnoteDefs). ReadsOn step (setting_by old) (above_cursor old.text.now tree) first (Some ix) next left
+                (stage_by tree old) (record (stage_by tree' put_then) { uses = uses_of f }) old.spent mid.spent openers.brackets
+                openers.wikilinks) (sym footdefs)
+                (reads_on_closer step (setting_by old) (above_cursor old.text.now tree) first ix left could_be (stage_by tree old)
+                (record (stage_by tree' put_then) { uses = uses_of mid.tables.footdefs }) old.spent mid.spent mid.openers.brackets
+                mid.openers.wikilinks found next openers.brackets openers.wikilinks d (here_stands first left was_read) is
+                (puts_here next first left was_read puts)
+                (record {
+                  holds = λ q e. finishes around_here closing_here ix d.left_then d.becomes q m.before m.rises d.splits d.is d.brackets_are
+                      d.wikilinks_are e;
+                }));
+            fewer = here.fewer;
+            place_is = place_is;
+          };
           holds = here.holds;
         }
     reads_closed (Err fault) footdefs finishes puts place_is = tt
 
-  pub stops_decided : {E : Type 0} (r : Result (Option ℕ) E) → IfErr r (λ fault. StopsAtBracket step place ix tree old mid.callback)
+  pub stops_decided : {E : Type 0} (r : Result (Option ℕ) E) → IfErr r (λ fault. StopsAtNode step place ix tree old mid.callback)
   stops_decided (Ok next) = tt
   stops_decided (Err fault) = λ first left was_read.
       stops_at_closer step (setting_by old) (above_cursor old.text.now tree) first ix left could_be (stage_by tree old)

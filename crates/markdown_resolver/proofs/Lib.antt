@@ -9,6 +9,7 @@ pub mod OpenerReadLemmas
 pub mod WaitingOpenerLemmas
 pub mod CloseBracketLemmas
 pub mod ChainReadLemmas
+pub mod NodeReadLemmas
 pub mod LeftTreesLemmas
 pub mod StandsToLemmas
 pub mod BehindLemmas

@@ -20,7 +20,7 @@ use Rattle.markdown_resolver.specs.BracketKinds.{kind_of}
 use Rattle.markdown_resolver.specs.ChainPlace.{CanReadOn}
 use Rattle.markdown_resolver.specs.Chains.{CanResolve}
 use Rattle.markdown_resolver.specs.ReadOn.{StandsTo}
-use Rattle.markdown_resolver.specs.ReadsBracket.{CanReadBracket, ReadsBracket, setting_by, stage_by}
+use Rattle.markdown_resolver.specs.ReadsBracket.{CanReadNode, ReadsBracket, setting_by, stage_by}
 use Rattle.markdown_resolver.specs.Rewritten.{Puts, settled}
 use Rattle.markdown_resolver.specs.declared.bracket_kind.BracketKind.{BracketKind}
 use Rattle.markdown_resolver.specs.declared.bracket_kind.BracketKind.TheVariants.{Opener, Closer}
@@ -78,7 +78,7 @@ IsOpened old new ix next = (source : List ℕ) (tables : Tables) → CanResolve 
 -- a resolver has read an opener, once that waits
 pub reads_opener : {C E : Type 0} (step : C → Question → Option Answer → C → Type 0) (place : ChainPlace) (ix : ℕ) (is_image : Bool)
     (tree tree' : Arena Item) (old : Resolver C) (openers : ChainOpeners) (r : Result (Option ℕ) E)
-    → CanReadBracket place tree old ix → kind_of (item_at tree.nodes ix).body ≡ Some (Opener is_image)
+    → CanReadNode place tree old ix → kind_of (item_at tree.nodes ix).body ≡ Some (Opener is_image)
     → IfOk r (λ next. IsOpened tree tree' ix next) → IfOk r (λ next. tree' ≡ record tree { nodes = tree'.nodes })
     → OnOk r (openers.brackets ≡ waiting.live (record { node = ix; is_image = is_image }) ∷ old.openers.brackets)
     → OnOk r (openers.wikilinks
@@ -89,15 +89,17 @@ reads_opener step place ix is_image tree tree' old openers (Ok next) can kind pu
     let ready = ready_here can.was_read in
     let put = puts place.text.now (tables_of old.tables) ready in
     record {
-      reads = λ first left was_read.
-          let so_far : StandsTo old.text.now (tables_of old.tables) tree.nodes first (Some ix) left = rw (← can.text) was_read.so_far in
-          let here = stands_rest old.text.now (tables_of old.tables) tree.nodes first (Some ix) left so_far in
-          reads_on_opener step (setting_by old) (above_cursor old.text.now tree) first ix next left is_image (stage_by tree old)
-          (stage_by tree' old) old.spent old.openers.brackets old.openers.wikilinks openers.brackets openers.wikilinks refl so_far
-          was_read.openers (opener_kind is_image (item_at tree.nodes ix).body kind) (puts old.text.now (tables_of old.tables) here)
-          brackets_are wikilinks_are;
-      fewer = put.leaves.fewer;
-      place_is = place_is;
+      goes_on = record {
+        reads = λ first left was_read.
+            let so_far : StandsTo old.text.now (tables_of old.tables) tree.nodes first (Some ix) left = rw (← can.text) was_read.so_far in
+            let here = stands_rest old.text.now (tables_of old.tables) tree.nodes first (Some ix) left so_far in
+            reads_on_opener step (setting_by old) (above_cursor old.text.now tree) first ix next left is_image (stage_by tree old)
+            (stage_by tree' old) old.spent old.openers.brackets old.openers.wikilinks openers.brackets openers.wikilinks refl so_far
+            was_read.openers (opener_kind is_image (item_at tree.nodes ix).body kind) (puts old.text.now (tables_of old.tables) here)
+            brackets_are wikilinks_are;
+        fewer = put.leaves.fewer;
+        place_is = place_is;
+      };
       holds = λ kind learned. holds_put kind learned ready put;
     }
 reads_opener step place ix is_image tree tree' old openers (Err fault) can kind puts place_is brackets_are wikilinks_are = tt

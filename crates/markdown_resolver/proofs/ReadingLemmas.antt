@@ -155,7 +155,7 @@ settled_reads s above ix next old new tables ready nothing_there puts =
     reads_item ready (record { standing = reads.0; ends = reads.1 }) puts
 
 -- where no search was made, none looked at an item
-looks_at_none : (failed : Bool) (visits items items' : ℕ) → visits < 2 ^ 128 → items' < items
+pub looks_at_none : (failed : Bool) (visits items items' : ℕ) → visits < 2 ^ 128 → items' < items
     → LooksAt failed failed visits visits items items'
 looks_at_none failed visits items items' bound fewer = record {
   more = 0;

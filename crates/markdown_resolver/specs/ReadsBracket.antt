@@ -1,4 +1,4 @@
--- How a resolver reads a bracket of a chain where it stands: what private contracts say of it.
+-- How a resolver reads an item of a chain where it stands, a bracket or another: what private contracts say of it.
 use Rattle.std.specs.Prelude.{◌≡◌, ℕ, ◌<◌, Bool, List, Option, Some, is_some}
 use Rattle.markdown_base.specs.Arena.{Arena, sibling_of}
 use Rattle.markdown_base.specs.Questions.{Question, Answer}
@@ -14,12 +14,13 @@ use Rattle.markdown_chains.specs.Setting.{Setting, rules_from, setting_of, uses_
 use Rattle.markdown_chains.specs.Stages.{Stage, items_from, stage}
 use Rattle.markdown_chains.specs.Tables.{tables_of}
 use Rattle.markdown_code.specs.Finds.{gfm_footnotes}
-use Rattle.markdown_code.specs.SpanClosers.{HoldsFrom, Learned}
+use Rattle.markdown_code.specs.SpanClosers.{HoldsFrom, Learned, has_failed}
 use Rattle.markdown_code.specs.declared.span_text.SpanKind.{SpanKind}
 use Rattle.markdown_resolver.specs.ChainPlace.{CanReadOn}
 use Rattle.markdown_resolver.specs.Closes.{closing_at}
 use Rattle.markdown_resolver.specs.PassOne.{around}
 use Rattle.markdown_resolver.specs.ReadOn.{ReadsOn, StopsOn}
+use Rattle.markdown_resolver.specs.ReadsItem.{LooksAt}
 use Rattle.markdown_resolver.specs.declared.chain_place.ChainPlace.{ChainPlace}
 use Rattle.markdown_resolver.specs.declared.resolver.Resolver.{Resolver}
 use Rattle.markdown_spans.specs.Allocations.{Allocated}
@@ -39,8 +40,8 @@ abbrev pub WasReadTo : {C : Type 0} → ChainPlace → Arena Item → Resolver C
 WasReadTo place tree r first ix left =
     CanReadOn place tree r.tables r.openers.brackets r.openers.wikilinks first ix left
 
--- it may read the bracket of a node
-pub record CanReadBracket {C : Type 0} (place : ChainPlace) (tree : Arena Item) (r : Resolver C) (ix : ℕ) : Type 0 where
+-- it may read the item of a node
+pub record CanReadNode {C : Type 0} (place : ChainPlace) (tree : Arena Item) (r : Resolver C) (ix : ℕ) : Type 0 where
   pub first : ℕ
   pub left : List (Entry ℕ)
   pub was_read : WasReadTo place tree r first ix left
@@ -59,22 +60,40 @@ pub record DecidesClosing {C : Type 0} (step : C → Question → Option Answer 
       (closing_at source (tables_of held) tree.nodes spent could_be ix) left limit limit' (uses_of held.footdefs)
       (uses_of held'.footdefs) spent spent' callback callback' openers'.brackets openers'.wikilinks found
 
--- a resolver has read the bracket of a node: behind any left list that stands there, the chain was read on from it to a
--- link, where fewer items are left; and what searches have learned of what follows the bracket is true of those
-pub record ReadsBracket {C : Type 0} (step : C → Question → Option Answer → C → Type 0) (place : ChainPlace) (ix : ℕ)
+-- behind any left list that stands there, the chain was read on from the item of a node to a link, where fewer items are
+-- left
+pub record GoesOnTo {C : Type 0} (step : C → Question → Option Answer → C → Type 0) (place : ChainPlace) (ix : ℕ)
     (next : Option ℕ) (tree tree' : Arena Item) (old new : Resolver C) : Type 0 where
   pub reads : (first : ℕ) (left : List (Entry ℕ)) → WasReadTo place tree old first ix left
       → ReadsOn step (setting_by old) (above_cursor old.text.now tree) first (Some ix) next left (stage_by tree old)
       (stage_by tree' new) old.spent new.spent new.openers.brackets new.openers.wikilinks
   pub fewer : items_from tree'.nodes next < items_from tree.nodes (Some ix)
   pub place_is : tree' ≡ record tree { nodes = tree'.nodes }
+
+-- a resolver has read the bracket of a node: what searches have learned of what follows the bracket is true of what is
+-- left
+pub record ReadsBracket {C : Type 0} (step : C → Question → Option Answer → C → Type 0) (place : ChainPlace) (ix : ℕ)
+    (next : Option ℕ) (tree tree' : Arena Item) (old new : Resolver C) : Type 0 where
+  pub goes_on : GoesOnTo step place ix next tree tree' old new
   pub holds : (kind : SpanKind) (learned : Learned) → HoldsFrom kind learned tree.nodes (sibling_of tree.nodes ix)
       → HoldsFrom kind learned tree'.nodes next
 
+-- a resolver has read the item of a node: what it holds of searches is true of what is left, and they have looked at none
+-- of that
+pub record ReadsNode {C : Type 0} (step : C → Question → Option Answer → C → Type 0) (place : ChainPlace) (ix : ℕ)
+    (next : Option ℕ) (tree tree' : Arena Item) (old new : Resolver C) : Type 0 where
+  pub goes_on : GoesOnTo step place ix next tree tree' old new
+  pub code_learned : HoldsFrom SpanKind.Code new.code_closers tree'.nodes next
+  pub math_learned : HoldsFrom SpanKind.Math new.math_closers tree'.nodes next
+  pub code_looks : LooksAt (has_failed old.code_closers) (has_failed new.code_closers) old.work.code_visits
+      new.work.code_visits (items_from tree.nodes (Some ix)) (items_from tree'.nodes next)
+  pub math_looks : LooksAt (has_failed old.math_closers) (has_failed new.math_closers) old.work.math_visits
+      new.work.math_visits (items_from tree.nodes (Some ix)) (items_from tree'.nodes next)
+
 -- memory was refused to it on the way
-abbrev pub StopsAtBracket : {C : Type 0} → (C → Question → Option Answer → C → Type 0) → ChainPlace → (ix : ℕ)
+abbrev pub StopsAtNode : {C : Type 0} → (C → Question → Option Answer → C → Type 0) → ChainPlace → (ix : ℕ)
     → Arena Item → (old : Resolver C) → (callback' : Option C) → Type 0
-StopsAtBracket step place ix tree old callback' = (first : ℕ) (left : List (Entry ℕ))
+StopsAtNode step place ix tree old callback' = (first : ℕ) (left : List (Entry ℕ))
     → WasReadTo place tree old first ix left
     → StopsOn step (setting_by old) (above_cursor old.text.now tree) (Some ix) left (stage_by tree old) old.spent
     callback'
@@ -92,6 +111,28 @@ pub record ChangesForBracket {C : Type 0} (old new : Resolver C) : Type 0 where
     callback = new.callback;
     openers = new.openers;
     spent = new.spent;
+  }
+  pub footnotes : (name : List ℕ)
+      → is_some (footnote_at new.tables.footdefs name) ≡ is_some (footnote_at old.tables.footdefs name)
+
+-- nor has an item, but for what searches hold and count
+pub record ChangesForNode {C : Type 0} (old new : Resolver C) : Type 0 where
+  pub kept : new ≡ record old {
+    tables = record old.tables {
+      cows = new.tables.cows;
+      links = new.tables.links;
+      footdefs = new.tables.footdefs;
+    };
+    limit = new.limit;
+    callback = new.callback;
+    openers = new.openers;
+    spent = new.spent;
+    work = record old.work {
+      code_visits = new.work.code_visits;
+      math_visits = new.work.math_visits;
+    };
+    code_closers = new.code_closers;
+    math_closers = new.math_closers;
   }
   pub footnotes : (name : List ℕ)
       → is_some (footnote_at new.tables.footdefs name) ≡ is_some (footnote_at old.tables.footdefs name)

@@ -67,8 +67,8 @@ impl<'a, F: BrokenLinkCallback<'a>> Resolver<'a, F> {
     ghost use Rattle.markdown_resolver.specs.Chains.{CanResolve, AreAbove, ResolvesChain, ResolvesFrom, StopsIn};
     ghost use Rattle.markdown_resolver.specs.PassOne.{pass_one};
     ghost use Rattle.markdown_resolver.specs.ReadOn.{StopsInPassOne};
-    ghost use Rattle.markdown_resolver.specs.ReadsBracket.{CanReadBracket, ChangesForBracket};
-    ghost use Rattle.markdown_resolver.specs.ReadsBracket.{ReadsBracket, StopsAtBracket, setting_by, stage_by};
+    ghost use Rattle.markdown_resolver.specs.ReadsBracket.{CanReadNode, ChangesForBracket, ChangesForNode};
+    ghost use Rattle.markdown_resolver.specs.ReadsBracket.{ReadsBracket, ReadsNode, StopsAtNode, setting_by, stage_by};
     ghost use Rattle.markdown_resolver.specs.ReadsItem.{LooksAt, ReadsItem};
     ghost use Rattle.markdown_spans.specs.Footnotes.{footnote_at};
 
@@ -152,13 +152,13 @@ impl<'a, F: BrokenLinkCallback<'a>> Resolver<'a, F> {
         could_be: bool,
     ) -> Result<Option<usize>, Fault>
         requires can_ask { IfSome self.old.callback F.can_ask }
-        requires ready { CanReadBracket place.now tree.old self.old ix }
+        requires ready { CanReadNode place.now tree.old self.old ix }
         requires closes { (item_at tree.old.nodes ix).body ≡ body.MaybeLinkClose could_be }
         ensures reads { IfOk result (λ next.
             ReadsBracket F.answers place.now ix next tree.old tree.new self.old self.new) }
 
         // a refusal, and what holds whatever comes
-        ensures stops { IfErr result (λ _. StopsAtBracket F.answers place.now ix tree.old self.old self.new.callback) }
+        ensures stops { IfErr result (λ _. StopsAtNode F.answers place.now ix tree.old self.old self.new.callback) }
         ensures again { IfSome self.new.callback F.can_ask }
         ensures refused { IfErr result (λ fault. fault ≡ Fault.Memory) }
         ensures kept { ChangesForBracket self.old self.new }
@@ -192,13 +192,13 @@ impl<'a, F: BrokenLinkCallback<'a>> Resolver<'a, F> {
         bracket: BracketKind,
     ) -> Result<Option<usize>, Fault>
         requires can_ask { IfSome self.old.callback F.can_ask }
-        requires ready { CanReadBracket place.now tree.old self.old ix }
+        requires ready { CanReadNode place.now tree.old self.old ix }
         requires bracket { kind_of (item_at tree.old.nodes ix).body ≡ Some bracket }
         ensures reads { IfOk result (λ next.
             ReadsBracket F.answers place.now ix next tree.old tree.new self.old self.new) }
 
         // a refusal, and what holds whatever comes
-        ensures stops { IfErr result (λ _. StopsAtBracket F.answers place.now ix tree.old self.old self.new.callback) }
+        ensures stops { IfErr result (λ _. StopsAtNode F.answers place.now ix tree.old self.old self.new.callback) }
         ensures again { IfSome self.new.callback F.can_ask }
         ensures refused { IfErr result (λ fault. fault ≡ Fault.Memory) }
         ensures kept { ChangesForBracket self.old self.new }
@@ -208,6 +208,39 @@ impl<'a, F: BrokenLinkCallback<'a>> Resolver<'a, F> {
                 open_bracket(tree, &mut self.openers, self.options, ix, is_image)
             }
             BracketKind::Closer { could_be } => self.close_bracket(tree, place, ix, could_be),
+        }
+    }
+
+    /// Reads the item of a node of a chain: the link at which the chain goes on. The scanner is one of the text up to
+    /// the block's end. The only error is `Fault::Memory`.
+    fn read_item(
+        &mut self,
+        tree: &mut Tree<Item>,
+        place: &ChainPlace<'a>,
+        scanner: &mut RawHtmlScanner<'a>,
+        ix: usize,
+    ) -> Result<Option<usize>, Fault>
+        requires can_ask { IfSome self.old.callback F.can_ask }
+        requires ready { CanReadNode place.now tree.old self.old ix }
+        requires scanner { scanner.old.text.now ≡ take place.now.block_end place.now.text.now }
+        requires code_learned { HoldsFrom SpanKind.Code self.old.code_closers tree.old.nodes (Some ix) }
+        requires math_learned { HoldsFrom SpanKind.Math self.old.math_closers tree.old.nodes (Some ix) }
+        ensures reads { IfOk result (λ next.
+            ReadsNode F.answers place.now ix next tree.old tree.new self.old self.new) }
+
+        // a refusal, and what holds whatever comes
+        ensures stops { IfErr result (λ _. StopsAtNode F.answers place.now ix tree.old self.old self.new.callback) }
+        ensures again { IfSome self.new.callback F.can_ask }
+        ensures refused { IfErr result (λ fault. fault ≡ Fault.Memory) }
+        ensures scanner { scanner.new.text ≡ scanner.old.text }
+        ensures kept { ChangesForNode self.old self.new }
+    {
+        // bounds the counts
+        let _code_visits = self.work.code_visits;
+        let _math_visits = self.work.math_visits;
+        match kind_of(tree.item(ix).body) {
+            Some(bracket) => self.read_bracket(tree, place, ix, bracket),
+            None => self.read_other(tree, place, scanner, ix),
         }
     }
 
@@ -303,10 +336,7 @@ impl<'a, F: BrokenLinkCallback<'a>> Resolver<'a, F> {
         let mut scanner = RawHtmlScanner::new(self.text[..place.block_end].as_bytes());
         let mut at = Some(first);
         'chain: while let Some(ix) = at {
-            at = match kind_of(tree.item(ix).body) {
-                Some(bracket) => self.read_bracket(tree, &place, ix, bracket)?,
-                None => self.read_other(tree, &place, &mut scanner, ix)?,
-            };
+            at = self.read_item(tree, &place, &mut scanner, ix)?;
         }
         Ok(())
     }

@@ -1,0 +1,155 @@
+-- An item of a chain was read where it stands: what is so of a bracket, and of another item, is so of any.
+use Rattle.std.proofs.Common.{◌≡◌, ℕ, ◌^◌, ◌<◌, List, Option, Some, None, sym, ap, ◌∙◌, subst}
+use Rattle.std.specs.Prelude.{Result, Ok, Err, IfOk, is_some}
+use Rattle.markdown_base.specs.Arena.{Arena}
+use Rattle.markdown_base.specs.BlockTree.{item_at}
+use Rattle.markdown_base.specs.Questions.{Question, Answer}
+use Rattle.markdown_base.specs.declared.item.Item.{Item}
+use Rattle.markdown_brackets.specs.LeftList.{Entry}
+use Rattle.markdown_chains.specs.Above.{above_cursor}
+use Rattle.markdown_chains.specs.Setting.{uses_of}
+use Rattle.markdown_chains.specs.Stages.{Stage, items_from}
+use Rattle.markdown_chains.specs.Tables.{tables_of}
+use Rattle.markdown_code.specs.SpanClosers.{HoldsFrom, Learned, has_failed}
+use Rattle.markdown_code.specs.declared.span_text.SpanKind.{SpanKind}
+use Rattle.markdown_resolver.specs.BracketKinds.{kind_of}
+use Rattle.markdown_resolver.specs.ReadOn.{ReadsOn, StandsTo}
+use Rattle.markdown_resolver.specs.ReadsBracket.{CanReadNode, ChangesForBracket, ChangesForNode, ReadsBracket, ReadsNode}
+use Rattle.markdown_resolver.specs.ReadsBracket.{WasReadTo, setting_by, stage_by}
+use Rattle.markdown_resolver.specs.ReadsItem.{LooksAt, ReadsItem}
+use Rattle.markdown_resolver.specs.declared.chain_place.ChainPlace.{ChainPlace}
+use Rattle.markdown_resolver.specs.declared.resolver.Resolver.{Resolver}
+use Rattle.markdown_resolver.proofs.ChainLeadsLemmas.{chain_leads, holds_next}
+use Rattle.markdown_resolver.proofs.ItemOnLemmas.{reads_on_item}
+use Rattle.markdown_resolver.proofs.OpenerReadLemmas.{other_kind, ready_here}
+use Rattle.markdown_resolver.proofs.ReadingLemmas.{looks_at_none}
+use Rattle.markdown_spans.specs.Footnotes.{footnote_at}
+
+module _ {C : Type 0} {step : C → Question → Option Answer → C → Type 0} {place : ChainPlace} {ix : ℕ} {next : Option ℕ}
+    {tree tree' : Arena Item} {old new : Resolver C} (can : CanReadNode place tree old ix) where
+  -- a bracket leaves searches as they are
+  pub bracket_read : HoldsFrom SpanKind.Code old.code_closers tree.nodes (Some ix)
+      → HoldsFrom SpanKind.Math old.math_closers tree.nodes (Some ix)
+      → old.work.code_visits < 2 ^ 128 → old.work.math_visits < 2 ^ 128 → ChangesForBracket old new
+      → ReadsBracket step place ix next tree tree' old new → ReadsNode step place ix next tree tree' old new
+  bracket_read code math code_bound math_bound changes r =
+      let leads = chain_leads place.text.now (tables_of old.tables) tree.nodes (Some ix) (ready_here can.was_read) in
+      let holds : (kind : SpanKind) (learned : Learned) → HoldsFrom kind learned tree.nodes (Some ix)
+      → HoldsFrom kind learned tree'.nodes next =
+      λ kind learned h. r.holds kind learned (holds_next kind learned tree.nodes ix leads h) in
+      let before = items_from tree.nodes (Some ix) in
+      let after = items_from tree'.nodes next in
+      record {
+        goes_on = r.goes_on;
+        code_learned = subst (λ (x : Resolver C). HoldsFrom SpanKind.Code x.code_closers tree'.nodes next) (sym changes.kept)
+            (holds SpanKind.Code old.code_closers code);
+        math_learned = subst (λ (x : Resolver C). HoldsFrom SpanKind.Math x.math_closers tree'.nodes next) (sym changes.kept)
+            (holds SpanKind.Math old.math_closers math);
+        code_looks = subst (λ (x : Resolver C). LooksAt (has_failed old.code_closers) (has_failed x.code_closers) old.work.code_visits
+            x.work.code_visits before after) (sym changes.kept)
+            (looks_at_none (has_failed old.code_closers) old.work.code_visits before after code_bound r.goes_on.fewer);
+        math_looks = subst (λ (x : Resolver C). LooksAt (has_failed old.math_closers) (has_failed x.math_closers) old.work.math_visits
+            x.work.math_visits before after) (sym changes.kept)
+            (looks_at_none (has_failed old.math_closers) old.work.math_visits before after math_bound r.goes_on.fewer);
+      }
+
+-- another item was read: so it was behind any left list
+pub other_on : {C : Type 0} (step : C → Question → Option Answer → C → Type 0) (place : ChainPlace) (ix : ℕ) (next : Option ℕ)
+    (tree tree' : Arena Item) (old new : Resolver C) → CanReadNode place tree old ix → kind_of (item_at tree.nodes ix).body ≡ None
+    → new ≡ record old {
+      tables = record old.tables { cows = new.tables.cows; links = new.tables.links };
+      work = record old.work { code_visits = new.work.code_visits; math_visits = new.work.math_visits };
+      code_closers = new.code_closers;
+      math_closers = new.math_closers;
+    }
+    → ReadsItem (setting_by old) (above_cursor old.text.now tree) ix next tree.nodes tree'.nodes (tables_of old.tables)
+    (tables_of new.tables)
+    → (first : ℕ) (left : List (Entry ℕ)) → WasReadTo place tree old first ix left
+    → ReadsOn step (setting_by old) (above_cursor old.text.now tree) first (Some ix) next left (stage_by tree old)
+    (stage_by tree' new) old.spent new.spent new.openers.brackets new.openers.wikilinks
+other_on {C} step place ix next tree tree' old new can kind kept r first left was_read =
+    let so_far : StandsTo old.text.now (tables_of old.tables) tree.nodes first (Some ix) left = rw (← can.text) was_read.so_far in
+    let same : stage_by tree' new ≡ record (stage_by tree old) { nodes = tree'.nodes; tables = tables_of new.tables } =
+    ap (λ (x : Resolver C). let y : Stage C = record {
+      nodes = tree'.nodes;
+      tables = tables_of new.tables;
+      limit = x.limit;
+      uses = uses_of x.tables.footdefs;
+      callback = x.callback;
+    } in y) kept in
+    subst (λ (x : Resolver C). ReadsOn step (setting_by old) (above_cursor old.text.now tree) first (Some ix) next left
+    (stage_by tree old) (stage_by tree' new) old.spent x.spent x.openers.brackets x.openers.wikilinks) (sym kept)
+    (reads_on_item step (setting_by old) (above_cursor old.text.now tree) first ix next left (stage_by tree old) (stage_by tree' new)
+    old.spent old.openers.brackets old.openers.wikilinks same so_far was_read.openers
+    (other_kind (item_at tree.nodes ix).body kind) r)
+
+-- what a bracket changes, an item may
+pub bracket_changes : {C : Type 0} {old new : Resolver C} → ChangesForBracket old new → ChangesForNode old new
+bracket_changes {C} {old} {new} changes = record {
+  kept = changes.kept ∙ ap (λ (r : Resolver C). let x : Resolver C = record old {
+    tables = record old.tables { cows = new.tables.cows; links = new.tables.links; footdefs = new.tables.footdefs };
+    limit = new.limit;
+    callback = new.callback;
+    openers = new.openers;
+    spent = new.spent;
+    work = record old.work { code_visits = r.work.code_visits; math_visits = r.work.math_visits };
+    code_closers = r.code_closers;
+    math_closers = r.math_closers;
+  } in x) (sym changes.kept);
+  footnotes = changes.footnotes;
+}
+
+-- nor does another item change more
+pub other_changes : {C : Type 0} {old new : Resolver C} → new ≡ record old {
+  tables = record old.tables { cows = new.tables.cows; links = new.tables.links };
+  work = record old.work { code_visits = new.work.code_visits; math_visits = new.work.math_visits };
+  code_closers = new.code_closers;
+  math_closers = new.math_closers;
+} → ChangesForNode old new
+other_changes {C} {old} {new} kept = record {
+  kept = kept ∙ ap (λ (r : Resolver C). let x : Resolver C = record old {
+    tables = record old.tables { cows = new.tables.cows; links = new.tables.links; footdefs = r.tables.footdefs };
+    limit = r.limit;
+    callback = r.callback;
+    openers = r.openers;
+    spent = r.spent;
+    work = record old.work { code_visits = new.work.code_visits; math_visits = new.work.math_visits };
+    code_closers = new.code_closers;
+    math_closers = new.math_closers;
+  } in x) (sym kept);
+  footnotes = λ name. ap (λ (r : Resolver C). is_some (footnote_at r.tables.footdefs name)) kept;
+}
+
+-- an item that is no bracket was read, unless memory was refused
+pub other_read : {C E : Type 0} (r : Result (Option ℕ) E) (step : C → Question → Option Answer → C → Type 0) (place : ChainPlace)
+    (ix : ℕ) (tree tree' : Arena Item) (old new : Resolver C) → CanReadNode place tree old ix
+    → kind_of (item_at tree.nodes ix).body ≡ None
+    → new ≡ record old {
+      tables = record old.tables { cows = new.tables.cows; links = new.tables.links };
+      work = record old.work { code_visits = new.work.code_visits; math_visits = new.work.math_visits };
+      code_closers = new.code_closers;
+      math_closers = new.math_closers;
+    }
+    → IfOk r (λ next. ReadsItem (setting_by old) (above_cursor old.text.now tree) ix next tree.nodes tree'.nodes (tables_of old.tables)
+    (tables_of new.tables))
+    → IfOk r (λ next. HoldsFrom SpanKind.Code new.code_closers tree'.nodes next)
+    → IfOk r (λ next. HoldsFrom SpanKind.Math new.math_closers tree'.nodes next)
+    → IfOk r (λ next. LooksAt (has_failed old.code_closers) (has_failed new.code_closers) old.work.code_visits new.work.code_visits
+    (items_from tree.nodes (Some ix)) (items_from tree'.nodes next))
+    → IfOk r (λ next. LooksAt (has_failed old.math_closers) (has_failed new.math_closers) old.work.math_visits new.work.math_visits
+    (items_from tree.nodes (Some ix)) (items_from tree'.nodes next))
+    → IfOk r (λ next. tree' ≡ record tree { nodes = tree'.nodes })
+    → IfOk r (λ next. ReadsNode step place ix next tree tree' old new)
+other_read (Ok next) step place ix tree tree' old new can kind kept reads code_learned math_learned code_looks math_looks place_is =
+    record {
+      goes_on = record {
+        reads = other_on step place ix next tree tree' old new can kind kept reads;
+        fewer = reads.leaves.fewer;
+        place_is = place_is;
+      };
+      code_learned = code_learned;
+      math_learned = math_learned;
+      code_looks = code_looks;
+      math_looks = math_looks;
+    }
+other_read (Err fault) step place ix tree tree' old new can kind kept reads code_learned math_learned code_looks math_looks place_is = tt

@@ -1,0 +1,67 @@
+-- A bracket is read, or another item.
+use Rattle.std.proofs.Common.{◌≡◌, Some, None, refl, sym, ap, ◌∙◌, subst, arith}
+use Rattle.std.proofs.lemmas.Result.{IfOk-weaker}
+use Rattle.std.specs.Prelude.{IfSome}
+use Rattle.markdown_base.specs.BlockTree.{item_at, no_item}
+use Rattle.markdown_base.specs.declared.item.Item.{Item}
+use Rattle.markdown_chains.specs.Above.{above_cursor}
+use Rattle.markdown_chains.specs.Tables.{tables_of}
+use Rattle.markdown_resolver.specs.BracketKinds.{kind_of}
+use Rattle.markdown_resolver.specs.ReadsBracket.{setting_by, stage_by}
+use Rattle.markdown_resolver.specs.declared.resolver.Resolver.{Resolver}
+use Rattle.markdown_resolver.proofs.ChainReadLemmas.{can_read_item}
+use Rattle.markdown_resolver.proofs.NodeReadLemmas.{bracket_changes, bracket_read, other_changes, other_read}
+use Rattle.markdown_resolver.proofs.OpenerReadLemmas.{if_err, ready_here}
+use Rattle.markdown_resolver.proofs.ReadingLemmas.{node_within}
+use Rattle.markdown_resolver.proofs.StopsLemmas.{stops_here}
+use Rattle.markdown_resolver.proofs.resolver.Resolver.read_item.Goals as goal
+
+pub item-requires : goal.item-requires
+item-requires g c = node_within c.args.place.now.text.now (tables_of c.args.self.now.tables) c.args.tree.now.nodes c.args.ix
+    (ready_here c.requires.ready.was_read)
+
+pub read_bracket-requires : goal.read_bracket-requires
+read_bracket-requires g c κs =
+    let kind : kind_of (item_at c.args.tree.now.nodes c.args.ix).body ≡ Some c.in-Some.bracket =
+    ap (λ (item : Item). kind_of item.body) (sym (c.item.ensures no_item)) ∙ sym c.kind_of.ensures ∙ c.in-Some.is in
+    ((refl, tt), (c.requires.can_ask, (c.requires.ready, kind)))
+
+pub returns-in-Some : goal.returns-in-Some
+returns-in-Some g c =
+    let e = c.read_bracket.ensures in
+    record {
+      reads = IfOk-weaker c.read_bracket.result _ _ (λ next r.
+          bracket_read c.requires.ready c.requires.code_learned c.requires.math_learned (omega arith) (omega arith) e.kept r) e.reads;
+      stops = e.stops;
+      again = e.again;
+      refused = e.refused;
+      scanner = refl;
+      kept = bracket_changes e.kept;
+    }
+
+pub read_other-requires : goal.read_other-requires
+read_other-requires g c κs =
+    let can = c.requires.ready in (
+      (refl, tt),
+      (can_read_item can.was_read, (can.text, (can.footnotes, (c.requires.scanner, (c.requires.code_learned, c.requires.math_learned))))),
+    )
+
+pub returns-in-None : goal.returns-in-None
+returns-in-None g c =
+    let s = c.args.self.now in
+    let t = c.args.tree.now in
+    let new = c.read_other.new in
+    let e = c.read_other.ensures in
+    let kind : kind_of (item_at t.nodes c.args.ix).body ≡ None =
+    ap (λ (item : Item). kind_of item.body) (sym (c.item.ensures no_item)) ∙ sym c.kind_of.ensures ∙ c.in-None.is in
+    record {
+      reads = other_read c.read_other.result g.F.BrokenLinkCallback.answers c.args.place.now c.args.ix t new.tree s new.self
+          c.requires.ready kind e.kept e.reads e.code_learned e.math_learned e.code_looks e.math_looks e.place;
+      stops = if_err c.read_other.result (λ first left was_read.
+          stops_here g.F.BrokenLinkCallback.answers (setting_by s) (above_cursor s.text.now t) (Some c.args.ix) left (stage_by t s) s.spent
+          new.self.callback (ap (λ (r : Resolver g.row.F.Denot). r.callback) e.kept));
+      again = subst (λ (r : Resolver g.row.F.Denot). IfSome r.callback g.F.BrokenLinkCallback.can_ask) (sym e.kept) c.requires.can_ask;
+      refused = e.refused;
+      scanner = e.scanner;
+      kept = other_changes e.kept;
+    }
