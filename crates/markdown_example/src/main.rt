@@ -2,29 +2,50 @@
 #![tactic(auto)]
 
 use markdown_inline::{
-    BrokenLink, BrokenLinkCallback, Closure, CowStr, Event, Fault, Flags, Options, Parser, Tag,
+    BrokenLink, BrokenLinkCallback, Closure, CowStr, Event, Fault, Flags, OffsetIter, Options,
+    Parser, Tag,
 };
 use markdown_render::render;
 use std::alloc::Global;
+use std::ops::Range;
 use std::process::ExitCode;
 
-/// Notes each link of a text: its range in bytes, and where it leads.
-fn note_links(alloc: Global, source: &str, notes: &mut String) -> Result<(), Fault> {
-    let mut events = Parser::new(alloc, source)?.into_offset_iter();
-    'events: while let Some(item) = events.next() {
-        let (event, range) = item?;
-        if let Event::Start(Tag::Link { dest_url, .. }) = &event {
-            let note = format!(in alloc;
-                "{}..{} leads to {}\n",
-                range.start,
-                range.end,
-                dest_url.as_str()
-            )?;
-            notes.push_str(note.as_str())?;
-        }
-        drop(event);
+/// Notes the range of a link's event in bytes, and where the link leads.
+fn note_link(
+    alloc: Global,
+    event: &Event<'_>,
+    range: Range<usize>,
+    notes: &mut String,
+) -> Result<(), Fault> {
+    if let Event::Start(Tag::Link { dest_url, .. }) = event {
+        let note = format!(in alloc;
+            "{}..{} leads to {}\n",
+            range.start,
+            range.end,
+            dest_url.as_str()
+        )?;
+        notes.push_str(note.as_str())?;
     }
     Ok(())
+}
+
+/// Notes each link that a parser gives.
+fn note_each(alloc: Global, events: &mut OffsetIter<'_>, notes: &mut String) -> Result<(), Fault> {
+    'events: while let Some(item) = events.next() {
+        let (event, range) = item?;
+        let noted = note_link(alloc, &event, range, notes);
+        drop(event);
+        noted?;
+    }
+    Ok(())
+}
+
+/// Notes each link of a text.
+fn note_links(alloc: Global, source: &str, notes: &mut String) -> Result<(), Fault> {
+    let mut events = Parser::new(alloc, source)?.into_offset_iter();
+    let noted = note_each(alloc, &mut events, notes);
+    drop(events);
+    noted
 }
 
 /// Counts the labels that are defined nowhere.
