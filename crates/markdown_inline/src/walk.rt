@@ -76,10 +76,11 @@ pub struct OffsetIter<'input, F = DefaultBrokenLinkCallback> {
 }
 
 impl<'input, F: BrokenLinkCallback<'input>> Parser<'input, F> {
-    ghost use Rattle.std.specs.Prelude.{◌≡◌, ◌<◌, IfSome, MatchResult};
+    ghost use Rattle.std.specs.Prelude.{◌≡◌, ◌<◌, IfOk, IfErr, IfSome, MatchResult};
     ghost use Rattle.markdown_inline.specs.Moves.{Moved, Stops, Keeps, IsToBegin, Began, RefusedAt};
     ghost use Rattle.markdown_inline.specs.NextGives.{NextGives, IsPlacedOf};
     ghost use Rattle.markdown_inline.specs.ParserLeft.{parser_callback, parser_steps};
+    ghost use Rattle.markdown_inline.specs.Runs.{GaveRest};
     ghost use Rattle.markdown_inline.specs.declared.bodies.Way.TheVariants as way;
 
     /// One step of the walk; None where it goes on.
@@ -158,11 +159,41 @@ impl<'input, F: BrokenLinkCallback<'input>> Parser<'input, F> {
             Stop::Refused => Some(Err(Fault::Memory)),
         }
     }
+
+    /// All that is left, with its ranges. The only error is `Fault::Memory`.
+    fn take_rest(&mut self, alloc: Global) -> Result<Vec<(Event<'input>, Range<usize>)>, Fault>
+        requires { IfSome (parser_callback self.old) F.can_ask }
+        ensures all { IfOk result (λ given.
+            GaveRest IsPlacedOf F.answers self.old given.items (parser_callback self.new)) }
+        ensures refused { IfErr result (λ fault. fault ≡ Fault.Memory) }
+    {
+        let mut events = Vec::new(alloc);
+        'walk: while let Some(item) = self.next_placed() {
+            match item {
+                Err(fault) => return Err(fault),
+                Ok(event) => {
+                    if !add(&mut events, event) {
+                        return Err(Fault::Memory);
+                    }
+                }
+            }
+        }
+        Ok(events)
+    }
 }
 
 impl<'input, F> Parser<'input, F> {
-    ghost use Rattle.std.specs.Prelude.{◌≤◌, IfSome};
-    ghost use Rattle.markdown_inline.specs.ParserLeft.{parser_steps};
+    ghost use Rattle.std.specs.Prelude.{◌≡◌, ◌≤◌, IfSome};
+    ghost use Rattle.markdown_inline.specs.ParserLeft.{parser_callback, parser_steps};
+
+    /// Whom it asks.
+    fn into_callback(self) -> Option<F>
+        ensures { result ≡ parser_callback self.entry }
+    {
+        let Parser { resolver, .. } = self;
+        let Resolver { callback, .. } = resolver;
+        callback
+    }
 
     /// A bound on the steps to come, None where no `usize` holds it. To sum them up would take a walk over what is
     /// left; but no node is left twice. Each becomes two at most, which are gone into and left, and behind each of
@@ -399,20 +430,9 @@ impl<'input, F: BrokenLinkCallback<'input>> OffsetIter<'input, F> {
     {
         let OffsetIter { inner } = self;
         let mut parser = inner;
-        let mut events = Vec::new(alloc);
-        'walk: while let Some(item) = parser.next_placed() {
-            match item {
-                Err(fault) => return Err(fault),
-                Ok(event) => {
-                    if !add(&mut events, event) {
-                        return Err(Fault::Memory);
-                    }
-                }
-            }
-        }
-        let Parser { resolver, .. } = parser;
-        let Resolver { callback, .. } = resolver;
-        Ok((events, callback))
+        let rest = parser.take_rest(alloc);
+        let callback = parser.into_callback();
+        Ok((rest?, callback))
     }
 }
 

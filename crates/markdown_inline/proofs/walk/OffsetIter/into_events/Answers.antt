@@ -1,38 +1,10 @@
--- All that is left is given, one event after another.
-use Rattle.markdown_inline.specs.NextGives.{IsPlacedOf}
-use Rattle.markdown_inline.proofs.RunLemmas.{gave_none, gave_more, gave_rest}
+-- What is left is taken, and then the callback; where nothing was given before, it is a whole document.
 use Rattle.markdown_inline.proofs.WholeRunLemmas.{whole_run}
 use Rattle.markdown_inline.proofs.walk.OffsetIter.into_events.Goals as goal
 
-pub walk-init : goal.walk-init
-walk-init g c = rw c.new-events.ensures.items (record {
-  askable = c.requires;
-  given = gave_none g.F.BrokenLinkCallback.answers IsPlacedOf
-      (λ p. p) c.args.self.inner;
-})
-
-pub walk-preserved : goal.walk-preserved
-walk-preserved g c =
-    let next = rw c.in-Ok.is at c.in-Some.ensures.gives in
-    record {
-      askable = c.next_placed.ensures.askable;
-      given = rw (c.add.ensures c.if-not-add.false) (gave_more g.F.BrokenLinkCallback.answers IsPlacedOf (λ p. p) c.args.self.inner
-          c.walk.parser c.next_placed.new.self c.walk.events.items _ c.walk.invariant.given next);
-    }
-
 pub returns-clause-all : goal.returns-clause-all
-returns-clause-all g c =
-    gave_rest g.F.BrokenLinkCallback.answers IsPlacedOf (λ p. p) c.args.self.inner c.walk.parser c.next_placed.new.self c.walk.events.items
-    c.walk.invariant.given c.in_default.ensures.gives
+returns-clause-all g c = rw c.into_callback-callback.ensures c.in_ok-rest.ensures.all
 
 pub returns-clause-whole : goal.returns-clause-whole
 returns-clause-whole g c =
-    whole_run g.F.BrokenLinkCallback.answers c.args.self.inner c.walk.events.items _
-    (gave_rest g.F.BrokenLinkCallback.answers IsPlacedOf (λ p. p) c.args.self.inner c.walk.parser c.next_placed.new.self c.walk.events.items
-    c.walk.invariant.given c.in_default.ensures.gives)
-
-pub returns-in-Err-clause-all : goal.returns-in-Err-clause-all
-returns-in-Err-clause-all g c = tt
-
-pub returns-in-Err-clause-whole : goal.returns-in-Err-clause-whole
-returns-in-Err-clause-whole g c = tt
+    whole_run g.F.BrokenLinkCallback.answers c.args.self.inner c.in_ok-rest.field-0.items _ c.in_ok-rest.ensures.all
