@@ -109,7 +109,8 @@ pub fn next_item<'a, T: MergeItem<'a>, I: Iterator<Item = Result<T, Fault>>>(
     let held = mem::replace(&mut merging.held, Held::Nothing);
     match advance(merging.alloc, &mut merging.iter, held) {
         Ok((given, held)) => {
-            merging.held = held;
+            // nothing was held meanwhile
+            drop(mem::replace(&mut merging.held, held));
             given
         }
         Err(_) => {
