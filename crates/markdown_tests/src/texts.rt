@@ -57,7 +57,8 @@ fn texts_are_equal_whatever_their_forms(rt: HostRuntime) -> Result<(), Fail> {
     Ok(())
 }
 
-fn are_equal(left: Event<'_>, right: Event<'_>) -> bool {
+/// Whether two are equal. Both go here.
+fn are_equal<T: PartialEq + Drop>(left: T, right: T) -> bool {
     let equal = left == right;
     drop(left);
     drop(right);
