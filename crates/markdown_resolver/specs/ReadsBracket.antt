@@ -79,7 +79,7 @@ pub record ReadsBracket {C : Type 0} (step : C → Question → Option Answer �
       → HoldsFrom kind learned tree'.nodes next
 
 -- a resolver has read the item of a node: what it holds of searches is true of what is left, and they have looked at none
--- of that
+-- of that, unless they failed
 pub record ReadsNode {C : Type 0} (step : C → Question → Option Answer → C → Type 0) (place : ChainPlace) (ix : ℕ)
     (next : Option ℕ) (tree tree' : Arena Item) (old new : Resolver C) : Type 0 where
   pub goes_on : GoesOnTo step place ix next tree tree' old new
