@@ -53,15 +53,19 @@ module _ {C : Type 0} {step : C → Question → Option Answer → C → Type 0}
             (looks_at_none (has_failed old.math_closers) old.work.math_visits before after math_bound r.goes_on.fewer);
       }
 
+-- an item that is no bracket changes nothing but the texts and links that were put in, and what searches hold and count
+abbrev pub IsKeptByOther : {C : Type 0} → Resolver C → Resolver C → Type 0
+IsKeptByOther old new = new ≡ record old {
+  tables = record old.tables { cows = new.tables.cows; links = new.tables.links };
+  work = record old.work { code_visits = new.work.code_visits; math_visits = new.work.math_visits };
+  code_closers = new.code_closers;
+  math_closers = new.math_closers;
+}
+
 -- another item was read: so it was behind any left list
 pub other_on : {C : Type 0} (step : C → Question → Option Answer → C → Type 0) (place : ChainPlace) (ix : ℕ) (next : Option ℕ)
     (tree tree' : Arena Item) (old new : Resolver C) → CanReadNode place tree old ix → kind_of (item_at tree.nodes ix).body ≡ None
-    → new ≡ record old {
-      tables = record old.tables { cows = new.tables.cows; links = new.tables.links };
-      work = record old.work { code_visits = new.work.code_visits; math_visits = new.work.math_visits };
-      code_closers = new.code_closers;
-      math_closers = new.math_closers;
-    }
+    → IsKeptByOther old new
     → ReadsItem (setting_by old) (above_cursor old.text.now tree) ix next tree.nodes tree'.nodes (tables_of old.tables)
     (tables_of new.tables)
     → (first : ℕ) (left : List (Entry ℕ)) → WasReadTo place tree old first ix left
@@ -100,12 +104,7 @@ bracket_changes {C} {old} {new} changes = record {
 }
 
 -- nor does another item change more
-pub other_changes : {C : Type 0} {old new : Resolver C} → new ≡ record old {
-  tables = record old.tables { cows = new.tables.cows; links = new.tables.links };
-  work = record old.work { code_visits = new.work.code_visits; math_visits = new.work.math_visits };
-  code_closers = new.code_closers;
-  math_closers = new.math_closers;
-} → ChangesForNode old new
+pub other_changes : {C : Type 0} {old new : Resolver C} → IsKeptByOther old new → ChangesForNode old new
 other_changes {C} {old} {new} kept = record {
   kept = kept ∙ ap (λ (r : Resolver C). let x : Resolver C = record old {
     tables = record old.tables { cows = new.tables.cows; links = new.tables.links; footdefs = r.tables.footdefs };
@@ -124,12 +123,7 @@ other_changes {C} {old} {new} kept = record {
 pub other_read : {C E : Type 0} (r : Result (Option ℕ) E) (step : C → Question → Option Answer → C → Type 0) (place : ChainPlace)
     (ix : ℕ) (tree tree' : Arena Item) (old new : Resolver C) → CanReadNode place tree old ix
     → kind_of (item_at tree.nodes ix).body ≡ None
-    → new ≡ record old {
-      tables = record old.tables { cows = new.tables.cows; links = new.tables.links };
-      work = record old.work { code_visits = new.work.code_visits; math_visits = new.work.math_visits };
-      code_closers = new.code_closers;
-      math_closers = new.math_closers;
-    }
+    → IsKeptByOther old new
     → IfOk r (λ next. ReadsItem (setting_by old) (above_cursor old.text.now tree) ix next tree.nodes tree'.nodes (tables_of old.tables)
     (tables_of new.tables))
     → IfOk r (λ next. HoldsFrom SpanKind.Code new.code_closers tree'.nodes next)
