@@ -49,6 +49,7 @@ REPEATED = {
     "mixed-runs": "*_",
     "words": "*a_a",
     "tildes-and-carets": "~a^",
+    "failing-carets": "~a ~~a a^ ",
     "quotation-marks": "'a\" ",
     "long-openers": "**a *b",
     "either": "_a *",
@@ -104,6 +105,8 @@ def main():
         text = ">" * size + "a\n" * 2
     elif kind == "fenced-blank":
         text = "    a\n" + "\n" * size
+    elif kind == "failing-closers":
+        text = "*a " * (size // 6) + "a~ a~~ a^ " * (size // 20)
     elif kind == "fence":
         text = "- ```\n" + "a\n" * (size // 2)
     else:

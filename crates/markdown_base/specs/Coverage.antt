@@ -7,6 +7,7 @@ use Rattle.markdown_base.specs.declared.block_parts.BlockParts.{BlockParts}
 use Rattle.markdown_base.specs.declared.item.Item.{Item}
 use Rattle.markdown_base.specs.declared.node.Node.{Node}
 use Rattle.markdown_base.specs.BlockTree.{Numbered, tree_of}
+use Rattle.markdown_base.specs.Bytes.{open_bracket}
 use Rattle.markdown_base.specs.Forest.{Forest, roots}
 use Rattle.markdown_base.specs.Item.{is_block, range_of}
 
@@ -26,4 +27,4 @@ is_covered tree parts at = is_in_block tree at || list_any (λ d. is_inside at d
 pub record Covers (text : List ℕ) (nodes : List (Node Item)) (parts : BlockParts) : Type 0 where
   pub bytes : (at : ℕ) → at < length text → is_ascii_whitespace (slice_index text at) ≡ false
       → IsTrue (is_covered (tree_of nodes) parts at)
-  pub definitions : AllByRecursion (λ d. slice_index text d.1.span.start ≡ 91) parts.definitions.items
+  pub definitions : AllByRecursion (λ d. slice_index text d.1.span.start ≡ open_bracket) parts.definitions.items

@@ -55,6 +55,11 @@ is_resolved other = false
 abbrev pub is_block : ItemBody → Bool
 is_block body = not (is_inline body || is_resolved body)
 
+-- it is a cell of a table
+abbrev pub is_table_cell : ItemBody → Bool
+is_table_cell body.TableCell = true
+is_table_cell other = false
+
 -- it is a paragraph of a tight list
 abbrev pub is_tight_paragraph : ItemBody → Bool
 is_tight_paragraph body.TightParagraph = true

@@ -10,6 +10,8 @@ pub mod WellFormed
 pub mod Coverage
 pub mod Questions
 pub mod FaultText
+pub mod Bytes
+pub mod EnabledOptions
 -- facts of a representation
 pub mod InlineText
 pub mod ArenaBounds

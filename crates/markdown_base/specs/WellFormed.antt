@@ -12,6 +12,7 @@ use Rattle.markdown_base.specs.declared.node.Node.{Node}
 use Rattle.markdown_base.specs.Arena.{child_of}
 use Rattle.markdown_base.specs.ArenaForest.{links_of, Spells, numbers_below}
 use Rattle.markdown_base.specs.BlockTree.{Numbered, tree_of}
+use Rattle.markdown_base.specs.Bytes.{apostrophe, asterisk, backtick, caret, double_quote, tilde, underscore}
 use Rattle.markdown_base.specs.Forest.{Forest, nil, Throughout, preorder, roots, first_root}
 use Rattle.markdown_base.specs.Item.{LiesIn, is_open, is_inline, is_childless, is_resolved, is_tight_paragraph}
 use Rattle.markdown_base.specs.Item.{is_unplaced, text_named, alignments_named, attributes_named}
@@ -60,8 +61,8 @@ source_of text item = slice_range text item.start item.end
 abbrev pub StandsOverMarkup : List ℕ → ItemBody → Type 0
 StandsOverMarkup source (body.MaybeMath opens closes context) = source ≡ codes "$"
 StandsOverMarkup source (body.MaybeSmartQuote quote opens closes) = (source ≡ quote ∷ [])
-    × IsTrue ((quote == 34) || (quote == 39))
-StandsOverMarkup source (body.MaybeCode count escaped) = (source ≡ replicate count 96) × (1 ≤ count)
+    × IsTrue ((quote == double_quote) || (quote == apostrophe))
+StandsOverMarkup source (body.MaybeCode count escaped) = (source ≡ replicate count backtick) × (1 ≤ count)
 StandsOverMarkup source body.MaybeHtml = source ≡ codes "<"
 StandsOverMarkup source body.MaybeLinkOpen = source ≡ codes "["
 StandsOverMarkup source (body.MaybeLinkClose reference) = source ≡ codes "]"
@@ -87,7 +88,7 @@ run_character other = None
 
 -- one of the characters of delimiter runs
 abbrev pub is_delimiter : ℕ → Bool
-is_delimiter byte = (byte == 42) || ((byte == 95) || ((byte == 126) || (byte == 94)))
+is_delimiter byte = (byte == asterisk) || ((byte == underscore) || ((byte == tilde) || (byte == caret)))
 
 -- the byte that an item begins with
 abbrev pub byte_of : List ℕ → Item → ℕ

@@ -89,8 +89,8 @@ pub struct Item {
 impl ItemBody {
     ghost use Rattle.std.specs.Prelude.{◌≡◌};
     ghost use Rattle.std.specs.Option.{option_map};
-    ghost use Rattle.markdown_base.specs.Item.{is_open, is_inline, is_childless, is_resolved, is_tight_paragraph};
-    ghost use Rattle.markdown_base.specs.Item.{is_unplaced, text_named, alignments_named, attributes_named};
+    ghost use Rattle.markdown_base.specs.Item.{is_open, is_inline, is_childless, is_resolved, is_block, is_table_cell};
+    ghost use Rattle.markdown_base.specs.Item.{is_tight_paragraph, is_unplaced, text_named, alignments_named, attributes_named};
 
     /// Whether its meaning is decided when its chain is resolved: one of the eight `Maybe` bodies from
     /// `MaybeEmphasis` to `MaybeImage`.
@@ -155,6 +155,20 @@ impl ItemBody {
             | ItemBody::FootnoteReference(_) => true,
             _ => false,
         }
+    }
+
+    /// Whether it is a block: not inline, and not what an inline item becomes.
+    pub fn is_block(self) -> bool
+        ensures { result ≡ is_block self }
+    {
+        !(self.is_inline() || self.is_resolved())
+    }
+
+    /// Whether it is a cell of a table.
+    pub fn is_table_cell(self) -> bool
+        ensures { result ≡ is_table_cell self }
+    {
+        matches!(self, ItemBody::TableCell)
     }
 
     /// Whether it is a paragraph of a tight list.

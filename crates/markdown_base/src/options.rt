@@ -43,6 +43,33 @@ bitflag_items! {
     }
 }
 
+/// The calls of `Flags` that callers need most, so that they need not import it.
+impl Options {
+    ghost use Rattle.std.specs.Prelude.{◌≡◌};
+    ghost use Rattle.markdown_base.specs.EnabledOptions.{both_options, is_on, no_options};
+
+    /// No option.
+    pub fn empty() -> Options
+        ensures { result ≡ no_options }
+    {
+        Options(0)
+    }
+
+    /// Whether all bits of another set are in this one.
+    pub fn contains(&self, other: Options) -> bool
+        ensures { result ≡ is_on other self.now }
+    {
+        Flags::contains(self, other)
+    }
+
+    /// The options of both sets.
+    pub fn union(self, other: Options) -> Options
+        ensures { result ≡ both_options self other }
+    {
+        Options(self.0 | other.0)
+    }
+}
+
 impl Flags for Options {
     type Bits = u32;
 

@@ -8,6 +8,8 @@ use markdown_base::fault::Fault;
 use markdown_base::tag::{LinkType, Tag, TagEnd};
 use markdown_out::html::push_html;
 use markdown_out::merge::TextMergeStream;
+use markdown_test_helpers::events::{link, text};
+use markdown_test_helpers::lists::{Items, Listed};
 use std::alloc::Global;
 
 /// How many events a paragraph has.
@@ -16,33 +18,20 @@ const PARAGRAPH: usize = 12;
 const PROSE: &str =
     "Some words of prose, with an ampersand & and a comparison a < b in the middle.";
 
-fn text<'a>(words: &'a str) -> Event<'a> {
-    Event::Text(CowStr::Borrowed(words))
-}
-
-fn link<'a>() -> Tag<'a> {
-    Tag::Link {
-        link_type: LinkType::Inline,
-        dest_url: CowStr::Borrowed("https://example.com/a b"),
-        title: CowStr::Borrowed("a \"title\""),
-        id: CowStr::Borrowed(""),
-    }
-}
-
-/// The event of a paragraph with so many events left.
-fn paragraph_event<'a>(left: usize, prose: &'a str) -> Event<'a> {
-    match left {
-        12 => Event::Start(Tag::Paragraph),
-        11 => text(prose),
-        10 => Event::Start(Tag::Emphasis),
-        9 => text(prose),
-        8 => Event::End(TagEnd::Emphasis),
-        7 => Event::SoftBreak,
-        6 => Event::Start(link()),
-        5 => Event::Code(CowStr::Borrowed("a && b")),
-        4 => Event::End(TagEnd::Link),
-        3 => Event::HardBreak,
-        2 => text(prose),
+/// The event at a place in a paragraph, from 0 on.
+fn paragraph_event<'a>(place: usize, prose: &'a str) -> Event<'a> {
+    match place {
+        0 => Event::Start(Tag::Paragraph),
+        1 => text(prose),
+        2 => Event::Start(Tag::Emphasis),
+        3 => text(prose),
+        4 => Event::End(TagEnd::Emphasis),
+        5 => Event::SoftBreak,
+        6 => link(LinkType::Inline, "https://example.com/a b", "a \"title\""),
+        7 => Event::Code(CowStr::Borrowed("a && b")),
+        8 => Event::End(TagEnd::Link),
+        9 => Event::HardBreak,
+        10 => text(prose),
         _ => Event::End(TagEnd::Paragraph),
     }
 }
@@ -51,77 +40,39 @@ fn paragraph_event<'a>(left: usize, prose: &'a str) -> Event<'a> {
 #[derive(Drop)]
 struct Paragraphs<'a> {
     prose: &'a str,
-    left: usize,
-    in_paragraph: usize,
 }
 
-impl<'a> Iterator for Paragraphs<'a> {
+impl<'a> Listed for Paragraphs<'a> {
     type Item = Result<Event<'a>, Fault>;
 
-    ghost use Rattle.std.specs.Iterator.{at_most};
-
-    ghost remaining = { λ s. at_most s.left };
-
-    fn size_hint(&self) -> (usize, Option<usize>) {
-        (0, None)
-    }
-
-    fn next(&mut self) -> Option<Result<Event<'a>, Fault>> {
-        if self.left == 0 {
-            return None;
-        }
-        self.left -= 1;
-        if self.in_paragraph == 0 {
-            self.in_paragraph = PARAGRAPH;
-        }
-        let event = paragraph_event(self.in_paragraph, self.prose);
-        self.in_paragraph -= 1;
-        Some(Ok(event))
+    fn item(&self, at: usize) -> Option<Result<Event<'a>, Fault>> {
+        Some(Ok(paragraph_event(at % PARAGRAPH, self.prose)))
     }
 }
 
 /// How many bytes the HTML of so many paragraphs has.
 pub fn rendered_bytes(alloc: Global, paragraphs: usize) -> Option<usize> {
     let mut html = String::new(alloc);
-    let left = paragraphs.checked_mul(PARAGRAPH)?;
-    let events = Paragraphs {
-        prose: PROSE,
-        left,
-        in_paragraph: 0,
-    };
+    let count = paragraphs.checked_mul(PARAGRAPH)?;
+    let events = Items::of(Paragraphs { prose: PROSE }, count);
     push_html(alloc, &mut html, events).ok()?;
     Some(html.as_str().len())
 }
 
-/// References to footnotes: to each of these names, and then to each once more.
+/// References to footnotes: to each name from the last to the first, and then to each once more.
 #[derive(Drop)]
 struct References<'a> {
     names: &'a [String],
-    left: usize,
 }
 
-impl<'a> Iterator for References<'a> {
+impl<'a> Listed for References<'a> {
     type Item = Result<Event<'a>, Fault>;
 
-    ghost use Rattle.std.specs.Iterator.{at_most};
-
-    ghost remaining = { λ s. at_most s.left };
-
-    fn size_hint(&self) -> (usize, Option<usize>) {
-        (0, None)
-    }
-
-    fn next(&mut self) -> Option<Result<Event<'a>, Fault>> {
-        if self.left == 0 {
-            return None;
-        }
-        self.left -= 1;
-        let at = if self.left < self.names.len() {
-            self.left
-        } else {
-            self.left - self.names.len()
-        };
-        let name = self.names.get(at)?;
+    fn item(&self, at: usize) -> Option<Result<Event<'a>, Fault>> {
+        let count = self.names.len();
+        let before = if at < count { at } else { at - count };
+        let last = count.checked_sub(1)?;
+        let name = self.names.get(last.checked_sub(before)?)?;
         Some(Ok(Event::FootnoteReference(CowStr::Borrowed(name.as_str()))))
     }
 }
@@ -132,9 +83,9 @@ pub fn footnote_bytes(alloc: Global, kind: LabelKind, size: usize) -> Option<usi
     let mut html = String::new(alloc);
     let references = References {
         names: names.as_slice(),
-        left: size.checked_mul(2)?,
     };
-    push_html(alloc, &mut html, references).ok()?;
+    let events = Items::of(references, size.checked_mul(2)?);
+    push_html(alloc, &mut html, events).ok()?;
     Some(html.as_str().len())
 }
 
@@ -142,28 +93,13 @@ pub fn footnote_bytes(alloc: Global, kind: LabelKind, size: usize) -> Option<usi
 #[derive(Drop)]
 struct Letters<'a> {
     letter: &'a str,
-    left: usize,
 }
 
-impl<'a> Iterator for Letters<'a> {
+impl<'a> Listed for Letters<'a> {
     type Item = Result<Event<'a>, Fault>;
 
-    ghost use Rattle.std.specs.Prelude.{◌≤◌};
-    ghost use Rattle.std.specs.Iterator.{at_most};
-
-    ghost next_gives = { λ s r t. t.left ≤ s.left };
-
-    ghost remaining = { λ s. at_most s.left };
-
-    fn size_hint(&self) -> (usize, Option<usize>) {
-        (0, None)
-    }
-
-    fn next(&mut self) -> Option<Result<Event<'a>, Fault>> {
-        if self.left == 0 {
-            return None;
-        }
-        self.left -= 1;
+    fn item(&self, at: usize) -> Option<Result<Event<'a>, Fault>> {
+        let _ = at;
         Some(Ok(text(self.letter)))
     }
 }
@@ -194,9 +130,6 @@ fn sum_of<T: Drop, I: Iterator<Item = T> + Drop, F: Fn(&T) -> Option<usize> + Dr
 
 /// How many bytes the texts have that so many texts of one byte are merged to.
 pub fn merged_bytes(alloc: Global, texts: usize) -> Option<usize> {
-    let letters = Letters {
-        letter: "a",
-        left: texts,
-    };
+    let letters = Items::of(Letters { letter: "a" }, texts);
     sum_of(TextMergeStream::new(alloc, letters), text_bytes)
 }

@@ -1,32 +1,23 @@
 //! Look-ups of link definitions by their labels, and of footnotes by their names.
 use crate::labels::{LabelKind, first_labels};
-use markdown_base::block_parts::{BlockParts, LinkDef};
 use markdown_base::cow_str::CowStr;
-use markdown_spans::defs::Allocations;
+use markdown_defs::Allocations;
+use markdown_test_helpers::parts::{link_to, no_parts};
 use std::alloc::Global;
 
 /// What defines links of these labels and footnotes of these names.
 fn held(alloc: Global, labels: Vec<String>, names: Vec<String>) -> Option<Allocations<'static>> {
     let mut definitions = Vec::new(alloc);
     for label in labels {
-        let definition = LinkDef {
-            dest: CowStr::Borrowed("/u"),
-            title: None,
-            span: 0..0,
-        };
-        definitions.push((CowStr::from(label), definition)).ok()?;
+        definitions.push((CowStr::from(label), link_to("/u"))).ok()?;
     }
     let mut footnotes = Vec::new(alloc);
     for name in names {
         footnotes.push(CowStr::from(name)).ok()?;
     }
-    let parts = BlockParts {
-        definitions,
-        footnotes,
-        cows: Vec::new(alloc),
-        alignments: Vec::new(alloc),
-        headings: Vec::new(alloc),
-    };
+    let mut parts = no_parts(alloc);
+    parts.definitions = definitions;
+    parts.footnotes = footnotes;
     Allocations::new(alloc, parts).ok()
 }
 

@@ -180,3 +180,107 @@ fn lists(rt: HostRuntime) -> Result<(), Fail> {
         ],
     )
 }
+
+/// A list that ends with an empty item, a blank line, and what follows it in the item outside.
+#[test]
+fn behind_empty_items(rt: HostRuntime) -> Result<(), Fail> {
+    compare(
+        rt.alloc(),
+        &[
+            (
+                "- *\n\n  a",
+                "<ul>\n<li>\n<ul>\n<li></li>\n</ul>\n<p>a</p>\n</li>\n</ul>\n",
+            ),
+            (
+                "- 1.\n\n  2.\n\n  a\n",
+                "<ul>\n<li>\n<ol>\n<li></li>\n<li></li>\n</ol>\n<p>a</p>\n</li>\n</ul>\n",
+            ),
+            (
+                "- -\n  -\n\n  a\n",
+                "<ul>\n<li>\n<ul>\n<li></li>\n<li></li>\n</ul>\n<p>a</p>\n</li>\n</ul>\n",
+            ),
+            (
+                "- *\n\n\n  a\n",
+                "<ul>\n<li>\n<ul>\n<li></li>\n</ul>\n<p>a</p>\n</li>\n</ul>\n",
+            ),
+            (
+                "- - *\n\n  a\n",
+                "<ul>\n<li>\n<ul>\n<li>\n<ul>\n<li></li>\n</ul>\n</li>\n</ul>\n<p>a</p>\n</li>\n</ul>\n",
+            ),
+            (
+                "- - *\n\n    a\n",
+                "<ul>\n<li>\n<ul>\n<li>\n<ul>\n<li></li>\n</ul>\n<p>a</p>\n</li>\n</ul>\n</li>\n</ul>\n",
+            ),
+            (
+                "- > -\n\n  a\n",
+                "<ul>\n<li>\n<blockquote>\n<ul>\n<li></li>\n</ul>\n</blockquote>\n<p>a</p>\n</li>\n</ul>\n",
+            ),
+            (
+                "- > -\n\n\n  a\n",
+                "<ul>\n<li>\n<blockquote>\n<ul>\n<li></li>\n</ul>\n</blockquote>\n<p>a</p>\n</li>\n</ul>\n",
+            ),
+            (
+                "> - *\n>\n>   a\n",
+                "<blockquote>\n<ul>\n<li>\n<ul>\n<li></li>\n</ul>\n<p>a</p>\n</li>\n</ul>\n</blockquote>\n",
+            ),
+            (
+                "- a\n- *\n\n  + b\n",
+                "<ul>\n<li>\n<p>a</p>\n</li>\n<li>\n<ul>\n<li></li>\n</ul>\n<ul>\n<li>b</li>\n</ul>\n</li>\n</ul>\n",
+            ),
+            (
+                "- a\n- *\n\n  # b\n",
+                "<ul>\n<li>\n<p>a</p>\n</li>\n<li>\n<ul>\n<li></li>\n</ul>\n<h1>b</h1>\n</li>\n</ul>\n",
+            ),
+            (
+                "- a\n- *\n\n  ***\n",
+                "<ul>\n<li>\n<p>a</p>\n</li>\n<li>\n<ul>\n<li></li>\n</ul>\n<hr />\n</li>\n</ul>\n",
+            ),
+            (
+                "- a\n- *\n\n  [r]: b\n- c\n",
+                "<ul>\n<li>\n<p>a</p>\n</li>\n<li>\n<ul>\n<li></li>\n</ul>\n</li>\n<li>\n<p>c</p>\n</li>\n</ul>\n",
+            ),
+        ],
+    )
+}
+
+/// What makes no list loose: a blank line behind which nothing of it follows, or that is another block's, or none.
+#[test]
+fn tight_beside_empty_items(rt: HostRuntime) -> Result<(), Fail> {
+    compare(
+        rt.alloc(),
+        &[
+            (
+                "- *\n  a\n",
+                "<ul>\n<li>\n<ul>\n<li></li>\n</ul>\na</li>\n</ul>\n",
+            ),
+            (
+                "- > *\n  a\n",
+                "<ul>\n<li>\n<blockquote>\n<ul>\n<li></li>\n</ul>\n</blockquote>\na</li>\n</ul>\n",
+            ),
+            (
+                "- a\n- *\n\n+ b\n",
+                "<ul>\n<li>a</li>\n<li>\n<ul>\n<li></li>\n</ul>\n</li>\n</ul>\n<ul>\n<li>b</li>\n</ul>\n",
+            ),
+            (
+                "- a\n- > *\n  >\n  > b\n",
+                "<ul>\n<li>a</li>\n<li>\n<blockquote>\n<ul>\n<li></li>\n</ul>\n<p>b</p>\n</blockquote>\n</li>\n</ul>\n",
+            ),
+            (
+                "- a\n- * b\n\n    c\n",
+                "<ul>\n<li>a</li>\n<li>\n<ul>\n<li>\n<p>b</p>\n<p>c</p>\n</li>\n</ul>\n</li>\n</ul>\n",
+            ),
+            (
+                "- a\n- *\n\n  *\n- b\n",
+                "<ul>\n<li>a</li>\n<li>\n<ul>\n<li></li>\n<li></li>\n</ul>\n</li>\n<li>b</li>\n</ul>\n",
+            ),
+            (
+                "-\n\n- a\n",
+                "<ul>\n<li></li>\n<li>\n<p>a</p>\n</li>\n</ul>\n",
+            ),
+            (
+                "- *\n\n- a\n",
+                "<ul>\n<li>\n<ul>\n<li></li>\n</ul>\n</li>\n<li>\n<p>a</p>\n</li>\n</ul>\n",
+            ),
+        ],
+    )
+}

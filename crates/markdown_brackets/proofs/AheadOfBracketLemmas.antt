@@ -11,9 +11,9 @@ use Rattle.markdown_base.specs.declared.item.Item.{Item}
 use Rattle.markdown_base.specs.declared.item.ItemBody.{ItemBody}
 use Rattle.markdown_base.specs.declared.item.ItemBody.TheVariants as body
 use Rattle.markdown_base.specs.declared.node.Node.{Node}
-use Rattle.markdown_chains.specs.ChainRest.{start_of, end_of, open_body}
-use Rattle.markdown_chains.specs.Document.{Label, Part, part_of, shape_of}
-use Rattle.markdown_chains.specs.Tables.{Tables}
+use Rattle.markdown_document.specs.ChainRest.{start_of, end_of, open_body}
+use Rattle.markdown_document.specs.Document.{Label, Part, part_of, shape_of}
+use Rattle.markdown_document.specs.Tables.{Tables}
 use Rattle.markdown_brackets.specs.BracketDecision.{closer_ends_at, first_item, second_item, start_of_first_past}
 use Rattle.markdown_brackets.specs.ChainAhead.{begins_with_closer, first_start, numbers_past, reaches_closer, starts_from}
 use Rattle.markdown_brackets.specs.ChainHeld.{Holds, numbers_of}

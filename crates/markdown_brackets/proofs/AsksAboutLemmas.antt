@@ -9,19 +9,20 @@ use Rattle.markdown_base.specs.Questions.{Question, Answers}
 use Rattle.markdown_base.specs.declared.item.Item.{Item}
 use Rattle.markdown_base.specs.declared.tag.LinkType.{LinkType}
 use Rattle.markdown_base.specs.declared.tag.LinkType.TheVariants as kind
-use Rattle.markdown_chains.specs.ChainRest.{end_of, open_body, start_of}
-use Rattle.markdown_chains.specs.Document.{Label}
-use Rattle.markdown_spans.specs.Definitions as definitions
-use Rattle.markdown_spans.specs.Definitions.{Labelled}
+use Rattle.markdown_document.specs.ChainRest.{end_of, open_body, start_of}
+use Rattle.markdown_document.specs.Document.{Label}
+use Rattle.markdown_defs.specs.Definitions as definitions
+use Rattle.markdown_defs.specs.Definitions.{Labelled}
 use Rattle.markdown_base.specs.declared.block_parts.LinkDef.{LinkDef}
 use Rattle.markdown_brackets.specs.BracketDecision.{Around, Becomes, Closing, Decision, Progress, Wikilink, Written, a_footnote, a_link}
 use Rattle.markdown_brackets.specs.BracketDecision.{a_text, a_wikilink, after_look_up, block_text, closer_ends_at, decided, decided_before}
 use Rattle.markdown_brackets.specs.BracketDecision.{first_item, footnote_label, footnote_tried, footnote_used, form_of, inline_link}
-use Rattle.markdown_brackets.specs.BracketDecision.{label_of_opener, link_label, look_up_tried, no_link, one_decided, opener_tried}
+use Rattle.markdown_brackets.specs.BracketDecision.{label_of_opener, lines, link_label, look_up_tried, no_link, one_decided, opener_tried}
 use Rattle.markdown_brackets.specs.BracketDecision.{own_written, past_second, question_at, reference_written, second_item, spent_by}
 use Rattle.markdown_brackets.specs.BracketDecision.{start_of_first_past, tail_or, target_tried, to_be, tried, wikilink_in, wikilink_opener}
 use Rattle.markdown_brackets.specs.BracketDecision.{wikilink_or_one, wikilink_tried, written}
-use Rattle.markdown_brackets.specs.BracketOptions.{footnote_style, wikilinks_on}
+use Rattle.markdown_base.specs.EnabledOptions.{wikilinks_on}
+use Rattle.markdown_brackets.specs.BracketOptions.{footnote_style}
 use Rattle.markdown_brackets.specs.ClosingBracket.{closed, put}
 use Rattle.markdown_brackets.specs.FootnoteUse.{is_reference}
 use Rattle.markdown_brackets.specs.LeftList.{Split, bracket_taken, inside, is_live, nearest, opens_bracket, wikilink_taken}
@@ -126,7 +127,7 @@ module _ {A : Type 0} (w : Around) (c : Closing A) where
   written_ways o =
       let end = end_of c.label in
       tail_ways (reference_written c.could_be_reference end (λ i. closer_ends_at i c.rest) (label_of_opener w c o) (form_of w c))
-      (link_tail w.skipped (start_of_first_past c.rest) (block_text w) end) (reference_ways (label_of_opener w c o) (form_of w c) refl)
+      (link_tail (lines w) (start_of_first_past c.rest) (block_text w) end) (reference_ways (label_of_opener w c o) (form_of w c) refl)
 
   -- the label that follows was asked about, or is defined, and its `]` is used up
   pub record AsksFull (more : List Question) (spent spent' : List ℕ) : Type 0 where
@@ -260,7 +261,7 @@ module _ {A : Type 0} (w : Around) (c : Closing A) where
 
   -- the label that follows begins where the `]` ends
   pub full_label : (label : List ℕ) (end : ℕ) → form_of w c ≡ reference label end
-      → IsLabelFrom w.skipped (block_text w) (end_of c.label) end
+      → IsLabelFrom (lines w) (block_text w) (end_of c.label) end
   full_label label end e = by (stands_at from is_opener next && stands_at (from + 1) is_closer after) (stands_at from (λ b. true) next) e
     where
       from : ℕ
@@ -273,24 +274,24 @@ module _ {A : Type 0} (w : Around) (c : Closing A) where
       after = second_item c.rest
 
       found : Option FoundLabel
-      found = label_at (footnote_style w.setting.rules.options) w.skipped w.above.in_table (drop from (block_text w))
+      found = label_at (footnote_style w.setting.rules.options) (lines w) w.above.in_table (drop from (block_text w))
 
       by_label : (o : Option FoundLabel) → found ≡ o → form_by_label from o ≡ reference label end
-          → IsLabelFrom w.skipped (block_text w) from end
+          → IsLabelFrom (lines w) (block_text w) from end
       by_label None f e = absurd (cc e)
       by_label (Some l) f e = plain l.is_footnote refl e
         where
           plain : (b : Bool) → l.is_footnote ≡ b → (if b then shortcut else reference l.name (from + l.length)) ≡ reference label end
-              → IsLabelFrom w.skipped (block_text w) from end
+              → IsLabelFrom (lines w) (block_text w) from end
           plain true b e = absurd (cc e)
           plain false b e =
               let to : from + l.length ≡ end = cc e in
-              subst (IsLabelFrom w.skipped (block_text w) from) to
-              (label_from w.skipped w.above.in_table (footnote_style w.setting.rules.options) (block_text w) from l f b)
+              subst (IsLabelFrom (lines w) (block_text w) from) to
+              (label_from (lines w) w.above.in_table (footnote_style w.setting.rules.options) (block_text w) from l f b)
 
       by : (empty starts : Bool)
           → (if empty then collapsed else if starts then form_by_label from found else shortcut) ≡ reference label end
-          → IsLabelFrom w.skipped (block_text w) from end
+          → IsLabelFrom (lines w) (block_text w) from end
       by true starts e = absurd (cc e)
       by false true e = by_label found refl e
       by false false e = absurd (cc e)

@@ -8,8 +8,8 @@ use Rattle.markdown_base.specs.declared.item.Item.{Item}
 use Rattle.markdown_base.specs.declared.item.ItemBody.{ItemBody}
 use Rattle.markdown_base.specs.declared.item.ItemBody.TheVariants as body
 use Rattle.markdown_base.specs.declared.tag.LinkType.TheVariants as kind
-use Rattle.markdown_chains.specs.Document.{Shape, leaf, enclosed, Plain, label_of}
-use Rattle.markdown_chains.specs.Tables.{no_tables}
+use Rattle.markdown_document.specs.Document.{Shape, leaf, enclosed, Plain, label_of}
+use Rattle.markdown_document.specs.Tables.{no_tables}
 use Rattle.markdown_brackets.specs.BracketDecision.{Around, Progress, used_once_more}
 use Rattle.markdown_brackets.specs.ClosingBracket.{closed}
 use Rattle.markdown_brackets.specs.BracketDecision.{decided}
@@ -86,7 +86,7 @@ around options asks source = record {
     rules = record { options = record { 0 = options }; definitions = []; is_footnote = bytes_eq (codes "a"); asks = asks };
   };
   above = record { block_end = length source; in_table = false; bodies = [] };
-  skipped = λ rest. Some 0;
+  skipped = λ rest. 0;
 }
 
 abbrev progress : ℕ → Bool → ℕ → Answers → List ℕ → Progress (Unit {0})

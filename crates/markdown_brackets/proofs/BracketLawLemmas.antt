@@ -8,10 +8,11 @@ use Rattle.markdown_base.specs.Questions.{Question, Answers}
 use Rattle.markdown_base.specs.declared.item.ItemBody.{ItemBody}
 use Rattle.markdown_base.specs.declared.item.ItemBody.TheVariants as body
 use Rattle.markdown_base.specs.declared.tag.LinkType.{LinkType}
-use Rattle.markdown_chains.specs.Document.{Label}
-use Rattle.markdown_chains.specs.ChainRest.{begun_at, start_of, end_of, open_body}
+use Rattle.markdown_document.specs.Document.{Label}
+use Rattle.markdown_document.specs.ChainRest.{begun_at, start_of, end_of, open_body}
 use Rattle.markdown_brackets.specs.BracketLaws.{with_later, HandsOn, ClosesInOne}
-use Rattle.markdown_brackets.specs.BracketOptions.{wikilinks_on, footnote_style}
+use Rattle.markdown_base.specs.EnabledOptions.{wikilinks_on}
+use Rattle.markdown_brackets.specs.BracketOptions.{footnote_style}
 use Rattle.markdown_brackets.specs.BracketDecision.{Around, Closing, Progress, Wikilink, footnote_used, footnote_tried, target_tried}
 use Rattle.markdown_brackets.specs.BracketDecision.{after_look_up, look_up_tried, question_at, inline_target, spent_by, Written, no_link}
 use Rattle.markdown_brackets.specs.BracketDecision.{inline_link, link_label, footnote_label, written, tried, opener_tried, wikilink_in}

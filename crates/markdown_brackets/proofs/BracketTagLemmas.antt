@@ -9,17 +9,18 @@ use Rattle.markdown_base.specs.Forest.{Forest, nil, node}
 use Rattle.markdown_base.specs.declared.item.ItemBody.{ItemBody}
 use Rattle.markdown_base.specs.declared.item.ItemBody.TheVariants as body
 use Rattle.markdown_base.specs.declared.tag.LinkType.{LinkType}
-use Rattle.markdown_chains.specs.Document.{Label, as_text}
-use Rattle.markdown_chains.specs.Labels.{retag, retagged}
-use Rattle.markdown_chains.specs.ChainRest.{begun_at, past_byte, start_of, end_of, open_body}
+use Rattle.markdown_document.specs.Document.{Label, as_text}
+use Rattle.markdown_document.specs.Labels.{retag, retagged}
+use Rattle.markdown_document.specs.ChainRest.{begun_at, past_byte, start_of, end_of, open_body}
 use Rattle.markdown_brackets.specs.BracketDecision.{Around, Becomes, Closing, Decision, Progress, Wikilink, Written, a_footnote, a_link}
 use Rattle.markdown_brackets.specs.BracketDecision.{a_text, a_wikilink, after_look_up, block_text, children_of, closer_ends_at, decided}
 use Rattle.markdown_brackets.specs.BracketDecision.{decided_before, first_item, footnote_label, footnote_tried, footnote_used, form_of}
-use Rattle.markdown_brackets.specs.BracketDecision.{if_some, inline_link, is_next, link_label, look_up_tried, no_link, one_decided}
+use Rattle.markdown_brackets.specs.BracketDecision.{if_some, inline_link, is_next, lines, link_label, look_up_tried, no_link, one_decided}
 use Rattle.markdown_brackets.specs.BracketDecision.{opener_tried, past_second, question_at, reference_written, second_item, spent_by}
 use Rattle.markdown_brackets.specs.BracketDecision.{start_of_first_past, target_tried, to_be, tried, wikilink_by, wikilink_in}
 use Rattle.markdown_brackets.specs.BracketDecision.{wikilink_opener, wikilink_or_one, wikilink_tried, written, tail_or, label_of_opener}
-use Rattle.markdown_brackets.specs.BracketOptions.{footnote_style, wikilinks_on}
+use Rattle.markdown_base.specs.EnabledOptions.{wikilinks_on}
+use Rattle.markdown_brackets.specs.BracketOptions.{footnote_style}
 use Rattle.markdown_brackets.specs.BracketTags.{Follows, TagLaw, retag_entry, retag_left, retag_progress}
 use Rattle.markdown_brackets.specs.ClosingBracket.{closed, footnote_onto, linked, put, put_decided, wikilink_target}
 use Rattle.markdown_brackets.specs.FootnoteUse.{is_reference}
@@ -163,9 +164,9 @@ module _ {A B : Type 0} (f : A → B) where
     -- what is written at an opener and its `]`
     pub form_retag : (c : Closing A) → form_of w (retag_closing c) ≡ form_of w c
     form_retag c =
-        ap (λ next. form_at (footnote_style w.setting.rules.options) w.skipped w.above.in_table (block_text w) (end_of c.label) next
+        ap (λ next. form_at (footnote_style w.setting.rules.options) (lines w) w.above.in_table (block_text w) (end_of c.label) next
         (second_item (retagged f c.rest))) (first_retag c.rest)
-        ∙ ap (form_at (footnote_style w.setting.rules.options) w.skipped w.above.in_table (block_text w) (end_of c.label)
+        ∙ ap (form_at (footnote_style w.setting.rules.options) (lines w) w.above.in_table (block_text w) (end_of c.label)
         (first_item c.rest)) (second_item_retag c.rest)
 
     closes_retag : (c : Closing A) (own : Option FoundLabel) (form : Form)
@@ -178,7 +179,7 @@ module _ {A B : Type 0} (f : A → B) where
     pub written_retag : (c : Closing A) (o : Split A) → written w (retag_closing c) (retag_split o) ≡ written w c o
     written_retag c o =
         let end : ℕ = end_of c.label in
-        let tail : (ℕ → Option ℕ) → Option LinkTail = λ starts. link_tail w.skipped starts (block_text w) end in
+        let tail : (ℕ → Option ℕ) → Option LinkTail = λ starts. link_tail (lines w) starts (block_text w) end in
         let other : Form → Written = λ form. reference_written c.could_be_reference end (λ i. closer_ends_at i (retagged f c.rest))
         (label_of_opener w c o) form in
         ap (λ (starts : ℕ → Option ℕ). tail_or (other (form_of w (retag_closing c))) (tail starts)) (fun_ext (start_retag c.rest))
@@ -272,7 +273,7 @@ module _ {A B : Type 0} (f : A → B) where
         ≡ option_map retag_wikilink (wikilink_in w trees end)
     wikilink_in_retag nil end = refl
     wikilink_in_retag (node first below after) end = body_retag first (node first below after) end
-        (wikilink_body w.setting.text (start_of first) end)
+        (wikilink_body w.setting.text w.above.block_end (start_of first) end)
 
     pub past_second_retag : (trees : Forest (Label A)) → past_second (retagged f trees) ≡ retagged f (past_second trees)
     past_second_retag nil = refl

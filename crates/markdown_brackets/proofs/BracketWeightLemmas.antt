@@ -5,10 +5,10 @@ use Rattle.std.specs.Option.{option_map, option_and_then}
 use Rattle.markdown_base.specs.Forest.{Forest, nil, node}
 use Rattle.markdown_base.specs.declared.item.ItemBody.{ItemBody}
 use Rattle.markdown_base.specs.declared.item.ItemBody.TheVariants as body
-use Rattle.markdown_chains.specs.Labels.{weight}
-use Rattle.markdown_chains.specs.Document.{Shape, leaf, enclosed, plain, backslash_break, unresolved, Label}
-use Rattle.markdown_chains.specs.Setting.{Known}
-use Rattle.markdown_chains.specs.ChainRest.{begun_at, past_byte, cut_shape, start_of, end_of, open_body}
+use Rattle.markdown_document.specs.Labels.{weight}
+use Rattle.markdown_document.specs.Document.{Shape, leaf, enclosed, plain, backslash_break, unresolved, Label}
+use Rattle.markdown_document.specs.Setting.{Known}
+use Rattle.markdown_document.specs.ChainRest.{begun_at, past_byte, cut_shape, start_of, end_of, open_body}
 use Rattle.markdown_brackets.specs.BracketDecision.{Around, Closing, Progress, Wikilink, wikilink_in, wikilink_by, children_of, if_some}
 use Rattle.markdown_brackets.specs.BracketDecision.{past_second}
 use Rattle.markdown_brackets.specs.ClosingBracket.{footnote_onto, closed}
@@ -17,9 +17,9 @@ use Rattle.markdown_brackets.specs.LeftList.{opens_bracket, opens_wikilink, with
 use Rattle.markdown_brackets.specs.LeftList.{second_folded, before_link, before_wikilink, before_footnote}
 use Rattle.markdown_brackets.specs.ReadChain.{Reader, begun, closing, read_as, read, read_past, read_chain}
 use Rattle.markdown_brackets.specs.Wikilink.{WikilinkBody, Shows, shows_name, shows_nothing, shows_from, has_pothole, wikilink_body}
-use Rattle.markdown_chains.specs.Document.{is_unresolved}
-use Rattle.markdown_chains.specs.Totals.{weight_if}
-use Rattle.markdown_chains.proofs.PlaceLemmas.{some_weight}
+use Rattle.markdown_document.specs.Document.{is_unresolved}
+use Rattle.markdown_document.specs.Totals.{weight_if}
+use Rattle.markdown_document.proofs.PlaceLemmas.{some_weight}
 use Rattle.markdown_brackets.proofs.ClosingBracketLemmas.{Cases, in_each_case, some_of}
 use Rattle.markdown_brackets.specs.BracketWeight.{weight_at, weight_left}
 
@@ -126,7 +126,7 @@ w_named {A} w first trees end b h = by (children_of w first trees end b.shows) (
 w_wikilink : {A : Type 0} (w : Around) (trees : Forest (Label A)) (end : ℕ)
     → IfSome (wikilink_in w trees end) (λ found. weight found.children ≤ weight trees)
 w_wikilink w nil end = tt
-w_wikilink {A} w (node first below after) end = by (wikilink_body w.setting.text (start_of first) end)
+w_wikilink {A} w (node first below after) end = by (wikilink_body w.setting.text w.above.block_end (start_of first) end)
   where
     by : (o : Option WikilinkBody) → IfSome (option_and_then (wikilink_by w first (node first below after) end) o)
         (λ found. weight found.children ≤ weight (node first below after))

@@ -7,14 +7,15 @@ use Rattle.markdown_base.specs.Questions.{Question}
 use Rattle.markdown_base.specs.declared.item.ItemBody.{ItemBody}
 use Rattle.markdown_base.specs.declared.item.ItemBody.TheVariants as body
 use Rattle.markdown_base.specs.declared.tag.LinkType.{LinkType}
-use Rattle.markdown_chains.specs.Document.{Label}
-use Rattle.markdown_chains.specs.ChainRest.{begun_at, end_of, open_body, start_of}
+use Rattle.markdown_document.specs.Document.{Label}
+use Rattle.markdown_document.specs.ChainRest.{begun_at, end_of, open_body, start_of}
 use Rattle.markdown_brackets.specs.BracketDecision.{Around, Becomes, Closing, Decision, Progress, Wikilink, Written, a_footnote, a_link}
 use Rattle.markdown_brackets.specs.BracketDecision.{a_text, a_wikilink, after_look_up, decided, decided_before, footnote_label}
 use Rattle.markdown_brackets.specs.BracketDecision.{footnote_tried, footnote_used, inline_link, link_label, look_up_tried, no_link}
 use Rattle.markdown_brackets.specs.BracketDecision.{one_decided, opener_tried, past_second, question_at, spent_by, target_tried, to_be}
 use Rattle.markdown_brackets.specs.BracketDecision.{tried, wikilink_in, wikilink_opener, wikilink_or_one, wikilink_tried, written}
-use Rattle.markdown_brackets.specs.BracketOptions.{footnote_style, wikilinks_on}
+use Rattle.markdown_base.specs.EnabledOptions.{wikilinks_on}
+use Rattle.markdown_brackets.specs.BracketOptions.{footnote_style}
 use Rattle.markdown_brackets.specs.ClosingBracket.{closed, put}
 use Rattle.markdown_brackets.specs.FootnoteUse.{is_reference}
 use Rattle.markdown_brackets.specs.LeftList.{Split, bracket_taken, inside, is_live, nearest, opens_bracket, wikilink_taken}

@@ -7,9 +7,9 @@ use Rattle.markdown_base.specs.Event.{EventView, TagView}
 use Rattle.markdown_base.specs.Forest.{Forest, nil, node}
 use Rattle.markdown_base.specs.declared.item.ItemBody.{ItemBody}
 use Rattle.markdown_base.specs.declared.item.ItemBody.TheVariants as body
-use Rattle.markdown_chains.specs.ChainRest.{begun_at, end_of, open_body}
-use Rattle.markdown_chains.specs.Document.{Origin, Shape, leaf, enclosed, Label, is_unresolved}
-use Rattle.markdown_chains.specs.Setting.{Known}
+use Rattle.markdown_document.specs.ChainRest.{begun_at, end_of, open_body}
+use Rattle.markdown_document.specs.Document.{Origin, Shape, leaf, enclosed, Label, is_unresolved}
+use Rattle.markdown_document.specs.Setting.{Known}
 use Rattle.markdown_brackets.specs.BracketDecision.{Around, Closing, Progress}
 use Rattle.markdown_brackets.specs.ChainBegins.{BeginsLaw, BeginsSo, BeginsWith, trees_of}
 use Rattle.markdown_brackets.specs.ClosingBracket.{footnote_onto}

@@ -4,9 +4,10 @@ use Rattle.std.specs.Prelude.{IfSome, if◌then◌else◌}
 use Rattle.markdown_base.specs.Event.{LinkView}
 use Rattle.markdown_base.specs.Forest.{Forest, nil, node}
 use Rattle.markdown_base.specs.declared.tag.LinkType.{LinkType}
-use Rattle.markdown_chains.specs.Document.{Label, as_text}
-use Rattle.markdown_chains.specs.ChainRest.{start_of, end_of, open_body}
-use Rattle.markdown_brackets.specs.BracketOptions.{wikilinks_on, footnote_style}
+use Rattle.markdown_document.specs.Document.{Label, as_text}
+use Rattle.markdown_document.specs.ChainRest.{start_of, end_of, open_body}
+use Rattle.markdown_base.specs.EnabledOptions.{wikilinks_on}
+use Rattle.markdown_brackets.specs.BracketOptions.{footnote_style}
 use Rattle.markdown_brackets.specs.BracketDecision.{Around, Closing, Progress, Wikilink, footnote_used, footnote_tried, target_tried}
 use Rattle.markdown_brackets.specs.BracketDecision.{after_look_up, look_up_tried, question_at, inline_target, spent_by, Written, no_link}
 use Rattle.markdown_brackets.specs.BracketDecision.{inline_link, link_label, footnote_label, written, tried, opener_tried, wikilink_in}

@@ -6,11 +6,11 @@ use Rattle.markdown_base.specs.Event.{LinkView}
 use Rattle.markdown_base.specs.Questions.{Question, Answer, Answers}
 use Rattle.markdown_base.specs.declared.tag.LinkType.{LinkType}
 use Rattle.markdown_base.specs.declared.tag.LinkType.TheVariants as kind
-use Rattle.markdown_chains.specs.Setting.{uses_of}
-use Rattle.markdown_spans.specs.Folding.{is_match}
-use Rattle.markdown_spans.specs.Footnotes.{footnote_at}
-use Rattle.markdown_spans.specs.Footnotes as footnotes
-use Rattle.markdown_spans.specs.declared.defs.footnotes.FootnoteDefs.{FootnoteDefs}
+use Rattle.markdown_document.specs.Setting.{uses_of}
+use Rattle.markdown_defs.specs.Folding.{is_match}
+use Rattle.markdown_defs.specs.Footnotes.{footnote_at}
+use Rattle.markdown_defs.specs.Footnotes as footnotes
+use Rattle.markdown_defs.specs.declared.footnotes.FootnoteDefs.{FootnoteDefs}
 use Rattle.markdown_brackets.specs.BracketDecision.{footnote_used, to_be, Around, Becomes, Decision, Progress, a_text, a_link, a_footnote}
 use Rattle.markdown_brackets.specs.BracketDecision.{after_look_up, inline_target, question_at, spent_by, target_tried, tried, no_link}
 use Rattle.markdown_brackets.specs.BracketDecision.{inline_link, link_label, footnote_label}
@@ -21,8 +21,8 @@ use Rattle.markdown_brackets.specs.declared.footnote.FootnoteStyle.TheVariants a
 use Rattle.markdown_brackets.proofs.FootnoteUseLemmas.{uses_grow, uses_stay}
 use Rattle.markdown_base.specs.CowText.{text_of}
 use Rattle.markdown_base.specs.declared.cow_str.CowStr.{CowStr}
-use Rattle.markdown_chains.specs.ChainRest.{start_of}
-use Rattle.markdown_spans.specs.Definitions.{Labelled}
+use Rattle.markdown_document.specs.ChainRest.{start_of}
+use Rattle.markdown_defs.specs.Definitions.{Labelled}
 use Rattle.markdown_brackets.specs.BracketDecision as decision
 use Rattle.markdown_brackets.specs.DecisionView.{ComesTo, IsBecome, IsFootnoteOr, IsLinkOr, knowing, opener_of, spent_in}
 use Rattle.markdown_brackets.specs.LinkTailView.{IsTail}

@@ -6,8 +6,8 @@ use Rattle.markdown_base.specs.BlockTree.{item_at}
 use Rattle.markdown_base.specs.Questions.{Question, Answer}
 use Rattle.markdown_base.specs.declared.item.Item.{Item}
 use Rattle.markdown_base.specs.declared.node.Node.{Node}
-use Rattle.markdown_chains.specs.ChainRest.{end_of}
-use Rattle.markdown_chains.specs.Setting.{Known}
+use Rattle.markdown_document.specs.ChainRest.{end_of}
+use Rattle.markdown_document.specs.Setting.{Known}
 use Rattle.markdown_brackets.specs.BracketDecision.{Around, Closing, Decision, Progress, a_wikilink}
 use Rattle.markdown_brackets.specs.Decides.{Decides, StandsBefore, TakesNone, TakesOne}
 use Rattle.markdown_brackets.specs.DecisionView.{knowing, opener_of}

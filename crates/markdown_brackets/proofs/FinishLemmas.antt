@@ -8,8 +8,8 @@ use Rattle.markdown_base.specs.Arena.{sibling_of}
 use Rattle.markdown_base.specs.Forest.{Forest, nil, node, roots}
 use Rattle.markdown_base.specs.declared.item.Item.{Item}
 use Rattle.markdown_base.specs.declared.node.Node.{Node}
-use Rattle.markdown_chains.specs.Document.{Label}
-use Rattle.markdown_chains.specs.Tables.{Tables}
+use Rattle.markdown_document.specs.Document.{Label}
+use Rattle.markdown_document.specs.Tables.{Tables}
 use Rattle.markdown_brackets.specs.BracketDecision.{Around, Becomes, Closing, Progress, a_footnote, a_link, a_text, a_wikilink}
 use Rattle.markdown_brackets.specs.ChainHeld.{Holds, numbers_of}
 use Rattle.markdown_brackets.specs.ClosingBracket.{footnote_onto, put}

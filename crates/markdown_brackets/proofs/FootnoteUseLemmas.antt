@@ -5,12 +5,12 @@ use Rattle.std.specs.Cmp.Lexicographic.{same_text}
 use Rattle.std.specs.Option.{option_map}
 use Rattle.std.specs.Prelude.{encode_utf8_all, if◌then◌else◌}
 use Rattle.std.specs.BTreeMap.{get_by_text}
-use Rattle.markdown_chains.specs.Setting.{use_count, uses_of}
-use Rattle.markdown_spans.specs.Folding.{case_folding, is_match}
-use Rattle.markdown_spans.specs.Footnotes.{footnote_at}
-use Rattle.markdown_spans.specs.Footnotes as footnotes
-use Rattle.markdown_spans.specs.declared.defs.footnotes.FootnoteDef.{FootnoteDef}
-use Rattle.markdown_spans.specs.declared.defs.footnotes.FootnoteDefs.{FootnoteDefs}
+use Rattle.markdown_document.specs.Setting.{use_count, uses_of}
+use Rattle.markdown_defs.specs.Folding.{case_folding, is_match}
+use Rattle.markdown_defs.specs.Footnotes.{footnote_at}
+use Rattle.markdown_defs.specs.Footnotes as footnotes
+use Rattle.markdown_defs.specs.declared.footnotes.FootnoteDef.{FootnoteDef}
+use Rattle.markdown_defs.specs.declared.footnotes.FootnoteDefs.{FootnoteDefs}
 use Rattle.markdown_brackets.specs.BracketDecision.{used_once_more}
 
 -- names that match find the same footnote

@@ -16,9 +16,9 @@ use Rattle.markdown_brackets.specs.LeftList.{without_bracket, without_wikilink}
 use Rattle.markdown_brackets.specs.ReadChain.{Reader, begun, closing, read, read_as, read_chain, read_past}
 use Rattle.markdown_brackets.proofs.ClosingBracketLemmas.{Cases, in_each_case, some_of}
 use Rattle.markdown_brackets.proofs.NoLinkLemmas.{wikilink_keeps}
-use Rattle.markdown_chains.specs.ChainRest.{begun_at, end_of, open_body, past_byte, start_of}
-use Rattle.markdown_chains.specs.Document.{Label, Origin, as_text, enclosed, leaf}
-use Rattle.markdown_chains.specs.Setting.{Known}
+use Rattle.markdown_document.specs.ChainRest.{begun_at, end_of, open_body, past_byte, start_of}
+use Rattle.markdown_document.specs.Document.{Label, Origin, as_text, enclosed, leaf}
+use Rattle.markdown_document.specs.Setting.{Known}
 
 -- it holds of what is made of any label, and of a Text in place of one of the chain, and of a label that begins later
 pub record KeepsLabels {A : Type 0} (base p : Label A → Type 0) : Type 0 where

@@ -8,9 +8,9 @@ use Rattle.markdown_brackets.specs.KeptShapes.{PassesAll, PassesBelow, PassesLef
 use Rattle.markdown_brackets.specs.LeftList.{trees_onto}
 use Rattle.markdown_brackets.specs.ReadChain.{Reader, begun, read_chain}
 use Rattle.markdown_brackets.proofs.KeptLabelsLemmas.{EachBelow, KeepsLabels, each_left}
-use Rattle.markdown_chains.specs.ChainRest.{cut_shape}
-use Rattle.markdown_chains.specs.Document.{Origin, Shape, leaf, enclosed, plain, backslash_break, unresolved, Label}
-use Rattle.markdown_chains.specs.Setting.{Known}
+use Rattle.markdown_document.specs.ChainRest.{cut_shape}
+use Rattle.markdown_document.specs.Document.{Origin, Shape, leaf, enclosed, plain, backslash_break, unresolved, Label}
+use Rattle.markdown_document.specs.Setting.{Known}
 
 -- a shape that begins later passes as before
 cut_passes : (test : Shape → Bool) → ((e : EventView) (origins : List Origin) → test (leaf e origins) ≡ true) → (n : ℕ) (shape : Shape)

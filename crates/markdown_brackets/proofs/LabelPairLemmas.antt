@@ -2,20 +2,21 @@
 -- at the same byte of which the second begins directly behind a `]` in the first.
 use Rattle.std.proofs.Common.{◌≡◌, ℕ, zero, suc, ◌+◌, ◌-◌, ◌<◌, Bool, true, false, ◌||◌, ◌==◌, List, [], ◌∷◌, Option, Some, None}
 use Rattle.std.proofs.Common.{length, refl, sym, ap, subst, ◌∙◌, arith, take, drop, get_or, drop-cons, length-drop, if◌then◌else◌, is_none}
-use Rattle.std.proofs.Common.{unwrap_or, IfSome, nat_eq}
+use Rattle.std.proofs.Common.{unwrap_or, nat_eq}
 use Rattle.std.specs.Prelude.{option_and_then}
 use Rattle.std.specs.List.{list_any}
 use Rattle.std.specs.Option.{option_map, option_or}
 use Rattle.std.proofs.lemmas.Bool.Decides.{nat_tests}
 use Rattle.std.proofs.lemmas.List.{drop-drop}
 use Rattle.std.proofs.lemmas.Option.{none-some, same_Some}
-use Rattle.markdown_scan.specs.Backslash.{backslash, is_bare}
+use Rattle.markdown_base.specs.Bytes.{backslash}
+use Rattle.markdown_scan.specs.Backslash.{is_bare}
 use Rattle.markdown_scan.specs.Label.{refused, body, fits_label, label_bytes, link_label, put_before, shown}
 use Rattle.markdown_scan.specs.Label.{collapse_whitespace, with_shown}
 use Rattle.markdown_scan.specs.LinePrefix.{ends_line, prefix_after}
 use Rattle.markdown_brackets.specs.QuestionEnds.{HoldsNoOpener}
-use Rattle.markdown_brackets.specs.Reference.{FoundLabel, footnote_label, footnote_lines, label_after, label_after_bracket, label_at}
-use Rattle.markdown_brackets.specs.Reference.{label_past}
+use Rattle.markdown_brackets.specs.Reference.{FoundLabel, footnote_label, label_after, label_after_bracket, label_at}
+use Rattle.markdown_brackets.specs.Reference.{label_past, on_one_line}
 use Rattle.markdown_brackets.specs.declared.footnote.FootnoteStyle.{FootnoteStyle}
 use Rattle.markdown_brackets.specs.declared.footnote.FootnoteStyle.TheVariants as style
 
@@ -46,33 +47,37 @@ no_backslash : (escaped : Bool) (b : ℕ) (bytes : List ℕ) → ends_line b byt
 no_backslash true b bytes h = refl
 no_backslash false b bytes h = grind (arith, nat_tests)
 
-module _ (skipped : List ℕ → Option ℕ) (none : HoldsNoOpener skipped) where
+-- each line goes on, behind so many bytes
+abbrev behind : (List ℕ → ℕ) → List ℕ → Option ℕ
+behind skipped bytes = Some (skipped bytes)
+
+module _ (skipped : List ℕ → ℕ) (none : HoldsNoOpener skipped) where
   -- no label goes on at a `[` that is not escaped
   opens_none : (n : ℕ) (rest : List ℕ) → list_any (nat_eq 91) (take n (91 ∷ rest)) ≡ false
-      → body false (label_bytes skipped n (91 ∷ rest)) ≡ None
+      → body false (label_bytes (behind skipped) n (91 ∷ rest)) ≡ None
   opens_none zero rest h = refl
   opens_none (suc n) rest h = absurd (cc h)
 
   pair_here : (escaped : Bool) (n : ℕ) (rest : List ℕ) (k : ℕ) (text : List ℕ) → IsBehind escaped n (93 ∷ 91 ∷ rest)
-      → body escaped (label_bytes skipped n (93 ∷ 91 ∷ rest)) ≡ Some (k, text) → 1 < k → ⊥
+      → body escaped (label_bytes (behind skipped) n (93 ∷ 91 ∷ rest)) ≡ Some (k, text) → 1 < k → ⊥
   pair_here true zero rest k text h e l = none-some (k, text) e
   pair_here false zero rest k text h e l =
       let same = ap (λ (p : ℕ × List ℕ). p.0) (same_Some (0, []) (k, text) e) in
       absurd (omega (arith, same, l))
   pair_here true (suc n) rest k text h e l = absurd (cc (h.bare (omega arith)))
   pair_here false (suc n) rest k text h e l =
-      let later = one_more [] (body false (label_bytes skipped n (91 ∷ rest))) k text e in
+      let later = one_more [] (body false (label_bytes (behind skipped) n (91 ∷ rest))) k text e in
       none-some (later.place, later.text) (subst (λ o. o ≡ Some (later.place, later.text)) (opens_none n rest h.free) later.found)
 
   -- behind a byte, and the prefix after it
-  behind_byte : (escaped : Bool) (b : ℕ) (bytes : List ℕ) (m : ℕ) → prefix_after skipped b bytes ≡ Some m
+  behind_byte : (escaped : Bool) (b : ℕ) (bytes : List ℕ) (m : ℕ) → prefix_after (behind skipped) b bytes ≡ Some m
       → IsBehind (is_bare escaped b backslash) m bytes
   behind_byte escaped b bytes m e = by (ends_line b bytes) refl e
     where
-      by : (ends : Bool) → ends_line b bytes ≡ ends → (if ends then skipped bytes else Some 0) ≡ Some m
+      by : (ends : Bool) → ends_line b bytes ≡ ends → (if ends then behind skipped bytes else Some 0) ≡ Some m
           → IsBehind (is_bare escaped b backslash) m bytes
       by true line e = record {
-        free = subst (λ o. IfSome o (λ n. list_any (nat_eq 91) (take n bytes) ≡ false)) e (none bytes);
+        free = subst (λ n. list_any (nat_eq 91) (take n bytes) ≡ false) (same_Some (skipped bytes) m e) (none bytes);
         bare = λ l. no_backslash escaped b bytes line;
       }
       by false line e =
@@ -81,33 +86,33 @@ module _ (skipped : List ℕ → Option ℕ) (none : HoldsNoOpener skipped) wher
 
   -- what is found from a byte on, where it is not found there, is found behind it
   abbrev IsPast : (later : Bool) → List ℕ → ℕ → Type 0
-  IsPast later bytes k = (m : ℕ) × IsBehind later m bytes × Found (body later (label_bytes skipped m bytes)) k
+  IsPast later bytes k = (m : ℕ) × IsBehind later m bytes × Found (body later (label_bytes (behind skipped) m bytes)) k
 
   past_byte : (escaped : Bool) (b : ℕ) (bytes : List ℕ) (k : ℕ) (text : List ℕ)
-      → body escaped (label_bytes skipped 0 (b ∷ bytes)) ≡ Some (k, text) → 0 < k → IsPast (is_bare escaped b backslash) bytes k
-  past_byte escaped b bytes k text e l = by (is_bare escaped b 93) (is_bare escaped b 91) (prefix_after skipped b bytes) refl e
+      → body escaped (label_bytes (behind skipped) 0 (b ∷ bytes)) ≡ Some (k, text) → 0 < k → IsPast (is_bare escaped b backslash) bytes k
+  past_byte escaped b bytes k text e l = by (is_bare escaped b 93) (is_bare escaped b 91) (prefix_after (behind skipped) b bytes) refl e
     where
       later : Bool
       later = is_bare escaped b backslash
 
-      by : (closes opens : Bool) (o : Option ℕ) → prefix_after skipped b bytes ≡ o
+      by : (closes opens : Bool) (o : Option ℕ) → prefix_after (behind skipped) b bytes ≡ o
           → (if closes then Some (0, []) else if opens then None
-          else put_before 1 (b ∷ []) (body later (if is_none o then refused ∷ [] else label_bytes skipped (unwrap_or o 0) bytes)))
+          else put_before 1 (b ∷ []) (body later (if is_none o then refused ∷ [] else label_bytes (behind skipped) (unwrap_or o 0) bytes)))
           ≡ Some (k, text) → IsPast later bytes k
       by true opens o f e = let same = ap (λ (p : ℕ × List ℕ). p.0) (same_Some (0, []) (k, text) e) in absurd (omega (arith, same, l))
       by false true o f e = absurd (none-some (k, text) e)
       by false false None f e = absurd (none-some (k, text) e)
       by false false (Some m) f e =
-          (m, behind_byte escaped b bytes m f, one_more (b ∷ []) (body later (label_bytes skipped m bytes)) k text e)
+          (m, behind_byte escaped b bytes m f, one_more (b ∷ []) (body later (label_bytes (behind skipped) m bytes)) k text e)
 
   no_pair : (i : ℕ) (escaped : Bool) (n : ℕ) (bytes rest : List ℕ) (k : ℕ) (text : List ℕ) → IsBehind escaped n bytes
-      → body escaped (label_bytes skipped n bytes) ≡ Some (k, text) → suc i < k → drop i bytes ≡ 93 ∷ 91 ∷ rest → ⊥
+      → body escaped (label_bytes (behind skipped) n bytes) ≡ Some (k, text) → suc i < k → drop i bytes ≡ 93 ∷ 91 ∷ rest → ⊥
   no_pair zero escaped n bytes rest k text h e l d =
-      let here = subst (λ xs. body escaped (label_bytes skipped n xs) ≡ Some (k, text)) d e in
+      let here = subst (λ xs. body escaped (label_bytes (behind skipped) n xs) ≡ Some (k, text)) d e in
       pair_here escaped n rest k text (subst (IsBehind escaped n) d h) here l
   no_pair (suc i) escaped n [] rest k text h e l d = absurd (cc d)
   no_pair (suc i) escaped (suc n) (b ∷ bytes) rest k text h e l d =
-      let later = one_more [] (body escaped (label_bytes skipped n bytes)) k text e in
+      let later = one_more [] (body escaped (label_bytes (behind skipped) n bytes)) k text e in
       let free = or_second (nat_eq 91 b) (list_any (nat_eq 91) (take n bytes)) h.free in
       let behind : IsBehind escaped n bytes = record { free = free; bare = λ l. h.bare (omega arith) } in
       no_pair i escaped n bytes rest later.place later.text behind later.found (omega (arith, l, later.after)) d
@@ -142,8 +147,8 @@ module _ (skipped : List ℕ → Option ℕ) (in_table : Bool) where
   is_footnote : (s : FootnoteStyle) (bytes : List ℕ) (l : FoundLabel) → footnote_label s skipped in_table bytes ≡ Some l
       → l.is_footnote ≡ true
   is_footnote style.Off bytes l e = absurd (none-some l e)
-  is_footnote style.Gfm bytes l e = past_is_footnote 2 (label_after 94 (footnote_lines style.Gfm skipped) in_table bytes) l e
-  is_footnote style.Old bytes l e = past_is_footnote 2 (label_after 94 (footnote_lines style.Old skipped) in_table bytes) l e
+  is_footnote style.Gfm bytes l e = past_is_footnote 2 (label_after 94 on_one_line in_table bytes) l e
+  is_footnote style.Old bytes l e = past_is_footnote 2 (label_after 94 skipped in_table bytes) l e
 
   -- and else a link's
   abbrev squeezed : ℕ × List ℕ → ℕ × List ℕ
@@ -213,11 +218,11 @@ not_next text from later opens closes e =
     absurd (omega (arith, opens, closes, same))
 
 -- of two labels that end together the second does not begin directly behind a `]`
-pub labels_apart : (skipped : List ℕ → Option ℕ) → HoldsNoOpener skipped → (text : List ℕ) (from later to : ℕ)
-    → IsLabelFrom skipped text from to → IsLabelFrom skipped text later to → from < later → get_or text (later - 1) 0 ≡ 93 → ⊥
+pub labels_apart : (skipped : List ℕ → ℕ) → HoldsNoOpener skipped → (text : List ℕ) (from later to : ℕ)
+    → IsLabelFrom (behind skipped) text from to → IsLabelFrom (behind skipped) text later to → from < later → get_or text (later - 1) 0 ≡ 93 → ⊥
 labels_apart skipped none text from later to first second l byte =
-    let one = first_byte skipped text from to first in
-    let two = first_byte skipped text later to second in
+    let one = first_byte (behind skipped) text from to first in
+    let two = first_byte (behind skipped) text later to second in
     let apart = not_next text from later one.1 byte in
     let i : ℕ = later - from - 2 in
     let here : (from + 1) + i ≡ later - 1 = omega (arith, apart, l) in

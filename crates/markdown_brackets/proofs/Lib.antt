@@ -2,6 +2,7 @@ pub mod SeparatorLemmas
 pub mod TitleLemmas
 pub mod LinkTailLemmas
 pub mod ReferenceLemmas
+pub mod LabelLengthLemmas
 pub mod LookupLemmas
 pub mod LookupLawsLemmas
 pub mod OpenerLemmas
@@ -28,6 +29,7 @@ pub mod OpenerHeldLemmas
 pub mod SplitLemmas
 pub mod BracketStandsLemmas
 pub mod WikilinkNodesLemmas
+pub mod WikilinkPipeLemmas
 pub mod WikilinkFoundLemmas
 pub mod TakeWikilinkLemmas
 pub mod DecidesLemmas

@@ -1,14 +1,12 @@
 -- The tail of a link, from its parts.
 use Rattle.std.proofs.Common.{◌≡◌, ℕ, ◌+◌, ◌==◌, Bool, true, false, List, [], Option, Some, None, ◌≤◌, cond, length, sym, ◌∙◌, ap, subst}
-use Rattle.std.proofs.Common.{drop}
 use Rattle.std.specs.Prelude.{slice_index, if◌then◌else◌}
 use Rattle.std.proofs.lemmas.List.{get_or_past}
 use Rattle.markdown_base.specs.CowText.{text_of, IsBorrowed}
 use Rattle.markdown_base.specs.declared.cow_str.CowStr.{CowStr}
-use Rattle.markdown_scan.specs.Destination.{destination}
 use Rattle.markdown_scan.specs.Unescape.{unescaped}
 use Rattle.markdown_brackets.specs.LinkTail as tail
-use Rattle.markdown_brackets.specs.LinkTail.{link_tail, max_nesting, past_separator, after_destination, after_title, closed_at}
+use Rattle.markdown_brackets.specs.LinkTail.{link_tail, destination_at, past_separator, after_destination, after_title, closed_at}
 use Rattle.markdown_brackets.specs.LinkTailView.{ReadsTail, BorrowsTail}
 use Rattle.markdown_brackets.specs.LinkTitle.{Title, title_at}
 use Rattle.markdown_brackets.specs.TitlePart.{IsTitleText, IsTitlePart}
@@ -44,7 +42,7 @@ module _ (in_table : Bool) (skipped : List ℕ → Option ℕ) (starts : ℕ →
   titled next (Some t) h = closed (past_separator skipped text t.ends) t.text t.is_joined h
 
   pub tail_reads : (length : ℕ) → (slice_index text at == 40) ≡ true
-      → destination max_nesting (drop (past_separator skipped text (at + 1)) text) ≡ Some (length, written)
+      → destination_at text (past_separator skipped text (at + 1)) ≡ Some (length, written)
       → IsTitlePart skipped in_table text (past_separator skipped text (past_separator skipped text (at + 1) + length))
       (title_at starts text (past_separator skipped text (past_separator skipped text (at + 1) + length))) close title
       → Reads (link_tail skipped starts text at)
@@ -52,7 +50,7 @@ module _ (in_table : Bool) (skipped : List ℕ → Option ℕ) (starts : ℕ →
       let next : ℕ = past_separator skipped text (past_separator skipped text (at + 1) + length) in
       let here : link_tail skipped starts text at ≡ after_title skipped text next written (title_at starts text next) =
       ap (λ b. cond b (after_destination skipped starts text (past_separator skipped text (at + 1))
-      (destination max_nesting (drop (past_separator skipped text (at + 1)) text))) None) opens
+      (destination_at text (past_separator skipped text (at + 1)))) None) opens
       ∙ ap (after_destination skipped starts text (past_separator skipped text (at + 1))) e in
       subst Reads (sym here) (titled next (title_at starts text next) part)
 
@@ -71,14 +69,14 @@ module _ (in_table : Bool) (skipped : List ℕ → Option ℕ) (starts : ℕ →
   untitled next (Some t) h = unclosed (past_separator skipped text t.ends) t.text t.is_joined h
 
   pub tail_open : (length : ℕ) → (slice_index text at == 40) ≡ true
-      → destination max_nesting (drop (past_separator skipped text (at + 1)) text) ≡ Some (length, written)
+      → destination_at text (past_separator skipped text (at + 1)) ≡ Some (length, written)
       → IsTitlePart skipped in_table text (past_separator skipped text (past_separator skipped text (at + 1) + length))
       (title_at starts text (past_separator skipped text (past_separator skipped text (at + 1) + length))) close title
       → link_tail skipped starts text at ≡ None
   tail_open length opens e part =
       let next : ℕ = past_separator skipped text (past_separator skipped text (at + 1) + length) in
       ap (λ b. cond b (after_destination skipped starts text (past_separator skipped text (at + 1))
-      (destination max_nesting (drop (past_separator skipped text (at + 1)) text))) None) opens
+      (destination_at text (past_separator skipped text (at + 1)))) None) opens
       ∙ ap (after_destination skipped starts text (past_separator skipped text (at + 1))) e
       ∙ untitled next (title_at starts text next) part
 
@@ -87,7 +85,7 @@ pub tail_closed : (skipped : List ℕ → Option ℕ) (starts : ℕ → Option �
     → link_tail skipped starts text at ≡ None
 tail_closed skipped starts text at e =
     ap (λ b. cond b (after_destination skipped starts text (past_separator skipped text (at + 1))
-    (destination max_nesting (drop (past_separator skipped text (at + 1)) text))) None) e
+    (destination_at text (past_separator skipped text (at + 1)))) None) e
 
 -- no tail stands past the text's end
 pub tail_past_end : (skipped : List ℕ → Option ℕ) (starts : ℕ → Option ℕ) (text : List ℕ) (at : ℕ) → length text ≤ at
@@ -95,5 +93,5 @@ pub tail_past_end : (skipped : List ℕ → Option ℕ) (starts : ℕ → Option
 tail_past_end skipped starts text at past =
     ap (λ (b : ℕ). cond (b == 40)
     (after_destination skipped starts text (past_separator skipped text (at + 1))
-    (destination max_nesting (drop (past_separator skipped text (at + 1)) text))) None)
+    (destination_at text (past_separator skipped text (at + 1)))) None)
     (get_or_past text at 0 past)

@@ -4,8 +4,8 @@ use Rattle.std.proofs.Common.{refl, ◌∙◌, ap, arith, lit≤}
 use Rattle.std.proofs.lemmas.Bool.{cond_both}
 use Rattle.markdown_base.specs.Questions.{Question, Answer, Answers}
 use Rattle.markdown_base.specs.declared.block_parts.LinkDef.{LinkDef}
-use Rattle.markdown_spans.specs.Definitions as definitions
-use Rattle.markdown_spans.specs.Definitions.{Labelled}
+use Rattle.markdown_defs.specs.Definitions as definitions
+use Rattle.markdown_defs.specs.Definitions.{Labelled}
 use Rattle.markdown_brackets.specs.Lookup.{LookedUp, look_up, finds_nothing, defined_or_asked, answered, size_of}
 use Rattle.markdown_brackets.specs.LookupLaws.{AsksOnceAtMost, FindsNothingAtZero, HandsOnLaterAnswers, TakesItsBytes}
 

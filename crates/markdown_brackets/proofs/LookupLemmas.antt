@@ -6,8 +6,8 @@ use Rattle.markdown_base.specs.BlockParts.{definition_view}
 use Rattle.markdown_base.specs.Event.{LinkView}
 use Rattle.markdown_base.specs.Questions.{Question, Answer, Answers}
 use Rattle.markdown_base.specs.declared.block_parts.LinkDef.{LinkDef}
-use Rattle.markdown_spans.specs.Definitions as definitions
-use Rattle.markdown_spans.specs.Definitions.{Labelled}
+use Rattle.markdown_defs.specs.Definitions as definitions
+use Rattle.markdown_defs.specs.Definitions.{Labelled}
 use Rattle.markdown_brackets.specs.Lookup.{look_up, finds_nothing, defined_target, defined_or_asked, limit_after, asked}
 use Rattle.markdown_brackets.specs.LookupView.{LooksUp, IsAnswered, FindsTarget, target_by}
 

@@ -7,9 +7,9 @@ use Rattle.markdown_base.specs.Event.{LinkView, link, image}
 use Rattle.markdown_base.specs.Forest.{Forest, nil, node}
 use Rattle.markdown_base.specs.declared.item.ItemBody.{ItemBody}
 use Rattle.markdown_base.specs.declared.item.ItemBody.TheVariants as body
-use Rattle.markdown_chains.specs.Document.{Shape, leaf, enclosed, plain, backslash_break, unresolved, Label}
-use Rattle.markdown_chains.specs.Setting.{Known}
-use Rattle.markdown_chains.specs.ChainRest.{begun_at, past_byte, cut_shape, start_of, end_of, open_body}
+use Rattle.markdown_document.specs.Document.{Shape, leaf, enclosed, plain, backslash_break, unresolved, Label}
+use Rattle.markdown_document.specs.Setting.{Known}
+use Rattle.markdown_document.specs.ChainRest.{begun_at, past_byte, cut_shape, start_of, end_of, open_body}
 use Rattle.markdown_brackets.specs.BracketDecision.{Around, Closing, Progress, Wikilink, over, text_from, wikilink_in, wikilink_by}
 use Rattle.markdown_brackets.specs.BracketDecision.{children_of, if_some, past_second}
 use Rattle.markdown_brackets.specs.ClosingBracket.{footnote_onto, wikilink_target, closed}
@@ -308,7 +308,7 @@ module _ {A : Type 0} (w : Around) (p : Forest (Label A) → Type 0) (texts : (a
 
   pub wikilink_keeps : (trees : Forest (Label A)) (end : ℕ) → p trees → IfSome (wikilink_in w trees end) (λ found. p found.children)
   wikilink_keeps nil end h = tt
-  wikilink_keeps (node first below after) end h = by (wikilink_body w.setting.text (start_of first) end)
+  wikilink_keeps (node first below after) end h = by (wikilink_body w.setting.text w.above.block_end (start_of first) end)
     where
       by : (o : Option WikilinkBody) → IfSome (option_and_then (wikilink_by w first (node first below after) end) o)
           (λ found. p found.children)

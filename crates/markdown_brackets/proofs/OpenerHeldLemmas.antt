@@ -3,8 +3,8 @@ use Rattle.std.proofs.Common.{◌≡◌, ℕ, Bool, true, false, List, [], ◌�
 use Rattle.std.specs.Prelude.{IfSome, if◌then◌else◌}
 use Rattle.std.specs.Option.{option_map}
 use Rattle.markdown_base.specs.Forest.{Forest, nil, node}
-use Rattle.markdown_chains.specs.ChainRest.{joined}
-use Rattle.markdown_chains.specs.Document.{Label}
+use Rattle.markdown_document.specs.ChainRest.{joined}
+use Rattle.markdown_document.specs.Document.{Label}
 use Rattle.markdown_brackets.specs.DecisionView.{opener_of}
 use Rattle.markdown_brackets.specs.LeftList.{Flag, live, disabled, gone, Mark, Entry, done, waits, is_live, trees_onto, Split, behind}
 use Rattle.markdown_brackets.specs.LeftList.{nearest, change_nearest, opens_bracket, opens_wikilink, without_bracket, without_wikilink}

@@ -15,10 +15,10 @@ use Rattle.markdown_base.specs.Questions.{Question}
 use Rattle.markdown_base.specs.WellFormed.{StandsOverMarkup}
 use Rattle.markdown_base.specs.declared.item.ItemBody.{ItemBody}
 use Rattle.markdown_base.specs.declared.item.ItemBody.TheVariants as body
-use Rattle.markdown_chains.specs.ChainRest.{begun_at, cut_shape, end_of, open_body, start_of}
-use Rattle.markdown_chains.specs.Document.{Shape, leaf, enclosed, plain, backslash_break, unresolved, Label}
-use Rattle.markdown_chains.specs.Setting.{Known}
-use Rattle.markdown_brackets.specs.BracketDecision.{Around, Closing, Progress, block_text}
+use Rattle.markdown_document.specs.ChainRest.{begun_at, cut_shape, end_of, open_body, start_of}
+use Rattle.markdown_document.specs.Document.{Shape, leaf, enclosed, plain, backslash_break, unresolved, Label}
+use Rattle.markdown_document.specs.Setting.{Known}
+use Rattle.markdown_brackets.specs.BracketDecision.{Around, Closing, Progress, block_text, lines}
 use Rattle.markdown_brackets.specs.ClosingBracket.{closed}
 use Rattle.markdown_brackets.specs.QuestionEnds.{AsksAtMost, AsksNothing, EndApart, HoldsNoOpener, StandInLine, StandsInLine, closers_among}
 use Rattle.markdown_brackets.specs.QuestionEnds.{closes_bracket}
@@ -174,7 +174,7 @@ record IsUsedUp (w : Around) (last : ℕ) (spent : List ℕ) (end : ℕ) : Type 
   used : among end spent ≡ true
   from : ℕ
   behind : from ≤ last
-  label : IsLabelFrom w.skipped (block_text w) from end
+  label : IsLabelFrom (lines w) (block_text w) from end
 
 -- each question ends at a byte or before, or with such a label
 abbrev EndsBy : Around → ℕ → List ℕ → Question → Type 0
@@ -216,15 +216,15 @@ module _ {A : Type 0} (w : Around) (none : HoldsNoOpener w.skipped) (c : Closing
   here = end_of c.label
 
   -- no earlier question ends where the label ends that follows
-  full_apart : (spent : List ℕ) (end : ℕ) → IsLabelFrom w.skipped (block_text w) here end → (q : Question) → EndsBy w last spent q
+  full_apart : (spent : List ℕ) (end : ℕ) → IsLabelFrom (lines w) (block_text w) here end → (q : Question) → EndsBy w last spent q
       → (end ≡ q.span.end) → ⊥
   full_apart spent end label q (inl l) e = absurd (omega (arith, l, label.ends, at.later, e))
   full_apart spent end label q (inr k) e =
-      let first = first_byte w.skipped (block_text w) here end label in
+      let first = first_byte (lines w) (block_text w) here end label in
       let size = length-take w.above.block_end w.setting.text in
       let within : here < w.above.block_end = omega (arith, first.0, size) in
       let byte = get_or-take w.above.block_end w.setting.text (here - 1) 0 (omega (arith, within)) ∙ at.byte in
-      let earlier = subst (IsLabelFrom w.skipped (block_text w) k.from) (sym e) k.label in
+      let earlier = subst (IsLabelFrom (lines w) (block_text w) k.from) (sym e) k.label in
       labels_apart w.skipped none (block_text w) k.from here end earlier label (omega (arith, k.behind, at.later)) byte
 
   -- nor where the `]` ends, where that is not used up
@@ -262,7 +262,7 @@ module _ {A : Type 0} (w : Around) (none : HoldsNoOpener w.skipped) (c : Closing
           used = among_first q.span.end k.end s.spent e;
           from = here;
           behind = omega arith;
-          label = subst (IsLabelFrom w.skipped (block_text w) here) (sym e) label;
+          label = subst (IsLabelFrom (lines w) (block_text w) here) (sym e) label;
         }) in
         subst (λ (spent : List ℕ). ToldWith (s.asked ++ more) spent t.limit) (sym k.spends)
         (pushed s.asked (k.end ∷ s.spent) t.limit k.end more k.most so.apart kept other new)

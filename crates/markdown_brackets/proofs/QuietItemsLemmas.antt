@@ -3,9 +3,9 @@ use Rattle.std.proofs.Common.{◌≡◌, true, List, [], ◌∷◌, None, refl, 
 use Rattle.markdown_base.specs.Forest.{Forest, nil, node}
 use Rattle.markdown_base.specs.declared.item.ItemBody.{ItemBody}
 use Rattle.markdown_base.specs.declared.item.ItemBody.TheVariants as body
-use Rattle.markdown_chains.specs.ChainRest.{open_body}
-use Rattle.markdown_chains.specs.Document.{Shape, leaf, enclosed, plain, backslash_break, unresolved, Label}
-use Rattle.markdown_chains.specs.Waiting.{is_quiet, waits_for_pairing}
+use Rattle.markdown_document.specs.ChainRest.{open_body}
+use Rattle.markdown_document.specs.Document.{Shape, leaf, enclosed, plain, backslash_break, unresolved, Label}
+use Rattle.markdown_document.specs.Waiting.{is_quiet, waits_for_pairing}
 use Rattle.markdown_brackets.specs.BracketDecision.{Around, Progress}
 use Rattle.markdown_brackets.specs.LeftList.{Entry, done, trees_onto}
 use Rattle.markdown_brackets.specs.QuietItems.{LeavesQuiet, QuietItemsLaw, WaitsAtMost, all_done}

@@ -1,5 +1,5 @@
 -- Labels, forms of references and look-ups, as the definitions read them.
-use Rattle.std.proofs.Common.{◌≡◌, ℕ, true, false, List, [], ◌∷◌, Option, Some, None, codes, refl}
+use Rattle.std.proofs.Common.{◌≡◌, ℕ, true, false, List, [], ◌∷◌, Option, Some, None, codes, refl, take}
 use Rattle.markdown_base.specs.Questions.{Question}
 use Rattle.markdown_base.specs.declared.item.Item.{Item}
 use Rattle.markdown_base.specs.declared.item.ItemBody.TheVariants.{MaybeLinkOpen, MaybeLinkClose}
@@ -17,6 +17,10 @@ own = refl
 
 two_labels : own_label Off no_prefix false (codes "[a] [b]") 0 7 ≡ None
 two_labels = refl
+
+-- in a block that ends before its `]` it is none
+past_block : own_label Off no_prefix false (take 2 (codes "[a]")) 0 3 ≡ None
+past_block = refl
 
 -- footnotes, on one line as GitHub writes them
 no_footnotes : label_at Off no_prefix false (codes "[^a]") ≡ Some (record { is_footnote = false; length = 4; name = codes "^a" })

@@ -7,7 +7,8 @@ use Rattle.std.specs.Str.{IsUtf8, IsCharBoundary}
 use Rattle.std.proofs.lemmas.Bool.{cond_both}
 use Rattle.std.proofs.lemmas.Bool.Decides.{nat_tests}
 use Rattle.std.proofs.lemmas.Str.{IsUtf8-drop, IsCharBoundary-from_rest}
-use Rattle.markdown_scan.specs.LineEnd.{line_ending, begins_line_feed, line_feed, carriage_return}
+use Rattle.markdown_base.specs.Bytes.{line_feed, carriage_return}
+use Rattle.markdown_scan.specs.LineEnd.{line_ending, begins_line_feed}
 use Rattle.markdown_scan.proofs.BoundaryLemmas.{after_ascii_bytes}
 use Rattle.markdown_brackets.specs.Separator.{is_blank, blanks}
 

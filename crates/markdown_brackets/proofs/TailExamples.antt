@@ -27,6 +27,13 @@ with_title = refl
 nothing_in_it : link_tail no_prefix no_item (codes "[a]()") 3 ≡ Some (record { ends = 5; destination = []; title = []; is_joined = false })
 nothing_in_it = refl
 
+-- where no `)` stands it is not left out
+no_destination : link_tail no_prefix no_item (codes "[a](\n\u{b}\n)") 3 ≡ None
+no_destination = refl
+
+title_alone : link_tail no_prefix no_item (codes "[a](\n\u{c}\n't')") 3 ≡ None
+title_alone = refl
+
 title_after_brackets : link_tail no_prefix no_item (codes "[a](<c d>(t))x") 3
     ≡ Some (record { ends = 13; destination = codes "c d"; title = codes "t"; is_joined = false })
 title_after_brackets = refl
@@ -75,23 +82,27 @@ line_ending_stays : link_tail quote_prefix no_item (codes "[a](c 't\n> u')") 3
 line_ending_stays = refl
 
 -- wikilinks
-name_alone : wikilink_body (codes "[[foo]]") 2 5 ≡ Some (record { name = codes "foo"; shows = shows_name })
+name_alone : wikilink_body (codes "[[foo]]") 7 2 5 ≡ Some (record { name = codes "foo"; shows = shows_name })
 name_alone = refl
 
-name_and_text : wikilink_body (codes "[[bar|baz]]") 2 9 ≡ Some (record { name = codes "bar"; shows = shows_from 6 })
+name_and_text : wikilink_body (codes "[[bar|baz]]") 11 2 9 ≡ Some (record { name = codes "bar"; shows = shows_from 6 })
 name_and_text = refl
 
-nothing_after_pipe : wikilink_body (codes "[[a|]]") 2 4 ≡ Some (record { name = codes "a"; shows = shows_nothing 4 })
+nothing_after_pipe : wikilink_body (codes "[[a|]]") 6 2 4 ≡ Some (record { name = codes "a"; shows = shows_nothing 4 })
 nothing_after_pipe = refl
 
-first_pipe_cuts : wikilink_body (codes "[[a|b|c]]") 2 7 ≡ Some (record { name = codes "a"; shows = shows_from 4 })
+first_pipe_cuts : wikilink_body (codes "[[a|b|c]]") 9 2 7 ≡ Some (record { name = codes "a"; shows = shows_from 4 })
 first_pipe_cuts = refl
 
-empty_name : wikilink_body (codes "[[|b]]") 2 4 ≡ None
+-- past the block's end no pipe is seen
+pipe_past_block : wikilink_body (codes "[[a|b]]") 3 2 5 ≡ Some (record { name = codes "a|b"; shows = shows_name })
+pipe_past_block = refl
+
+empty_name : wikilink_body (codes "[[|b]]") 6 2 4 ≡ None
 empty_name = refl
 
-empty_body : wikilink_body (codes "[[]]") 2 2 ≡ None
+empty_body : wikilink_body (codes "[[]]") 4 2 2 ≡ None
 empty_body = refl
 
-inverted_body : wikilink_body (codes "[[]]") 3 2 ≡ None
+inverted_body : wikilink_body (codes "[[]]") 4 3 2 ≡ None
 inverted_body = refl

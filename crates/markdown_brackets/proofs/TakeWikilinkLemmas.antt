@@ -9,13 +9,13 @@ use Rattle.markdown_base.specs.Forest.{Forest, nil, node}
 use Rattle.markdown_base.specs.declared.item.Item.{Item}
 use Rattle.markdown_base.specs.declared.node.Node.{Node}
 use Rattle.markdown_base.proofs.ArenaForestLemmas.{height}
-use Rattle.markdown_chains.specs.ChainRest.{start_of, end_of, joined, open_body}
-use Rattle.markdown_chains.specs.Document.{Label}
-use Rattle.markdown_chains.specs.Totals.{same}
-use Rattle.markdown_chains.proofs.TablesLemmas.{same-refl}
+use Rattle.markdown_document.specs.ChainRest.{start_of, end_of, joined, open_body}
+use Rattle.markdown_document.specs.Document.{Label}
+use Rattle.markdown_document.specs.Totals.{same}
+use Rattle.markdown_document.proofs.TablesLemmas.{same-refl}
 use Rattle.markdown_brackets.specs.BracketDecision.{Around, Closing, Progress, Wikilink, decided, decided_before, one_decided, past_second}
 use Rattle.markdown_brackets.specs.BracketDecision.{wikilink_in, wikilink_opener, wikilink_or_one, wikilink_tried}
-use Rattle.markdown_brackets.specs.BracketOptions.{wikilinks_on}
+use Rattle.markdown_base.specs.EnabledOptions.{wikilinks_on}
 use Rattle.markdown_brackets.specs.ChainHeld.{Holds, numbers_of, times_of}
 use Rattle.markdown_brackets.specs.Decides.{StandsBefore, TakesNone, TakesWikilink}
 use Rattle.markdown_brackets.specs.DecisionView.{opener_of}

@@ -9,10 +9,10 @@ use Rattle.markdown_base.specs.Questions.{Question, Answer}
 use Rattle.markdown_base.specs.declared.item.Item.{Item}
 use Rattle.markdown_base.specs.declared.item.ItemBody.{ItemBody}
 use Rattle.markdown_base.specs.declared.node.Node.{Node}
-use Rattle.markdown_chains.specs.ChainRest.{start_of, end_of}
-use Rattle.markdown_spans.specs.Definitions.{Labelled}
-use Rattle.markdown_spans.specs.declared.defs.footnotes.FootnoteDefs.{FootnoteDefs}
-use Rattle.markdown_brackets.specs.BracketDecision.{Around, Closing, Decision, Progress, a_text, closer_ends_at, first_item, second_item}
+use Rattle.markdown_document.specs.ChainRest.{start_of, end_of}
+use Rattle.markdown_defs.specs.Definitions.{Labelled}
+use Rattle.markdown_defs.specs.declared.footnotes.FootnoteDefs.{FootnoteDefs}
+use Rattle.markdown_brackets.specs.BracketDecision.{Around, Closing, Decision, Progress, a_text, closer_ends_at, first_item, lines, second_item}
 use Rattle.markdown_brackets.specs.BracketDecision.{opener_tried, reference_written, start_of_first_past, tail_or, to_be, tried, written}
 use Rattle.markdown_brackets.specs.BracketDecision as decision
 use Rattle.markdown_brackets.specs.BracketOptions.{footnote_style}
@@ -29,7 +29,7 @@ use Rattle.markdown_brackets.specs.declared.closing_bracket.ClosedBracket.{Close
 use Rattle.markdown_brackets.specs.declared.closing_bracket.ClosedBracket.TheVariants.{Text}
 use Rattle.markdown_brackets.specs.declared.openers.Opener.{Opener}
 use Rattle.markdown_brackets.specs.declared.spent_ends.SpentEnds.{SpentEnds}
-use Rattle.markdown_brackets.specs.declared.written.BracketPlace.{BracketPlace}
+use Rattle.markdown_document.specs.declared.chain_place.ChainPlace.{ChainPlace}
 use Rattle.markdown_brackets.specs.declared.written.Written.{Written}
 use Rattle.markdown_brackets.proofs.AheadOfBracketLemmas.{closers_ahead, form_ahead_is, form_behind, starts_ahead}
 
@@ -41,7 +41,7 @@ reference_same could_be end closes closes' own (reference label to) behind same 
 reference_same could_be end closes closes' own collapsed behind same = refl
 reference_same could_be end closes closes' own shortcut behind same = refl
 
-module _ (nodes : List (Node Item)) (place : BracketPlace) (skipped : List ℕ → Option ℕ) (bodies : List ItemBody)
+module _ (nodes : List (Node Item)) (place : ChainPlace) (skipped : List ℕ → ℕ) (bodies : List ItemBody)
     (definitions : List Labelled)
     (footnotes : FootnoteDefs) (asks : Bool) (closer : ℕ) (could_be : Bool) (c : Closing ℕ) where
   abbrev w : Around
@@ -50,21 +50,21 @@ module _ (nodes : List (Node Item)) (place : BracketPlace) (skipped : List ℕ �
   -- what is written there
   pub written_is : (taken : Option (Opener × Bool)) (all : Option (Split ℕ)) (o : Split ℕ) (start : ℕ)
       → TriesOpener nodes closer could_be taken c all → 0 < (item_at nodes closer).end
-      → start ≡ end_of o.opener - 1 → written_at nodes place skipped closer could_be start ≡ written w c o
+      → start ≡ end_of o.opener - 1 → written_at nodes place (lines w) closer could_be start ≡ written w c o
   written_is taken all o start t some e =
       let next = sibling_of nodes closer in
       let text = take place.block_end place.text.now in
       let end = (item_at nodes closer).end in
-      let form : Form = form_ahead nodes place skipped closer in
-      let form_is : form ≡ form_at (footnote_style place.options) skipped place.in_table text end (first_item c.rest) (second_item c.rest) =
-      form_ahead_is t.source t.tables nodes (footnote_style place.options) skipped place.in_table text end next c.rest t.rest in
-      let behind : EndsBehind 0 form = form_behind (footnote_style place.options) skipped place.in_table text end
+      let form : Form = form_ahead nodes place (lines w) closer in
+      let form_is : form ≡ form_at (footnote_style place.options) (lines w) place.in_table text end (first_item c.rest) (second_item c.rest) =
+      form_ahead_is t.source t.tables nodes (footnote_style place.options) (lines w) place.in_table text end next c.rest t.rest in
+      let behind : EndsBehind 0 form = form_behind (footnote_style place.options) (lines w) place.in_table text end
       (option_map (item_at nodes) next)
       (option_map (item_at nodes) (option_and_then (sibling_of nodes) next)) some in
       let starts : starts_from nodes next ≡ start_of_first_past c.rest = fun_ext (starts_ahead t.source t.tables nodes next c.rest t.rest
       t.rest_found) in
-      let own : Option FoundLabel = own_label (footnote_style place.options) skipped place.in_table place.text.now start end in
-      ap (λ other. tail_or other (link_tail skipped (starts_from nodes next) text end))
+      let own : Option FoundLabel = own_label (footnote_style place.options) (lines w) place.in_table text start end in
+      ap (λ other. tail_or other (link_tail (lines w) (starts_from nodes next) text end))
       (reference_same could_be end (λ i. reaches_closer nodes i next) (λ i. closer_ends_at i c.rest) own form behind
       (closers_ahead t.source t.tables nodes next c.rest t.rest t.rest_found))
       ∙ rw (form_is, starts, t.ends, e, ← t.could) refl
@@ -91,7 +91,7 @@ module _ (nodes : List (Node Item)) (place : BracketPlace) (skipped : List ℕ �
     -- by what was read
     pub comes_by_live : (opener : Opener) (live : Bool) (item : Item) (read : Written) (spent spent' : SpentEnds) → live ≡ true
         → item ≡ item_at nodes opener.node
-        → 0 < (item_at nodes closer).end → IsRead place.in_table (written_at nodes place skipped closer could_be (item.end - 1)) read
+        → 0 < (item_at nodes closer).end → IsRead place.in_table (written_at nodes place (lines w) closer could_be (item.end - 1)) read
         → ((v : Around) (s : Split ℕ) (x : decision.Written) → KnowsRules v definitions footnotes asks (footnote_style place.options)
         → opener ≡ opener_of s → start_of s.opener ≡ item.start → IsRead v.above.in_table x read
         → ComesTo step v (tried v s x) (spent_in x) limit limit' uses uses' callback callback' found)
@@ -101,7 +101,7 @@ module _ (nodes : List (Node Item)) (place : BracketPlace) (skipped : List ℕ �
         → ComesToOpener step w c o limit limit' uses uses' spent spent' callback callback' found
     comes_by_live opener live item read spent spent' e is some h comes spends None t = absurd t.openers
     comes_by_live opener live item read spent spent' e is some h comes spends (Some o) t =
-        let x : decision.Written = written_at nodes place skipped closer could_be (item.end - 1) in
+        let x : decision.Written = written_at nodes place (lines w) closer could_be (item.end - 1) in
         let rules : KnowsRules w definitions footnotes asks (footnote_style place.options) =
         record { definitions_are = refl; footnotes_are = λ name. refl; asks_is = refl; style_is = refl } in
         let from : item.end - 1 ≡ end_of o.opener - 1 = ap (λ (i : Item). i.end - 1) is ∙ ap (λ n. n - 1) t.openers.ends in

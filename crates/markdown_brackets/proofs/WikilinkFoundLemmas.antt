@@ -1,6 +1,6 @@
 -- What a wikilink is in an arena is what the definition makes of the trees between its opener and the `]`.
 use Rattle.std.proofs.Common.{◌≡◌, ℕ, ◌-◌, ◌<◌, ◌≤◌, Bool, true, false, List, [], ◌∷◌, Option, Some, None, length, refl, sym, ◌∙◌, ap}
-use Rattle.std.proofs.Common.{subst, arith, nat_lt}
+use Rattle.std.proofs.Common.{subst, arith, nat_lt, take}
 use Rattle.std.specs.Prelude.{IfSome, if◌then◌else◌, slice_range}
 use Rattle.std.specs.Option.{option_and_then, option_map}
 use Rattle.markdown_base.specs.Arena.{sibling_of}
@@ -9,9 +9,9 @@ use Rattle.markdown_base.specs.BlockTree.{item_at}
 use Rattle.markdown_base.specs.Forest.{Forest, nil, node, first_root}
 use Rattle.markdown_base.specs.declared.item.Item.{Item}
 use Rattle.markdown_base.specs.declared.node.Node.{Node}
-use Rattle.markdown_chains.specs.ChainRest.{start_of, end_of, joined, past_byte}
-use Rattle.markdown_chains.specs.Document.{Label}
-use Rattle.markdown_chains.specs.Tables.{Tables}
+use Rattle.markdown_document.specs.ChainRest.{start_of, end_of, joined, past_byte}
+use Rattle.markdown_document.specs.Document.{Label}
+use Rattle.markdown_document.specs.Tables.{Tables}
 use Rattle.markdown_scan.specs.WikilinkPipe.{wikilink_pipe}
 use Rattle.markdown_brackets.specs.BracketDecision.{Around, Closing, Wikilink, past_second, if_some, text_from, wikilink_by, wikilink_in}
 use Rattle.markdown_brackets.specs.ChainAhead.{numbers_past}
@@ -55,12 +55,12 @@ cut_before : (text : List ℕ) (start end : ℕ) (pipe : Option (ℕ × List ℕ
 cut_before text start end None = named_before end (slice_range text start end) shows_name tt
 cut_before text start end (Some p) = named_before end p.1 (shown_from p.0 end) (shown_before p.0 end)
 
-body_before : (text : List ℕ) (start end : ℕ) → IfSome (wikilink_body text start end) (λ b. StartsBefore end b.shows)
-body_before text start end = by (nat_lt start end)
+body_before : (text : List ℕ) (block_end start end : ℕ) → IfSome (wikilink_body text block_end start end) (λ b. StartsBefore end b.shows)
+body_before text block_end start end = by (nat_lt start end)
   where
-    by : (b : Bool) → IfSome (if b then cut_at text start end (wikilink_pipe text start (end - start)) else None)
+    by : (b : Bool) → IfSome (if b then cut_at text start end (wikilink_pipe (take block_end text) start (end - start)) else None)
         (λ b. StartsBefore end b.shows)
-    by true = cut_before text start end (wikilink_pipe text start (end - start))
+    by true = cut_before text start end (wikilink_pipe (take block_end text) start (end - start))
     by false = tt
 
 module _ (source : List ℕ) (tables : Tables) (nodes : List (Node Item)) (w : Around) (closer : Label ℕ) (rest : Forest (Label ℕ))
@@ -126,18 +126,19 @@ module _ (source : List ℕ) (tables : Tables) (nodes : List (Node Item)) (w : A
   pub wikilink_is : (trees : Forest (Label ℕ)) (l : Option ℕ) → Found source tables nodes l (joined trees (node closer nil rest))
       → times_of closer.tag trees ≡ 0
       → (r : Option ClosedBracket)
-      → IsWikilinkAt opener end (option_and_then (wikilink_from nodes w.setting.text closer.tag) (link_to trees)) r
+      → IsWikilinkAt opener end (option_and_then (wikilink_from nodes w.setting.text w.above.block_end closer.tag) (link_to trees)) r
       → IsWikilink w opener end trees (wikilink_in w trees (start_of closer)) r
   wikilink_is nil l s apart r h = none_at_all nil r h
   wikilink_is (node f below after) l s apart r h =
-      by (wikilink_body w.setting.text (start_of f) (start_of closer)) (body_before w.setting.text (start_of f) (start_of closer))
+      by (wikilink_body w.setting.text w.above.block_end (start_of f) (start_of closer))
+      (body_before w.setting.text w.above.block_end (start_of f) (start_of closer))
       (subst (λ j. At (start_of f) j) reads (subst (λ i. At i (item_at nodes closer.tag).start) (same_start source tables nodes f s.holds.2)
       h))
     where
       At : (start stop : ℕ) → Type 0
       At start stop =
           IsWikilinkAt opener end (option_and_then (λ b. option_map (λ shown. (b, shown)) (shown_in nodes f.tag closer.tag b.shows start
-          stop)) (wikilink_body w.setting.text start stop)) r
+          stop)) (wikilink_body w.setting.text w.above.block_end start stop)) r
 
       by : (o : Option WikilinkBody) → IfSome o (λ b. StartsBefore (start_of closer) b.shows)
           → IsWikilinkAt opener end (option_and_then
@@ -180,7 +181,7 @@ finds_dead nodes w end closer opener live c (Some o) e t =
 
 pub finds_live : (nodes : List (Node Item)) (w : Around) (end closer : ℕ) (opener : Opener) (live : Bool) (c : Closing ℕ)
     (o : Option (Split ℕ)) (r : Option ClosedBracket) → live ≡ true
-    → IsWikilinkAt opener end (wikilink_nodes nodes w.setting.text opener.node closer) r
+    → IsWikilinkAt opener end (wikilink_nodes nodes w.setting.text w.above.block_end opener.node closer) r
     → TriesWikilink nodes closer (Some (opener, live)) c o → FindsWikilink w end c o r
 finds_live nodes w end closer opener live c None r e h t = absurd t
 finds_live nodes w end closer opener live c (Some o) r e h t =
@@ -193,10 +194,10 @@ finds_live nodes w end closer opener live c (Some o) r e h t =
     second_is s.source s.tables nodes c.label nil c.rest opener.node (inside o) s.holds s.apart in
     let reads : (item_at nodes c.label.tag).start ≡ start_of c.label = subst (λ n. (item_at nodes n).start ≡ start_of c.label)
     (sym s.number) s.starts in
-    let at : IsWikilinkAt opener end (option_and_then (wikilink_from nodes w.setting.text c.label.tag) (link_to (past_second (inside o)))) r
+    let at : IsWikilinkAt opener end (option_and_then (wikilink_from nodes w.setting.text w.above.block_end c.label.tag) (link_to (past_second (inside o)))) r
     =
-    subst (λ l. IsWikilinkAt opener end (option_and_then (wikilink_from nodes w.setting.text c.label.tag) l) r) begins
-    (subst (λ n. IsWikilinkAt opener end (wikilink_nodes nodes w.setting.text opener.node n) r) (sym s.number) h) in
+    subst (λ l. IsWikilinkAt opener end (option_and_then (wikilink_from nodes w.setting.text w.above.block_end c.label.tag) l) r) begins
+    (subst (λ n. IsWikilinkAt opener end (wikilink_nodes nodes w.setting.text w.above.block_end opener.node n) r) (sym s.number) h) in
     let found : IsWikilink w opener end (past_second (inside o)) (wikilink_in w (past_second (inside o)) (start_of c.label)) r =
     wikilink_is s.source s.tables nodes w c.label c.rest reads s.order opener end (past_second (inside o)) past.link past.found past.apart r
     at in

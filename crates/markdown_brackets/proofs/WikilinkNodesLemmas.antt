@@ -7,11 +7,11 @@ use Rattle.markdown_base.specs.Arena.{sibling_of}
 use Rattle.markdown_base.specs.Forest.{Forest, nil, node, first_root}
 use Rattle.markdown_base.specs.declared.item.Item.{Item}
 use Rattle.markdown_base.specs.declared.node.Node.{Node}
-use Rattle.markdown_chains.specs.ChainRest.{end_of, begun_at, joined, past_byte}
-use Rattle.markdown_chains.specs.Document.{Label}
-use Rattle.markdown_chains.specs.Tables.{Tables}
-use Rattle.markdown_chains.specs.Totals.{same}
-use Rattle.markdown_chains.proofs.TablesLemmas.{same-refl}
+use Rattle.markdown_document.specs.ChainRest.{end_of, begun_at, joined, past_byte}
+use Rattle.markdown_document.specs.Document.{Label}
+use Rattle.markdown_document.specs.Tables.{Tables}
+use Rattle.markdown_document.specs.Totals.{same}
+use Rattle.markdown_document.proofs.TablesLemmas.{same-refl}
 use Rattle.markdown_brackets.specs.BracketDecision.{past_second}
 use Rattle.markdown_brackets.specs.ChainAhead.{numbers_past}
 use Rattle.markdown_brackets.specs.ChainHeld.{Holds, numbers_of, times_of, link_to}

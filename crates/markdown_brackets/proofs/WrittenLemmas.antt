@@ -1,22 +1,30 @@
 -- An inline link's tail is what is written, and where there is none, a reference is.
 use Rattle.std.proofs.Common.{rules, ◌≡◌, ℕ, ◌<◌, ◌≤◌, Bool, List, Option, Some, None, Result, Ok, Err, get_or, length, min, take, arith}
-use Rattle.std.proofs.Common.{sym, subst}
+use Rattle.std.proofs.Common.{◌+◌, ◌&&◌, true, false, refl, sym, ◌∙◌, ap, subst, if◌then◌else◌}
 use Rattle.std.proofs.lemmas.List.{get_or-take, length-take}
 use Rattle.std.specs.Str.{IsCharBoundary}
 use Rattle.std.specs.Prelude.{IfOk, OnOk, slice_range}
+use Rattle.std.specs.Option.{option_and_then, option_map}
+use Rattle.markdown_base.specs.Arena.{sibling_of}
+use Rattle.markdown_base.specs.BlockTree.{item_at}
 use Rattle.markdown_base.specs.declared.item.Item.{Item}
 use Rattle.markdown_base.specs.declared.node.Node.{Node}
-use Rattle.markdown_brackets.specs.ChainAhead.{starts_from}
-use Rattle.markdown_brackets.specs.BracketDecision.{tail_or}
+use Rattle.markdown_document.specs.declared.chain_place.ChainPlace.{ChainPlace}
+use Rattle.markdown_brackets.specs.BracketDecision.{reference_written, tail_or}
+use Rattle.markdown_brackets.specs.BracketOptions.{footnote_style}
+use Rattle.markdown_brackets.specs.ChainAhead.{reaches_closer, starts_from}
 use Rattle.markdown_brackets.specs.BracketDecision as decision
 use Rattle.markdown_brackets.specs.LinkTail.{link_tail}
 use Rattle.markdown_brackets.specs.LinkTail as scanned
 use Rattle.markdown_brackets.specs.LinkTailView.{ReadsTail}
-use Rattle.markdown_brackets.specs.WrittenView.{IsRead}
+use Rattle.markdown_brackets.specs.Reference.{Form, FoundLabel, collapsed, shortcut, is_closer, is_opener, stands_at}
+use Rattle.markdown_brackets.specs.WrittenView.{IsRead, form_ahead, reference_at, written_at}
 use Rattle.markdown_brackets.specs.declared.link_tail.LinkTail.{LinkTail}
 use Rattle.markdown_brackets.specs.declared.written.Written.{Written}
 use Rattle.markdown_brackets.specs.declared.written.Written.TheVariants.{Inline}
+use Rattle.markdown_brackets.proofs.LabelLengthLemmas.{no_label_past_block}
 use Rattle.markdown_brackets.proofs.LinkTailLemmas.{tail_past_end}
+use Rattle.markdown_brackets.proofs.ReferenceLemmas.{form_past}
 
 pub read_tail : (in_table : Bool) (other : decision.Written) (t : Option scanned.LinkTail) (found : LinkTail)
     → ReadsTail in_table t (Some found)
@@ -70,11 +78,31 @@ boundary_within text end s h le =
 pub within_taken : (text : List ℕ) (end s : ℕ) → s ≤ length (take end text) → s ≤ end
 within_taken text end s h = omega (arith, h, length-take end text)
 
-pub taken_past : (text : List ℕ) (end at : ℕ) → end < at → length (take end text) ≤ at
-taken_past text end at h = omega (arith, h, length-take end text)
+-- without a label of its own no `]` is a reference in these forms
+no_reference : (could_be : Bool) (end : ℕ) (closes : ℕ → Bool) (empty : Bool)
+    → reference_written could_be end closes None (if empty then collapsed else shortcut) ≡ decision.no_link
+no_reference true end closes true = refl
+no_reference false end closes true = refl
+no_reference true end closes false = refl
+no_reference false end closes false = refl
 
--- where no tail stands
-pub no_tail : (in_table : Bool) (skipped : List ℕ → Option ℕ) (starts : ℕ → Option ℕ) (text : List ℕ) (at : ℕ) → length text ≤ at
-    → ReadsTail in_table (link_tail skipped starts text at) None
-no_tail in_table skipped starts text at past = subst (λ (t : Option scanned.LinkTail). ReadsTail in_table t None)
-    (sym (tail_past_end skipped starts text at past)) tt
+-- past the block's end nothing is written
+pub nothing_past_block : (nodes : List (Node Item)) (place : ChainPlace) (skipped : List ℕ → Option ℕ) (closer : ℕ) (could_be : Bool)
+    (start : ℕ) → place.block_end < (item_at nodes closer).end
+    → written_at nodes place skipped closer could_be start ≡ decision.no_link
+nothing_past_block nodes place skipped closer could_be start past =
+    let end = (item_at nodes closer).end in
+    let text : List ℕ = take place.block_end place.text.now in
+    let next = sibling_of nodes closer in
+    let within : length text ≤ end = omega (arith, past, length-take place.block_end place.text.now) in
+    let form : Form = form_ahead nodes place skipped closer in
+    let after : Option Item = option_map (item_at nodes) next in
+    let second : Option Item = option_map (item_at nodes) (option_and_then (sibling_of nodes) next) in
+    let closes : ℕ → Bool = λ i. reaches_closer nodes i next in
+    ap (tail_or (reference_at nodes place skipped closer could_be start form))
+    (tail_past_end skipped (starts_from nodes next) text end within)
+    ∙ ap (λ (own : Option FoundLabel). reference_written could_be end closes own form)
+    (no_label_past_block place.in_table (footnote_style place.options) skipped place.text.now place.block_end start end past)
+    ∙ ap (reference_written could_be end closes None)
+    (form_past (footnote_style place.options) skipped place.in_table text end after second within)
+    ∙ no_reference could_be end closes (stands_at end is_opener after && stands_at (end + 1) is_closer second)

@@ -10,14 +10,15 @@ use Rattle.markdown_base.specs.declared.item.Item.{Item}
 use Rattle.markdown_base.specs.declared.item.ItemBody.{ItemBody}
 use Rattle.markdown_base.specs.declared.tag.LinkType.{LinkType}
 use Rattle.markdown_base.specs.declared.tag.LinkType.TheVariants as kind
-use Rattle.markdown_chains.specs.Above.{Above}
-use Rattle.markdown_chains.specs.Document.{Shape, Label}
-use Rattle.markdown_chains.specs.Document.{text_over}
-use Rattle.markdown_chains.specs.Setting.{Setting, Known}
+use Rattle.markdown_document.specs.Above.{Above}
+use Rattle.markdown_document.specs.Document.{Shape, Label}
+use Rattle.markdown_document.specs.Document.{text_over}
+use Rattle.markdown_document.specs.Setting.{Setting, Known}
 use Rattle.markdown_scan.specs.Unescape.{unescaped}
-use Rattle.markdown_spans.specs.Folding.{is_match}
-use Rattle.markdown_chains.specs.ChainRest.{start_of, end_of, open_body, as_item, past_byte}
-use Rattle.markdown_brackets.specs.BracketOptions.{footnote_style, wikilinks_on}
+use Rattle.markdown_defs.specs.Folding.{is_match}
+use Rattle.markdown_document.specs.ChainRest.{start_of, end_of, open_body, as_item, past_byte}
+use Rattle.markdown_base.specs.EnabledOptions.{wikilinks_on}
+use Rattle.markdown_brackets.specs.BracketOptions.{footnote_style}
 use Rattle.markdown_brackets.specs.FootnoteUse.{is_reference}
 use Rattle.markdown_brackets.specs.LeftList.{Entry, Split, inside, is_live, nearest, opens_bracket}
 use Rattle.markdown_brackets.specs.LeftList.{opens_wikilink, bracket_taken, wikilink_taken}
@@ -33,7 +34,11 @@ use Rattle.markdown_brackets.specs.Wikilink.{wikilink_body}
 pub record Around : Type 0 where
   pub setting : Setting
   pub above : Above
-  pub skipped : List ℕ → Option ℕ
+  pub skipped : List ℕ → ℕ
+
+-- behind a line ending the text goes on after its line's prefix
+abbrev pub lines : Around → List ℕ → Option ℕ
+lines w bytes = Some (w.skipped bytes)
 
 -- a `]`: its label, whether what it closes could be a reference, and the chain after it
 pub record Closing (A : Type 0) : Type 0 where
@@ -141,10 +146,10 @@ pub data Written : Type 0 where
   link_label : LinkType → List ℕ → (end next : ℕ) → Written
   footnote_label : List ℕ → Written
 
--- what stands from the opener's `[` to this `]`, where it is exactly one label
+-- what stands in the block from the opener's `[` to this `]`, where it is exactly one label
 abbrev pub label_of_opener : {A : Type 0} → Around → Closing A → Split A → Option FoundLabel
 label_of_opener w c o =
-    own_label (footnote_style w.setting.rules.options) w.skipped w.above.in_table w.setting.text
+    own_label (footnote_style w.setting.rules.options) (lines w) w.above.in_table (block_text w)
     (end_of o.opener - 1) (end_of c.label)
 
 -- what is written from the opener to the `]`, as a label of its own
@@ -156,7 +161,7 @@ own_written link_type end next (Some l) =
 -- how a reference is written at a `]`
 abbrev pub form_of : {A : Type 0} → Around → Closing A → Form
 form_of w c =
-    form_at (footnote_style w.setting.rules.options) w.skipped w.above.in_table (block_text w) (end_of c.label)
+    form_at (footnote_style w.setting.rules.options) (lines w) w.above.in_table (block_text w) (end_of c.label)
     (first_item c.rest) (second_item c.rest)
 
 -- a reference, of a `]` that ends at a byte: in full, where a `]` ends the label that follows; collapsed; or a
@@ -180,7 +185,7 @@ written w c o =
     let end = end_of c.label in
     tail_or
     (reference_written c.could_be_reference end (λ i. closer_ends_at i c.rest) (label_of_opener w c o) (form_of w c))
-    (link_tail w.skipped (start_of_first_past c.rest) (block_text w) end)
+    (link_tail (lines w) (start_of_first_past c.rest) (block_text w) end)
 
 -- where an inline link leads
 abbrev pub inline_target : Around → LinkTail → LinkView
@@ -270,7 +275,7 @@ abbrev pub wikilink_in : {A : Type 0} → Around → Forest (Label A) → (end :
 wikilink_in w nil end = None
 wikilink_in w (node first below after) end =
     option_and_then (wikilink_by w first (node first below after) end)
-    (wikilink_body w.setting.text (start_of first) end)
+    (wikilink_body w.setting.text w.above.block_end (start_of first) end)
 
 -- the body begins at the second item after the opener
 abbrev pub past_second : {A : Type 0} → Forest (Label A) → Forest (Label A)

@@ -2,7 +2,7 @@
 use Rattle.std.specs.Prelude.{◌≡◌, ◌+◌, ◌-◌, ◌≤◌, ◌++◌, length}
 use Rattle.markdown_base.specs.Forest.{Forest}
 use Rattle.markdown_base.specs.Questions.{Answers}
-use Rattle.markdown_chains.specs.Document.{Label}
+use Rattle.markdown_document.specs.Document.{Label}
 use Rattle.markdown_brackets.specs.BracketDecision.{Around, Closing, Progress, Step}
 use Rattle.markdown_brackets.specs.ClosingBracket.{closed}
 use Rattle.markdown_brackets.specs.ReadChain.{Reader, read_chain}

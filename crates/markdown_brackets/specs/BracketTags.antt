@@ -1,8 +1,8 @@
 -- Tags say nothing to brackets: a chain with other tags reads the same, with those tags on what is read.
 use Rattle.std.specs.Prelude.{◌≡◌, List, map}
 use Rattle.markdown_base.specs.Forest.{Forest}
-use Rattle.markdown_chains.specs.Document.{Label}
-use Rattle.markdown_chains.specs.Labels.{retag, retagged}
+use Rattle.markdown_document.specs.Document.{Label}
+use Rattle.markdown_document.specs.Labels.{retag, retagged}
 use Rattle.markdown_brackets.specs.BracketDecision.{Around, Progress}
 use Rattle.markdown_brackets.specs.LeftList.{Entry, done, waits}
 use Rattle.markdown_brackets.specs.ReadChain.{Reader, read_chain}

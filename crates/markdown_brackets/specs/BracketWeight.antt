@@ -2,10 +2,10 @@
 -- nodes that it may become.
 use Rattle.std.specs.Prelude.{ℕ, ◌+◌, ◌≤◌, List, [], ◌∷◌}
 use Rattle.markdown_base.specs.Forest.{Forest, nil}
-use Rattle.markdown_chains.specs.Document.{Label, is_unresolved}
-use Rattle.markdown_chains.specs.Labels.{weight}
-use Rattle.markdown_chains.specs.Setting.{Known}
-use Rattle.markdown_chains.specs.Totals.{weight_if}
+use Rattle.markdown_document.specs.Document.{Label, is_unresolved}
+use Rattle.markdown_document.specs.Labels.{weight}
+use Rattle.markdown_document.specs.Setting.{Known}
+use Rattle.markdown_document.specs.Totals.{weight_if}
 use Rattle.markdown_brackets.specs.BracketDecision.{Around, Progress}
 use Rattle.markdown_brackets.specs.LeftList.{Entry, done, waits, trees_onto}
 use Rattle.markdown_brackets.specs.ReadChain.{Reader, begun, read_chain}

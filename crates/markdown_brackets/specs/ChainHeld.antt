@@ -5,10 +5,10 @@ use Rattle.markdown_base.specs.BlockTree.{item_at}
 use Rattle.markdown_base.specs.Forest.{Forest, nil, node, Each, relabelled}
 use Rattle.markdown_base.specs.declared.item.Item.{Item}
 use Rattle.markdown_base.specs.declared.node.Node.{Node}
-use Rattle.markdown_chains.specs.Document.{Label, Plain, part_of}
-use Rattle.markdown_chains.specs.Places.{IsPlaced}
-use Rattle.markdown_chains.specs.Tables.{Tables}
-use Rattle.markdown_chains.specs.Totals.{total, same}
+use Rattle.markdown_document.specs.Document.{Label, Plain, part_of}
+use Rattle.markdown_document.specs.Places.{IsPlaced}
+use Rattle.markdown_document.specs.Tables.{Tables}
+use Rattle.markdown_document.specs.Totals.{total, same}
 
 -- from the link l on the links lead through these trees: each node has its label's number, and reads as its label
 abbrev pub Holds : List ℕ → Tables → List (Node Item) → Option ℕ → Forest (Label ℕ) → Type 0

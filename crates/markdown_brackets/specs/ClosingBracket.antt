@@ -4,9 +4,9 @@ use Rattle.std.specs.Prelude.{if◌then◌else◌}
 use Rattle.markdown_base.specs.Event.{LinkView, TagView, link, image, footnote_reference}
 use Rattle.markdown_base.specs.Forest.{nil}
 use Rattle.markdown_base.specs.declared.tag.LinkType.TheVariants as kind
-use Rattle.markdown_chains.specs.Document.{made, leaf, enclosed, Label}
-use Rattle.markdown_chains.specs.Document.{as_text}
-use Rattle.markdown_chains.specs.ChainRest.{start_of, end_of}
+use Rattle.markdown_document.specs.Document.{made, leaf, enclosed, Label}
+use Rattle.markdown_document.specs.Document.{as_text}
+use Rattle.markdown_document.specs.ChainRest.{start_of, end_of}
 use Rattle.markdown_brackets.specs.BracketDecision.{Around, Becomes, Closing, Decision, Progress, Step, Wikilink}
 use Rattle.markdown_brackets.specs.BracketDecision.{a_footnote, a_link, a_text, a_wikilink, decided, over, text_from}
 use Rattle.markdown_brackets.specs.LeftList.{Mark, Entry, done, Split, inside}

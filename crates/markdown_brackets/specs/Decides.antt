@@ -5,10 +5,10 @@ use Rattle.markdown_base.specs.Forest.{Forest, nil, node}
 use Rattle.markdown_base.specs.Questions.{Question, Answer, Answers}
 use Rattle.markdown_base.specs.declared.item.Item.{Item}
 use Rattle.markdown_base.specs.declared.node.Node.{Node}
-use Rattle.markdown_chains.specs.ChainRest.{start_of, end_of}
-use Rattle.markdown_chains.specs.Document.{Label}
-use Rattle.markdown_chains.specs.Tables.{Tables}
-use Rattle.markdown_spans.specs.Callback.{Asks}
+use Rattle.markdown_document.specs.ChainRest.{start_of, end_of}
+use Rattle.markdown_document.specs.Document.{Label}
+use Rattle.markdown_document.specs.Tables.{Tables}
+use Rattle.markdown_defs.specs.Callback.{Asks}
 use Rattle.markdown_brackets.specs.BracketDecision.{Around, Becomes, a_wikilink, Closing, Progress, Wikilink, decided}
 use Rattle.markdown_brackets.specs.BracketDecision.{one_decided}
 use Rattle.markdown_brackets.specs.ChainHeld.{Holds, numbers_of, times_of}

@@ -5,12 +5,12 @@ use Rattle.markdown_base.specs.Event.{LinkView}
 use Rattle.markdown_base.specs.Forest.{Forest, nil, node}
 use Rattle.markdown_base.specs.Questions.{Question, Answer, Answers}
 use Rattle.markdown_base.specs.declared.item.ItemBody.{ItemBody}
-use Rattle.markdown_chains.specs.ChainRest.{past_byte}
-use Rattle.markdown_chains.specs.Document.{Label}
-use Rattle.markdown_spans.specs.Callback.{Asks}
-use Rattle.markdown_spans.specs.Definitions.{Labelled}
-use Rattle.markdown_spans.specs.Footnotes.{footnote_at}
-use Rattle.markdown_spans.specs.declared.defs.footnotes.FootnoteDefs.{FootnoteDefs}
+use Rattle.markdown_document.specs.ChainRest.{past_byte}
+use Rattle.markdown_document.specs.Document.{Label}
+use Rattle.markdown_defs.specs.Callback.{Asks}
+use Rattle.markdown_defs.specs.Definitions.{Labelled}
+use Rattle.markdown_defs.specs.Footnotes.{footnote_at}
+use Rattle.markdown_defs.specs.declared.footnotes.FootnoteDefs.{FootnoteDefs}
 use Rattle.markdown_brackets.specs.BracketDecision.{Around, Becomes, a_text, a_link, a_footnote, a_wikilink, Progress}
 use Rattle.markdown_brackets.specs.BracketDecision.{Try}
 use Rattle.markdown_brackets.specs.BracketDecision.{past_second, spent_by, text_from, link_label}
@@ -25,11 +25,15 @@ use Rattle.markdown_brackets.specs.declared.closing_bracket.ClosedBracket.TheVar
 use Rattle.markdown_brackets.specs.declared.openers.Opener.{Opener}
 use Rattle.markdown_brackets.specs.declared.wikilink_nodes.ShownNodes.{ShownNodes}
 use Rattle.markdown_brackets.specs.declared.wikilink_nodes.ShownNodes.TheVariants.{Over, From}
-use Rattle.markdown_brackets.specs.declared.written.BracketPlace.{BracketPlace}
+use Rattle.markdown_document.specs.declared.chain_place.ChainPlace.{ChainPlace}
 
--- what the brackets of a chain at a place are read by: its lines go on by a rule; the blocks above are these; these
--- definitions and footnotes can be found, and there is somebody to ask or not
-abbrev pub around_at : BracketPlace → (List ℕ → Option ℕ) → List ItemBody → List Labelled → FootnoteDefs → Bool → Around
+-- by a rule each line goes on behind a prefix of so many bytes
+abbrev pub GoesOnBehind : (rule : List ℕ → Option ℕ) → (List ℕ → ℕ) → Type 0
+GoesOnBehind rule skipped = (bytes : List ℕ) → rule bytes ≡ Some (skipped bytes)
+
+-- what the brackets of a chain at a place are read by: its lines go on behind such a prefix; the blocks above are
+-- these; these definitions and footnotes can be found, and there is somebody to ask or not
+abbrev pub around_at : ChainPlace → (List ℕ → ℕ) → List ItemBody → List Labelled → FootnoteDefs → Bool → Around
 around_at place skipped bodies definitions footnotes asks = record {
   setting = record {
     text = place.text.now;

@@ -1,7 +1,7 @@
 -- What a `]` becomes stands at an opener of the left list, and what is put there takes openers off that waited.
 use Rattle.std.specs.Prelude.{◌≡◌, ℕ, ◌<◌, ◌++◌, ⊤, List, [], ◌∷◌}
 use Rattle.markdown_base.specs.Forest.{Forest, nil, roots}
-use Rattle.markdown_chains.specs.Document.{Label}
+use Rattle.markdown_document.specs.Document.{Label}
 use Rattle.markdown_brackets.specs.BracketDecision.{Becomes, a_text, a_link, a_footnote, a_wikilink}
 use Rattle.markdown_brackets.specs.ChainHeld.{numbers_of}
 use Rattle.markdown_brackets.specs.LeftList.{Entry, waits, Mark, Split, trees_onto}

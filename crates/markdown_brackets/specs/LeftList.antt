@@ -3,7 +3,7 @@
 use Rattle.std.specs.Prelude.{ℕ, Bool, true, false, not, if◌then◌else◌, List, [], ◌∷◌, map, Option, Some, None}
 use Rattle.std.specs.Option.{option_map}
 use Rattle.markdown_base.specs.Forest.{Forest, nil, node}
-use Rattle.markdown_chains.specs.Document.{Label}
+use Rattle.markdown_document.specs.Document.{Label}
 use Rattle.markdown_brackets.specs.Openers.{Waiting}
 
 -- whether an opener may still become something; it is gone once a `]` was tried with it

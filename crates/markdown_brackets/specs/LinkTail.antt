@@ -2,6 +2,7 @@
 -- many bytes of what follows a line ending are its line's prefix; `starts` gives, of a byte, the start of the first
 -- item after the `]` whose end is past it.
 use Rattle.std.specs.Prelude.{ℕ, ◌+◌, Bool, false, ◌==◌, List, [], Option, Some, None, if◌then◌else◌, drop, slice_index}
+use Rattle.markdown_base.specs.Bytes.{close_parenthesis, open_parenthesis}
 use Rattle.markdown_scan.specs.Destination.{destination}
 use Rattle.markdown_brackets.specs.LinkTitle.{Title, title_at}
 use Rattle.markdown_brackets.specs.Separator.{separator}
@@ -17,6 +18,18 @@ pub record LinkTail : Type 0 where
 abbrev pub max_nesting : ℕ
 max_nesting = 32
 
+-- what was found, unless it has no bytes
+abbrev pub of_some_bytes : Option (ℕ × List ℕ) → Option (ℕ × List ℕ)
+of_some_bytes None = None
+of_some_bytes (Some d) = if d.0 == 0 then None else Some d
+
+-- the destination that stands at byte i of the text, with its length: left out where a `)` stands there, else of some
+-- bytes
+abbrev pub destination_at : List ℕ → ℕ → Option (ℕ × List ℕ)
+destination_at text i =
+    if slice_index text i == close_parenthesis then Some (0, [])
+    else of_some_bytes (destination max_nesting (drop i text))
+
 -- the byte after the separator that stands at byte i
 abbrev pub past_separator : (List ℕ → Option ℕ) → List ℕ → ℕ → ℕ
 past_separator skipped text i = i + separator skipped (drop i text)
@@ -24,7 +37,7 @@ past_separator skipped text i = i + separator skipped (drop i text)
 -- a `)` at byte i closes it
 abbrev pub closed_at : List ℕ → ℕ → List ℕ → List ℕ → Bool → Option LinkTail
 closed_at text i written title is_joined =
-    if slice_index text i == 41
+    if slice_index text i == close_parenthesis
     then Some (record { ends = i + 1; destination = written; title = title; is_joined = is_joined })
     else None
 
@@ -44,7 +57,7 @@ after_destination skipped starts text i (Some d) =
 -- the tail that stands at a byte of the text
 abbrev pub link_tail : (List ℕ → Option ℕ) → (ℕ → Option ℕ) → List ℕ → ℕ → Option LinkTail
 link_tail skipped starts text at =
-    if slice_index text at == 40
+    if slice_index text at == open_parenthesis
     then (let i = past_separator skipped text (at + 1) in
-    after_destination skipped starts text i (destination max_nesting (drop i text)))
+    after_destination skipped starts text i (destination_at text i))
     else None

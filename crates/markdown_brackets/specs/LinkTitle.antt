@@ -3,8 +3,9 @@
 use Rattle.std.specs.Prelude.{ℕ, zero, suc, ◌+◌, ◌-◌, Bool, true, false, ◌&&◌, ◌||◌, ◌==◌, List, [], ◌∷◌, ◌++◌, Option}
 use Rattle.std.specs.Prelude.{Some, None, if◌then◌else◌, nat_lt, drop}
 use Rattle.std.specs.Option.{option_map}
-use Rattle.markdown_scan.specs.Backslash.{backslash, is_bare}
-use Rattle.markdown_scan.specs.LineEnd.{line_feed, carriage_return}
+use Rattle.markdown_base.specs.Bytes.{apostrophe, backslash, carriage_return, close_parenthesis, double_quote}
+use Rattle.markdown_base.specs.Bytes.{line_feed, open_parenthesis}
+use Rattle.markdown_scan.specs.Backslash.{is_bare}
 
 -- a title that was read: the byte after its closing mark; its text as written, but for line endings that a line feed
 -- stands for with all up to the next line's item; whether there are such
@@ -15,11 +16,14 @@ pub record Title : Type 0 where
 
 -- the mark that closes a title which this byte opens
 abbrev pub closer_of : ℕ → Option ℕ
-closer_of b = if (b == 34) || (b == 39) then Some b else if b == 40 then Some 41 else None
+closer_of b =
+    if (b == double_quote) || (b == apostrophe) then Some b
+    else if b == open_parenthesis then Some close_parenthesis
+    else None
 
 -- an open parenthesis refuses a title in parentheses
 abbrev pub refuses : ℕ → Bool → ℕ → Bool
-refuses closer escaped b = (closer == 41) && is_bare escaped b 40
+refuses closer escaped b = (closer == close_parenthesis) && is_bare escaped b open_parenthesis
 
 -- a start past the byte i
 abbrev pub start_past : ℕ → Option ℕ → Option ℕ

@@ -7,8 +7,8 @@ use Rattle.markdown_base.specs.Questions.{Question, Answer, Answers}
 use Rattle.markdown_base.specs.declared.block_parts.LinkDef.{LinkDef}
 use Rattle.markdown_base.specs.declared.tag.LinkType.{LinkType}
 use Rattle.markdown_base.specs.declared.tag.LinkType.TheVariants as link
-use Rattle.markdown_spans.specs.Definitions as definitions
-use Rattle.markdown_spans.specs.Definitions.{Labelled}
+use Rattle.markdown_defs.specs.Definitions as definitions
+use Rattle.markdown_defs.specs.Definitions.{Labelled}
 
 -- what a look-up finds, what it asks, and how many bytes references may still expand to after it; the answers that are
 -- still to be given

@@ -1,7 +1,7 @@
 -- Laws of look-ups, in a reader's words.
 use Rattle.std.specs.Prelude.{◌≡◌, ℕ, ◌+◌, ◌≤◌, ◌++◌, Bool, List, [], None, IfSome, length}
 use Rattle.markdown_base.specs.Questions.{Question, Answers}
-use Rattle.markdown_spans.specs.Definitions.{Labelled}
+use Rattle.markdown_defs.specs.Definitions.{Labelled}
 use Rattle.markdown_brackets.specs.Lookup.{look_up, size_of}
 
 -- at most one question is asked

@@ -4,8 +4,8 @@ use Rattle.markdown_base.specs.Event.{TagView, link}
 use Rattle.markdown_base.specs.Forest.{Forest, nil, Each, Throughout}
 use Rattle.markdown_base.specs.declared.tag.LinkType.{LinkType}
 use Rattle.markdown_base.specs.declared.tag.LinkType.TheVariants as kind
-use Rattle.markdown_chains.specs.Document.{Shape, enclosed, Label}
-use Rattle.markdown_chains.specs.Setting.{Known}
+use Rattle.markdown_document.specs.Document.{Shape, enclosed, Label}
+use Rattle.markdown_document.specs.Setting.{Known}
 use Rattle.markdown_brackets.specs.BracketDecision.{Around, Progress}
 use Rattle.markdown_brackets.specs.LeftList.{Entry, done, waits, trees_onto}
 use Rattle.markdown_brackets.specs.ReadChain.{Reader, begun, read_chain}

@@ -3,13 +3,14 @@
 use Rattle.std.specs.Prelude.{◌≡◌, ℕ, ◌≤◌, ⊤, Bool, false, List, [], map, Option, IfSome, length, nat_eq, take}
 use Rattle.std.specs.Prelude.{count_by}
 use Rattle.std.specs.List.{IsDistinct, list_any}
+use Rattle.markdown_base.specs.Bytes.{open_bracket}
 use Rattle.markdown_base.specs.Forest.{Forest, nil, node, first_root, roots}
 use Rattle.markdown_base.specs.Item.{LiesIn}
 use Rattle.markdown_base.specs.Questions.{Question}
 use Rattle.markdown_base.specs.WellFormed.{MarkupIsThere}
-use Rattle.markdown_chains.specs.ChainRest.{as_item, end_of, open_body, start_of}
-use Rattle.markdown_chains.specs.Document.{Label}
-use Rattle.markdown_chains.specs.Setting.{Known}
+use Rattle.markdown_document.specs.ChainRest.{as_item, end_of, open_body, start_of}
+use Rattle.markdown_document.specs.Document.{Label}
+use Rattle.markdown_document.specs.Setting.{Known}
 use Rattle.markdown_brackets.specs.BracketDecision.{Around, Progress}
 use Rattle.markdown_brackets.specs.ReadChain.{Reader, begun, read_chain}
 use Rattle.markdown_brackets.specs.Reference.{is_closer}
@@ -43,8 +44,8 @@ StandInLine source nil = ⊤
 StandInLine source (node a below after) = StandsInLine source a (first_root after) × StandInLine source after
 
 -- no `[` stands in the prefix of a line
-abbrev pub HoldsNoOpener : (List ℕ → Option ℕ) → Type 0
-HoldsNoOpener skipped = (bytes : List ℕ) → IfSome (skipped bytes) (λ n. list_any (nat_eq 91) (take n bytes) ≡ false)
+abbrev pub HoldsNoOpener : (List ℕ → ℕ) → Type 0
+HoldsNoOpener skipped = (bytes : List ℕ) → list_any (nat_eq open_bracket) (take (skipped bytes) bytes) ≡ false
 
 -- a rule for other items asks nothing, takes nothing off the limit, and uses up no `]`
 abbrev pub AsksNothing : {A : Type 0} → Reader A → Type 0

@@ -1,9 +1,9 @@
 -- A chain in which nothing is open but runs and quotes, which wait for pairing, is left as it is.
 use Rattle.std.specs.Prelude.{◌≡◌, ⊤, true, List, [], ◌∷◌, None}
 use Rattle.markdown_base.specs.Forest.{Forest, nil, node}
-use Rattle.markdown_chains.specs.Document.{Label}
-use Rattle.markdown_chains.specs.Setting.{Known}
-use Rattle.markdown_chains.specs.Waiting.{is_quiet}
+use Rattle.markdown_document.specs.Document.{Label}
+use Rattle.markdown_document.specs.Setting.{Known}
+use Rattle.markdown_document.specs.Waiting.{is_quiet}
 use Rattle.markdown_brackets.specs.BracketDecision.{Around, Progress}
 use Rattle.markdown_brackets.specs.LeftList.{Entry, done, trees_onto}
 use Rattle.markdown_brackets.specs.ReadChain.{Reader, begun, read_chain}

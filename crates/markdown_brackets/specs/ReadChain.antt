@@ -4,10 +4,10 @@ use Rattle.std.specs.Prelude.{if◌then◌else◌, nat_le}
 use Rattle.markdown_base.specs.Forest.{Forest, nil, node}
 use Rattle.markdown_base.specs.declared.item.ItemBody.{ItemBody}
 use Rattle.markdown_base.specs.declared.item.ItemBody.TheVariants as body
-use Rattle.markdown_chains.specs.Document.{Label, as_text}
-use Rattle.markdown_chains.specs.Setting.{Known}
-use Rattle.markdown_chains.specs.ChainRest.{begun_at, end_of, open_body}
-use Rattle.markdown_brackets.specs.BracketOptions.{wikilinks_on}
+use Rattle.markdown_document.specs.Document.{Label, as_text}
+use Rattle.markdown_document.specs.Setting.{Known}
+use Rattle.markdown_document.specs.ChainRest.{begun_at, end_of, open_body}
+use Rattle.markdown_base.specs.EnabledOptions.{wikilinks_on}
 use Rattle.markdown_brackets.specs.BracketDecision.{Around, Closing, Progress, Step, is_next}
 use Rattle.markdown_brackets.specs.ClosingBracket.{closed}
 use Rattle.markdown_brackets.specs.LeftList.{waits, live, gone}

@@ -3,6 +3,7 @@
 use Rattle.std.specs.Prelude.{ℕ, ◌+◌, ◌-◌, Bool, false, true, ◌&&◌, ◌==◌, List, [], ◌∷◌, Option, Some, None}
 use Rattle.std.specs.Prelude.{if◌then◌else◌, drop, slice_range, option_and_then}
 use Rattle.std.specs.Option.{option_map, option_or}
+use Rattle.markdown_base.specs.Bytes.{caret, open_bracket}
 use Rattle.markdown_base.specs.declared.item.Item.{Item}
 use Rattle.markdown_base.specs.declared.item.ItemBody.{ItemBody}
 use Rattle.markdown_base.specs.declared.item.ItemBody.TheVariants as body
@@ -26,23 +27,19 @@ abbrev pub label_past : Bool → ℕ → Option (ℕ × List ℕ) → Option Fou
 label_past is_footnote n found =
     option_map (λ f. record { is_footnote = is_footnote; length = n + f.0; name = f.1 }) found
 
--- lines of a footnote label: GFM wants it on one line
-abbrev pub footnote_lines : FootnoteStyle → (List ℕ → Option ℕ) → (List ℕ → Option ℕ)
-footnote_lines style.Off skipped = λ rest. None
-footnote_lines style.Gfm skipped = λ rest. None
-footnote_lines style.Old skipped = skipped
+-- no line ending may stand in it
+abbrev pub on_one_line : List ℕ → Option ℕ
+on_one_line rest = None
 
 -- the label that the bytes begin with after this byte
 abbrev pub label_after : ℕ → (List ℕ → Option ℕ) → Bool → List ℕ → Option (ℕ × List ℕ)
 label_after byte skipped in_table bytes = option_and_then (link_label skipped in_table) (stripped byte bytes)
 
--- the bytes after `[` as those of a footnote label, `^name]`
+-- the bytes after `[` as those of a footnote label, `^name]`, which GFM wants on one line
 abbrev pub footnote_label : FootnoteStyle → (List ℕ → Option ℕ) → Bool → List ℕ → Option FoundLabel
 footnote_label style.Off skipped in_table bytes = None
-footnote_label style.Gfm skipped in_table bytes =
-    label_past true 2 (label_after 94 (footnote_lines style.Gfm skipped) in_table bytes)
-footnote_label style.Old skipped in_table bytes =
-    label_past true 2 (label_after 94 (footnote_lines style.Old skipped) in_table bytes)
+footnote_label style.Gfm skipped in_table bytes = label_past true 2 (label_after caret on_one_line in_table bytes)
+footnote_label style.Old skipped in_table bytes = label_past true 2 (label_after caret skipped in_table bytes)
 
 -- a footnote label, or else a link label
 abbrev pub label_after_bracket : FootnoteStyle → (List ℕ → Option ℕ) → Bool → List ℕ → Option FoundLabel
@@ -52,7 +49,7 @@ label_after_bracket style skipped in_table bytes =
 -- the label that the bytes begin with, from its `[` on
 abbrev pub label_at : FootnoteStyle → (List ℕ → Option ℕ) → Bool → List ℕ → Option FoundLabel
 label_at style skipped in_table bytes =
-    option_and_then (label_after_bracket style skipped in_table) (stripped 91 bytes)
+    option_and_then (label_after_bracket style skipped in_table) (stripped open_bracket bytes)
 
 -- a label of exactly so many bytes
 abbrev pub of_length : ℕ → Option FoundLabel → Option FoundLabel

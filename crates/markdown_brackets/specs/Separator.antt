@@ -2,11 +2,12 @@
 -- how many bytes of what follows a line ending are its line's prefix, if the text goes on after it.
 use Rattle.std.specs.Prelude.{ℕ, ◌+◌, Bool, ◌||◌, ◌==◌, List, Option, Some, None, drop, length, take_while}
 use Rattle.std.specs.Option.{option_map_or}
+use Rattle.markdown_base.specs.Bytes.{form_feed, line_tabulation, space, tab}
 use Rattle.markdown_scan.specs.LineEnd.{line_ending}
 
 -- a space, tab, line tabulation or form feed
 abbrev pub is_blank : ℕ → Bool
-is_blank b = (b == 32) || (b == 9) || (b == 11) || (b == 12)
+is_blank b = (b == space) || (b == tab) || (b == line_tabulation) || (b == form_feed)
 
 -- how many of them the bytes begin with
 abbrev pub blanks : List ℕ → ℕ

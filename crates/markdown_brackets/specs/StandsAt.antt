@@ -6,10 +6,10 @@ use Rattle.markdown_base.specs.BlockTree.{item_at}
 use Rattle.markdown_base.specs.Questions.{Question, Answer}
 use Rattle.markdown_base.specs.declared.item.Item.{Item}
 use Rattle.markdown_base.specs.declared.node.Node.{Node}
-use Rattle.markdown_chains.specs.ChainRest.{start_of, end_of}
-use Rattle.markdown_chains.specs.Tables.{Tables}
-use Rattle.markdown_chains.specs.ChainRest.{joined}
-use Rattle.markdown_chains.specs.Document.{Label}
+use Rattle.markdown_document.specs.ChainRest.{start_of, end_of}
+use Rattle.markdown_document.specs.Tables.{Tables}
+use Rattle.markdown_document.specs.ChainRest.{joined}
+use Rattle.markdown_document.specs.Document.{Label}
 use Rattle.markdown_base.specs.Forest.{Forest, nil, node}
 use Rattle.markdown_brackets.specs.BracketDecision.{Around, Closing, Wikilink, opener_tried, past_second, wikilink_in}
 use Rattle.markdown_brackets.specs.Wikilink.{WikilinkBody, has_pothole}
@@ -24,10 +24,10 @@ use Rattle.markdown_brackets.specs.WrittenView.{CanRead}
 use Rattle.markdown_brackets.specs.declared.closing_bracket.ClosedBracket.{ClosedBracket}
 use Rattle.markdown_brackets.specs.declared.openers.Opener.{Opener}
 use Rattle.markdown_brackets.specs.declared.spent_ends.SpentEnds.{SpentEnds}
-use Rattle.markdown_brackets.specs.declared.written.BracketPlace.{BracketPlace}
+use Rattle.markdown_document.specs.declared.chain_place.ChainPlace.{ChainPlace}
 
 -- an opener can be tried: it is there, and ends with its `[`, from which on the text can be read
-pub record CanTry (nodes : List (Node Item)) (place : BracketPlace) (closer opener : ℕ) : Type 0 where
+pub record CanTry (nodes : List (Node Item)) (place : ChainPlace) (closer opener : ℕ) : Type 0 where
   pub within : opener < length nodes
   pub opens : 0 < (item_at nodes opener).end
   pub reads : CanRead nodes place closer ((item_at nodes opener).end - 1)

@@ -1,6 +1,6 @@
 -- Wikilinks, `[[name]]` and `[[name|shown text]]`, by the bytes of their body.
 use Rattle.std.specs.Prelude.{ℕ, ◌-◌, Bool, true, false, List, [], ◌∷◌, Option, Some, None, if◌then◌else◌, nat_lt}
-use Rattle.std.specs.Prelude.{slice_range}
+use Rattle.std.specs.Prelude.{slice_range, take}
 use Rattle.markdown_scan.specs.WikilinkPipe.{wikilink_pipe}
 
 -- what a wikilink shows: its name; after a pipe behind which nothing stands nothing, at that byte; else what stands
@@ -35,7 +35,8 @@ abbrev pub cut_at : List ℕ → ℕ → ℕ → Option (ℕ × List ℕ) → Op
 cut_at text start end None = named (slice_range text start end) shows_name
 cut_at text start end (Some pipe) = named pipe.1 (shown_from pipe.0 end)
 
--- a body from one byte of the text to another; an empty or inverted one refuses
-abbrev pub wikilink_body : List ℕ → ℕ → ℕ → Option WikilinkBody
-wikilink_body text start end =
-    if nat_lt start end then cut_at text start end (wikilink_pipe text start (end - start)) else None
+-- a body from one byte of the text to another, in which no pipe is looked for past the block's end; an empty or inverted
+-- one refuses
+abbrev pub wikilink_body : List ℕ → (block_end start end : ℕ) → Option WikilinkBody
+wikilink_body text block_end start end =
+    if nat_lt start end then cut_at text start end (wikilink_pipe (take block_end text) start (end - start)) else None

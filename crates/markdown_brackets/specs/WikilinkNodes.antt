@@ -42,15 +42,17 @@ wikilink_of nodes first closer b =
     (shown_in nodes first closer b.shows (item_at nodes first).start (item_at nodes closer).start)
 
 -- the name of a wikilink, and what is shown, from the first node of its body on
-abbrev pub wikilink_from : List (Node Item) → List ℕ → (closer first : ℕ) → Option (WikilinkBody × ShownNodes)
-wikilink_from nodes text closer first =
+abbrev pub wikilink_from : List (Node Item) → List ℕ → (block_end closer first : ℕ)
+    → Option (WikilinkBody × ShownNodes)
+wikilink_from nodes text block_end closer first =
     option_and_then (wikilink_of nodes first closer)
-    (wikilink_body text (item_at nodes first).start (item_at nodes closer).start)
+    (wikilink_body text block_end (item_at nodes first).start (item_at nodes closer).start)
 
 -- the name of a wikilink, and what is shown, by the nodes of its brackets
-abbrev pub wikilink_nodes : List (Node Item) → List ℕ → (opener closer : ℕ) → Option (WikilinkBody × ShownNodes)
-wikilink_nodes nodes text opener closer = option_and_then (wikilink_from nodes text closer)
-    (body_start nodes opener closer)
+abbrev pub wikilink_nodes : List (Node Item) → List ℕ → (block_end opener closer : ℕ)
+    → Option (WikilinkBody × ShownNodes)
+wikilink_nodes nodes text block_end opener closer =
+    option_and_then (wikilink_from nodes text block_end closer) (body_start nodes opener closer)
 
 -- it can be looked for: the body's first item and the `]` start between characters of the text
 pub record CanFindWikilink (nodes : List (Node Item)) (text : List ℕ) (opener closer : ℕ) : Type 0 where

@@ -15,7 +15,7 @@ use Rattle.markdown_brackets.specs.ChainAhead.{IsChain, reaches_closer, starts_f
 use Rattle.markdown_brackets.specs.LinkTail.{link_tail}
 use Rattle.markdown_brackets.specs.LinkTailView.{IsTail}
 use Rattle.markdown_brackets.specs.Reference.{Form, form_at, own_label, reference}
-use Rattle.markdown_brackets.specs.declared.written.BracketPlace.{BracketPlace}
+use Rattle.markdown_document.specs.declared.chain_place.ChainPlace.{ChainPlace}
 use Rattle.markdown_brackets.specs.declared.written.Written.{Written}
 use Rattle.markdown_brackets.specs.declared.written.Written.TheVariants.{Nothing, Inline, Label, Footnote}
 
@@ -29,7 +29,7 @@ IsRead in_table (footnote_label name) (Footnote found) = text_of found ≡ name
 IsRead in_table other found = ⊥
 
 -- the form of a reference of which the `]` is a node's
-abbrev pub form_ahead : List (Node Item) → BracketPlace → (List ℕ → Option ℕ) → (closer : ℕ) → Form
+abbrev pub form_ahead : List (Node Item) → ChainPlace → (List ℕ → Option ℕ) → (closer : ℕ) → Form
 form_ahead nodes place skipped closer =
     let next = sibling_of nodes closer in
     form_at (footnote_style place.options) skipped place.in_table (take place.block_end place.text.now)
@@ -37,15 +37,16 @@ form_ahead nodes place skipped closer =
     (option_map (item_at nodes) (option_and_then (sibling_of nodes) next))
 
 -- a reference in this form, whose `[` starts at a byte
-abbrev pub reference_at : List (Node Item) → BracketPlace → (List ℕ → Option ℕ) → (closer : ℕ) → (could_be : Bool)
+abbrev pub reference_at : List (Node Item) → ChainPlace → (List ℕ → Option ℕ) → (closer : ℕ) → (could_be : Bool)
     → (start : ℕ) → Form → decision.Written
 reference_at nodes place skipped closer could_be start form =
     let end = (item_at nodes closer).end in
     reference_written could_be end (λ i. reaches_closer nodes i (sibling_of nodes closer))
-    (own_label (footnote_style place.options) skipped place.in_table place.text.now start end) form
+    (own_label (footnote_style place.options) skipped place.in_table (take place.block_end place.text.now) start end)
+    form
 
 -- what is written at an opener whose `[` starts at a byte, and at the `]` of a node
-abbrev pub written_at : List (Node Item) → BracketPlace → (List ℕ → Option ℕ) → (closer : ℕ) → (could_be : Bool)
+abbrev pub written_at : List (Node Item) → ChainPlace → (List ℕ → Option ℕ) → (closer : ℕ) → (could_be : Bool)
     → (start : ℕ) → decision.Written
 written_at nodes place skipped closer could_be start =
     tail_or (reference_at nodes place skipped closer could_be start (form_ahead nodes place skipped closer))
@@ -60,7 +61,7 @@ EndsBehind at other = Unit {0}
 -- it can be read: the `]` stands in a chain; it ends between characters, and each item after it starts there; the
 -- opener's
 -- `[` stands before it
-pub record CanRead (nodes : List (Node Item)) (place : BracketPlace) (closer start : ℕ) : Type 0 where
+pub record CanRead (nodes : List (Node Item)) (place : ChainPlace) (closer start : ℕ) : Type 0 where
   pub within : closer < length nodes
   pub chain : IsChain nodes (sibling_of nodes closer)
   pub block : IsCharBoundary place.text.now place.block_end

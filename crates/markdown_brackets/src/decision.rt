@@ -3,16 +3,16 @@ ghost use Rattle.std.specs.Prelude.{◌≡◌, ◌<◌, ◌&&◌, ℕ, Bool, Lis
 ghost use Rattle.std.specs.Prelude.{not};
 ghost use Rattle.markdown_base.specs.declared.fault.Fault.{Fault};
 ghost use Rattle.markdown_base.specs.declared.item.ItemBody.{ItemBody};
-ghost use Rattle.markdown_chains.specs.Setting.{uses_of};
-ghost use Rattle.markdown_spans.specs.Footnotes.{footnote_at};
+ghost use Rattle.markdown_document.specs.Setting.{uses_of};
+ghost use Rattle.markdown_defs.specs.Footnotes.{footnote_at};
 ghost use Rattle.markdown_brackets.specs.BracketDecision.{Around, Closing};
-ghost use Rattle.markdown_brackets.specs.DecisionView.{around_at};
+ghost use Rattle.markdown_brackets.specs.DecisionView.{GoesOnBehind, around_at};
 ghost use Rattle.markdown_brackets.specs.Decides.{Decides, EachOpener, StandsBefore, TakesWikilink};
 ghost use Rattle.markdown_brackets.specs.LeftList.{Entry, Split, brackets_of, wikilinks_of};
 ghost use Rattle.markdown_brackets.specs.SpentEnds.{is_spent};
-ghost use Rattle.markdown_chains.specs.ChainRest.{end_of};
-ghost use Rattle.markdown_spans.specs.Definitions.{Labelled};
-ghost use Rattle.markdown_spans.specs.declared.defs.footnotes.FootnoteDefs.{FootnoteDefs};
+ghost use Rattle.markdown_document.specs.ChainRest.{end_of};
+ghost use Rattle.markdown_defs.specs.Definitions.{Labelled};
+ghost use Rattle.markdown_defs.specs.declared.footnotes.FootnoteDefs.{FootnoteDefs};
 ghost use Rattle.markdown_brackets.specs.StandsAt.{CanTry, ComesToOpener, FindsWikilink, IsWikilinkAt};
 ghost use Rattle.markdown_brackets.specs.StandsAt.{TriesOpener, TriesWikilink};
 ghost use Rattle.markdown_brackets.specs.Wikilink.{has_pothole};
@@ -26,12 +26,13 @@ use crate::reference::is_closer;
 use crate::spent_ends::SpentEnds;
 use crate::wikilink::{Shown, scan_wikilink_body};
 use crate::wikilink_nodes::{body_of, find_shown};
-use crate::written::{BracketPlace, footnote_style, read_written, wikilinks_on};
+use crate::written::{footnote_style, read_written, wikilinks_on};
 use markdown_base::fault::Fault;
 use markdown_base::item::Item;
 use markdown_base::tree::Tree;
+use markdown_defs::{BrokenLinkCallback, FootnoteDefs, RefDefs};
+use markdown_document::chain_place::ChainPlace;
 use markdown_scan::line_rule::LineRule;
-use markdown_spans::defs::{BrokenLinkCallback, FootnoteDefs, RefDefs};
 use std::alloc::Global;
 
 /// What a `]`, the node `closer`, becomes by the opener that was taken off for it: a link or an image, a footnote
@@ -41,7 +42,7 @@ pub fn try_opener<'a, R: LineRule, F: BrokenLinkCallback<'a>>(
     tree: &Tree<Item>,
     closer: usize,
     could_be: bool,
-    place: &BracketPlace<'a>,
+    place: &ChainPlace<'a>,
     rule: &R,
     taken: Option<(Opener, bool)>,
     spent: &mut SpentEnds,
@@ -52,9 +53,10 @@ pub fn try_opener<'a, R: LineRule, F: BrokenLinkCallback<'a>>(
 ) -> Result<ClosedBracket<'a>, Fault>
     requires ready { IfSome taken (λ t. CanTry tree.now.nodes place.now closer t.0.node) }
     requires asks { IfSome callback.old F.can_ask }
-    ensures tries { IfOk result (λ found. (bodies : List ItemBody) (c : Closing ℕ) (o : Option (Split ℕ))
+    ensures tries { IfOk result (λ found. (bodies : List ItemBody) (skipped : List ℕ → ℕ) (c : Closing ℕ)
+        (o : Option (Split ℕ)) → GoesOnBehind (R.skipped rule.now) skipped
         → TriesOpener tree.now.nodes closer could_be taken c o
-        → ComesToOpener F.answers (around_at place.now (R.skipped rule.now) bodies definitions.now footnotes.old
+        → ComesToOpener F.answers (around_at place.now skipped bodies definitions.now footnotes.old
         (is_some callback.old)) c o limit.old limit.new (uses_of footnotes.old) (uses_of footnotes.new)
         spent.old spent.new callback.old callback.new found) }
 
@@ -103,16 +105,17 @@ fn find_wikilink<'a>(
     tree: &Tree<Item>,
     opener: Opener,
     closer: usize,
-    text: &'a str,
+    place: &ChainPlace<'a>,
     end: usize,
 ) -> Option<ClosedBracket<'a>>
-    requires { CanFindWikilink tree.now.nodes text.now opener.node closer }
-    ensures { IsWikilinkAt opener end (wikilink_nodes tree.now.nodes text.now opener.node closer) result }
+    requires { CanFindWikilink tree.now.nodes place.now.text.now opener.node closer }
+    ensures { IsWikilinkAt opener end
+        (wikilink_nodes tree.now.nodes place.now.text.now place.now.block_end opener.node closer) result }
 {
     let first = body_of(tree, opener.node, closer)?;
     let start = tree.item(first).start;
     let stop = tree.item(closer).start;
-    let body = scan_wikilink_body(text, start, stop)?;
+    let body = scan_wikilink_body(place.text, place.block_end, start, stop)?;
     let shown = find_shown(tree, first, closer, body.shown, start, stop)?;
     Some(ClosedBracket::Wikilinked {
         opener,
@@ -128,13 +131,14 @@ fn find_wikilink<'a>(
 pub fn try_wikilink<'a>(
     tree: &Tree<Item>,
     closer: usize,
-    text: &'a str,
+    place: &ChainPlace<'a>,
     taken: Option<(Opener, bool)>,
     end: usize,
 ) -> Option<ClosedBracket<'a>>
-    requires { IfSome taken (λ t. CanFindWikilink tree.now.nodes text.now t.0.node closer) }
-    ensures { (w : Around) (c : Closing ℕ) (o : Option (Split ℕ)) → w.setting.text ≡ text.now
-        → TriesWikilink tree.now.nodes closer taken c o → FindsWikilink w end c o result }
+    requires { IfSome taken (λ t. CanFindWikilink tree.now.nodes place.now.text.now t.0.node closer) }
+    ensures { (w : Around) (c : Closing ℕ) (o : Option (Split ℕ)) → w.setting.text ≡ place.now.text.now
+        → w.above.block_end ≡ place.now.block_end → TriesWikilink tree.now.nodes closer taken c o
+        → FindsWikilink w end c o result }
 {
     let Some((opener, is_live)) = taken else {
         return None;
@@ -142,19 +146,19 @@ pub fn try_wikilink<'a>(
     if !is_live {
         return None;
     }
-    find_wikilink(tree, opener, closer, text, end)
+    find_wikilink(tree, opener, closer, place, end)
 }
 
 // The wikilink that a `]` ends with the one after it, if there is one. An opener that was tried is taken off.
 fn take_wikilink<'a>(
     tree: &Tree<Item>,
     closer: usize,
-    place: &BracketPlace<'a>,
+    place: &ChainPlace<'a>,
     wikilinks: &mut OpenerStack,
 ) -> Option<ClosedBracket<'a>>
     requires closer { closer < length tree.now.nodes }
     requires openers { EachOpener (λ n. CanFindWikilink tree.now.nodes place.now.text.now n closer) wikilinks.old }
-    ensures { (skipped : List ℕ → Option ℕ) (bodies : List ItemBody) (definitions : List Labelled)
+    ensures { (skipped : List ℕ → ℕ) (bodies : List ItemBody) (definitions : List Labelled)
         (footnotes : FootnoteDefs) (asks : Bool) (left : List (Entry ℕ)) (c : Closing ℕ)
         → StandsBefore tree.now.nodes closer left c → wikilinks.old ≡ wikilinks_of left
         → TakesWikilink (around_at place.now skipped bodies definitions footnotes asks) c left wikilinks.new result }
@@ -170,7 +174,7 @@ fn take_wikilink<'a>(
         return None;
     }
     let taken = wikilinks.take_nearest();
-    try_wikilink(tree, closer, place.text, taken, second.end)
+    try_wikilink(tree, closer, place, taken, second.end)
 }
 
 // Whether a `]` that ends at a byte could be a reference, and is not used up.
@@ -188,7 +192,7 @@ pub fn decide_bracket<'a, R: LineRule, F: BrokenLinkCallback<'a>>(
     tree: &Tree<Item>,
     closer: usize,
     could_be: bool,
-    place: &BracketPlace<'a>,
+    place: &ChainPlace<'a>,
     rule: &R,
     openers: &mut ChainOpeners,
     spent: &mut SpentEnds,
@@ -202,11 +206,11 @@ pub fn decide_bracket<'a, R: LineRule, F: BrokenLinkCallback<'a>>(
     requires wikilinks { EachOpener (λ n. CanFindWikilink tree.now.nodes place.now.text.now n closer)
         openers.old.wikilinks }
     requires asks { IfSome callback.old F.can_ask }
-    ensures decides { IfOk result (λ found. (bodies : List ItemBody) (left : List (Entry ℕ)) (c : Closing ℕ)
-        → StandsBefore tree.now.nodes closer left c
+    ensures decides { IfOk result (λ found. (bodies : List ItemBody) (skipped : List ℕ → ℕ) (left : List (Entry ℕ))
+        (c : Closing ℕ) → GoesOnBehind (R.skipped rule.now) skipped → StandsBefore tree.now.nodes closer left c
         → c.could_be_reference ≡ (could_be && not (is_spent spent.old (end_of c.label)))
         → openers.old.brackets ≡ brackets_of left → openers.old.wikilinks ≡ wikilinks_of left
-        → Decides F.answers (around_at place.now (R.skipped rule.now) bodies definitions.now footnotes.old
+        → Decides F.answers (around_at place.now skipped bodies definitions.now footnotes.old
         (is_some callback.old)) c left limit.old limit.new (uses_of footnotes.old) (uses_of footnotes.new)
         spent.old spent.new callback.old callback.new openers.new.brackets openers.new.wikilinks found) }
 

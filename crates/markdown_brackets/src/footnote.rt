@@ -2,12 +2,12 @@
 ghost use Rattle.std.specs.Prelude.{◌≡◌, ℕ, List, IfErr, IfOk, OnErr, OnOk, if◌then◌else◌, is_some};
 ghost use Rattle.std.specs.Option.{option_map};
 ghost use Rattle.markdown_base.specs.declared.fault.Fault.{Fault};
-ghost use Rattle.markdown_spans.specs.Folding.{is_match};
-ghost use Rattle.markdown_spans.specs.Footnotes.{footnote_at, used_once_more};
+ghost use Rattle.markdown_defs.specs.Folding.{is_match};
+ghost use Rattle.markdown_defs.specs.Footnotes.{footnote_at, used_once_more};
 ghost use Rattle.markdown_brackets.specs.FootnoteUse.{is_reference};
 
 use markdown_base::fault::Fault;
-use markdown_spans::defs::FootnoteDefs;
+use markdown_defs::FootnoteDefs;
 
 /// How footnotes are written.
 #[derive(Clone, Copy, Debug, PartialEq, Eq, Drop)]

@@ -2,7 +2,7 @@
 ghost use Rattle.std.specs.Prelude.{ℕ, ⊤, Bool, List};
 ghost use Rattle.markdown_base.specs.Questions.{Question, Answers};
 ghost use Rattle.markdown_brackets.specs.NoLinkInLink.{NoLinkLaw};
-ghost use Rattle.markdown_spans.specs.Definitions.{Labelled};
+ghost use Rattle.markdown_defs.specs.Definitions.{Labelled};
 ghost use Rattle.markdown_brackets.specs.BracketLaws.{ClosedLaw, ChainLaw};
 ghost use Rattle.markdown_brackets.specs.BracketTags.{TagLaw};
 ghost use Rattle.markdown_brackets.specs.BracketWeight.{BracketWeightLaw};

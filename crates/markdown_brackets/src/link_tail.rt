@@ -1,9 +1,8 @@
 //! The tail of an inline link (CommonMark 6.3).
-ghost use Rattle.std.specs.Prelude.{◌≡◌, ◌≤◌, ◌+◌, ℕ, Some, IfOk, IfSome, drop, length};
+ghost use Rattle.std.specs.Prelude.{◌≡◌, ◌≤◌, ◌+◌, ℕ, Some, IfOk, IfSome, length};
 ghost use Rattle.std.specs.Option.{option_map};
 ghost use Rattle.std.specs.Str.{IsCharBoundary};
-ghost use Rattle.markdown_scan.specs.Destination.{destination};
-ghost use Rattle.markdown_brackets.specs.LinkTail.{link_tail, max_nesting, past_separator};
+ghost use Rattle.markdown_brackets.specs.LinkTail.{destination_at, link_tail, past_separator};
 ghost use Rattle.markdown_brackets.specs.LinkTailView.{ReadsTail, BorrowsTail};
 ghost use Rattle.markdown_brackets.specs.LinkTitle.{title_at};
 ghost use Rattle.markdown_brackets.specs.TitlePart.{IsTitlePart};
@@ -40,14 +39,21 @@ fn past_separator<R: LineRule>(text: &str, at: usize, rule: &R) -> usize
     at + scan_separator(&text[at..], rule)
 }
 
-// The length and the text of the destination at the byte `at`.
+// The length and the text of the destination at the byte `at`, which may be left out before a `)` alone.
 fn scan_destination(text: &str, at: usize) -> Option<(usize, &str)>
     requires { IsCharBoundary text.now at }
-    ensures value { option_map (λ p. (p.0, p.1.now)) result ≡ destination max_nesting (drop at text.now) }
+    ensures value { option_map (λ p. (p.0, p.1.now)) result ≡ destination_at text.now at }
     ensures within { IfSome result (λ p. at + p.0 ≤ length text.now) }
     ensures boundary { IfSome result (λ p. IsCharBoundary text.now (at + p.0)) }
 {
-    scan_link_destination(text, at, MAX_NESTING)
+    if stands_at(text, at, b')') {
+        return Some((0, ""));
+    }
+    let (length, written) = scan_link_destination(text, at, MAX_NESTING)?;
+    if length == 0 {
+        return None;
+    }
+    Some((length, written))
 }
 
 // The byte after the title at the byte `at`, if there is one, and after the separator behind it; and the title.

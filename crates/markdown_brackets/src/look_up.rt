@@ -4,7 +4,7 @@ ghost use Rattle.std.specs.Option.{option_map};
 ghost use Rattle.markdown_base.specs.BlockParts.{definition_view};
 ghost use Rattle.markdown_base.specs.CowText.{text_of};
 ghost use Rattle.markdown_base.specs.declared.fault.Fault.{Fault};
-ghost use Rattle.markdown_spans.specs.Callback.{answer_of};
+ghost use Rattle.markdown_defs.specs.Callback.{answer_of};
 ghost use Rattle.markdown_brackets.specs.Lookup as lookup;
 ghost use Rattle.markdown_brackets.specs.LookupView.{question, target_view, target_by};
 ghost use Rattle.markdown_brackets.specs.LookupView.{FindsTarget, IsAnswered, LooksUp};
@@ -13,7 +13,7 @@ use markdown_base::block_parts::LinkDef;
 use markdown_base::cow_str::CowStr;
 use markdown_base::fault::Fault;
 use markdown_base::tag::LinkType;
-use markdown_spans::defs::{BrokenLink, BrokenLinkCallback, RefDefs};
+use markdown_defs::{BrokenLink, BrokenLinkCallback, RefDefs};
 use std::alloc::Global;
 use std::ops::Range;
 

@@ -218,18 +218,6 @@ fn form_of(at: usize, label: FoundLabel<'_>) -> Form<'_>
     }
 }
 
-/// The form of a reference, of a `]` that ends where no text is left, by the two items after it: no label stands there.
-pub(crate) fn form_past_end<'t>(at: usize, next: Option<Item>, after: Option<Item>) -> Form<'t>
-    requires { at + 1 < 2 ^ 64 }
-    ensures { (style : FootnoteStyle) (skipped : List ℕ → Option ℕ) (in_table : Bool) (text : List ℕ) → length text ≤ at
-        → form_view result ≡ def.form_at style skipped in_table text at next after }
-{
-    if is_empty_pair(at, next, after) {
-        return Form::Collapsed;
-    }
-    Form::Shortcut
-}
-
 /// The form of a reference, of a `]` that ends before the byte `at` of the text, by the two items after it: Collapsed
 /// where these are a `[` and a `]` that stand there, Reference where a link label stands there and an item starts with
 /// it, else Shortcut.

@@ -21,7 +21,7 @@ impl<'t> TitleText<'t> {
     ghost use Rattle.std.specs.Prelude.{◌≡◌, ◌≤◌, [], ◌∷◌, ◌++◌, IfOk, false, true, slice_range, string_bytes};
     ghost use Rattle.std.specs.Str.{IsCharBoundary};
     ghost use Rattle.markdown_base.specs.CowText.{text_of, IsBorrowed};
-    ghost use Rattle.markdown_scan.specs.LineEnd.{line_feed};
+    ghost use Rattle.markdown_base.specs.Bytes.{line_feed};
     ghost use Rattle.markdown_scan.specs.Unescape.{unescaped};
     ghost use Rattle.markdown_brackets.specs.TitleText.{so_far};
 

@@ -1,7 +1,8 @@
 //! The body of a wikilink.
-ghost use Rattle.std.specs.Prelude.{◌≡◌, Option};
+ghost use Rattle.std.specs.Prelude.{◌≡◌, ◌+◌, Option, take};
 ghost use Rattle.std.specs.Option.{option_map};
 ghost use Rattle.std.specs.Str.{IsCharBoundary};
+ghost use Rattle.markdown_scan.specs.WikilinkPipe.{wikilink_pipe};
 ghost use Rattle.markdown_brackets.specs.Wikilink.{wikilink_body, named};
 ghost use Rattle.markdown_brackets.specs.WikilinkView.{body_view, shown_view};
 
@@ -35,17 +36,37 @@ fn named<'t>(name: &'t str, shown: Shown) -> Option<WikilinkBody<'t>>
     Some(WikilinkBody { name, shown })
 }
 
-/// The body of a wikilink from the byte `start` of the text up to the byte `end`. The first `|` in it cuts the name
-/// from the shown text. None where the body or the name is empty, and where the end stands before the start.
-pub fn scan_wikilink_body(text: &str, start: usize, end: usize) -> Option<WikilinkBody<'_>>
+// The byte after the first `|` of so many bytes from the byte `start` on, and the text before it; None where none stands
+// in them before the block's end.
+fn scan_pipe(text: &str, block_end: usize, start: usize, length: usize) -> Option<(usize, &str)>
+    requires start { IsCharBoundary text.now start }
+    requires end { IsCharBoundary text.now (start + length) }
+    ensures { option_map (λ p. (p.0, p.1.now)) result ≡ wikilink_pipe (take block_end text.now) start length }
+{
+    let (after, name) = scan_wikilink_pipe(text, start, length)?;
+    if after > block_end {
+        return None;
+    }
+    Some((after, name))
+}
+
+/// The body of a wikilink from the byte `start` of the text up to the byte `end`, in a block that ends at the byte
+/// `block_end`. The first `|` in it cuts the name from the shown text; none is looked for past the block's end. None
+/// where the body or the name is empty, and where the end stands before the start.
+pub fn scan_wikilink_body(
+    text: &str,
+    block_end: usize,
+    start: usize,
+    end: usize,
+) -> Option<WikilinkBody<'_>>
     requires start { IsCharBoundary text.now start }
     requires end { IsCharBoundary text.now end }
-    ensures { option_map body_view result ≡ wikilink_body text.now start end }
+    ensures { option_map body_view result ≡ wikilink_body text.now block_end start end }
 {
     if end <= start {
         return None;
     }
-    match scan_wikilink_pipe(text, start, end - start) {
+    match scan_pipe(text, block_end, start, end - start) {
         None => named(&text[start..end], Shown::Name),
         Some((after, name)) if after < end => named(name, Shown::From(after)),
         Some((after, name)) => named(name, Shown::Nothing(after)),

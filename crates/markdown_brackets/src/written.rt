@@ -5,7 +5,8 @@ ghost use Rattle.markdown_base.specs.BlockTree.{item_at};
 ghost use Rattle.markdown_base.specs.CowText.{text_of};
 ghost use Rattle.markdown_base.specs.declared.tag.LinkType.TheVariants as kind;
 ghost use Rattle.markdown_brackets.specs.BracketDecision.{link_label, no_link, own_written};
-ghost use Rattle.markdown_brackets.specs.BracketOptions.{footnote_style, wikilinks_on};
+ghost use Rattle.markdown_base.specs.EnabledOptions.{wikilinks_on};
+ghost use Rattle.markdown_brackets.specs.BracketOptions.{footnote_style};
 ghost use Rattle.markdown_brackets.specs.ChainAhead.{IsChain, reaches_closer};
 ghost use Rattle.markdown_brackets.specs.Reference.{own_label};
 ghost use Rattle.markdown_brackets.specs.ReferenceView.{form_view, label_view};
@@ -15,27 +16,15 @@ ghost use Rattle.markdown_brackets.specs.WrittenView.{written_at};
 use crate::footnote::FootnoteStyle;
 use crate::items_ahead::{ItemsAhead, link_after, linked_item, reaches_closer};
 use crate::link_tail::{LinkTail, scan_link_tail};
-use crate::reference::{Form, FoundLabel, form_past_end, scan_form, scan_own_label};
-use bitflags::Flags;
+use crate::reference::{Form, FoundLabel, scan_form, scan_own_label};
 use markdown_base::cow_str::CowStr;
 use markdown_base::item::Item;
 use markdown_base::options::Options;
 use markdown_base::tag::LinkType;
 use markdown_base::tree::Tree;
+use markdown_document::chain_place::ChainPlace;
 use markdown_scan::line_rule::LineRule;
 use std::alloc::{AllocError, Global};
-
-/// Where a chain stands, as far as its brackets ask.
-#[derive(Clone, Copy, Drop)]
-pub struct BracketPlace<'t> {
-    /// The whole text.
-    pub text: &'t str,
-    /// The byte past which no scan goes: the end of the innermost block.
-    pub block_end: usize,
-    /// Whether that block is a cell of a table.
-    pub in_table: bool,
-    pub options: Options,
-}
 
 /// What is written at an opener and its `]`.
 #[derive(Drop)]
@@ -93,22 +82,25 @@ fn of_own_label(label: FoundLabel<'_>, link_type: LinkType, end: usize, next: us
 // What stands from the byte `start` of an opener's `[` to its `]`, which ends at the byte `end`, as a label.
 fn read_own<'t, R: LineRule>(
     alloc: Global,
-    place: &BracketPlace<'t>,
+    place: &ChainPlace<'t>,
     rule: &R,
     start: usize,
     end: usize,
     link_type: LinkType,
     next: usize,
 ) -> Result<Written<'t>, AllocError>
+    requires block { IsCharBoundary place.now.text.now place.now.block_end }
     requires start { IsCharBoundary place.now.text.now start }
     requires end { IsCharBoundary place.now.text.now end }
     requires order { start ≤ end }
+    requires inside { end ≤ place.now.block_end }
     ensures { IfOk result (λ found. (in_table : Bool) → IsRead in_table
         (own_written link_type end next (own_label (footnote_style place.now.options) (R.skipped rule.now)
-        place.now.in_table place.now.text.now start end)) found) }
+        place.now.in_table (take place.now.block_end place.now.text.now) start end)) found) }
 {
     let style = footnote_style(place.options);
-    match scan_own_label(alloc, place.text, start, end, style, rule, place.in_table)? {
+    let text = &place.text[..place.block_end];
+    match scan_own_label(alloc, text, start, end, style, rule, place.in_table)? {
         None => Ok(Written::Nothing),
         Some(label) => Ok(of_own_label(label, link_type, end, next)),
     }
@@ -145,12 +137,13 @@ fn read_form<'t, R: LineRule>(
     tree: &Tree<Item>,
     closer: usize,
     could_be: bool,
-    place: &BracketPlace<'t>,
+    place: &ChainPlace<'t>,
     rule: &R,
     start: usize,
     form: Form<'t>,
 ) -> Result<Written<'t>, AllocError>
     requires ready { CanRead tree.now.nodes place.now closer start }
+    requires inside { (item_at tree.now.nodes closer).end ≤ place.now.block_end }
     requires some { EndsBehind 0 (form_view form) }
     requires small { (item_at tree.now.nodes closer).end + 2 < 2 ^ 64 }
     ensures { IfOk result (λ found. (in_table : Bool) → IsRead in_table
@@ -176,12 +169,13 @@ fn read_form_ahead<'t, R: LineRule>(
     alloc: Global,
     tree: &Tree<Item>,
     closer: usize,
-    place: &BracketPlace<'t>,
+    place: &ChainPlace<'t>,
     rule: &R,
 ) -> Result<Form<'t>, AllocError>
     requires within { closer < length tree.now.nodes }
     requires block { IsCharBoundary place.now.text.now place.now.block_end }
     requires closes { IsCharBoundary place.now.text.now (item_at tree.now.nodes closer).end }
+    requires inside { (item_at tree.now.nodes closer).end ≤ place.now.block_end }
     ensures { IfOk result (λ form.
         form_view form ≡ form_ahead tree.now.nodes place.now (R.skipped rule.now) closer) }
 {
@@ -189,25 +183,23 @@ fn read_form_ahead<'t, R: LineRule>(
     let next = tree.next(closer);
     let first = linked_item(tree, next);
     let second = linked_item(tree, link_after(tree, next));
-    if end > place.block_end {
-        return Ok(form_past_end(end, first, second));
-    }
     let style = footnote_style(place.options);
     let text = &place.text[..place.block_end];
     scan_form(alloc, text, end, style, rule, place.in_table, first, second)
 }
 
-// A reference.
+// A reference, whose `]` stands in the block.
 fn read_reference<'t, R: LineRule>(
     alloc: Global,
     tree: &Tree<Item>,
     closer: usize,
     could_be: bool,
-    place: &BracketPlace<'t>,
+    place: &ChainPlace<'t>,
     rule: &R,
     start: usize,
 ) -> Result<Written<'t>, AllocError>
-    requires { CanRead tree.now.nodes place.now closer start }
+    requires ready { CanRead tree.now.nodes place.now closer start }
+    requires inside { (item_at tree.now.nodes closer).end ≤ place.now.block_end }
     ensures { IfOk result (λ found. (in_table : Bool) → IsRead in_table
         (reference_at tree.now.nodes place.now (R.skipped rule.now) closer could_be start
         (form_ahead tree.now.nodes place.now (R.skipped rule.now) closer)) found) }
@@ -217,13 +209,13 @@ fn read_reference<'t, R: LineRule>(
 }
 
 /// Reads what is written at an opener, whose `[` starts at the byte `start`, and at the `]` of a node, which could be a
-/// reference or not.
+/// reference or not. Past the block's end nothing is.
 pub(crate) fn read_written<'t, R: LineRule>(
     alloc: Global,
     tree: &Tree<Item>,
     closer: usize,
     could_be: bool,
-    place: &BracketPlace<'t>,
+    place: &ChainPlace<'t>,
     rule: &R,
     start: usize,
 ) -> Result<Written<'t>, AllocError>
@@ -233,7 +225,7 @@ pub(crate) fn read_written<'t, R: LineRule>(
 {
     let end = tree.item(closer).end;
     if end > place.block_end {
-        return read_reference(alloc, tree, closer, could_be, place, rule, start);
+        return Ok(Written::Nothing);
     }
     let mut items = ItemsAhead {
         tree,

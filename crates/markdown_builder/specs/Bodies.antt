@@ -1,5 +1,6 @@
 -- Which bodies a builder places, and by which of its calls.
 use Rattle.std.specs.Prelude.{ℕ, Bool, true, false, cond, ◌==◌, ◌||◌, Option, Some, None}
+use Rattle.markdown_base.specs.Bytes.{apostrophe, close_bracket, dollar_sign, double_quote, less_than, open_bracket}
 use Rattle.markdown_base.specs.declared.item.ItemBody.{ItemBody}
 use Rattle.markdown_base.specs.declared.item.ItemBody.TheVariants as body
 
@@ -47,13 +48,13 @@ is_settled other = false
 
 -- a quotation mark, where it is one
 abbrev pub quote_byte : ℕ → Option ℕ
-quote_byte quote = cond ((quote == 34) || (quote == 39)) (Some quote) None
+quote_byte quote = cond ((quote == double_quote) || (quote == apostrophe)) (Some quote) None
 
 -- the byte that an open item of one byte stands over
 abbrev pub mark_byte : ItemBody → Option ℕ
-mark_byte (body.MaybeMath opens closes context) = Some 36
+mark_byte (body.MaybeMath opens closes context) = Some dollar_sign
 mark_byte (body.MaybeSmartQuote quote opens closes) = quote_byte quote
-mark_byte body.MaybeHtml = Some 60
-mark_byte body.MaybeLinkOpen = Some 91
-mark_byte (body.MaybeLinkClose reference) = Some 93
+mark_byte body.MaybeHtml = Some less_than
+mark_byte body.MaybeLinkOpen = Some open_bracket
+mark_byte (body.MaybeLinkClose reference) = Some close_bracket
 mark_byte other = None

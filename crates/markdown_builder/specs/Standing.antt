@@ -4,6 +4,7 @@ use Rattle.std.specs.Prelude.{IfSome, ⊤, ◌⊎◌, length, slice_index}
 use Rattle.std.specs.Char.{is_ascii_whitespace}
 use Rattle.std.specs.List.{AllByRecursion, list_any}
 use Rattle.std.specs.Str.{IsCharBoundary, IsUtf8}
+use Rattle.markdown_base.specs.Bytes.{open_bracket}
 use Rattle.markdown_base.specs.declared.block_parts.LinkDef.{LinkDef}
 use Rattle.markdown_base.specs.declared.cow_str.CowStr.{CowStr}
 use Rattle.markdown_base.specs.declared.item.Item.{Item}
@@ -126,7 +127,7 @@ pub record Stands (s : State) : Type 0 where
   pub covered : AreCovered s.text s.tree.nodes s.definitions (covered_to s.blocks s.at)
   pub boundary : IsCharBoundary s.text s.at
   pub begun : AllByRecursion (λ b. b.start ≤ s.at) s.blocks
-  pub brackets : AllByRecursion (λ d. slice_index s.text d.1.span.start ≡ 91) s.definitions
+  pub brackets : AllByRecursion (λ d. slice_index s.text d.1.span.start ≡ open_bracket) s.definitions
 
 -- where the node in focus ends a run, callers see its character
 abbrev pub LastRun : List ℕ → List (Node Item) → Option ℕ → Option ℕ → Type 0

@@ -7,4 +7,4 @@ mod run_bytes;
 mod tight;
 mod tree_steps;
 
-pub use run_bytes::{is_delimiter, run_end};
+pub use run_bytes::run_end;

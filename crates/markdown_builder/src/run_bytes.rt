@@ -1,15 +1,7 @@
-//! The bytes of delimiter runs and of backticks.
+//! Runs of one byte.
 ghost use Rattle.std.specs.Prelude.{◌≡◌, ◌<◌, ◌≤◌, length, slice_index};
 ghost use Rattle.std.specs.Str.{IsCharBoundary};
-ghost use Rattle.markdown_base.specs.WellFormed.{is_delimiter};
 ghost use Rattle.markdown_builder.specs.BuilderView.{IsRunOf};
-
-/// Whether a byte is one of the characters of delimiter runs.
-pub fn is_delimiter(byte: u8) -> bool
-    ensures { result ≡ is_delimiter byte }
-{
-    byte == b'*' || byte == b'_' || byte == b'~' || byte == b'^'
-}
 
 /// Where the run of one byte ends that begins at `from`.
 pub fn run_end(text: &str, from: usize, byte: u8) -> usize

@@ -1,21 +1,17 @@
 //! Chains of open items, which a walk resolves when it reaches them.
-use crate::rows::parser_of;
-use crate::walks::skip_some;
-use bitflags::Flags;
-use markdown_base::block_parts::{BlockParts, LinkDef};
-use markdown_base::cow_str::CowStr;
-use markdown_base::event::Event;
 use markdown_base::index::CowIndex;
 use markdown_base::item::{Item, ItemBody};
 use markdown_base::options::Options;
 use markdown_base::tree::Tree;
+use markdown_defs::RefDefs;
 use markdown_inline::runs::gather_offsets;
 use markdown_inline::walk::Parser;
-use markdown_spans::blocks::Blocks;
-use markdown_spans::defs::RefDefs;
-use markdown_tests::builders::{append_block, item, no_parts, one_text, text};
-use markdown_tests::notes::notes_of;
-use markdown_tests::rows::gives;
+use markdown_test_helpers::lists::is_nothing;
+use markdown_test_helpers::notes::notes_of;
+use markdown_test_helpers::parts::{defining, no_parts, one_text};
+use markdown_test_helpers::rows::gives;
+use markdown_test_helpers::trees::{append_block, item, text};
+use markdown_test_parsers::parsers::{all_noted, ask_for, parser_of};
 use std::alloc::{AllocError, Global};
 use std::test::Fail;
 
@@ -56,14 +52,14 @@ fn open_items_at_which_nothing_is_found(rt: HostRuntime) -> Result<(), Fail> {
     let parser = open_parser(rt.alloc())?;
     let notes = notes_of(rt.alloc(), parser.into_offset_iter())?;
     let events =
-        "<p>0..11 [x]0..1 [*]1..2 [’]2..3 [$]3..4 [`]4..5 [<]5..6 [[]6..7 [![]7..9 []]9..10 [y]10..11 </p>0..11 ";
+        "<p>0..11 [x]0..1 [*]1..2 =[’]2..3 [$]3..4 [`]4..5 [<]5..6 [[]6..7 [![]7..9 []]9..10 [y]10..11 </p>0..11 ";
     gives(OPEN, notes.as_str(), events)
 }
 
 /// How many items of resolved chains a parser has counted after so many calls of `next`.
 fn items_after(alloc: Global, calls: u64) -> Result<u128, Fail> {
     let mut parser = open_parser(alloc)?;
-    skip_some(&mut parser, calls);
+    ask_for(&mut parser, calls);
     Ok(parser.work().items)
 }
 
@@ -87,24 +83,17 @@ fn with_a_named_text(alloc: Global) -> Result<Tree<Item>, AllocError> {
     Ok(tree)
 }
 
-/// The events of it, all at once, and whether no callback comes back.
-fn events_at_once(alloc: Global) -> Result<String, Fail> {
-    let tree = with_a_named_text(alloc)?;
-    let parser = parser_of(alloc, "ab", Options::empty(), tree, one_text(alloc)?)?;
-    let (events, callback) = parser.into_offset_iter().into_events(alloc)?;
-    let is_none = callback.is_none();
-    drop(callback);
-    let printed = format!(in alloc; "{events:?} {is_none}");
-    drop(events);
-    Ok(printed?)
-}
-
 #[test]
 fn named_texts(rt: HostRuntime) -> Result<(), Fail> {
-    let events = events_at_once(rt.alloc())?;
-    let wanted =
-        "[(Start(Paragraph), 0..2), (Text(\"a\"), 0..1), (Text(\"x\"), 1..2), (End(Paragraph), 0..2)] true";
-    gives("ab", events.as_str(), wanted)
+    let alloc = rt.alloc();
+    let tree = with_a_named_text(alloc)?;
+    let parser = parser_of(alloc, "ab", Options::empty(), tree, one_text(alloc)?)?;
+    let (events, callback) = all_noted(alloc, parser)?;
+    gives(
+        "ab",
+        (events.as_str(), is_nothing(callback)),
+        ("<p>0..2 [a]0..1 [x]1..2 </p>0..2 ", true),
+    )
 }
 
 /// A paragraph of two hundred thousand open brackets.
@@ -137,20 +126,6 @@ fn is_defined(definitions: &RefDefs<'_>, label: &str) -> bool {
     matches!(definitions.get(label), Ok(Some(_)))
 }
 
-/// Parts with a definition of `foo`.
-fn defining_foo(alloc: Global) -> Result<BlockParts<'static>, AllocError> {
-    let mut parts = no_parts(alloc);
-    let definition = LinkDef {
-        dest: CowStr::Borrowed("/u"),
-        title: None,
-        span: 0..0,
-    };
-    parts
-        .definitions
-        .push((CowStr::Borrowed("foo"), definition))?;
-    Ok(parts)
-}
-
 #[test]
 fn definitions_stay(rt: HostRuntime) -> Result<(), Fail> {
     let alloc = rt.alloc();
@@ -159,10 +134,10 @@ fn definitions_stay(rt: HostRuntime) -> Result<(), Fail> {
         OPEN,
         Options::empty(),
         open_items(alloc)?,
-        defining_foo(alloc)?,
+        defining(alloc, &[("foo", "/u")])?,
     )?;
     let at_first = is_defined(parser.reference_definitions(), "FOO");
-    skip_some(&mut parser, 5);
+    ask_for(&mut parser, 5);
     let in_between = is_defined(parser.reference_definitions(), "foo");
     let iter = parser.into_offset_iter();
     let at_last = is_defined(iter.reference_definitions(), "foo");

@@ -1,8 +1,6 @@
 //! Footnote references, in both styles, and how they are numbered.
-use crate::rows::{compare_whole, notes_of_text};
-use bitflags::Flags;
+use crate::rows::{compare_events, compare_whole};
 use markdown_base::options::Options;
-use markdown_tests::rows::gives;
 use std::test::Fail;
 
 #[test]
@@ -44,10 +42,21 @@ fn references_to_footnotes(rt: HostRuntime) -> Result<(), Fail> {
 
 #[test]
 fn ranges(rt: HostRuntime) -> Result<(), Fail> {
-    let source = "a![^1]\n\n[^1]: b";
-    let notes = notes_of_text(rt.alloc(), Options::ENABLE_FOOTNOTES, source)?;
-    let begins = notes
-        .as_str()
-        .starts_with("<p>0..7 [a]0..1 [!]1..2 ?2..6 </p>0..7 ");
-    gives(notes, begins, true)
+    compare_events(
+        rt.alloc(),
+        Options::ENABLE_FOOTNOTES,
+        &[
+            (
+                "Testing this[^1] out.\n\n[^1]: Footnote.",
+                "<p>0..22 [Testing this]0..12 [^1]12..16 [ out.]16..21 </p>0..22 \
+                <footnote (1)>23..38 <p>29..38 [Footnote.]29..38 </p>29..38 </footnote>23..38 ",
+            ),
+            // what would begin an image is a text of its own
+            (
+                "Testing this![^1] out.\n\n[^1]: Footnote.",
+                "<p>0..23 [Testing this]0..12 [!]12..13 [^1]13..17 [ out.]17..22 </p>0..23 \
+                <footnote (1)>24..39 <p>30..39 [Footnote.]30..39 </p>30..39 </footnote>24..39 ",
+            ),
+        ],
+    )
 }

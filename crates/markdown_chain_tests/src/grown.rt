@@ -1,9 +1,9 @@
 //! A text and the items of a paragraph over it, which grow together.
-use crate::rows::counted;
+use crate::rows::{counted, tree_shows};
 use markdown_base::item::{Item, ItemBody};
 use markdown_base::tree::Tree;
-use markdown_chains::work::Work;
-use markdown_tests::builders::{item, text};
+use markdown_document::work::Work;
+use markdown_test_helpers::trees::{item, text};
 use std::alloc::{AllocError, Global};
 use std::test::Fail;
 
@@ -46,6 +46,12 @@ impl Grown {
         self.source.push_str("a")?;
         self.tree.append(text(start, self.source.len()))?;
         Ok(())
+    }
+
+    /// It gives this HTML.
+    pub fn shows(self, alloc: Global, row: &str, wanted: &str) -> Result<(), Fail> {
+        let Grown { source, tree } = self;
+        tree_shows(alloc, row, source.as_str(), tree, wanted)
     }
 
     /// How many events it gives, and what is counted.

@@ -4,6 +4,8 @@
 #[cfg(test)]
 mod chains;
 #[cfg(test)]
+mod definitions;
+#[cfg(test)]
 mod footnotes;
 #[cfg(test)]
 mod grown;

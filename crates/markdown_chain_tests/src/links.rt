@@ -1,10 +1,9 @@
 //! Inline links and images (CommonMark 6.3 and 6.4), through parsers of texts and of trees made by hand.
 use crate::rows::{compare, compare_events, compare_plain, compare_whole, outline_shows};
-use bitflags::Flags;
 use markdown_base::index::AlignmentIndex;
 use markdown_base::item::ItemBody;
 use markdown_base::options::Options;
-use markdown_tests::builders::{item, text};
+use markdown_test_helpers::trees::{item, text};
 use std::alloc::{AllocError, Global};
 use std::test::Fail;
 
@@ -45,11 +44,17 @@ fn destinations(rt: HostRuntime) -> Result<(), Fail> {
             ("[link](foo%20b&amp;)", "<a href=\"foo%20b&amp;\">link</a>"),
             ("[link](foo\\bar)", "<a href=\"foo%5Cbar\">link</a>"),
             ("[link](\"title\")", "<a href=\"%22title%22\">link</a>"),
+            ("[link](\n)", "<a href=\"\">link</a>"),
         ],
     )?;
     compare_plain(
         rt.alloc(),
         &[
+            // no destination stands before the second line ending
+            "[a](\n\u{b}\n)",
+            "[a](\n\u{c}\n)",
+            "[a](\n\u{b}\n't')",
+            "[a](\n\u{c}\n't')",
             "[link](/my uri)",
             "[link](foo\nbar)",
             "[link](foo(and(bar))",
@@ -198,11 +203,21 @@ fn ranges(rt: HostRuntime) -> Result<(), Fail> {
         &[
             (
                 "a [b](c) d",
-                "<p>0..10 [a ]0..2 <a c>2..8 [b]3..4 </a>2..8 [ d]8..10 </p>0..10 ",
+                "<p>0..10 [a ]0..2 <a Inline (c) () ()>2..8 [b]3..4 </a>2..8 [ d]8..10 </p>0..10 ",
             ),
             (
                 "[*a*](b)",
-                "<p>0..8 <a b>0..8 <em>1..4 [a]2..3 </em>1..4 </a>0..8 </p>0..8 ",
+                "<p>0..8 <a Inline (b) () ()>0..8 <em>1..4 [a]2..3 </em>1..4 </a>0..8 </p>0..8 ",
+            ),
+            (
+                "![a](c \"t\")",
+                "<p>0..11 <img Inline (c) (t) ()>0..11 [a]2..3 </img>0..11 </p>0..11 ",
+            ),
+            // a title over two lines is owned, and this one is short enough to be held in place
+            (
+                "> [a](b \"x\n> y\")",
+                "<blockquote>0..16 <p>2..16 <a Inline (b) =(x\ny) ()>2..16 [a]3..4 </a>2..16 </p>2..16 \
+                </blockquote>0..16 ",
             ),
         ],
     )

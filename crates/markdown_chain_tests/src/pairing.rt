@@ -4,12 +4,11 @@ use crate::grown::Grown;
 use crate::rows::{
     compare, compare_events, compare_plain, paragraph_gives, paragraph_shows, work_of,
 };
-use bitflags::Flags;
-use markdown_base::item::{Item, ItemBody};
+use markdown_base::item::ItemBody;
 use markdown_base::options::Options;
-use markdown_chains::work::Work;
-use markdown_tests::builders::{item, text};
-use markdown_tests::rows::gives;
+use markdown_document::work::Work;
+use markdown_test_helpers::rows::gives;
+use markdown_test_helpers::trees::{delimiter, item, text};
 use std::alloc::{AllocError, Global};
 use std::test::Fail;
 
@@ -195,6 +194,7 @@ fn lengths(rt: HostRuntime) -> Result<(), Fail> {
                 "******foo******",
                 "<strong><strong><strong>foo</strong></strong></strong>",
             ),
+            ("***a***", "<em><strong>a</strong></em>"),
             ("***foo***", "<em><strong>foo</strong></em>"),
             (
                 "_____foo_____",
@@ -219,6 +219,12 @@ fn options_that_add_marks(rt: HostRuntime) -> Result<(), Fail> {
         rt.alloc(),
         Options::ENABLE_STRIKETHROUGH,
         &[("hi ~~no~~", "hi <del>no</del>")],
+    )?;
+    // two tildes that mark nothing are one text with all between them
+    compare_events(
+        rt.alloc(),
+        Options::ENABLE_SUBSCRIPT,
+        &[("~~a *b* c~~", "<p>0..11 [~~a *b* c~~]0..11 </p>0..11 ")],
     )?;
     compare(rt.alloc(), Options::empty(), &[("hi ~~no~~", "hi ~~no~~")])?;
     compare(
@@ -252,61 +258,80 @@ fn ranges_and_counts(rt: HostRuntime) -> Result<(), Fail> {
     )
 }
 
-fn run(start: usize, count: usize, opens: bool, closes: bool) -> Item {
-    item(
-        start,
-        start.saturating_add(1),
-        ItemBody::MaybeEmphasis(count, opens, closes),
-    )
+#[test]
+fn a_caret_that_closes_nothing_leaves_a_tilde(rt: HostRuntime) -> Result<(), Fail> {
+    let alloc = rt.alloc();
+    let marks = Options::ENABLE_SUBSCRIPT | Options::ENABLE_SUPERSCRIPT;
+    let items = [
+        delimiter(0, 1, true, false),
+        text(1, 4),
+        delimiter(4, 1, false, true),
+        text(5, 7),
+        delimiter(7, 1, false, true),
+    ];
+    let wanted = "<p>0..8 <sub>0..8 [a b]1..4 [^]4..5 [ c]5..7 </sub>0..8 </p>0..8 ";
+    paragraph_gives(alloc, "~a b^ c~", marks, &items, wanted)?;
+    let wanted = "<p><sub>a b^ c</sub></p>\n";
+    paragraph_shows(alloc, "~a b^ c~", marks, &items, wanted)
 }
 
 #[test]
-fn tildes_and_carets_made_by_hand(rt: HostRuntime) -> Result<(), Fail> {
+fn a_tilde_that_closes_nothing_leaves_a_caret(rt: HostRuntime) -> Result<(), Fail> {
     let alloc = rt.alloc();
     let marks = Options::ENABLE_SUBSCRIPT | Options::ENABLE_SUPERSCRIPT;
-    let apart = [
-        run(0, 1, true, false),
-        text(1, 4),
-        run(4, 1, false, true),
-        text(5, 7),
-        run(7, 1, false, true),
-    ];
-    let wanted = "<p>0..8 [~]0..1 [a b]1..4 [^]4..5 [ c]5..7 [~]7..8 </p>0..8 ";
-    paragraph_gives(alloc, "~a b^ c~", marks, &apart, wanted)?;
-    let of_two_lengths = [
-        run(0, 1, true, false),
+    let items = [
+        delimiter(0, 1, true, false),
         text(1, 2),
-        run(2, 2, false, true),
-        run(3, 1, false, true),
-        text(4, 5),
-        run(5, 1, false, true),
+        delimiter(2, 1, false, true),
+        text(3, 5),
+        delimiter(5, 1, false, true),
     ];
+    let wanted = "<p>0..6 <sup>0..6 [a]1..2 [~]2..3 [ b]3..5 </sup>0..6 </p>0..6 ";
+    paragraph_gives(alloc, "^a~ b^", marks, &items, wanted)?;
+    let wanted = "<p><sup>a~ b</sup></p>\n";
+    paragraph_shows(alloc, "^a~ b^", marks, &items, wanted)
+}
+
+#[test]
+fn a_tilde_that_closes_nothing_drops_every_length(rt: HostRuntime) -> Result<(), Fail> {
+    let alloc = rt.alloc();
+    let items = [
+        delimiter(0, 1, true, false),
+        text(1, 2),
+        delimiter(2, 2, false, true),
+        delimiter(3, 1, false, true),
+        text(4, 5),
+        delimiter(5, 1, false, true),
+    ];
+    let marks = Options::ENABLE_SUBSCRIPT;
     let wanted = "<p>0..6 [~]0..1 [a]1..2 [~]2..3 [~]3..4 [b]4..5 [~]5..6 </p>0..6 ";
-    paragraph_gives(
-        alloc,
-        "~a~~b~",
-        Options::ENABLE_SUBSCRIPT,
-        &of_two_lengths,
-        wanted,
-    )
+    paragraph_gives(alloc, "~a~~b~", marks, &items, wanted)?;
+    paragraph_shows(alloc, "~a~~b~", marks, &items, "<p>~a~~b~</p>\n")
 }
 
 #[test]
 fn a_break_at_the_end_made_by_hand(rt: HostRuntime) -> Result<(), Fail> {
     let after_emphasis = [
-        run(0, 1, true, false),
+        delimiter(0, 1, true, false),
         text(1, 2),
-        run(2, 1, false, true),
+        delimiter(2, 1, false, true),
         item(3, 4, ItemBody::HardBreak(true)),
     ];
     paragraph_shows(
         rt.alloc(),
         "*a*\\",
+        Options::empty(),
         &after_emphasis,
         "<p><em>a</em>\\</p>\n",
     )?;
     let after_a_text = [text(0, 1), item(1, 2, ItemBody::HardBreak(true))];
-    paragraph_shows(rt.alloc(), "a\\", &after_a_text, "<p>a<br />\n</p>\n")
+    paragraph_shows(
+        rt.alloc(),
+        "a\\",
+        Options::empty(),
+        &after_a_text,
+        "<p>a<br />\n</p>\n",
+    )
 }
 
 /// Appends a run, and a text behind it.
@@ -323,26 +348,55 @@ fn append_run(
     over.append_a()
 }
 
-/// What is counted in a thousand runs of `*` and `_`, of one, two and three characters.
-fn work_of_three_lengths(alloc: Global) -> Result<Work, Fail> {
+/// A thousand runs of `*` and `_`, of one, two and three characters.
+fn three_lengths(alloc: Global) -> Result<Grown, Fail> {
     // 1000 characters `a`, and 1999 of the runs
     let mut over = Grown::new(alloc, 2999)?;
     for k in 0..1000 {
         let mark = if k % 2 == 0 { "*" } else { "_" };
         append_run(&mut over, mark, 1 + k % 3, k % 4 != 2, k % 4 != 0)?;
     }
-    let (_, work) = over.counted(alloc)?;
-    Ok(work)
+    Ok(over)
+}
+
+/// What they are, paired by the rules with a search that begins afresh for each closer: each twelve runs but the first
+/// few and the last alike.
+fn three_lengths_paired(alloc: Global) -> Result<String, AllocError> {
+    let twelve = "**a<em>a**a</em><strong>a*a</strong>a\
+        <em><strong>a_a</strong>a_<strong>a*a</strong>a</em>"
+        .repeat(alloc, 83)?;
+    format!(in alloc; "<p><em>a__a</em>{twelve}**a_a</p>\n")
 }
 
 #[test]
 fn a_thousand_runs_of_three_lengths(rt: HostRuntime) -> Result<(), Fail> {
-    let work = work_of_three_lengths(rt.alloc())?;
+    let (_, work) = three_lengths(rt.alloc())?.counted(rt.alloc())?;
     gives(
         "delimiters, and whether few are examined",
-        (work.delimiters, work.examined <= 19990),
+        (work.delimiters, work.examined <= 21989),
         (1999, true),
     )
+}
+
+#[test]
+fn a_thousand_runs_of_three_lengths_in_html(rt: HostRuntime) -> Result<(), Fail> {
+    let wanted = three_lengths_paired(rt.alloc())?;
+    three_lengths(rt.alloc())?.shows(rt.alloc(), "a thousand runs", wanted.as_str())
+}
+
+#[test]
+fn quotes_in_a_link_begin_anew(rt: HostRuntime) -> Result<(), Fail> {
+    let items = [
+        item(0, 1, ItemBody::MaybeSmartQuote(b'"', true, false)),
+        item(1, 2, ItemBody::MaybeLinkOpen),
+        text(2, 3),
+        item(3, 4, ItemBody::MaybeSmartQuote(b'"', false, true)),
+        item(4, 5, ItemBody::MaybeLinkClose(true)),
+        text(5, 8),
+    ];
+    let smart = Options::ENABLE_SMART_PUNCTUATION;
+    let wanted = "<p>“<a href=\"b\">a“</a></p>\n";
+    paragraph_shows(rt.alloc(), "\"[a\"](b)", smart, &items, wanted)
 }
 
 /// So many runs `_` that can only open, and then as many `*` that can only close, in a text of so many bytes.
@@ -361,7 +415,7 @@ fn apart(alloc: Global, runs: usize, bytes: usize) -> Result<(usize, Work), Fail
 fn runs_that_never_pair(rt: HostRuntime) -> Result<(), Fail> {
     for &(runs, bytes, events, delimiters, examined) in &[
         (500, 2_000, 2_002, 1_000, 10_000),
-        (50_000, 200_000, 200_002, 100_000, 1_000_000),
+        (50_000, 200_000, 200_002, 100_000, 1_100_000),
     ] {
         let (given, work) = apart(rt.alloc(), runs, bytes)?;
         gives(

@@ -1,19 +1,19 @@
 //! References (CommonMark 6.3 and 6.4): what they find, what they expand to, and what is asked about those that are
 //! defined nowhere.
-ghost use Rattle.std.specs.Prelude.{◌≡◌, ◌+◌, ◌%◌, ◌^◌, None};
+ghost use Rattle.std.specs.Prelude.{◌≡◌, ◌+◌, ◌%◌, ◌^◌};
 
-use crate::rows::{compare_plain, compare_whole};
-use crate::walks::{count_of, said_of, take_some};
-use bitflags::Flags;
+use crate::rows::{compare_events, compare_plain, compare_whole};
 use markdown_base::cow_str::CowStr;
-use markdown_base::event::Event;
+use markdown_base::item::ItemBody;
 use markdown_base::options::Options;
-use markdown_base::tag::{LinkType, Tag};
-use markdown_inline::walk::Parser;
-use markdown_spans::defs::{BoxedCallback, BrokenLink, BrokenLinkCallback, Closure};
-use markdown_tests::rows::gives;
-use std::alloc::{AllocError, Global};
-use std::ops::Range;
+use markdown_defs::{BoxedCallback, BrokenLink, BrokenLinkCallback, Closure};
+use markdown_render::render;
+use markdown_test_helpers::parts::defining;
+use markdown_test_helpers::rows::gives;
+use markdown_test_helpers::trees::{item, text, tree_of};
+use markdown_test_parsers::callbacks::{Recording, Reply, by_number, questions_in};
+use markdown_test_parsers::parsers::{all_noted, parser_asking, parser_gives, parser_of};
+use std::alloc::Global;
 use std::test::Fail;
 
 #[test]
@@ -92,6 +92,30 @@ fn full_references(rt: HostRuntime) -> Result<(), Fail> {
     )
 }
 
+/// A paragraph over the first bytes of `[a]`, whose items go on to its end, gives these events, where `a` is defined.
+fn block_gives(alloc: Global, end: usize, wanted: &str) -> Result<(), Fail> {
+    let outline = [
+        (0, item(0, end, ItemBody::Paragraph)),
+        (1, item(0, 1, ItemBody::MaybeLinkOpen)),
+        (1, text(1, 2)),
+        (1, item(2, 3, ItemBody::MaybeLinkClose(true))),
+    ];
+    let tree = tree_of(alloc, &outline)?;
+    let parts = defining(alloc, &[("a", "/u")])?;
+    let parser = parser_of(alloc, "[a]", Options::empty(), tree, parts)?;
+    parser_gives(alloc, "[a]", parser, wanted)
+}
+
+#[test]
+fn labels_end_in_their_block(rt: HostRuntime) -> Result<(), Fail> {
+    block_gives(
+        rt.alloc(),
+        3,
+        "<p>0..3 <a Shortcut (/u) () (a)>0..3 [a]1..2 </a>0..3 </p>0..3 ",
+    )?;
+    block_gives(rt.alloc(), 2, "<p>0..2 [[]0..1 [a]1..2 []]2..3 </p>0..2 ")
+}
+
 #[test]
 fn collapsed_references_and_shortcuts(rt: HostRuntime) -> Result<(), Fail> {
     compare_whole(
@@ -153,80 +177,31 @@ fn collapsed_references_and_shortcuts(rt: HostRuntime) -> Result<(), Fail> {
     compare_plain(rt.alloc(), &["[]", "[foo]", "[foo][]", "[foo][bar]"])
 }
 
-/// The type and the range of a link.
-fn say_link(alloc: Global, placed: &(Event<'_>, Range<usize>)) -> Result<String, AllocError> {
-    let (event, range) = placed;
-    match event {
-        Event::Start(Tag::Link { link_type, .. }) => {
-            format!(in alloc; "{:?} {}..{} ", *link_type, range.start, range.end)
-        }
-        _ => Ok(String::new(alloc)),
-    }
-}
-
-/// The types and the ranges of the links of a text.
-fn links_of(alloc: Global, source: &str) -> Result<String, Fail> {
-    said_of(
-        alloc,
-        Parser::new(alloc, source)?.into_offset_iter(),
-        say_link,
-    )
-}
-
-/// A text has links of these ranges and types.
-fn has_links(alloc: Global, source: &str, noted: &str) -> Result<(), Fail> {
-    let links = links_of(alloc, source)?;
-    gives(source, links.as_str(), noted)
-}
-
 #[test]
 fn types_and_ranges(rt: HostRuntime) -> Result<(), Fail> {
-    let rows = &[
-        ("[foo][]\n\n[foo]: /u", "Collapsed 0..5 "),
-        (
-            "# H1\n[testing][Some reference]\n\n[Some reference]: https://github.com",
-            "Reference 5..30 ",
-        ),
-        ("[foo]\n\n[foo]: /u", "Shortcut 0..5 "),
-        ("[foo](u)", "Inline 0..8 "),
-    ];
-    for &(source, noted) in rows {
-        has_links(rt.alloc(), source, noted)?;
-    }
-    Ok(())
-}
-
-/// Takes so many events of a text with a callback, or all.
-fn take_events<'a, F: BrokenLinkCallback<'a>>(
-    alloc: Global,
-    source: &'a str,
-    callback: F,
-    events: usize,
-) -> Result<(), Fail>
-    requires { F.can_ask callback }
-{
-    let parser = Parser::new_with_broken_link_callback(
-        alloc,
-        source,
+    compare_events(
+        rt.alloc(),
         Options::empty(),
-        Some(callback),
-    )?;
-    Ok(take_some(parser, events)?)
-}
-
-/// How many questions are asked when so many events of a text are given, or all; none of them is answered.
-fn questions_after(alloc: Global, source: &str, events: usize) -> Result<u64, Fail> {
-    let mut asked = 0u64;
-    let counting = |link: BrokenLink| -> Option<(CowStr, CowStr)>
-        ensures answer { result ≡ None }
-        ensures counted { asked.exit ≡ (asked.entry + 1) % 2 ^ 64 }
-    {
-        asked = asked.wrapping_add(1);
-        drop(link);
-        None
-    };
-    take_events(alloc, source, Closure::new(counting), events)?;
-    Ok(asked)
+        &[
+            (
+                "[foo][]\n\n[foo]: /u",
+                "<p>0..8 <a Collapsed (/u) () (foo)>0..5 [foo]1..4 </a>0..5 </p>0..8 ",
+            ),
+            (
+                "# H1\n[testing][Some reference]\n\n[Some reference]: https://github.com",
+                "<h1>0..5 [H1]2..4 </h1>0..5 <p>5..31 \
+                <a Reference (https://github.com) () (Some reference)>5..30 [testing]6..13 </a>5..30 </p>5..31 ",
+            ),
+            (
+                "[foo]\n\n[foo]: /u",
+                "<p>0..6 <a Shortcut (/u) () (foo)>0..5 [foo]1..4 </a>0..5 </p>0..6 ",
+            ),
+            (
+                "[foo](u)",
+                "<p>0..8 <a Inline (u) () ()>0..8 [foo]1..4 </a>0..8 </p>0..8 ",
+            ),
+        ],
+    )
 }
 
 #[test]
@@ -239,179 +214,167 @@ fn each_bracket_asks_once(rt: HostRuntime) -> Result<(), Fail> {
         ("[a]: /u\n\n[a]", 0),
     ];
     for &(source, questions) in rows {
-        let asked = questions_after(rt.alloc(), source, usize::MAX)?;
+        let (_, asked) = questions_in(rt.alloc(), source, usize::MAX)?;
         gives(source, asked, questions)?;
     }
     Ok(())
 }
 
-/// What a callback answers.
-#[derive(Clone, Copy, Drop)]
-enum Reply {
-    /// The n-th question by `/n`.
-    Numbers,
-    /// One question alone: about `world`, as a full reference over these bytes.
-    World,
-    /// Each question by so many bytes `x`, with this title.
-    Bytes(usize, &'static str),
+/// What a text gives with a callback that replies so: its events, and the questions.
+fn asked_of(alloc: Global, source: &str, reply: Reply) -> Result<(String, String), Fail> {
+    let parser = parser_asking(alloc, source, Recording::replying(alloc, reply))?;
+    let (events, callback) = all_noted(alloc, parser)?;
+    let questions = match callback {
+        Some(recording) => recording.into_questions(),
+        None => String::new(alloc),
+    };
+    Ok((events, questions))
 }
 
-type Answer = Option<(CowStr<'static>, CowStr<'static>)>;
-
-fn by_number(alloc: Global, number: u64) -> Answer {
-    let destination = format!(in alloc; "/{number}").ok()?;
-    Some((CowStr::from(destination), CowStr::Borrowed("")))
-}
-
-fn about_world(span: Range<usize>, link_type: LinkType, reference: &str) -> Answer {
-    if span == (24..38) && link_type == LinkType::Reference && reference == "world" {
-        Some((CowStr::Borrowed("YOLO"), CowStr::Borrowed("SWAG")))
-    } else {
-        None
-    }
-}
-
-fn by_bytes(alloc: Global, bytes: usize, title: &'static str) -> Answer {
-    let destination = "x".repeat(alloc, bytes).ok()?;
-    Some((CowStr::from(destination), CowStr::Borrowed(title)))
-}
-
-/// Answers so, and counts the questions.
-#[derive(Drop)]
-struct Callback {
+/// A text gives these events with a callback that replies so, which is asked these questions.
+fn is_answered(
     alloc: Global,
-    asked: u64,
-    which: Reply,
-}
-
-impl BoxedCallback for Callback {
-    fn answer(
-        &mut self,
-        span: Range<usize>,
-        link_type: LinkType,
-        reference: &str,
-    ) -> Option<(CowStr<'static>, CowStr<'static>)> {
-        self.asked = self.asked.wrapping_add(1);
-        match self.which {
-            Reply::Numbers => by_number(self.alloc, self.asked),
-            Reply::World => about_world(span, link_type, reference),
-            Reply::Bytes(bytes, title) => by_bytes(self.alloc, bytes, title),
-        }
-    }
-}
-
-fn replying(alloc: Global, which: Reply) -> Callback {
-    Callback {
-        alloc,
-        asked: 0,
-        which,
-    }
-}
-
-/// The type, destination, title and label of a link.
-fn say_all(alloc: Global, event: &Event<'_>) -> Result<String, AllocError> {
-    match event {
-        Event::Start(
-            Tag::Link {
-                link_type,
-                dest_url,
-                title,
-                id,
-            },
-        ) => format!(in alloc;
-            "{:?} ({}) ({}) ({}); ",
-            *link_type,
-            dest_url.as_str(),
-            title.as_str(),
-            id.as_str()
-        ),
-        _ => Ok(String::new(alloc)),
-    }
-}
-
-/// The links of a text with a callback: type, destination, title and label of each.
-fn answered<'a, F: BrokenLinkCallback<'a>>(
-    alloc: Global,
-    source: &'a str,
-    callback: F,
-) -> Result<String, Fail>
-    requires { F.can_ask callback }
-{
-    let parser = Parser::new_with_broken_link_callback(
-        alloc,
+    source: &str,
+    reply: Reply,
+    events: &str,
+    questions: &str,
+) -> Result<(), Fail> {
+    let (found, asked) = asked_of(alloc, source, reply)?;
+    gives(
         source,
-        Options::empty(),
-        Some(callback),
-    )?;
-    said_of(alloc, parser, say_all)
-}
-
-/// A text has these links with a callback.
-fn are_answered(alloc: Global, source: &str, which: Reply, wanted: &str) -> Result<(), Fail> {
-    let callback: Box<dyn BoxedCallback> = Box::new(alloc, replying(alloc, which))?;
-    let links = answered(alloc, source, callback)?;
-    gives(source, links.as_str(), wanted)
+        (found.as_str(), asked.as_str()),
+        (events, questions),
+    )
 }
 
 #[test]
 fn answers(rt: HostRuntime) -> Result<(), Fail> {
     let alloc = rt.alloc();
-    for &(source, callback, wanted) in &[
+    for &(source, reply, events, questions) in &[
         (
             "[a] [b]",
-            Reply::Numbers,
-            "ShortcutUnknown (/1) () (a); ShortcutUnknown (/2) () (b); ",
+            Reply::Number,
+            "<p>0..7 <a ShortcutUnknown +(/1) () (a)>0..3 [a]1..2 </a>0..3 [ ]3..4 \
+            <a ShortcutUnknown +(/2) () (b)>4..7 [b]5..6 </a>4..7 </p>0..7 ",
+            "0..3 Shortcut (a) 4..7 Shortcut (b) ",
+        ),
+        (
+            "[a] [b]",
+            Reply::Nothing,
+            "<p>0..7 [[]0..1 [a]1..2 []]2..3 [ ]3..4 [[]4..5 [b]5..6 []]6..7 </p>0..7 ",
+            "0..3 Shortcut (a) 4..7 Shortcut (b) ",
         ),
         (
             "This is a link w/o def: [hello][world]",
-            Reply::World,
-            "ReferenceUnknown (YOLO) (SWAG) (world); ",
+            Reply::Target("YOLO", "SWAG"),
+            "<p>0..38 [This is a link w/o def: ]0..24 <a ReferenceUnknown (YOLO) (SWAG) (world)>24..38 \
+            [hello]25..30 </a>24..38 </p>0..38 ",
+            "24..38 Reference (world) ",
         ),
-        ("[a]", Reply::Bytes(0, ""), "ShortcutUnknown () () (a); "),
         (
-            "check out [my website][].",
-            Reply::Bytes(1, "my example website"),
-            "CollapsedUnknown (x) (my example website) (my website); ",
+            "[a]",
+            Reply::Target("", ""),
+            "<p>0..3 <a ShortcutUnknown () () (a)>0..3 [a]1..2 </a>0..3 </p>0..3 ",
+            "0..3 Shortcut (a) ",
+        ),
+        (
+            "Hello world, check out [my website][].",
+            Reply::Target("http://example.com", "my example website"),
+            "<p>0..38 [Hello world, check out ]0..23 \
+            <a CollapsedUnknown (http://example.com) (my example website) (my website)>23..35 [my website]24..34 \
+            </a>23..35 [.]37..38 </p>0..38 ",
+            "23..35 Collapsed (my website) ",
         ),
     ] {
-        are_answered(alloc, source, callback, wanted)?;
+        is_answered(alloc, source, reply, events, questions)?;
     }
     Ok(())
 }
 
-/// Whether an event begins a link.
-fn is_link(event: &Event<'_>) -> bool {
-    matches!(event, Event::Start(Tag::Link { .. }))
-}
-
-/// How many links a text has, with a callback.
-fn links_with<'a, F: BrokenLinkCallback<'a>>(
+/// A text is rendered as this with a callback.
+fn is_rendered<'a, F: BrokenLinkCallback<'a>>(
     alloc: Global,
     source: &'a str,
     callback: F,
-) -> Result<usize, Fail>
+    wanted: &str,
+) -> Result<(), Fail>
     requires { F.can_ask callback }
 {
-    let parser = Parser::new_with_broken_link_callback(
-        alloc,
-        source,
-        Options::empty(),
-        Some(callback),
-    )?;
-    Ok(count_of(parser, is_link)?)
+    let html = render(alloc, source, Options::empty(), Some(callback))?;
+    gives(source, html.as_str(), wanted)
 }
 
-/// A text has so many links with a callback that answers by so many bytes.
-fn has_so_many_links(alloc: Global, source: &str, bytes: usize, links: usize) -> Result<(), Fail> {
-    let which = Reply::Bytes(bytes, "");
-    let callback: Box<dyn BoxedCallback> = Box::new(alloc, replying(alloc, which))?;
-    gives(source, links_with(alloc, source, callback)?, links)
+/// A text is rendered as this with a boxed callback that replies so.
+fn is_rendered_with(alloc: Global, source: &str, reply: Reply, wanted: &str) -> Result<(), Fail> {
+    let boxed: Box<dyn BoxedCallback> = Box::new(alloc, Recording::replying(alloc, reply))?;
+    is_rendered(alloc, source, boxed, wanted)
+}
+
+#[test]
+fn html_with_boxed_callbacks(rt: HostRuntime) -> Result<(), Fail> {
+    for &(source, reply, wanted) in &[
+        (
+            "[a] [b]",
+            Reply::Number,
+            "<p><a href=\"/1\">a</a> <a href=\"/2\">b</a></p>\n",
+        ),
+        ("[a]", Reply::Target("", ""), "<p><a href=\"\">a</a></p>\n"),
+        ("[a]", Reply::Nothing, "<p>[a]</p>\n"),
+    ] {
+        is_rendered_with(rt.alloc(), source, reply, wanted)?;
+    }
+    Ok(())
+}
+
+#[test]
+fn html_with_a_closure_that_counts(rt: HostRuntime) -> Result<(), Fail> {
+    let alloc = rt.alloc();
+    let mut asked = 0u64;
+    let numbering = |link: BrokenLink| -> Option<(CowStr, CowStr)>
+        ensures counted { asked.exit ≡ (asked.entry + 1) % 2 ^ 64 }
+    {
+        asked = asked.wrapping_add(1);
+        drop(link);
+        by_number(alloc, asked)
+    };
+    let wanted = "<p><a href=\"/1\">a</a> <a href=\"/2\">b</a></p>\n";
+    is_rendered(alloc, "[a] [b]", Closure::new(numbering), wanted)?;
+    gives("questions", asked, 2)
+}
+
+/// What a text gives with a callback that replies by so many bytes `x`: its events, in which `X` stands for
+/// those bytes, and the questions.
+fn asked_by_bytes(alloc: Global, source: &str, bytes: usize) -> Result<(String, String), Fail> {
+    let (events, questions) = asked_of(alloc, source, Reply::Bytes(bytes))?;
+    let answer = "x".repeat(alloc, bytes)?;
+    let short = events.as_str().replace(alloc, answer.as_str(), "X")?;
+    Ok((short, questions))
 }
 
 #[test]
 fn references_expand_up_to_a_limit(rt: HostRuntime) -> Result<(), Fail> {
-    for &(source, bytes, links) in &[("[a] [b]", 200000, 1), ("[a] [b] [c] [d]", 60000, 2)] {
-        has_so_many_links(rt.alloc(), source, bytes, links)?;
+    for &(source, bytes, events, questions) in &[
+        (
+            "[a] [b]",
+            200_000,
+            "<p>0..7 <a ShortcutUnknown +(X) () (a)>0..3 [a]1..2 </a>0..3 [ ]3..4 [[]4..5 [b]5..6 []]6..7 </p>0..7 ",
+            "0..3 Shortcut (a) ",
+        ),
+        (
+            "[a] [b] [c] [d]",
+            60_000,
+            "<p>0..15 <a ShortcutUnknown +(X) () (a)>0..3 [a]1..2 </a>0..3 [ ]3..4 \
+            <a ShortcutUnknown +(X) () (b)>4..7 [b]5..6 </a>4..7 [ ]7..8 [[]8..9 [c]9..10 []]10..11 [ ]11..12 \
+            [[]12..13 [d]13..14 []]14..15 </p>0..15 ",
+            "0..3 Shortcut (a) 4..7 Shortcut (b) ",
+        ),
+    ] {
+        let (found, asked) = asked_by_bytes(rt.alloc(), source, bytes)?;
+        gives(
+            source,
+            (found.as_str(), asked.as_str()),
+            (events, questions),
+        )?;
     }
     Ok(())
 }
@@ -419,7 +382,7 @@ fn references_expand_up_to_a_limit(rt: HostRuntime) -> Result<(), Fail> {
 #[test]
 fn questions_stand_directly_before_the_next_event(rt: HostRuntime) -> Result<(), Fail> {
     for &(events, questions) in &[(0, 0), (1, 0), (2, 1), (6, 1), (7, 2), (20, 2)] {
-        let asked = questions_after(rt.alloc(), "[a]\n\n[b]", events)?;
+        let (_, asked) = questions_in(rt.alloc(), "[a]\n\n[b]", events)?;
         gives(events, asked, questions)?;
     }
     Ok(())

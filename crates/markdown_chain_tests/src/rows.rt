@@ -1,29 +1,44 @@
 //! What tests of chains ask of a row: a text with its HTML or its events, a tree made by hand, counts of work.
 use crate::walks::count_left;
-use bitflags::Flags;
-use markdown_base::block_parts::BlockParts;
 use markdown_base::item::{Item, ItemBody};
 use markdown_base::options::Options;
 use markdown_base::tree::Tree;
-use markdown_chains::work::Work;
+use markdown_document::work::Work;
 use markdown_inline::walk::Parser;
 use markdown_render::merged::merged_html;
-use markdown_spans::blocks::Blocks;
-use markdown_tests::builders::{Outline, append_block, item, no_parts, one_of_each, tree_of};
-use markdown_tests::notes::notes_of;
-use markdown_tests::rows::gives;
+use markdown_test_helpers::parts::{no_parts, one_of_each};
+use markdown_test_helpers::rows::gives;
+use markdown_test_helpers::trees::{Outline, append_block, item, tree_of};
+use markdown_test_parsers::html::parser_shows;
+use markdown_test_parsers::parsers::{parser_gives, parser_of};
 use std::alloc::Global;
 use std::test::Fail;
 
-/// A text gives this HTML.
+/// The merge of a parser gives this HTML.
+fn merge_shows(alloc: Global, row: &str, parser: Parser<'_>, wanted: &str) -> Result<(), Fail> {
+    let html = merged_html(alloc, parser)?;
+    gives((row, "merged"), html.as_str(), wanted)
+}
+
+/// A text gives this HTML, merged and not.
 pub fn assert_html(
     alloc: Global,
     options: Options,
     source: &str,
     wanted: &str,
 ) -> Result<(), Fail> {
-    let html = merged_html(alloc, Parser::new_ext(alloc, source, options)?)?;
-    gives(source, html.as_str(), wanted)
+    parser_shows(
+        alloc,
+        source,
+        Parser::new_ext(alloc, source, options)?,
+        wanted,
+    )?;
+    merge_shows(
+        alloc,
+        source,
+        Parser::new_ext(alloc, source, options)?,
+        wanted,
+    )
 }
 
 /// Each text gives this HTML.
@@ -56,16 +71,10 @@ pub fn compare_plain(alloc: Global, rows: &[&str]) -> Result<(), Fail> {
     Ok(())
 }
 
-/// The events of a text, each with its range.
-pub fn notes_of_text(alloc: Global, options: Options, source: &str) -> Result<String, Fail> {
-    let parser = Parser::new_ext(alloc, source, options)?;
-    notes_of(alloc, parser.into_offset_iter())
-}
-
 /// A text gives these events, each with its range.
 fn assert_events(alloc: Global, options: Options, source: &str, wanted: &str) -> Result<(), Fail> {
-    let notes = notes_of_text(alloc, options, source)?;
-    gives(source, notes.as_str(), wanted)
+    let parser = Parser::new_ext(alloc, source, options)?;
+    parser_gives(alloc, source, parser, wanted)
 }
 
 /// Each text gives these events, each with its range.
@@ -83,19 +92,18 @@ pub fn work_of(alloc: Global, source: &str) -> Result<Work, Fail> {
     Ok(parser.work())
 }
 
-/// A parser of a tree over a text.
-pub fn parser_of<'a>(
+/// A parser of a tree over a text; it may name one text, one list of alignments and the attributes of one heading.
+fn outlined<'a>(
     alloc: Global,
     source: &'a str,
     options: Options,
-    tree: Tree<Item>,
-    parts: BlockParts<'a>,
+    outline: Outline<'_>,
 ) -> Result<Parser<'a>, Fail> {
-    let blocks = Blocks::checked(alloc, source, options, tree, parts)?;
-    Ok(Parser::from_blocks(alloc, blocks, None)?)
+    let tree = tree_of(alloc, outline)?;
+    parser_of(alloc, source, options, tree, one_of_each(alloc)?)
 }
 
-/// A tree over a text gives this HTML; it may name one text, one list of alignments and the attributes of one heading.
+/// Such a tree over a text gives this HTML, merged and not.
 pub fn outline_shows(
     alloc: Global,
     source: &str,
@@ -103,10 +111,34 @@ pub fn outline_shows(
     outline: Outline<'_>,
     wanted: &str,
 ) -> Result<(), Fail> {
-    let tree = tree_of(alloc, outline)?;
-    let parser = parser_of(alloc, source, options, tree, one_of_each(alloc)?)?;
-    let html = merged_html(alloc, parser)?;
-    gives(source, html.as_str(), wanted)
+    parser_shows(
+        alloc,
+        source,
+        outlined(alloc, source, options, outline)?,
+        wanted,
+    )?;
+    merge_shows(
+        alloc,
+        source,
+        outlined(alloc, source, options, outline)?,
+        wanted,
+    )
+}
+
+/// Such a tree over a text gives these events, each with its range.
+pub fn outline_gives(
+    alloc: Global,
+    source: &str,
+    options: Options,
+    outline: Outline<'_>,
+    wanted: &str,
+) -> Result<(), Fail> {
+    parser_gives(
+        alloc,
+        source,
+        outlined(alloc, source, options, outline)?,
+        wanted,
+    )
 }
 
 /// A parser of a paragraph of these items.
@@ -130,20 +162,41 @@ pub fn paragraph_gives(
     wanted: &str,
 ) -> Result<(), Fail> {
     let parser = paragraph(alloc, source, options, items)?;
-    let notes = notes_of(alloc, parser.into_offset_iter())?;
-    gives(source, notes.as_str(), wanted)
+    parser_gives(alloc, source, parser, wanted)
 }
 
-/// A paragraph of these items gives this HTML.
+/// A paragraph of these items gives this HTML, merged and not.
 pub fn paragraph_shows(
     alloc: Global,
     source: &str,
+    options: Options,
     items: &[Item],
     wanted: &str,
 ) -> Result<(), Fail> {
-    let parser = paragraph(alloc, source, Options::empty(), items)?;
-    let html = merged_html(alloc, parser)?;
-    gives(source, html.as_str(), wanted)
+    parser_shows(
+        alloc,
+        source,
+        paragraph(alloc, source, options, items)?,
+        wanted,
+    )?;
+    merge_shows(
+        alloc,
+        source,
+        paragraph(alloc, source, options, items)?,
+        wanted,
+    )
+}
+
+/// A tree over a text gives this HTML.
+pub fn tree_shows(
+    alloc: Global,
+    row: &str,
+    source: &str,
+    tree: Tree<Item>,
+    wanted: &str,
+) -> Result<(), Fail> {
+    let parser = parser_of(alloc, source, Options::empty(), tree, no_parts(alloc))?;
+    parser_shows(alloc, row, parser, wanted)
 }
 
 /// How many events a tree over a text gives, and what was counted.

@@ -2,19 +2,15 @@
 //! hand.
 use crate::grown::Grown;
 use crate::rows::{
-    compare, compare_events, compare_plain, compare_whole, outline_shows, paragraph_gives,
+    compare, compare_events, compare_plain, compare_whole, outline_gives, outline_shows,
+    paragraph_gives, paragraph_shows,
 };
-use crate::walks::count_of;
-use bitflags::Flags;
-use markdown_base::cow_str::CowStr;
-use markdown_base::event::Event;
 use markdown_base::index::AlignmentIndex;
 use markdown_base::item::{Item, ItemBody};
 use markdown_base::options::Options;
-use markdown_chains::work::Work;
-use markdown_inline::walk::Parser;
-use markdown_tests::builders::{item, text};
-use markdown_tests::rows::gives;
+use markdown_document::work::Work;
+use markdown_test_helpers::rows::gives;
+use markdown_test_helpers::trees::{item, text};
 use std::alloc::{AllocError, Global};
 use std::test::Fail;
 
@@ -100,6 +96,7 @@ fn autolinks(rt: HostRuntime) -> Result<(), Fail> {
                 "<MAILTO:FOO@BAR.BAZ>",
                 "<a href=\"MAILTO:FOO@BAR.BAZ\">MAILTO:FOO@BAR.BAZ</a>",
             ),
+            ("<http://a.b>", "<a href=\"http://a.b\">http://a.b</a>"),
             ("<a+b+c:d>", "<a href=\"a+b+c:d\">a+b+c:d</a>"),
             (
                 "<made-up-scheme://foo,bar>",
@@ -184,7 +181,7 @@ fn ranges(rt: HostRuntime) -> Result<(), Fail> {
             ("``a`b``", "<p>0..7 `a`b`0..7 </p>0..7 "),
             (
                 "> `a\n> b`",
-                "<blockquote>0..9 <p>2..9 `a b`2..9 </p>2..9 </blockquote>0..9 ",
+                "<blockquote>0..9 <p>2..9 +`a b`2..9 </p>2..9 </blockquote>0..9 ",
             ),
             ("\\``a`", "<p>0..5 [`]1..2 `a`2..5 </p>0..5 "),
             (
@@ -193,7 +190,7 @@ fn ranges(rt: HostRuntime) -> Result<(), Fail> {
             ),
             (
                 "<http://a.b>",
-                "<p>0..12 <a http://a.b>0..12 [http://a.b]1..11 </a>0..12 </p>0..12 ",
+                "<p>0..12 <a Autolink (http://a.b) () ()>0..12 [http://a.b]1..11 </a>0..12 </p>0..12 ",
             ),
             ("a <b> c", "<p>0..7 [a ]0..2 (<b>)2..5 [ c]5..7 </p>0..7 "),
             (
@@ -202,7 +199,7 @@ fn ranges(rt: HostRuntime) -> Result<(), Fail> {
             ),
             (
                 "> <foo\n> bar>",
-                "<blockquote>0..13 <p>2..13 (<foo\nbar>)2..13 </p>2..13 </blockquote>0..13 ",
+                "<blockquote>0..13 <p>2..13 +(<foo\nbar>)2..13 </p>2..13 </blockquote>0..13 ",
             ),
         ],
     )
@@ -226,31 +223,6 @@ fn html_of_several_blocks(rt: HostRuntime) -> Result<(), Fail> {
     )
 }
 
-/// Whether an event is inline HTML that is a slice of the source.
-fn is_slice(event: &Event<'_>) -> bool {
-    matches!(event, Event::InlineHtml(CowStr::Borrowed(_)))
-}
-
-/// Whether an event is inline HTML that is not.
-fn is_owned(event: &Event<'_>) -> bool {
-    matches!(event, Event::InlineHtml(_)) && !is_slice(event)
-}
-
-/// How many events are inline HTML that is a slice of the source, and how many are inline HTML that is not.
-fn count_html(alloc: Global, source: &str) -> Result<(usize, usize), Fail> {
-    let slices = count_of(Parser::new(alloc, source)?, is_slice)?;
-    let owned = count_of(Parser::new(alloc, source)?, is_owned)?;
-    Ok((slices, owned))
-}
-
-#[test]
-fn html_is_a_slice_unless_a_prefix_is_removed(rt: HostRuntime) -> Result<(), Fail> {
-    for &(source, slices, owned) in &[("a <b> c", 1, 0), ("> <foo\n> bar>", 0, 1)] {
-        gives(source, count_html(rt.alloc(), source)?, (slices, owned))?;
-    }
-    Ok(())
-}
-
 fn dollar(start: usize, opens: bool, closes: bool, context: u8) -> Item {
     item(
         start,
@@ -269,7 +241,9 @@ fn dollars_made_by_hand(rt: HostRuntime) -> Result<(), Fail> {
         dollar(5, false, true, 0),
     ];
     let wanted = "<p>0..6 [$]0..1 [a ]1..3 $b$3..6 </p>0..6 ";
-    paragraph_gives(rt.alloc(), "$a $b$", Options::ENABLE_MATH, &items, wanted)
+    paragraph_gives(rt.alloc(), "$a $b$", Options::ENABLE_MATH, &items, wanted)?;
+    let wanted = "<p>$a <span class=\"math math-inline\">b</span></p>\n";
+    paragraph_shows(rt.alloc(), "$a $b$", Options::ENABLE_MATH, &items, wanted)
 }
 
 #[test]
@@ -282,13 +256,13 @@ fn code_in_a_cell(rt: HostRuntime) -> Result<(), Fail> {
         (3, text(1, 5)),
         (3, item(5, 6, ItemBody::MaybeCode(1, false))),
     ];
-    outline_shows(
-        rt.alloc(),
-        "`a\\|b`",
-        Options::ENABLE_TABLES,
-        &outline,
-        "<table><thead><tr><th><code>a|b</code></th></tr></thead><tbody>\n</tbody></table>\n",
-    )
+    let source = "`a\\|b`";
+    let wanted =
+        "<table><thead><tr><th><code>a|b</code></th></tr></thead><tbody>\n</tbody></table>\n";
+    outline_shows(rt.alloc(), source, Options::ENABLE_TABLES, &outline, wanted)?;
+    let wanted =
+        "<table []>0..6 <thead>0..6 <td>0..6 +`a|b`0..6 </td>0..6 </thead>0..6 </table>0..6 ";
+    outline_gives(rt.alloc(), source, Options::ENABLE_TABLES, &outline, wanted)
 }
 
 /// Appends a run of backticks, and a text behind it.

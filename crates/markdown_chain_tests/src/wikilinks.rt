@@ -1,12 +1,13 @@
 //! Wikilinks, with a pipe and without, and what they share with links.
 use crate::rows::{compare, compare_events};
-use crate::walks::{count_left, first_of};
-use bitflags::Flags;
-use markdown_base::event::Event;
+use crate::walks::count_left;
+use markdown_base::item::ItemBody;
 use markdown_base::options::Options;
-use markdown_base::tag::{LinkType, Tag};
 use markdown_inline::walk::Parser;
-use markdown_tests::rows::gives;
+use markdown_test_helpers::parts::no_parts;
+use markdown_test_helpers::rows::gives;
+use markdown_test_helpers::trees::{item, text, tree_of};
+use markdown_test_parsers::parsers::{parser_gives, parser_of};
 use std::alloc::Global;
 use std::test::Fail;
 
@@ -41,47 +42,54 @@ fn ranges(rt: HostRuntime) -> Result<(), Fail> {
         &[
             (
                 "[[foo]] [[bar|baz]]",
-                "<p>0..19 <a foo>0..7 [foo]2..5 </a>0..7 [ ]7..8 <a bar>8..19 [baz]14..17 </a>8..19 </p>0..19 ",
+                "<p>0..19 <a WikiLink { has_pothole: false } (foo) () ()>0..7 [foo]2..5 </a>0..7 [ ]7..8 \
+                <a WikiLink { has_pothole: true } (bar) () ()>8..19 [baz]14..17 </a>8..19 </p>0..19 ",
             ),
             (
                 "For a new ferrari, [[Wikientry|click here]]!",
-                "<p>0..44 [For a new ferrari, ]0..19 <a Wikientry>19..43 [click here]31..41 </a>19..43 \
-                [!]43..44 </p>0..44 ",
+                "<p>0..44 [For a new ferrari, ]0..19 <a WikiLink { has_pothole: true } (Wikientry) () ()>19..43 \
+                [click here]31..41 </a>19..43 [!]43..44 </p>0..44 ",
             ),
-            ("[[a|]]", "<p>0..6 <a a>0..6 []4..4 </a>0..6 </p>0..6 "),
+            (
+                "[[a|]]",
+                "<p>0..6 <a WikiLink { has_pothole: true } (a) () ()>0..6 []4..4 </a>0..6 </p>0..6 ",
+            ),
+            (
+                "[foo](bar)",
+                "<p>0..10 <a Inline (bar) () ()>0..10 [foo]1..4 </a>0..10 </p>0..10 ",
+            ),
         ],
     )
 }
 
-/// Whether an event begins a wikilink, and whether there is a pipe in it.
-fn pothole_of(event: &Event<'_>) -> Option<bool> {
-    match event {
-        Event::Start(
-            Tag::Link {
-                link_type: LinkType::WikiLink { has_pothole },
-                ..
-            },
-        ) => Some(*has_pothole),
-        _ => None,
-    }
-}
-
-/// Whether the first link of a text is a wikilink with a pipe in it.
-fn has_pothole(alloc: Global, source: &str) -> Result<Option<bool>, Fail> {
-    let parser = Parser::new_ext(alloc, source, Options::ENABLE_WIKILINKS)?;
-    Ok(first_of(parser, pothole_of)?)
+/// A paragraph over the first bytes of `[[a|b]]`, whose items go on to its end, gives these events.
+fn block_gives(alloc: Global, end: usize, wanted: &str) -> Result<(), Fail> {
+    let outline = [
+        (0, item(0, end, ItemBody::Paragraph)),
+        (1, item(0, 1, ItemBody::MaybeLinkOpen)),
+        (1, item(1, 2, ItemBody::MaybeLinkOpen)),
+        (1, text(2, 5)),
+        (1, item(5, 6, ItemBody::MaybeLinkClose(true))),
+        (1, item(6, 7, ItemBody::MaybeLinkClose(true))),
+    ];
+    let tree = tree_of(alloc, &outline)?;
+    let options = Options::ENABLE_WIKILINKS;
+    let parser = parser_of(alloc, "[[a|b]]", options, tree, no_parts(alloc))?;
+    parser_gives(alloc, "[[a|b]]", parser, wanted)
 }
 
 #[test]
-fn potholes(rt: HostRuntime) -> Result<(), Fail> {
-    for &(source, pothole) in &[
-        ("[[foo]]", Some(false)),
-        ("[[foo|bar]]", Some(true)),
-        ("[foo](bar)", None),
-    ] {
-        gives(source, has_pothole(rt.alloc(), source)?, pothole)?;
-    }
-    Ok(())
+fn pipes_end_in_their_block(rt: HostRuntime) -> Result<(), Fail> {
+    block_gives(
+        rt.alloc(),
+        7,
+        "<p>0..7 <a WikiLink { has_pothole: true } (a) () ()>0..7 [b]4..5 </a>0..7 </p>0..7 ",
+    )?;
+    block_gives(
+        rt.alloc(),
+        3,
+        "<p>0..3 <a WikiLink { has_pothole: false } (a|b) () ()>0..7 [a|b]2..5 </a>0..7 </p>0..3 ",
+    )
 }
 
 /// How many events a text gives.

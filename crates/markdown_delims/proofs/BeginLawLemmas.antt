@@ -4,16 +4,16 @@ use Rattle.std.specs.Prelude.{IfSome, not, ◌&&◌, slice_range, slice_index}
 use Rattle.std.proofs.lemmas.Option.{IfSome_then}
 use Rattle.markdown_base.specs.Forest.{Forest, nil, node}
 use Rattle.markdown_base.specs.declared.item.ItemBody.TheVariants as body
-use Rattle.markdown_chains.specs.Document.{Shape, unresolved, Label, is_unresolved, shaped, as_text}
-use Rattle.markdown_chains.specs.Labels.{GivesFirst, Begins, is_plain}
-use Rattle.markdown_chains.specs.Setting.{Setting}
-use Rattle.markdown_chains.specs.Waiting.{text_if, as_closed}
+use Rattle.markdown_document.specs.Document.{Shape, unresolved, Label, is_unresolved, shaped, as_text}
+use Rattle.markdown_document.specs.Labels.{GivesFirst, Begins, is_plain}
+use Rattle.markdown_document.specs.Setting.{Setting}
+use Rattle.markdown_document.specs.Waiting.{text_if, as_closed}
 use Rattle.markdown_delims.specs.declared.run.Delimiter.{Delimiter}
 use Rattle.markdown_delims.specs.declared.run.Run.{Run}
 use Rattle.markdown_delims.specs.Layers.{marks_of, layer_of_one, layer_of_two, spanned, run_of_shape, run_of}
-use Rattle.markdown_delims.specs.MayPair.{delimiter_of, is_tilde_or_caret, may_pair}
+use Rattle.markdown_delims.specs.MayPair.{delimiter_of, may_pair}
 use Rattle.markdown_delims.specs.Pairing.{Read, done, waiting, texts_before, all_done, read_trees, FoundOpener, nearest_opener, drop_read}
-use Rattle.markdown_delims.specs.Pairing.{dropped_if, Layers, layers, trees_done, still_waiting, last_first, opened_if, left_over}
+use Rattle.markdown_delims.specs.Pairing.{Layers, layers, trees_done, still_waiting, last_first, opened_if, left_over}
 use Rattle.markdown_delims.specs.Pairing.{after_layers, closed_by, run_read, first_texts, after_tree, reads_from, runs_paired, paired}
 use Rattle.markdown_delims.specs.PairingLaws.{BeginsLaw}
 use Rattle.markdown_delims.specs.Quotes.{kind_of_shape, is_closed_later, is_end, first_turn, quotes_after, with_quotes}
@@ -54,20 +54,15 @@ module _ {A : Type 0} where
   opened_begins true run xs rs h = h
   opened_begins false run xs rs h = done_begins xs rs nil h
 
-  dropped_begins : (rs : List (Read A)) (f : Forest (Label A)) → Begins (read_trees rs f) → Begins (read_trees (map drop_read rs) f)
-  dropped_begins [] f h = h
-  dropped_begins (done a below ∷ rs) f h = dropped_begins rs (node a below f) h
-  dropped_begins (waiting dropped run xs ∷ rs) f h = dropped_begins rs (texts_before xs f) h
+  dropped_begins : (d : Delimiter) (rs : List (Read A)) (f : Forest (Label A)) → Begins (read_trees rs f)
+      → Begins (read_trees (map (drop_read d) rs) f)
+  dropped_begins d [] f h = h
+  dropped_begins d (done a below ∷ rs) f h = dropped_begins d rs (node a below f) h
+  dropped_begins d (waiting dropped run xs ∷ rs) f h = dropped_begins d rs (texts_before xs f) h
 
-  drop_if_begins : (b : Bool) (rs : List (Read A)) (f : Forest (Label A)) → Begins (read_trees rs f)
-      → Begins (read_trees (dropped_if b rs) f)
-  drop_if_begins true rs f h = dropped_begins rs f h
-  drop_if_begins false rs f h = h
-
-  left_begins : (drops : Bool) (closer : Run) (vs : List (Label A)) (rs : List (Read A))
-      → Begins (read_trees rs (texts_before (last_first vs []) nil)) → Begins (read_trees (left_over closer vs (dropped_if drops rs)) nil)
-  left_begins drops closer vs rs h = opened_begins closer.can_open closer (last_first vs []) (dropped_if drops rs)
-      (drop_if_begins drops rs (texts_before (last_first vs []) nil) h)
+  left_begins : (closer : Run) (vs : List (Label A)) (rs : List (Read A))
+      → Begins (read_trees rs (texts_before (last_first vs []) nil)) → Begins (read_trees (left_over closer vs rs) nil)
+  left_begins closer vs rs h = opened_begins closer.can_open closer (last_first vs []) rs h
 
   -- with the run that a search finds in its place
   abbrev FoundBegins : FoundOpener A → Type 0
@@ -131,8 +126,8 @@ module _ {A : Type 0} where
       tree = λ a below after rs h. added rs (node (as_closed s.text a) below nil) h;
       skip = λ a below after rs h. h;
       texts = λ n chain rs h. h;
-      left = λ drops closer vs rs rest h. left_begins drops closer vs rs (added rs (texts_before (last_first vs []) nil) h);
-      gone = λ vs rs rest h. h;
+      dropped = λ d vs rs rest h. dropped_begins d rs nil h;
+      left = λ closer vs rs rest h. left_begins closer vs rs (added rs (texts_before (last_first vs []) nil) h);
       found = λ closer vs rs rest h. IfSome_then (nearest_opener closer rs nil) (nearest_begins closer rs nil h)
           (λ f g. pair_begins vs f g);
     }
@@ -140,8 +135,8 @@ module _ {A : Type 0} where
     first_run : (closes : Bool) (run : Run) (v : Label A) (vs : List (Label A)) → GivesFirst v.part.shape
         → Begins (read_trees (run_read s closes run (v ∷ vs) []) nil)
     unfolding closed_by
-    first_run true run v vs h = left_begins (is_tilde_or_caret run.delimiter) run (v ∷ vs) [] (turned_begin vs (v ∷ []) nil (λ g. h))
-    first_run false run v vs h = left_begins false run (v ∷ vs) [] (turned_begin vs (v ∷ []) nil (λ g. h))
+    first_run true run v vs h = left_begins run (v ∷ vs) [] (turned_begin vs (v ∷ []) nil (λ g. h))
+    first_run false run v vs h = left_begins run (v ∷ vs) [] (turned_begin vs (v ∷ []) nil (λ g. h))
 
     of_length : (n : ℕ) (run : Run) (a : Label A) (below after : Forest (Label A)) → 0 < n
         → Begins (read_trees (run_read s run.can_close run (first_texts s.text n (node a below after)) []) nil)

@@ -141,7 +141,6 @@ BoundStack-push stack b c h =
       underscore = BoundCharacter-push Underscore stack b.underscore c h.underscore;
       tilde_within = simp length_push (omega (arith, h.tilde_within));
       caret_within = simp length_push (omega (arith, h.caret_within));
-      together = h.together;
     }
 
 pub BoundStack-cut : (stack : List Characters) (b : LowerBounds) (n : ℕ) → n ≤ length stack → BoundStack stack b
@@ -153,7 +152,6 @@ BoundStack-cut stack b n w h =
       underscore = BoundCharacter-cut Underscore stack b.underscore n w h.underscore;
       tilde_within = omega arith;
       caret_within = omega arith;
-      together = ap (λ m. min m n) h.together;
     }
 
 -- with what the bound says, no run of the stack pairs
@@ -180,7 +178,6 @@ raised_at_each Star closer stack b e h f =
       underscore = h.underscore;
       tilde_within = h.tilde_within;
       caret_within = h.caret_within;
-      together = h.together;
     }
 raised_at_each Underscore closer stack b e h f =
     let i : BoundCharacter closer.delimiter stack b.underscore = subst (λ d. BoundCharacter d stack b.underscore) e h.underscore in
@@ -192,7 +189,6 @@ raised_at_each Underscore closer stack b e h f =
           (NonePairs-below closer stack b.underscore i) f) i);
       tilde_within = h.tilde_within;
       caret_within = h.caret_within;
-      together = h.together;
     }
 raised_at_each Tilde closer stack b e h f = record {
   star = h.star;
@@ -200,7 +196,6 @@ raised_at_each Tilde closer stack b e h f = record {
   tilde_within = omega arith;
   caret_within =
       omega arith;
-  together = refl;
 }
 raised_at_each Caret closer stack b e h f = record {
   star = h.star;
@@ -208,7 +203,6 @@ raised_at_each Caret closer stack b e h f = record {
   tilde_within = omega arith;
   caret_within =
       omega arith;
-  together = refl;
 }
 
 -- a search that failed may raise the bounds that it read
@@ -224,7 +218,6 @@ BoundStack-none =
       underscore = none_of Underscore;
       tilde_within = omega arith;
       caret_within = omega arith;
-      together = refl;
     }
   where
     none_of : (d : Delimiter) → BoundCharacter d [] no_bounds

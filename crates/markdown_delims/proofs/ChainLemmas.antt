@@ -10,6 +10,7 @@ use Rattle.markdown_base.specs.Arena.{Arena, child_of, sibling_of}
 use Rattle.markdown_base.specs.ArenaForest.{links_of, Spells}
 use Rattle.markdown_base.specs.BlockTree.{Numbered}
 use Rattle.markdown_base.specs.Forest.{Forest, nil, node, Each, roots, relabelled}
+use Rattle.markdown_document.specs.Counts.{comparisons_per_delimiter}
 use Rattle.markdown_delims.specs.declared.marks.Marks.{Marks}
 use Rattle.markdown_delims.specs.EntryFinds.{finds_from}
 use Rattle.markdown_delims.specs.OpenRuns.{Openers}
@@ -173,7 +174,7 @@ module _ (m : Marks) (text : List ℕ) (s : Arena Item) (first : ℕ) (f : Fores
       }
 
   pub can_go_on : (t : Arena Item) (old now : Openers) (last : Option ℕ) (ix : ℕ)
-      → old.potential + 10 * delimiters_of (chain_of s.nodes f) < 2 ^ 128
+      → old.potential + comparisons_per_delimiter * delimiters_of (chain_of s.nodes f) < 2 ^ 128
       → ReadFurther m text whole_chain s t [] (chain_of s.nodes f) old now last (Some ix) 0
       → CanReadTree text ix last t now.runs now.potential
   can_go_on t old now last ix room a =

@@ -1,5 +1,5 @@
 -- A closer, find by find.
-use Rattle.std.proofs.Common.{◌≡◌, ℕ, zero, suc, ◌+◌, ◌-◌, ◌<◌, ◌≤◌, Bool, true, false, List, [], ◌∷◌, map, Option, Some, None, length}
+use Rattle.std.proofs.Common.{◌≡◌, ℕ, zero, suc, ◌+◌, ◌-◌, ◌<◌, ◌≤◌, Bool, true, false, List, [], ◌∷◌, Option, Some, None, length}
 use Rattle.std.proofs.Common.{refl, ap, subst, arith}
 use Rattle.std.specs.Prelude.{if◌then◌else◌}
 use Rattle.std.proofs.lemmas.Bool.{lt-ltb, le-ltb}
@@ -11,9 +11,9 @@ use Rattle.markdown_delims.specs.declared.marks.Marks.{Marks}
 use Rattle.markdown_delims.specs.declared.run.Characters.{Characters}
 use Rattle.markdown_delims.specs.declared.run.Delimiter.{Delimiter}
 use Rattle.markdown_delims.specs.declared.run.Run.{Run}
-use Rattle.markdown_delims.specs.MayPair.{OpenRun, Found, may_take, nearest, drop_run, dropped_by, is_tilde_or_caret}
+use Rattle.markdown_delims.specs.MayPair.{OpenRun, Found, may_take, nearest, drop_run, dropped_by}
 use Rattle.markdown_delims.specs.Entries.{Entry, settled, lone, waiting, character, characters, characters_after, flat, open_of, Taken}
-use Rattle.markdown_delims.specs.Entries.{search, enclosed, rest_open, without_last, drop_entry, entries_dropped, kept}
+use Rattle.markdown_delims.specs.Entries.{search, enclosed, rest_open, without_last, entries_dropped, kept}
 use Rattle.markdown_delims.specs.Views.{View, view_of, Cut, top}
 use Rattle.markdown_delims.specs.Enclosing.{AllTouched}
 use Rattle.markdown_delims.specs.ChainStanding.{Chain, Stands, StandsAt}
@@ -105,32 +105,19 @@ opener_stands closer (waiting start r ∷ es) inside t some h e =
     (opener_stands closer es (characters r.opener.number start r.opener.count inside) t some) h e
 
 -- dropping runs leaves the chain
-pub flat-dropped : (es : List Entry) → flat (map drop_entry es) ≡ flat es
-flat-dropped [] = refl
-flat-dropped (settled a below ∷ es) = ap (λ f. node a below f) (flat-dropped es)
-flat-dropped (lone number start n ∷ es) = ap (λ f. characters_after number start n f) (flat-dropped es)
-flat-dropped (waiting start r ∷ es) = ap (λ f. characters_after r.opener.number start r.opener.count f) (flat-dropped es)
-
-pub open_of-dropped : (es : List Entry) → open_of (map drop_entry es) ≡ map drop_run (open_of es)
-open_of-dropped [] = refl
-open_of-dropped (settled a below ∷ es) = open_of-dropped es
-open_of-dropped (lone number start n ∷ es) = open_of-dropped es
-open_of-dropped (waiting start r ∷ es) = ap (λ rs. drop_run r ∷ rs) (open_of-dropped es)
-
-dropped_if : (b : Bool) (es : List Entry) → flat (if b then map drop_entry es else es) ≡ flat es
-dropped_if true es = flat-dropped es
-dropped_if false es = refl
-
 pub flat-entries_dropped : (closer : Run) (es : List Entry) → flat (entries_dropped closer es) ≡ flat es
-flat-entries_dropped closer es = dropped_if (is_tilde_or_caret closer.delimiter) es
-
-open_if : (b : Bool) (es : List Entry) → open_of (if b then map drop_entry es else es)
-    ≡ (if b then map drop_run (open_of es) else open_of es)
-open_if true es = open_of-dropped es
-open_if false es = refl
+flat-entries_dropped closer [] = refl
+flat-entries_dropped closer (settled a below ∷ es) = ap (λ f. node a below f) (flat-entries_dropped closer es)
+flat-entries_dropped closer (lone number start n ∷ es) = ap (λ f. characters_after number start n f) (flat-entries_dropped closer es)
+flat-entries_dropped closer (waiting start r ∷ es) =
+    ap (λ f. characters_after r.opener.number start r.opener.count f) (flat-entries_dropped closer es)
 
 pub open_of-entries_dropped : (closer : Run) (es : List Entry) → open_of (entries_dropped closer es) ≡ dropped_by closer (open_of es)
-open_of-entries_dropped closer es = open_if (is_tilde_or_caret closer.delimiter) es
+open_of-entries_dropped closer [] = refl
+open_of-entries_dropped closer (settled a below ∷ es) = open_of-entries_dropped closer es
+open_of-entries_dropped closer (lone number start n ∷ es) = open_of-entries_dropped closer es
+open_of-entries_dropped closer (waiting start r ∷ es) =
+    ap (λ rs. drop_run closer.delimiter r ∷ rs) (open_of-entries_dropped closer es)
 
 -- what a pair leaves open
 pub open_of-enclosed : (m : Marks) (d : Delimiter) (number start n end count : ℕ) (inside : Forest Numbered) (es : List Entry)

@@ -1,6 +1,6 @@
 -- Where the trees of a chain stand in order, each behind the one before it, those that pairing leaves do too, at every
 -- depth; so each keeps the rules of items.
-use Rattle.std.proofs.Common.{◌≡◌, ℕ, zero, suc, ◌+◌, ◌-◌, ◌<◌, ◌≤◌, min, Bool, true, false, List, [], ◌∷◌, map, Option, Some, None, refl}
+use Rattle.std.proofs.Common.{◌≡◌, ℕ, zero, suc, ◌+◌, ◌-◌, ◌<◌, ◌≤◌, min, Bool, true, false, List, [], ◌∷◌, Option, Some, None, refl}
 use Rattle.std.proofs.Common.{ap, sym, ◌∙◌, subst, arith, inl, inr}
 use Rattle.std.specs.Prelude.{⊤, IfSome, if◌then◌else◌}
 use Rattle.std.specs.Str.{IsCharBoundary}
@@ -11,17 +11,17 @@ use Rattle.markdown_base.specs.Item.{LiesIn, is_open}
 use Rattle.markdown_base.specs.WellFormed.{RunCharacter, run_character, byte_of}
 use Rattle.markdown_base.specs.declared.item.Item.{Item}
 use Rattle.markdown_base.specs.declared.item.ItemBody.{ItemBody}
-use Rattle.markdown_chains.specs.ItemRules.{StandsBefore, KeepsItemRules}
-use Rattle.markdown_chains.proofs.ItemRulesLemmas.{keeps-closed}
+use Rattle.markdown_document.specs.ItemRules.{StandsBefore, KeepsItemRules}
+use Rattle.markdown_document.proofs.ItemRulesLemmas.{keeps-closed}
 use Rattle.markdown_delims.specs.declared.marks.Marks.{Marks}
 use Rattle.markdown_delims.specs.declared.run.Delimiter.{Delimiter}
 use Rattle.markdown_delims.specs.declared.run.Run.{Run}
 use Rattle.markdown_delims.specs.declared.run.Characters.{Characters}
-use Rattle.markdown_delims.specs.Entries.{Entry, settled, lone, waiting, labelled, characters, flat, read_back, Taken, search, drop_entry}
+use Rattle.markdown_delims.specs.Entries.{Entry, settled, lone, waiting, labelled, characters, flat, read_back, Taken, search}
 use Rattle.markdown_delims.specs.Entries.{entries_dropped, enclosed, without_first, rest_open, with_pair, kept, after_search, closed_in}
 use Rattle.markdown_delims.specs.Entries.{with_run, all_of_run, after_tree, paired_from, paired}
 use Rattle.markdown_delims.specs.MarkBodies.{layer_of_two, run_if, run_of}
-use Rattle.markdown_delims.specs.MayPair.{delimiter_of, is_tilde_or_caret, may_take}
+use Rattle.markdown_delims.specs.MayPair.{delimiter_of, may_take}
 use Rattle.markdown_delims.specs.PairedChain.{HasNoBlock}
 use Rattle.markdown_delims.specs.QuoteBodies.{turn_at, quoted_after}
 use Rattle.markdown_delims.specs.RunReading.{StandsWhole, IsWhole}
@@ -239,15 +239,11 @@ module _ (text : List ℕ) where
       (rest_stands (min t.opener.count closer.count) start closer.number t h)
 
   -- dropped or not, runs stand where they stood
-  dropped_stand : (i n : ℕ) (es : List Entry) → Stand text es i n → Stand text (map drop_entry es) i n
-  dropped_stand i n [] h = tt
-  dropped_stand i n (settled a below ∷ es) h = (h.0, h.1, h.2, dropped_stand a.item.start a.number es h.3)
-  dropped_stand i n (lone number start c ∷ es) h = (h.0, h.1, h.2, dropped_stand start number es h.3)
-  dropped_stand i n (waiting start r ∷ es) h = (h.0, h.1, h.2, dropped_stand start r.opener.number es h.3)
-
-  drop_if : (b : Bool) (i n : ℕ) (es : List Entry) → Stand text es i n → Stand text (if b then map drop_entry es else es) i n
-  drop_if true i n es h = dropped_stand i n es h
-  drop_if false i n es h = h
+  dropped_stand : (closer : Run) (i n : ℕ) (es : List Entry) → Stand text es i n → Stand text (entries_dropped closer es) i n
+  dropped_stand closer i n [] h = tt
+  dropped_stand closer i n (settled a below ∷ es) h = (h.0, h.1, h.2, dropped_stand closer a.item.start a.number es h.3)
+  dropped_stand closer i n (lone number start c ∷ es) h = (h.0, h.1, h.2, dropped_stand closer start number es h.3)
+  dropped_stand closer i n (waiting start r ∷ es) h = (h.0, h.1, h.2, dropped_stand closer start r.opener.number es h.3)
 
   keep_if : (b : Bool) (start : ℕ) (c : Characters) (es : List Entry) → RunLies text start c.count → Stand text es start c.number
       → Stand text (if b then waiting start (record { dropped = false; opener = c }) ∷ es else lone c.number start c.count ∷ es) (start
@@ -266,7 +262,7 @@ module _ (text : List ℕ) where
       → Stand text es start c.number → IfSome o (TakenStands text start c.number)
       → Stand text (after_search m again start c es o) (start + c.count) (c.number + c.count)
   searched_stands m again start c es None g l h k = keep_if c.run.can_open start c (entries_dropped c.run es) l
-      (drop_if (is_tilde_or_caret c.run.delimiter) start c.number es h)
+      (dropped_stand c.run start c.number es h)
   searched_stands m again start c es (Some t) g l h k =
       elim (cases_lt t.opener.count c.count) [
         | inl fewer ↦
@@ -289,7 +285,7 @@ module _ (text : List ℕ) where
 
   closed_stands : (m : Marks) (turns : ℕ) → ReadsOn (λ start c es. closed_in m turns start c es)
   unfolding closed_in
-  closed_stands m zero start c es l h = later start (start + c.count) c.number (c.number + c.count) es (omega arith) (omega arith) h
+  closed_stands m zero start c es l h = keep_if c.run.can_open start c es l h
   closed_stands m (suc turns) start c es l h =
       searched_stands m (λ i d fs. closed_in m turns i d fs) start c es (search c.run es nil) (closed_stands m turns) l h
       (search_stands c.run es nil start start c.number c.number (omega arith) (omega arith) h tt)

@@ -5,15 +5,15 @@ use Rattle.std.specs.Prelude.{⊤, IfSome, not, ◌&&◌, slice_range}
 use Rattle.std.specs.List.{AllByRecursion}
 use Rattle.std.proofs.lemmas.Option.{IfSome_then}
 use Rattle.markdown_base.specs.Forest.{Forest, nil, node}
-use Rattle.markdown_chains.specs.Document.{Label, is_unresolved, as_text}
-use Rattle.markdown_chains.specs.Setting.{Setting}
-use Rattle.markdown_chains.specs.Waiting.{text_if, as_closed}
+use Rattle.markdown_document.specs.Document.{Label, is_unresolved, as_text}
+use Rattle.markdown_document.specs.Setting.{Setting}
+use Rattle.markdown_document.specs.Waiting.{text_if, as_closed}
 use Rattle.markdown_delims.specs.declared.run.Delimiter.{Delimiter}
 use Rattle.markdown_delims.specs.declared.run.Run.{Run}
 use Rattle.markdown_delims.specs.Layers.{marks_of, layer_of_one, layer_of_two, spanned}
 use Rattle.markdown_delims.specs.MayPair.{may_pair}
 use Rattle.markdown_delims.specs.Pairing.{Read, done, waiting, texts_before, all_done, read_trees, FoundOpener, nearest_opener, drop_read}
-use Rattle.markdown_delims.specs.Pairing.{dropped_if, Layers, layers, trees_done, still_waiting, last_first, opened_if, after_layers}
+use Rattle.markdown_delims.specs.Pairing.{Layers, layers, trees_done, still_waiting, last_first, opened_if, after_layers}
 use Rattle.markdown_delims.specs.Pairing.{first_texts, reads_from, runs_paired, paired}
 use Rattle.markdown_delims.specs.Quotes.{with_quotes}
 use Rattle.markdown_delims.proofs.LayerLawLemmas.{one-closed, two-closed}
@@ -73,14 +73,10 @@ module _ {A : Type 0} (c : Label A → Type 0) (t : Label A → Forest (Label A)
         (nearest_opener closer rs (texts_before xs inside)) (k, h.0, h.1)
         (nearest-keeps closer rs (texts_before xs inside) h.1 (texts_keep xs inside h.0 k))
 
-    dropped_keep : (rs : List (Read A)) → EachRead rs → EachRead (map drop_read rs)
-    dropped_keep [] h = h
-    dropped_keep (done a below ∷ rs) h = (h.0, dropped_keep rs h.1)
-    dropped_keep (waiting dropped run xs ∷ rs) h = (h.0, dropped_keep rs h.1)
-
-    drop_if_keeps : (b : Bool) (rs : List (Read A)) → EachRead rs → EachRead (dropped_if b rs)
-    drop_if_keeps true rs h = dropped_keep rs h
-    drop_if_keeps false rs h = h
+    dropped_keep : (d : Delimiter) (rs : List (Read A)) → EachRead rs → EachRead (map (drop_read d) rs)
+    dropped_keep d [] h = h
+    dropped_keep d (done a below ∷ rs) h = (h.0, dropped_keep d rs h.1)
+    dropped_keep d (waiting dropped run xs ∷ rs) h = (h.0, dropped_keep d rs h.1)
 
     layers_keep : (d : Delimiter) (xs vs : List (Label A)) (inside : Forest (Label A)) → AllByRecursion c xs → AllByRecursion c vs
         → EachTree t inside → EachLayer (layers s d xs vs inside)
@@ -137,13 +133,12 @@ module _ {A : Type 0} (c : Label A → Type 0) (t : Label A → Forest (Label A)
       tree = λ a below after rs h. (tt, (h.2.0.1, h.1), h.2.1);
       skip = λ a below after rs h. (tt, h.1, h.2.1);
       texts = λ n chain rs h. ((firsts-keep n chain h.2).0, h.1, (firsts-keep n chain h.2).1);
-      left = λ drops closer vs rs rest h. (
+      dropped = λ d vs rs rest h. (h.0, dropped_keep d rs h.1, h.2);
+      left = λ closer vs rs rest h. (
         tt,
-        opened_keeps closer.can_open closer (last_first vs []) (dropped_if drops rs)
-            (turned_keep vs [] h.0 tt) (drop_if_keeps drops rs h.1),
+        opened_keeps closer.can_open closer (last_first vs []) rs (turned_keep vs [] h.0 tt) h.1,
         h.2,
       );
-      gone = λ vs rs rest h. (tt, h.1, h.2);
       found = λ closer vs rs rest h. IfSome_then (nearest_opener closer rs nil) (nearest-keeps closer rs nil h.1 tt)
           (λ f g. found-keeps vs rest f h.0 h.2 g);
     }

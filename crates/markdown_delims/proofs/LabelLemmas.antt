@@ -6,23 +6,23 @@ use Rattle.std.proofs.lemmas.Bool.{lt-ltb, le-ltb, cases_lt}
 use Rattle.markdown_base.specs.BlockTree.{Numbered}
 use Rattle.markdown_base.specs.Event.{strikethrough}
 use Rattle.markdown_base.specs.Forest.{Forest, nil, node, relabelled}
-use Rattle.markdown_chains.specs.Tables.{Tables}
+use Rattle.markdown_document.specs.Tables.{Tables}
 use Rattle.markdown_base.specs.declared.item.ItemBody.{ItemBody}
 use Rattle.markdown_base.specs.declared.item.ItemBody.TheVariants as body
-use Rattle.markdown_chains.specs.Document.{Shape, Label, shape_of, part_of, block_of, text_over}
-use Rattle.markdown_chains.specs.Setting.{Setting}
+use Rattle.markdown_document.specs.Document.{Shape, Label, shape_of, part_of, block_of, text_over}
+use Rattle.markdown_document.specs.Setting.{Setting}
 use Rattle.markdown_delims.specs.declared.marks.Marks.{Marks}
 use Rattle.markdown_delims.specs.declared.run.Delimiter.{Delimiter}
 use Rattle.markdown_delims.specs.declared.run.Delimiter.TheVariants.{Star, Underscore, Tilde, Caret}
 use Rattle.markdown_delims.specs.declared.run.Run.{Run}
 use Rattle.markdown_delims.specs.declared.run.Characters.{Characters}
 use Rattle.markdown_delims.specs.Entries.{Entry, settled, lone, waiting as open_entry, labelled, character, characters, characters_after}
-use Rattle.markdown_delims.specs.Entries.{flat, read_back, Taken, search, drop_entry, entries_dropped, enclosed, rest_open, kept}
+use Rattle.markdown_delims.specs.Entries.{flat, read_back, Taken, search, entries_dropped, enclosed, rest_open, kept}
 use Rattle.markdown_delims.specs.Layers.{enclosed_if, marks_of, layer_of_one, layer_of_two, spanned}
 use Rattle.markdown_delims.specs.MarkBodies.{whole_text, layer_of_one as body_of_one, layer_of_two as body_of_two}
-use Rattle.markdown_delims.specs.MayPair.{is_tilde_or_caret, may_take}
+use Rattle.markdown_delims.specs.MayPair.{drops, may_take}
 use Rattle.markdown_delims.specs.Pairing.{Read, done, waiting, texts_before, all_done, read_trees, FoundOpener, found_if, nearest_opener}
-use Rattle.markdown_delims.specs.Pairing.{drop_read, dropped_if, Layers, layers, trees_done, still_waiting, last_first, opened_if}
+use Rattle.markdown_delims.specs.Pairing.{drop_read, Layers, layers, trees_done, still_waiting, last_first, opened_if}
 use Rattle.markdown_delims.specs.Pairing.{left_over}
 use Rattle.markdown_delims.proofs.PairLemmas.{characters-last}
 
@@ -187,25 +187,19 @@ module _ {A : Type 0} (tag : ℕ → A) (tables : Tables) (s : Setting) where
       (search closer es (characters r.opener.number start r.opener.count inside))
 
   -- runs that are dropped
-  drop_done : (xs : List (Label A)) (rs : List (Read A)) → map drop_read (all_done xs rs) ≡ all_done xs (map drop_read rs)
-  drop_done [] rs = refl
-  drop_done (x ∷ xs) rs = ap (λ (os : List (Read A)). done x nil ∷ os) (drop_done xs rs)
+  drop_done : (d : Delimiter) (xs : List (Label A)) (rs : List (Read A)) → map (drop_read d) (all_done xs rs)
+      ≡ all_done xs (map (drop_read d) rs)
+  drop_done d [] rs = refl
+  drop_done d (x ∷ xs) rs = ap (λ (os : List (Read A)). done x nil ∷ os) (drop_done d xs rs)
 
-  drop_seen : (es : List Entry) → map drop_read (seen es) ≡ seen (map drop_entry es)
-  drop_seen [] = refl
-  drop_seen (settled a below ∷ es) = ap (λ (os : List (Read A)). done (look a) (trees below) ∷ os) (drop_seen es)
-  drop_seen (lone number start n ∷ es) = drop_done (lasts number start n) (seen es) ∙ ap (all_done (lasts number start n)) (drop_seen es)
-  drop_seen (open_entry start r ∷ es) =
-      ap (λ (os : List (Read A)). waiting (r.dropped || is_tilde_or_caret r.opener.run.delimiter) r.opener.run
-      (lasts r.opener.number start r.opener.count) ∷ os) (drop_seen es)
-
-  drop_if : (b : Bool) (es : List Entry) → dropped_if b (seen es) ≡ seen (if b then map drop_entry es else es)
-  drop_if true es = drop_seen es
-  drop_if false es = refl
-
-  pub dropped_seen : (closer : Run) (es : List Entry) → dropped_if (is_tilde_or_caret closer.delimiter) (seen es)
-      ≡ seen (entries_dropped closer es)
-  dropped_seen closer es = drop_if (is_tilde_or_caret closer.delimiter) es
+  pub dropped_seen : (closer : Run) (es : List Entry) → map (drop_read closer.delimiter) (seen es) ≡ seen (entries_dropped closer es)
+  dropped_seen closer [] = refl
+  dropped_seen closer (settled a below ∷ es) = ap (λ (os : List (Read A)). done (look a) (trees below) ∷ os) (dropped_seen closer es)
+  dropped_seen closer (lone number start n ∷ es) =
+      drop_done closer.delimiter (lasts number start n) (seen es) ∙ ap (all_done (lasts number start n)) (dropped_seen closer es)
+  dropped_seen closer (open_entry start r ∷ es) =
+      ap (λ (os : List (Read A)). waiting (r.dropped || drops closer.delimiter r.opener.run.delimiter) r.opener.run
+      (lasts r.opener.number start r.opener.count) ∷ os) (dropped_seen closer es)
 
   -- the last one first
   firsts_at : (n n' i i' c c' : ℕ) → n ≡ n' → i ≡ i' → c ≡ c' → firsts n i c ≡ firsts n' i' c'

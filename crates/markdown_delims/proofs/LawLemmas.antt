@@ -2,10 +2,10 @@
 use Rattle.std.proofs.Common.{◌≡◌, Bool, true, false, List, [], ◌∷◌, Option, Some, None, refl, ap, sym, ◌∙◌}
 use Rattle.std.specs.Prelude.{not, ◌&&◌, IfSome, IfNone, slice_range}
 use Rattle.markdown_base.specs.Forest.{Forest, nil, node, Each}
-use Rattle.markdown_chains.specs.Document.{Label, is_unresolved, shaped, as_text}
-use Rattle.markdown_chains.specs.Labels.{retagged, retag}
-use Rattle.markdown_chains.specs.Setting.{Setting}
-use Rattle.markdown_chains.specs.Waiting.{text_if, as_closed}
+use Rattle.markdown_document.specs.Document.{Label, is_unresolved, shaped, as_text}
+use Rattle.markdown_document.specs.Labels.{retagged, retag}
+use Rattle.markdown_document.specs.Setting.{Setting}
+use Rattle.markdown_document.specs.Waiting.{text_if, as_closed}
 use Rattle.markdown_delims.specs.declared.run.Run.{Run}
 use Rattle.markdown_delims.specs.MayPair.{may_pair}
 use Rattle.markdown_delims.specs.Pairing.{Read, done, waiting, texts_before, FoundOpener, found_if, nearest_opener, paired}

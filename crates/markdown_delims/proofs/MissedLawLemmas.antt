@@ -1,23 +1,23 @@
 -- Of two runs of `*` or `_` that may pair, some pair encloses what is left of one alone: no two such runs have
 -- characters left side by side in what was read of a chain, nor at any depth below.
 use Rattle.std.proofs.Common.{◌≡◌, ℕ, zero, suc, ◌-◌, ◌<◌, Bool, true, false, List, [], ◌∷◌, length, Option, Some, None, refl, ap, sym, ◌∙◌}
-use Rattle.std.proofs.Common.{subst, arith, map}
+use Rattle.std.proofs.Common.{subst, arith, map, ◌≤◌}
 use Rattle.std.specs.Prelude.{⊤, IfSome, IfNone, not, ◌&&◌, ◌||◌, slice_range, slice_index}
 use Rattle.std.specs.List.{AllByRecursion}
 use Rattle.markdown_base.specs.Forest.{Forest, nil, node}
 use Rattle.markdown_base.proofs.ForestLemmas.{relabelled-relabelled}
-use Rattle.markdown_chains.specs.Document.{Shape, leaf, backslash_break, unresolved, Label, Plain, is_unresolved, shaped}
-use Rattle.markdown_chains.specs.Labels.{retag, retagged}
-use Rattle.markdown_chains.specs.Setting.{Setting}
-use Rattle.markdown_chains.specs.Waiting.{text_if, as_closed}
+use Rattle.markdown_document.specs.Document.{Shape, leaf, backslash_break, unresolved, Label, Plain, is_unresolved, shaped}
+use Rattle.markdown_document.specs.Labels.{retag, retagged}
+use Rattle.markdown_document.specs.Setting.{Setting}
+use Rattle.markdown_document.specs.Waiting.{text_if, as_closed}
 use Rattle.markdown_delims.specs.declared.marks.Marks.{Marks}
 use Rattle.markdown_delims.specs.declared.run.Delimiter.{Delimiter}
 use Rattle.markdown_delims.specs.declared.run.Delimiter.TheVariants.{Star, Underscore, Tilde, Caret}
 use Rattle.markdown_delims.specs.declared.run.Run.{Run}
 use Rattle.markdown_delims.specs.Layers.{marks_of, layer_of_one, layer_of_two, run_of_shape, run_of}
-use Rattle.markdown_delims.specs.MayPair.{delimiter_of, is_tilde_or_caret, may_pair}
+use Rattle.markdown_delims.specs.MayPair.{delimiter_of, drops, is_tilde_or_caret, may_pair}
 use Rattle.markdown_delims.specs.Pairing.{paired, Read, done, waiting, texts_before, all_done, read_trees, FoundOpener, nearest_opener}
-use Rattle.markdown_delims.specs.Pairing.{drop_read, dropped_if, Layers, layers, trees_done, still_waiting, last_first, opened_if}
+use Rattle.markdown_delims.specs.Pairing.{drop_read, Layers, layers, trees_done, still_waiting, last_first, opened_if}
 use Rattle.markdown_delims.specs.Pairing.{left_over, after_layers, after_search, closed_by, run_read, first_texts, after_tree, reads_from}
 use Rattle.markdown_delims.specs.Pairing.{runs_paired}
 use Rattle.markdown_delims.specs.Quotes.{kind_of_shape, closes_later, is_closed_later, is_end, QuoteTurn, turn_by, first_turn, quotes_after}
@@ -225,28 +225,37 @@ none_found closer p e (waiting dropped run xs ∷ rs) h m =
     (all_first h.1.at (Some p) xs h.1.all (open_apart dropped run closer h.1.at p h.1.same e h.0 m.0), none_found closer p e rs h.2 m.1)
 
 -- runs are dropped
-drop_earlier : (k : MaybeRun) (rs : List (Read MaybeRun)) → NoneEarlier k rs → NoneEarlier k (map drop_read rs)
-drop_earlier k [] h = tt
-drop_earlier k (done a below ∷ rs) h = (h.0, drop_earlier k rs h.1)
-drop_earlier k (waiting dropped run xs ∷ rs) h = (h.0, drop_earlier k rs h.1)
+drop_earlier : (d : Delimiter) (k : MaybeRun) (rs : List (Read MaybeRun)) → NoneEarlier k rs → NoneEarlier k (map (drop_read d) rs)
+drop_earlier d k [] h = tt
+drop_earlier d k (done a below ∷ rs) h = (h.0, drop_earlier d k rs h.1)
+drop_earlier d k (waiting dropped run xs ∷ rs) h = (h.0, drop_earlier d k rs h.1)
 
-drop_tilde : (dropped tilde : Bool) → (dropped ≡ true → tilde ≡ true) → (dropped || tilde) ≡ true → tilde ≡ true
-drop_tilde true tilde h e = h refl
-drop_tilde false tilde h e = e
+-- no `*` and no `_` is dropped
+drops_tilde : (d e : Delimiter) → drops d e ≡ true → is_tilde_or_caret e ≡ true
+drops_tilde d Tilde h = refl
+drops_tilde d Caret h = refl
+drops_tilde Star Star h = h
+drops_tilde Underscore Star h = h
+drops_tilde Tilde Star h = h
+drops_tilde Caret Star h = h
+drops_tilde Star Underscore h = h
+drops_tilde Underscore Underscore h = h
+drops_tilde Tilde Underscore h = h
+drops_tilde Caret Underscore h = h
 
-drop_fine : (rs : List (Read MaybeRun)) → Fine rs → Fine (map drop_read rs)
-drop_fine [] h = tt
-drop_fine (done a below ∷ rs) h = (h.0, drop_earlier (kept_run a) rs h.1, h.2, drop_fine rs h.3)
-drop_fine (waiting dropped run xs ∷ rs) h = (
-  drop_tilde dropped (is_tilde_or_caret run.delimiter) h.0,
-  record { at = h.1.at; same = h.1.same; all = h.1.all; some = h.1.some; earlier = drop_earlier (Some h.1.at) rs h.1.earlier },
-  drop_fine rs h.2,
+drop_tilde : (dropped : Bool) (d e : Delimiter) → (dropped ≡ true → is_tilde_or_caret e ≡ true) → (dropped || drops d e) ≡ true
+    → is_tilde_or_caret e ≡ true
+drop_tilde true d e h k = h refl
+drop_tilde false d e h k = drops_tilde d e k
+
+drop_fine : (d : Delimiter) (rs : List (Read MaybeRun)) → Fine rs → Fine (map (drop_read d) rs)
+drop_fine d [] h = tt
+drop_fine d (done a below ∷ rs) h = (h.0, drop_earlier d (kept_run a) rs h.1, h.2, drop_fine d rs h.3)
+drop_fine d (waiting dropped run xs ∷ rs) h = (
+  drop_tilde dropped d run.delimiter h.0,
+  record { at = h.1.at; same = h.1.same; all = h.1.all; some = h.1.some; earlier = drop_earlier d (Some h.1.at) rs h.1.earlier },
+  drop_fine d rs h.2,
 )
-
-drop_if_fine : (b : Bool) (k : MaybeRun) (rs : List (Read MaybeRun)) → Fine rs → NoneEarlier k rs
-    → Fine (dropped_if b rs) × NoneEarlier k (dropped_if b rs)
-drop_if_fine true k rs h e = (drop_fine rs h, drop_earlier k rs e)
-drop_if_fine false k rs h e = (h, e)
 
 -- characters that do not pair, of a run p
 module _ (p : RunAt) where
@@ -359,8 +368,26 @@ module _ (p : RunAt) where
     first_layers q d (x ∷ y ∷ xs) (v ∷ w ∷ vs) inside e i j a b m =
         more_layers q d xs vs (layers s d (x ∷ y ∷ []) (v ∷ w ∷ []) inside).whole e a.1.1 b.1.1 (two_layer d x y v w inside e a.1.0 m)
 
--- a closer pairs
+-- a closer pairs: fewer of its characters are left
 module _ (s : Setting) where
+  closing_shrinks : (d : Delimiter) (xs vs : List Character) (inside : Forest Character)
+      → length (layers s d xs vs inside).closing ≤ length vs
+  closing_shrinks d [] vs inside = omega arith
+  closing_shrinks d (x ∷ xs) [] inside = omega arith
+  closing_shrinks d (x ∷ []) (v ∷ vs) inside = omega arith
+  closing_shrinks d (x ∷ y ∷ xs) (v ∷ []) inside = omega arith
+  closing_shrinks d (x ∷ y ∷ xs) (v ∷ w ∷ vs) inside =
+      let rest = closing_shrinks d xs vs (layers s d (x ∷ y ∷ []) (v ∷ w ∷ []) inside).whole in omega (arith, rest)
+
+  fewer_left : (d : Delimiter) (xs vs : List Character) (inside : Forest Character) → HasSome xs → HasSome vs
+      → length (layers s d xs vs inside).closing < length vs
+  fewer_left d [] vs inside i j = absurd i
+  fewer_left d (x ∷ xs) [] inside i j = absurd j
+  fewer_left d (x ∷ []) (v ∷ vs) inside i j = omega arith
+  fewer_left d (x ∷ y ∷ xs) (v ∷ []) inside i j = omega arith
+  fewer_left d (x ∷ y ∷ xs) (v ∷ w ∷ vs) inside i j =
+      let rest = closing_shrinks d xs vs (layers s d (x ∷ y ∷ []) (v ∷ w ∷ []) inside).whole in omega (arith, rest)
+
   pair_fine : (q : RunAt) (vs : List Character) (f : FoundOpener MaybeRun) → HasSome vs → AreOf q vs → FoundFine f
       → AreOf q (layers s f.run.delimiter f.characters vs f.inside).closing
       × Fine (after_layers f (layers s f.run.delimiter f.characters vs f.inside))
@@ -374,32 +401,33 @@ module _ (s : Setting) where
 
   searched_fine : (again : List Character → List (Read MaybeRun) → List (Read MaybeRun)) (closer : Run) (p : RunAt) (vs : List Character)
       (rs : List (Read MaybeRun)) (o : Option (FoundOpener MaybeRun))
-      → ((left : List Character) (others : List (Read MaybeRun)) → AreOf p left → Fine others → Fine (again left others)) → p.run ≡ closer
+      → ((left : List Character) (others : List (Read MaybeRun)) → length left < length vs → AreOf p left → Fine others
+      → Fine (again left others)) → p.run ≡ closer
       → AreOf p vs → HasSome vs → Fine rs
       → IfSome o FoundFine → IfNone o (NonePairs closer rs) → Fine (after_search s again closer vs rs o)
   searched_fine again closer p vs rs None go e a i h f m =
-      let k = drop_if_fine (is_tilde_or_caret closer.delimiter) (Some p) rs h (none_found closer p e rs h m) in
-      left_fine p closer vs (dropped_if (is_tilde_or_caret closer.delimiter) rs) e a i k.0 k.1
+      left_fine p closer vs (map (drop_read closer.delimiter) rs) e a i (drop_fine closer.delimiter rs h)
+      (drop_earlier closer.delimiter (Some p) rs (none_found closer p e rs h m))
   searched_fine again closer p vs rs (Some f) go e a i h g m =
       let k = pair_fine p vs f i a g in
       go (layers s f.run.delimiter f.characters vs f.inside).closing (after_layers f (layers s f.run.delimiter f.characters vs f.inside))
-      k.0 k.1
+      (fewer_left f.run.delimiter f.characters vs f.inside g.0.some i) k.0 k.1
 
   closed_fine : (turns : ℕ) (closer : Run) (p : RunAt) (vs : List Character) (rs : List (Read MaybeRun)) → p.run ≡ closer → AreOf p vs
-      → Fine rs → Fine (closed_by s turns closer vs rs)
+      → length vs ≤ turns → Fine rs → Fine (closed_by s turns closer vs rs)
   unfolding closed_by
-  closed_fine zero closer p [] rs e a h = h
-  closed_fine (suc turns) closer p [] rs e a h = h
-  closed_fine zero closer p (v ∷ vs) rs e a h = h
-  closed_fine (suc turns) closer p (v ∷ vs) rs e a h =
+  closed_fine zero closer p [] rs e a l h = h
+  closed_fine (suc turns) closer p [] rs e a l h = h
+  closed_fine zero closer p (v ∷ vs) rs e a l h = absurd (omega (arith, l))
+  closed_fine (suc turns) closer p (v ∷ vs) rs e a l h =
       searched_fine (λ left others. closed_by s turns closer left others) closer p (v ∷ vs) rs (nearest_opener closer rs nil)
-      (λ left others b k. closed_fine turns closer p left others e b k) e a tt h
+      (λ left others fewer b k. closed_fine turns closer p left others e b (omega (arith, fewer, l)) k) e a tt h
       (nearest_fine closer rs nil h tt tt)
       (misses-law closer rs nil)
 
   run_fine : (closes : Bool) (p : RunAt) (vs : List Character) (rs : List (Read MaybeRun)) → p.run.can_close ≡ closes → AreOf p vs
       → HasSome vs → Fine rs → Fine (run_read s closes p.run vs rs)
-  run_fine true p vs rs c a i h = closed_fine (length vs) p.run p vs rs refl a h
+  run_fine true p vs rs c a i h = closed_fine (length vs) p.run p vs rs refl a (omega arith) h
   run_fine false p vs rs c a i h = left_fine p p.run vs rs refl a i h (all_earlier (Some p) (cannot_close p c) rs)
 
   closed_tag : (b : Bool) (a : Character) → (text_if b s.text a).tag ≡ a.tag
@@ -516,7 +544,7 @@ module _ {A : Type 0} (s : Setting) where
       ap (λ (f : Forest Plain). node here f (untagged (with_runs s more r after))) (relabelled-relabelled (retag no_run) (retag (λ _. tt))
       below) ∙ ap (λ (f : Forest Plain). node here (untagged below) f) h
 
-  quotes_told : (more : ℕ) (before : MaybeRun) (chain : Forest (Label A)) (single double : Bool)
+  pub quotes_told : (more : ℕ) (before : MaybeRun) (chain : Forest (Label A)) (single double : Bool)
       → quotes_after single double (with_runs s more before chain) ≡ with_runs s more before (quotes_after single double chain)
   quotes_told more before nil single double = refl
   quotes_told (suc more) before (node a below after) single double = quotes_node single double before more a below after

@@ -1,11 +1,11 @@
 -- What holds of each node of a chain, and of each that is made, holds of each node that pairing leaves.
-use Rattle.std.proofs.Common.{◌≡◌, ℕ, zero, suc, ◌+◌, ◌-◌, Bool, true, false, List, [], ◌∷◌, Option, Some, None, refl, sym, subst, map, inl}
+use Rattle.std.proofs.Common.{◌≡◌, ℕ, zero, suc, ◌+◌, ◌-◌, Bool, true, false, List, [], ◌∷◌, Option, Some, None, refl, sym, subst, inl}
 use Rattle.std.proofs.Common.{inr}
 use Rattle.std.specs.Prelude.{⊤, ◌⊎◌, IfSome, nat_lt, min, ◌&&◌, if◌then◌else◌}
 use Rattle.markdown_base.specs.BlockTree.{Numbered}
 use Rattle.markdown_base.specs.Forest.{Forest, nil, node, Each}
 use Rattle.markdown_base.specs.Item.{is_open, text_named, alignments_named, attributes_named}
-use Rattle.markdown_chains.specs.Tables.{link_named}
+use Rattle.markdown_document.specs.Tables.{link_named}
 use Rattle.markdown_base.specs.declared.item.ItemBody.{ItemBody}
 use Rattle.markdown_base.specs.declared.item.ItemBody.TheVariants as body
 use Rattle.markdown_delims.specs.declared.marks.Marks.{Marks}
@@ -16,10 +16,10 @@ use Rattle.markdown_delims.specs.declared.run.Delimiter.TheVariants.{Star, Under
 use Rattle.markdown_delims.specs.declared.run.Run.{Run}
 use Rattle.markdown_delims.specs.declared.run.Characters.{Characters}
 use Rattle.markdown_delims.specs.Entries.{Entry, settled, lone, waiting, labelled, characters, characters_after, flat, read_back, Taken}
-use Rattle.markdown_delims.specs.Entries.{search, drop_entry, entries_dropped, enclosed, rest_open, without_last, without_first, with_pair}
+use Rattle.markdown_delims.specs.Entries.{search, entries_dropped, enclosed, rest_open, without_last, without_first, with_pair}
 use Rattle.markdown_delims.specs.Entries.{kept, after_search, closed_in, with_run, all_of_run, after_tree, paired_from, paired}
 use Rattle.markdown_delims.specs.MarkBodies.{whole_text, layer_of_one, layer_of_two, run_of}
-use Rattle.markdown_delims.specs.MayPair.{is_tilde_or_caret, may_take}
+use Rattle.markdown_delims.specs.MayPair.{may_take}
 use Rattle.markdown_delims.specs.QuoteBodies.{kind_of, is_closed_later, is_nil, with_body, turn_of, turn_at, quoted_after, quoted}
 
 -- a body that is made by pairing: it names no entry of a table, and is not open
@@ -137,15 +137,11 @@ module _ (p : Numbered → Type 0) (made : (number start end : ℕ) (b : ItemBod
   kept_if true start c es h = h
   kept_if false start c es h = h
 
-  each_map : (es : List Entry) → EachEntry es → EachEntry (map drop_entry es)
-  each_map [] h = h
-  each_map (settled a below ∷ es) h = (h.0, h.1, each_map es h.2)
-  each_map (lone number start n ∷ es) h = each_map es h
-  each_map (waiting start r ∷ es) h = each_map es h
-
-  drop_if : (b : Bool) (es : List Entry) → EachEntry es → EachEntry (if b then map drop_entry es else es)
-  drop_if true es h = each_map es h
-  drop_if false es h = h
+  each_dropped : (closer : Run) (es : List Entry) → EachEntry es → EachEntry (entries_dropped closer es)
+  each_dropped closer [] h = h
+  each_dropped closer (settled a below ∷ es) h = (h.0, h.1, each_dropped closer es h.2)
+  each_dropped closer (lone number start n ∷ es) h = each_dropped closer es h
+  each_dropped closer (waiting start r ∷ es) h = each_dropped closer es h
 
   abbrev Again : (ℕ → Characters → List Entry → List Entry) → Type 0
   Again again = (start : ℕ) (c : Characters) (es : List Entry) → EachEntry es → EachEntry (again start c es)
@@ -159,14 +155,14 @@ module _ (p : Numbered → Type 0) (made : (number start end : ℕ) (b : ItemBod
       (o : Option Taken) → Again again → EachEntry es → IfSome o EachTaken
       → EachEntry (after_search m again start closer es o)
   each_searched m again start closer es None g h k = kept_if closer.run.can_open start closer (entries_dropped closer.run es)
-      (drop_if (is_tilde_or_caret closer.run.delimiter) es h)
+      (each_dropped closer.run es h)
   each_searched m again start closer es (Some t) g h k =
       again_if (nat_lt t.opener.count closer.count) again (start + t.opener.count) (without_first t.opener.count closer)
       (with_pair m start closer t) g (each_pair m start closer t k)
 
   each_closed : (m : Marks) (turns : ℕ) → Again (λ start closer es. closed_in m turns start closer es)
   unfolding closed_in
-  each_closed m zero start closer es h = h
+  each_closed m zero start closer es h = kept_if closer.run.can_open start closer es h
   each_closed m (suc turns) start closer es h =
       each_searched m (λ i c fs. closed_in m turns i c fs) start closer es (search closer.run es nil) (each_closed m turns) h
       (each_search closer.run es nil h tt)

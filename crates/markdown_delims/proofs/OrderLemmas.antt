@@ -5,16 +5,16 @@ use Rattle.std.specs.Prelude.{IfSome, not, ◌&&◌, ◌||◌, slice_range}
 use Rattle.std.specs.List.{AllByRecursion}
 use Rattle.std.proofs.lemmas.List.{length-map}
 use Rattle.markdown_base.specs.Forest.{Forest, nil, node}
-use Rattle.markdown_chains.specs.Document.{Label, is_unresolved, as_text, shaped}
-use Rattle.markdown_chains.specs.Labels.{retag}
-use Rattle.markdown_chains.specs.Setting.{Setting}
-use Rattle.markdown_chains.specs.Waiting.{text_if, as_closed}
+use Rattle.markdown_document.specs.Document.{Label, is_unresolved, as_text, shaped}
+use Rattle.markdown_document.specs.Labels.{retag}
+use Rattle.markdown_document.specs.Setting.{Setting}
+use Rattle.markdown_document.specs.Waiting.{text_if, as_closed}
 use Rattle.markdown_delims.specs.declared.run.Delimiter.{Delimiter}
 use Rattle.markdown_delims.specs.declared.run.Run.{Run}
 use Rattle.markdown_delims.specs.Layers.{marks_of, layer_of_one, layer_of_two, spanned, run_of}
-use Rattle.markdown_delims.specs.MayPair.{is_tilde_or_caret, may_pair}
+use Rattle.markdown_delims.specs.MayPair.{drops, may_pair}
 use Rattle.markdown_delims.specs.Pairing.{Read, done, waiting, texts_before, all_done, read_trees, FoundOpener, found_if, nearest_opener}
-use Rattle.markdown_delims.specs.Pairing.{drop_read, dropped_if, Layers, layers, trees_done, still_waiting, last_first, opened_if}
+use Rattle.markdown_delims.specs.Pairing.{drop_read, Layers, layers, trees_done, still_waiting, last_first, opened_if}
 use Rattle.markdown_delims.specs.Pairing.{left_over, after_layers, after_search, closed_by, run_read, first_texts, after_tree, reads_from}
 use Rattle.markdown_delims.specs.Pairing.{runs_paired, paired}
 use Rattle.markdown_delims.specs.Quotes.{kind_of_shape, closes_later, is_closed_later, is_end, QuoteTurn, turn_by, first_turn, quotes_after}
@@ -91,15 +91,11 @@ module _ {A B : Type 0} (to : A → B) (within : Forest (Label A) → Forest (La
         (texts_deep xs inside) ∙ nearest_deep closer rs (texts_before xs inside))
         ∙ found_deep (not dropped && may_pair run closer) f (nearest_opener closer rs (texts_before xs inside))
 
-    dropped_deep : (rs : List (Read A)) → map drop_read (deep_reads rs) ≡ deep_reads (map drop_read rs)
-    dropped_deep [] = refl
-    dropped_deep (done a below ∷ rs) = ap (λ (os : List (Read B)). done (retag to a) (within below) ∷ os) (dropped_deep rs)
-    dropped_deep (waiting dropped run xs ∷ rs) = ap (λ (os : List (Read B)). waiting (dropped || is_tilde_or_caret run.delimiter) run
-        (moved xs) ∷ os) (dropped_deep rs)
-
-    drop_if_deep : (b : Bool) (rs : List (Read A)) → dropped_if b (deep_reads rs) ≡ deep_reads (dropped_if b rs)
-    drop_if_deep true rs = dropped_deep rs
-    drop_if_deep false rs = refl
+    dropped_deep : (d : Delimiter) (rs : List (Read A)) → map (drop_read d) (deep_reads rs) ≡ deep_reads (map (drop_read d) rs)
+    dropped_deep d [] = refl
+    dropped_deep d (done a below ∷ rs) = ap (λ (os : List (Read B)). done (retag to a) (within below) ∷ os) (dropped_deep d rs)
+    dropped_deep d (waiting dropped run xs ∷ rs) = ap (λ (os : List (Read B)). waiting (dropped || drops d run.delimiter) run
+        (moved xs) ∷ os) (dropped_deep d rs)
 
     layers_deep : (d : Delimiter) (xs vs : List (Label A)) (inside : Forest (Label A)) → IsClosedChain inside
         → layers s d (moved xs) (moved vs) (deep inside) ≡ deep_layers (layers s d xs vs inside)
@@ -159,8 +155,8 @@ module _ {A B : Type 0} (to : A → B) (within : Forest (Label A) → Forest (La
         (o : Option (FoundOpener A)) → IsDeep again' again → AreClosed vs → IfSome o (EachFound IsClosed IsClosedTree)
         → after_search s again' closer (moved vs) (deep_reads rs) (deep_found o) ≡ deep_reads (after_search s again closer vs rs o)
     searched_deep again' again closer vs rs None h k g =
-        ap (left_over closer (moved vs)) (drop_if_deep (is_tilde_or_caret closer.delimiter) rs)
-        ∙ left_deep closer vs (dropped_if (is_tilde_or_caret closer.delimiter) rs)
+        ap (left_over closer (moved vs)) (dropped_deep closer.delimiter rs)
+        ∙ left_deep closer vs (map (drop_read closer.delimiter) rs)
     searched_deep again' again closer vs rs (Some f) h k g =
         let made : Layers A = layers s f.run.delimiter f.characters vs f.inside in
         let holds = found-keeps IsClosed IsClosedTree s (makes-closed s) vs nil f k tt g in
@@ -176,7 +172,7 @@ module _ {A B : Type 0} (to : A → B) (within : Forest (Label A) → Forest (La
     unfolding closed_by
     closed_deep zero closer [] rs h k = refl
     closed_deep (suc turns) closer [] rs h k = refl
-    closed_deep zero closer (v ∷ vs) rs h k = refl
+    closed_deep zero closer (v ∷ vs) rs h k = left_deep closer (v ∷ vs) rs
     closed_deep (suc turns) closer (v ∷ vs) rs h k =
         ap (after_search s (λ left others. closed_by s turns closer left others) closer (moved (v ∷ vs)) (deep_reads rs))
         (nearest_deep closer rs nil)
@@ -218,7 +214,7 @@ module _ {A B : Type 0} (to : A → B) (within : Forest (Label A) → Forest (La
         (firsts_deep run.length (node a below after))
         ∙ ap (go_on' (run.length - 1)) (run_deep run.can_close run vs rs closed k)
         ∙ h (run.length - 1) (run_read s run.can_close run vs rs)
-        (run-stays s (Holds IsClosed IsClosedTree s (makes-closed s)) (holds-on IsClosed IsClosedTree s (makes-closed s)) run.can_close run
+        (run-stays s (Holds IsClosed IsClosedTree s (makes-closed s)) (holds-on IsClosed IsClosedTree s (makes-closed s)) run
         vs rs nil (closed, k, tt)).1
 
     reads_deep : (skip : ℕ) (chain : Forest (Label A)) (rs : List (Read A)) → Good rs → reads_from s skip (deep chain) (deep_reads rs)

@@ -8,25 +8,25 @@ use Rattle.markdown_base.specs.BlockTree.{Numbered, numbered, item_at}
 use Rattle.markdown_base.specs.Forest.{Forest, nil, node, Each, roots, relabelled}
 use Rattle.markdown_base.specs.Item.{is_open}
 use Rattle.markdown_base.specs.WellFormed.{RunCharacter, run_character}
-use Rattle.markdown_chains.specs.Tables.{Tables, no_tables, Named, some_text, some_link, some_alignments}
+use Rattle.markdown_document.specs.Tables.{Tables, no_tables, Named, some_text, some_link, some_alignments}
 use Rattle.markdown_base.specs.declared.item.Item.{Item}
 use Rattle.markdown_base.specs.declared.item.ItemBody.{ItemBody}
 use Rattle.markdown_base.specs.declared.item.ItemBody.TheVariants as body
 use Rattle.markdown_base.specs.declared.node.Node.{Node}
 use Rattle.markdown_base.proofs.ForestLemmas.{relabelled-relabelled}
-use Rattle.markdown_chains.specs.Document.{Label, is_unresolved, shape_of}
-use Rattle.markdown_chains.specs.Setting.{Setting}
-use Rattle.markdown_chains.specs.Totals.{total, same, same_as, naming, times_named, weight_if, weight_at}
-use Rattle.markdown_chains.proofs.FoundLemmas.{found}
-use Rattle.markdown_chains.proofs.TablesLemmas.{same-refl}
-use Rattle.markdown_chains.proofs.PlaceLemmas.{shape-open}
+use Rattle.markdown_document.specs.Document.{Label, is_unresolved, shape_of}
+use Rattle.markdown_document.specs.Setting.{Setting}
+use Rattle.markdown_document.specs.Totals.{total, same, same_as, naming, times_named, weight_if, weight_at}
+use Rattle.markdown_document.proofs.FoundLemmas.{found}
+use Rattle.markdown_document.proofs.TablesLemmas.{same-refl}
+use Rattle.markdown_document.proofs.PlaceLemmas.{shape-open}
 use Rattle.markdown_delims.specs.declared.marks.Marks.{Marks}
 use Rattle.markdown_delims.specs.declared.quotes.Kind.{Kind}
 use Rattle.markdown_delims.specs.declared.quotes.Kind.TheVariants as kind
 use Rattle.markdown_delims.specs.ChainForest.{among, NoneBelow, chain_of, IsChain}
 use Rattle.markdown_delims.specs.Layers.{marks_of}
 use Rattle.markdown_delims.specs.PairedChain.{WaitsForPairing, CanPair, PairsChain}
-use Rattle.markdown_chains.specs.Waiting.{waits_for_pairing}
+use Rattle.markdown_document.specs.Waiting.{waits_for_pairing}
 use Rattle.markdown_delims.specs.Pairing.{runs_paired, paired}
 use Rattle.markdown_delims.specs.QuoteBodies.{kind_of, is_closed_later as later_of, turn_of, is_nil, turn_at, quoted_after, quoted}
 use Rattle.markdown_delims.specs.Quoting.{IsSpelled, IsResolved}

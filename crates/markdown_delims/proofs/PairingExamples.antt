@@ -4,8 +4,8 @@ use Rattle.std.specs.Prelude.{codes, encode_utf8, slice_range, option_map}
 use Rattle.markdown_base.specs.Event.{TagView, EventView, text, strong, emphasis, strikethrough, superscript, subscript}
 use Rattle.markdown_base.specs.Forest.{Forest, nil, node, preorder}
 use Rattle.markdown_base.specs.declared.item.ItemBody.TheVariants as body
-use Rattle.markdown_chains.specs.Document.{Shape, leaf, enclosed, plain, backslash_break, unresolved, Label, Plain, text_over}
-use Rattle.markdown_chains.specs.Setting.{Setting, Rules}
+use Rattle.markdown_document.specs.Document.{Shape, leaf, enclosed, plain, backslash_break, unresolved, Label, Plain, text_over}
+use Rattle.markdown_document.specs.Setting.{Setting, Rules}
 use Rattle.markdown_delims.specs.Pairing.{closed_by, reads_from, runs_paired, paired}
 use Rattle.markdown_delims.specs.PairingFinds.{closer_finds, finds_from, finds_in}
 use Rattle.markdown_delims.specs.PairingLaws.{RunAt, with_runs, kept_run}
@@ -114,11 +114,11 @@ row_8 : (rules : Rules)
 unfolding paired runs_paired reads_from closed_by with_quotes
 row_8 rules = refl
 
--- a failed search by `^` drops an open `~` too
+-- a failed search by `^` drops no open `~`
 row_9 : (rules : Rules)
     → shown (paired (under rules (codes "~a b^ c~") 24584)
     (run 0 1 true false (word (codes "~a b^ c~") 1 3 (run 4 1 false true (word (codes "~a b^ c~") 5 2 (run 7 1 false true nil))))))
-    ≡ codes "~a b^ c~"
+    ≡ codes "(a b^ c)"
 unfolding paired runs_paired reads_from closed_by with_quotes
 row_9 rules = refl
 

@@ -9,11 +9,11 @@ use Rattle.markdown_base.specs.Forest.{Forest, nil, node, first_root}
 use Rattle.markdown_base.specs.WellFormed.{RunCharacter, run_character}
 use Rattle.markdown_base.specs.declared.item.Item.{Item}
 use Rattle.markdown_base.specs.declared.node.Node.{Node}
-use Rattle.markdown_chains.specs.Document.{Label}
-use Rattle.markdown_chains.specs.Places.{trees_from}
-use Rattle.markdown_chains.specs.Setting.{Setting}
-use Rattle.markdown_chains.specs.Tables.{Tables}
-use Rattle.markdown_chains.specs.Waiting.{text_if}
+use Rattle.markdown_document.specs.Document.{Label}
+use Rattle.markdown_document.specs.Places.{trees_from}
+use Rattle.markdown_document.specs.Setting.{Setting}
+use Rattle.markdown_document.specs.Tables.{Tables}
+use Rattle.markdown_document.specs.Waiting.{text_if}
 use Rattle.markdown_delims.specs.declared.marks.Marks.{Marks}
 use Rattle.markdown_delims.specs.declared.run.Run.{Run}
 use Rattle.markdown_delims.specs.declared.run.Characters.{Characters}

@@ -1,38 +1,38 @@
 -- Pairing of labels is pairing of the nodes that they are the labels of.
 use Rattle.std.proofs.Common.{◌≡◌, ℕ, zero, suc, ◌+◌, ◌-◌, ◌<◌, min, Bool, true, false, List, [], ◌∷◌, length, Option, Some, None, refl, ap}
-use Rattle.std.proofs.Common.{sym, ◌∙◌, subst, arith, inl, inr, map}
+use Rattle.std.proofs.Common.{sym, ◌∙◌, subst, arith, inl, inr}
 use Rattle.std.specs.Prelude.{◌==◌, IfSome, IsTrue, slice_index, slice_range, nat_lt, if◌then◌else◌}
 use Rattle.std.proofs.lemmas.Bool.{lt-ltb, le-ltb, cases_lt}
 use Rattle.markdown_base.specs.BlockTree.{Numbered}
 use Rattle.markdown_base.specs.Forest.{Forest, nil, node, first_root}
 use Rattle.markdown_base.specs.Item.{is_open}
 use Rattle.markdown_base.specs.WellFormed.{RunCharacter, run_character, is_delimiter, RunGoesOn}
-use Rattle.markdown_chains.specs.Tables.{Tables}
+use Rattle.markdown_document.specs.Tables.{Tables}
 use Rattle.markdown_base.specs.declared.item.ItemBody.{ItemBody}
 use Rattle.markdown_base.specs.declared.item.ItemBody.TheVariants as body
-use Rattle.markdown_chains.specs.Document.{Shape, leaf, enclosed as enclosed_shape, plain, backslash_break, unresolved, Label}
-use Rattle.markdown_chains.specs.Document.{is_unresolved, shape_of, block_of, as_text, text_over}
-use Rattle.markdown_chains.specs.Setting.{Setting}
+use Rattle.markdown_document.specs.Document.{Shape, leaf, enclosed as enclosed_shape, plain, backslash_break, unresolved, Label}
+use Rattle.markdown_document.specs.Document.{is_unresolved, shape_of, block_of, as_text, text_over}
+use Rattle.markdown_document.specs.Setting.{Setting}
 use Rattle.markdown_delims.specs.declared.marks.Marks.{Marks}
 use Rattle.markdown_delims.specs.declared.run.Delimiter.{Delimiter}
 use Rattle.markdown_delims.specs.declared.run.Delimiter.TheVariants.{Star, Underscore, Tilde, Caret}
 use Rattle.markdown_delims.specs.declared.run.Run.{Run}
 use Rattle.markdown_delims.specs.declared.run.Characters.{Characters}
-use Rattle.markdown_delims.specs.Entries.{Entry, settled, lone, waiting as open_entry, character, characters, Taken, search, drop_entry}
+use Rattle.markdown_delims.specs.Entries.{Entry, settled, lone, waiting as open_entry, character, characters, Taken, search}
 use Rattle.markdown_delims.specs.Entries.{entries_dropped, enclosed, rest_open, kept, without_first, with_pair}
 use Rattle.markdown_delims.specs.Entries.{after_search as entries_after, closed_in, with_run, all_of_run, after_tree as entries_with}
 use Rattle.markdown_delims.specs.Entries.{paired_from, paired as paired_nodes}
 use Rattle.markdown_delims.specs.Layers.{marks_of, run_of_shape, run_of}
 use Rattle.markdown_delims.specs.MarkBodies.{run_if, run_of as run_of_item}
-use Rattle.markdown_delims.specs.MayPair.{delimiter_of, is_tilde_or_caret, may_take}
-use Rattle.markdown_chains.specs.Waiting.{text_if}
+use Rattle.markdown_delims.specs.MayPair.{delimiter_of, may_take}
+use Rattle.markdown_document.specs.Waiting.{text_if}
 use Rattle.markdown_delims.specs.Pairing.{Read, done, read_trees, nearest_opener, Layers, layers, trees_done, still_waiting, left_over}
 use Rattle.markdown_delims.specs.Pairing.{after_layers, after_search, closed_by, run_read, first_texts, after_tree, reads_from, runs_paired}
 use Rattle.markdown_delims.specs.RunReading.{StandsWhole, IsWhole}
 use Rattle.markdown_delims.proofs.LabelLemmas.{look, trees, firsts, lasts, seen, seen_trees, seen_taken, search_seen, dropped_seen}
 use Rattle.markdown_delims.proofs.LabelLemmas.{left_seen, tree_of_entry, layers_seen, IsTree, enclosed_tree, entry_seen, rest_seen}
 use Rattle.markdown_delims.proofs.NodeLemmas.{taken_if}
-use Rattle.markdown_chains.proofs.PlaceLemmas.{open-unresolved}
+use Rattle.markdown_document.proofs.PlaceLemmas.{open-unresolved}
 
 -- each open run has characters
 abbrev pub AllCounted : List Entry → Type 0
@@ -46,15 +46,11 @@ tree_counted (settled a below) es t h = h
 tree_counted (lone number start n) es t h = absurd t
 tree_counted (open_entry start r) es t h = absurd t
 
-map_counted : (es : List Entry) → AllCounted es → AllCounted (map drop_entry es)
-map_counted [] h = tt
-map_counted (settled a below ∷ es) h = map_counted es h
-map_counted (lone number start n ∷ es) h = map_counted es h
-map_counted (open_entry start r ∷ es) h = (h.0, map_counted es h.1)
-
-if_counted : (b : Bool) (es : List Entry) → AllCounted es → AllCounted (if b then map drop_entry es else es)
-if_counted true es h = map_counted es h
-if_counted false es h = h
+dropped_counted : (closer : Run) (es : List Entry) → AllCounted es → AllCounted (entries_dropped closer es)
+dropped_counted closer [] h = tt
+dropped_counted closer (settled a below ∷ es) h = dropped_counted closer es h
+dropped_counted closer (lone number start n ∷ es) h = dropped_counted closer es h
+dropped_counted closer (open_entry start r ∷ es) h = (h.0, dropped_counted closer es h.1)
 
 kept_if_counted : (b : Bool) (start : ℕ) (c : Characters) (es : List Entry) → 0 < c.count → AllCounted es
     → AllCounted (if b then (let e : Entry = open_entry start (record { dropped = false; opener = c }) in e ∷ es)
@@ -98,10 +94,10 @@ module _ {A : Type 0} (s : Setting) where
   closed_empty zero closer rs = refl
   closed_empty (suc turns) closer rs = refl
 
-  closed_zero : (closer : Run) (vs : List (Label A)) (rs : List (Read A)) → closed_by s zero closer vs rs ≡ rs
+  closed_zero : (closer : Run) (v : Label A) (vs : List (Label A)) (rs : List (Read A))
+      → closed_by s zero closer (v ∷ vs) rs ≡ left_over closer (v ∷ vs) rs
   unfolding closed_by
-  closed_zero closer [] rs = refl
-  closed_zero closer (v ∷ vs) rs = refl
+  closed_zero closer v vs rs = refl
 
   closed_turn : (turns : ℕ) (closer : Run) (v : Label A) (vs : List (Label A)) (rs : List (Read A))
       → closed_by s (suc turns) closer (v ∷ vs) rs ≡ after_search s (λ left others. closed_by s turns closer left others) closer (v ∷ vs) rs
@@ -119,6 +115,11 @@ module _ {A : Type 0} (tag : ℕ → A) (tables : Tables) (s : Setting) where
       (nearest_opener closer rs nil)
   some_firsts turns closer number start zero rs h = absurd (omega arith)
   some_firsts turns closer number start (suc n) rs h = closed_turn s turns closer _ _ rs
+
+  no_turns : (closer : Run) (number start n : ℕ) (rs : List (Read A)) → 0 < n
+      → closed_by s zero closer (firsts tag tables s number start n) rs ≡ left_over closer (firsts tag tables s number start n) rs
+  no_turns closer number start zero rs h = absurd (omega arith)
+  no_turns closer number start (suc n) rs h = closed_zero s closer _ _ rs
 
   -- the same is read, and each open run has characters
   abbrev Same : List (Read A) → List Entry → Type 0
@@ -197,7 +198,7 @@ module _ {A : Type 0} (tag : ℕ → A) (tables : Tables) (s : Setting) where
   searched_seen turns start closer es again None some h g next = (
     ap (left_over closer.run (firsts tag tables s closer.number start closer.count)) (dropped_seen tag tables s closer.run es)
         ∙ left_seen tag tables s start closer (entries_dropped closer.run es),
-    kept_counted start closer (entries_dropped closer.run es) some (if_counted (is_tilde_or_caret closer.run.delimiter) es h),
+    kept_counted start closer (entries_dropped closer.run es) some (dropped_counted closer.run es h),
   )
   searched_seen turns start closer es again (Some t) some h g next =
       let r = again_seen turns start closer t again some g next in (
@@ -213,7 +214,12 @@ module _ {A : Type 0} (tag : ℕ → A) (tables : Tables) (s : Setting) where
 
   closed_seen : (turns : ℕ) (run : Run) → GoesOn turns run (λ start c es. closed_in m turns start c es)
   unfolding closed_in
-  closed_seen zero run start c es e some h = (closed_zero s run (firsts tag tables s c.number start c.count) (seen tag tables s es), h)
+  closed_seen zero run start c es e some h = (
+    no_turns run c.number start c.count (seen tag tables s es) some
+        ∙ ap (λ (x : Run). left_over x (firsts tag tables s c.number start c.count) (seen tag tables s es)) (sym e)
+        ∙ left_seen tag tables s start c es,
+    kept_counted start c es some h,
+  )
   closed_seen (suc turns) run start c es e some h =
       let r = searched_seen turns start c es (λ i x fs. closed_in m turns i x fs) (search c.run es nil) some h (search_good c.run es nil h)
       (subst (λ x. GoesOn turns x (λ i y fs. closed_in m turns i y fs)) (sym e) (closed_seen turns run)) in (

@@ -11,12 +11,12 @@ use Rattle.markdown_base.specs.Item.{is_block}
 use Rattle.markdown_base.specs.declared.item.Item.{Item}
 use Rattle.markdown_base.specs.declared.item.ItemBody.{ItemBody}
 use Rattle.markdown_base.specs.declared.node.Node.{Node}
-use Rattle.markdown_chains.specs.Document.{Label, block_of}
-use Rattle.markdown_chains.specs.ItemRules.{StandsBefore, KeepsItemRules}
-use Rattle.markdown_chains.specs.Places.{HasSlices, IsPlaced}
-use Rattle.markdown_chains.proofs.PlaceLemmas.{slices-unnamed}
-use Rattle.markdown_chains.specs.Setting.{Setting}
-use Rattle.markdown_chains.specs.Tables.{Tables, NamesEntries, no_tables}
+use Rattle.markdown_document.specs.Document.{Label, block_of}
+use Rattle.markdown_document.specs.ItemRules.{StandsBefore, KeepsItemRules}
+use Rattle.markdown_document.specs.Places.{HasSlices, IsPlaced}
+use Rattle.markdown_document.proofs.PlaceLemmas.{slices-unnamed}
+use Rattle.markdown_document.specs.Setting.{Setting}
+use Rattle.markdown_document.specs.Tables.{Tables, NamesEntries, no_tables}
 use Rattle.markdown_delims.specs.ChainForest.{chain_of}
 use Rattle.markdown_delims.specs.Entries.{paired}
 use Rattle.markdown_delims.specs.PairedChain.{HasNoBlock}

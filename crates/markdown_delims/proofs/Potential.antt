@@ -30,19 +30,21 @@ character_above-push d stack b h =
         ≡ ((n - c) + (n - z) + (n - o) + (n - w)) + 4
     four n c z o w h1 h2 h3 h4 = omega (arith, one_more n c h1, one_more n z h2, one_more n o h3, one_more n w h4)
 
--- a push adds nine
+-- a push adds one to each of the ten
 pub above_bounds-push : (stack : List Characters) (b : LowerBounds) → BoundStack stack b → above_bounds (length stack + 1) b
-    ≡ above_bounds (length stack) b + 9
+    ≡ above_bounds (length stack) b + 10
 above_bounds-push stack b h =
     let s : character_above (length stack + 1) b.star ≡ character_above (length stack) b.star + 4 = character_above-push Star stack b.star
     h.star in
     let u : character_above (length stack + 1) b.underscore ≡ character_above (length stack) b.underscore
     + 4 = character_above-push Underscore stack b.underscore h.underscore in
     let t : b.tilde ≤ length stack = h.tilde_within in
-    nine _ _ _ _ (length stack) b.tilde s u t
+    let k : b.caret ≤ length stack = h.caret_within in
+    ten _ _ _ _ (length stack) b.tilde b.caret s u t k
   where
-    nine : (p q r s n t : ℕ) → p ≡ q + 4 → r ≡ s + 4 → t ≤ n → p + r + ((n + 1) - t) ≡ (q + s + (n - t)) + 9
-    nine p q r s n t e f h = omega arith
+    ten : (p q r s n t k : ℕ) → p ≡ q + 4 → r ≡ s + 4 → t ≤ n → k ≤ n
+        → p + r + ((n + 1) - t) + ((n + 1) - k) ≡ (q + s + (n - t) + (n - k)) + 10
+    ten p q r s n t k e f h i = omega arith
 
 -- a cut adds nothing
 cut_above : (n m a : ℕ) → n ≤ m → n - min a n ≤ m - a
@@ -54,8 +56,8 @@ character_above-cut n m b h =
     (cut_above n m b.remainder_one h)) (cut_above n m b.remainder_two h)
 
 pub above_bounds-cut : (n m : ℕ) (b : LowerBounds) → n ≤ m → above_bounds n (lowered n b) ≤ above_bounds m b
-above_bounds-cut n m b h = add-le-add (add-le-add (character_above-cut n m b.star h) (character_above-cut n m b.underscore h))
-    (cut_above n m b.tilde h)
+above_bounds-cut n m b h = add-le-add (add-le-add (add-le-add (character_above-cut n m b.star h)
+    (character_above-cut n m b.underscore h)) (cut_above n m b.tilde h)) (cut_above n m b.caret h)
 
 -- raising the bounds that were read pays for all that was examined
 raised_above : (bo t0 t1 t2 : Bool) (n c z o w : ℕ) → (t0 ≡ false → t1 ≡ false → t2 ≡ true) →
@@ -89,22 +91,25 @@ character_above-raised closer n b =
     let ne1 : closer.length % 3 ≡ 1 → ⊥ = eqb-false (closer.length % 3) 1 g in
     eq-eqb (closer.length % 3) 2 (omega arith))
 
-last_raised : (a n t k : ℕ) → t ≡ k → a + (n - n) + (n - k) ≤ a + (n - t)
-last_raised a n t k e = omega arith
+star_raised : (a b c x y z : ℕ) → a + c ≤ b → a + x + y + z + c ≤ b + x + y + z
+star_raised a b c x y z h = omega arith
 
-plus_right : (a b c x y : ℕ) → a + c ≤ b → a + x + y + c ≤ b + x + y
-plus_right a b c x y h = omega arith
+underscore_raised : (a b c x y z : ℕ) → a + c ≤ b → x + a + y + z + c ≤ x + b + y + z
+underscore_raised a b c x y z h = omega arith
 
-plus_both : (a b c x y : ℕ) → a + c ≤ b → x + a + y + c ≤ x + b + y
-plus_both a b c x y h = omega arith
+tilde_raised : (a n t z : ℕ) → a + (n - n) + z + (n - t) ≤ a + (n - t) + z
+tilde_raised a n t z = omega arith
 
-above_at_each : (d : Delimiter) (closer : Run) (n : ℕ) (b : LowerBounds) → b.tilde ≡ b.caret → above_bounds n (raised_at d closer n b)
+caret_raised : (a n t : ℕ) → a + (n - n) + (n - t) ≤ a + (n - t)
+caret_raised a n t = omega arith
+
+above_at_each : (d : Delimiter) (closer : Run) (n : ℕ) (b : LowerBounds) → above_bounds n (raised_at d closer n b)
     + (n - bound_at d closer b) ≤ above_bounds n b
-above_at_each Star closer n b e = plus_right _ _ _ _ _ (character_above-raised closer n b.star)
-above_at_each Underscore closer n b e = plus_both _ _ _ _ _ (character_above-raised closer n b.underscore)
-above_at_each Tilde closer n b e = last_raised (character_above n b.star + character_above n b.underscore) n b.tilde b.tilde refl
-above_at_each Caret closer n b e = last_raised (character_above n b.star + character_above n b.underscore) n b.tilde b.caret e
+above_at_each Star closer n b = star_raised _ _ _ _ _ _ (character_above-raised closer n b.star)
+above_at_each Underscore closer n b = underscore_raised _ _ _ _ _ _ (character_above-raised closer n b.underscore)
+above_at_each Tilde closer n b = tilde_raised (character_above n b.star + character_above n b.underscore) n b.tilde (n - b.caret)
+above_at_each Caret closer n b = caret_raised (character_above n b.star + character_above n b.underscore + (n - b.tilde)) n b.caret
 
-pub above_bounds-raised : (closer : Run) (n : ℕ) (b : LowerBounds) → b.tilde ≡ b.caret → above_bounds n (raised_for closer n b)
+pub above_bounds-raised : (closer : Run) (n : ℕ) (b : LowerBounds) → above_bounds n (raised_for closer n b)
     + (n - bound_for closer b) ≤ above_bounds n b
-above_bounds-raised closer n b e = above_at_each closer.delimiter closer n b e
+above_bounds-raised closer n b = above_at_each closer.delimiter closer n b

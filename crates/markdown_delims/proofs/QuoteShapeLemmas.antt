@@ -3,11 +3,11 @@ use Rattle.std.proofs.Common.{◌≡◌, ℕ, Bool, true, false, List, Option, N
 use Rattle.std.specs.Prelude.{◌==◌, if◌then◌else◌, slice_range}
 use Rattle.markdown_base.specs.BlockTree.{Numbered}
 use Rattle.markdown_base.specs.Forest.{Forest, nil, node}
-use Rattle.markdown_chains.specs.Tables.{Tables}
+use Rattle.markdown_document.specs.Tables.{Tables}
 use Rattle.markdown_base.specs.declared.item.ItemBody.{ItemBody}
 use Rattle.markdown_base.specs.declared.item.ItemBody.TheVariants as body
-use Rattle.markdown_chains.specs.Document.{Shape, Label, shaped, shape_of, block_of}
-use Rattle.markdown_chains.specs.Setting.{Setting}
+use Rattle.markdown_document.specs.Document.{Shape, Label, shaped, shape_of, block_of}
+use Rattle.markdown_document.specs.Setting.{Setting}
 use Rattle.markdown_delims.specs.declared.quotes.Kind.{Kind}
 use Rattle.markdown_delims.specs.declared.quotes.Kind.TheVariants as kind
 use Rattle.markdown_delims.specs.QuoteBodies.{kind_of, is_closed_later as later_of, Turn, turn_of, is_nil, with_body, turn_at, quoted_after}

@@ -9,6 +9,7 @@ use Rattle.markdown_base.specs.Arena.{Arena, sibling_of}
 use Rattle.markdown_base.specs.BlockTree.{Numbered, item_at}
 use Rattle.markdown_base.specs.Forest.{Forest, nil, node}
 use Rattle.markdown_base.specs.WellFormed.{RunCharacter, run_character, is_delimiter}
+use Rattle.markdown_document.specs.Counts.{comparisons_per_delimiter}
 use Rattle.markdown_delims.specs.declared.marks.Marks.{Marks}
 use Rattle.markdown_delims.specs.declared.run.Delimiter.{Delimiter}
 use Rattle.markdown_delims.specs.declared.run.Run.{Run}
@@ -259,7 +260,7 @@ module _ (m : Marks) (text : List ℕ) (h : Chain) (s : Arena Item) (es : List E
   pub read_some : (run : Run) (chain : Forest Numbered) (old new : Openers) (last' l : Option ℕ) (t u : Arena Item)
       → Stands h s es last (Some ix) chain → old.runs ≡ open_of es → RunHere run chain
       → Settles ix (item_at s.nodes ix).start run.length s t
-      → new.potential ≤ old.potential + 10 → old.examined + run_finds run run.length old.runs ≤ new.examined
+      → new.potential ≤ old.potential + comparisons_per_delimiter → old.examined + run_finds run run.length old.runs ≤ new.examined
       → ReadsOn (λ fs. with_run m (item_at s.nodes ix).start (all_of_run run ix) fs) (item_at s.nodes ix).start (all_of_run run ix) last t u
       old.runs new.runs last' l
       → ReadFurther m text h s u es chain old new last' l (suc ix)

@@ -1,7 +1,7 @@
 -- What a search down a stack answers, step by step.
 use Rattle.std.proofs.Common.{◌≡◌, ℕ, zero, suc, ◌+◌, ◌<◌, ◌≤◌, min, Bool, true, false, List, [], ◌∷◌, ◌++◌, length, take, get_or, Some}
 use Rattle.std.proofs.Common.{None, inl, inr, refl, ap, sym, ◌∙◌, subst, arith, ltb, map, add-one}
-use Rattle.std.specs.Prelude.{not, ◌&&◌, ◌||◌}
+use Rattle.std.specs.Prelude.{not, ◌&&◌, ◌||◌, if◌then◌else◌}
 use Rattle.std.proofs.lemmas.List.{take_more, length-take-le, get_or-take}
 use Rattle.std.proofs.lemmas.Bool.{cases_Bool, lt-ltb, le-ltb, cases_lt, and_parts}
 use Rattle.markdown_delims.specs.declared.run.Delimiter.{Delimiter}
@@ -9,7 +9,7 @@ use Rattle.markdown_delims.specs.declared.run.Delimiter.TheVariants.{Star, Under
 use Rattle.markdown_delims.specs.declared.run.Run.{Run}
 use Rattle.markdown_delims.specs.declared.run.Characters.{Characters}
 use Rattle.markdown_delims.specs.declared.bounds.LowerBounds.{LowerBounds}
-use Rattle.markdown_delims.specs.MayPair.{same_delimiter, is_tilde_or_caret, may_pair, may_take, OpenRun, nearest, drop_run, dropped_by}
+use Rattle.markdown_delims.specs.MayPair.{same_delimiter, is_tilde_or_caret, drops, may_pair, may_take, OpenRun, nearest, drop_run, dropped_by}
 use Rattle.markdown_delims.specs.Bounds.{BoundStack, bound_at, bound_for, raised_at, raised_for, lowered, drop_bound}
 use Rattle.markdown_delims.specs.OpenRuns.{open_run, open_runs_from, open_runs}
 use Rattle.markdown_delims.proofs.BoundLaws.{below_bound_fails, bound_at-within}
@@ -62,14 +62,14 @@ open_runs-lowered t n cs h =
     open_runs_from-same t (lowered n t) n 0 cs [] (λ d j l. ap (ltb j) (lowered_drops t n d) ∙ min_test (drop_bound d t) n j l)
     (omega arith)
 
--- bounds at the top drop each run of `~` and `^`
-open_runs_from-top : (t u : LowerBounds) (n i : ℕ) (cs : List Characters) (rs : List OpenRun)
-    → ((d : Delimiter) (j : ℕ) → j < n → ltb j (drop_bound d u) ≡ (ltb j (drop_bound d t) || is_tilde_or_caret d)) → i + length cs ≤ n
-    → open_runs_from u i cs (map drop_run rs) ≡ map drop_run (open_runs_from t i cs rs)
-open_runs_from-top t u n i [] rs f h = refl
-open_runs_from-top t u n i (c ∷ cs) rs f h =
-    ap (λ b. open_runs_from u (suc i) cs (record { dropped = b; opener = c } ∷ map drop_run rs)) (f c.run.delimiter i (omega arith))
-    ∙ open_runs_from-top t u n (suc i) cs (open_run t i c ∷ rs) f (omega arith)
+-- bounds below which the runs of more characters are dropped
+open_runs_from-dropped : (e : Delimiter) (t u : LowerBounds) (n i : ℕ) (cs : List Characters) (rs : List OpenRun)
+    → ((d : Delimiter) (j : ℕ) → j < n → ltb j (drop_bound d u) ≡ (ltb j (drop_bound d t) || drops e d)) → i + length cs ≤ n
+    → open_runs_from u i cs (map (drop_run e) rs) ≡ map (drop_run e) (open_runs_from t i cs rs)
+open_runs_from-dropped e t u n i [] rs f h = refl
+open_runs_from-dropped e t u n i (c ∷ cs) rs f h =
+    ap (λ b. open_runs_from u (suc i) cs (record { dropped = b; opener = c } ∷ map (drop_run e) rs)) (f c.run.delimiter i (omega arith))
+    ∙ open_runs_from-dropped e t u n (suc i) cs (open_run t i c ∷ rs) f (omega arith)
 
 or_false : (b : Bool) → b ≡ (b || false)
 or_false true = refl
@@ -79,17 +79,10 @@ or_true : (b : Bool) → (b || true) ≡ true
 or_true true = refl
 or_true false = refl
 
-pub open_runs-dropped : (t : LowerBounds) (cs : List Characters) → open_runs (record t { tilde = length cs; caret = length cs }) cs
-    ≡ map drop_run (open_runs t cs)
-unfolding open_runs
-open_runs-dropped t cs = open_runs_from-top t (record t { tilde = length cs; caret = length cs }) (length cs) 0 cs [] flags (omega arith)
-  where
-    flags : (d : Delimiter) (j : ℕ) → j < length cs → ltb j (drop_bound d (record t { tilde = length cs; caret = length cs }))
-        ≡ (ltb j (drop_bound d t) || is_tilde_or_caret d)
-    flags Star j l = or_false (ltb j 0)
-    flags Underscore j l = or_false (ltb j 0)
-    flags Tilde j l = lt-ltb j (length cs) l ∙ sym (or_true (ltb j t.tilde))
-    flags Caret j l = lt-ltb j (length cs) l ∙ sym (or_true (ltb j t.caret))
+-- a place below a bound that a failed search may have raised
+raised_test : (raises : Bool) (n t j : ℕ) → j < n → ltb j (if raises then n else t) ≡ (ltb j t || raises)
+raised_test true n t j l = lt-ltb j n l ∙ sym (or_true (ltb j t))
+raised_test false n t j l = or_false (ltb j t)
 
 -- two characters that test as one are one
 one_delimiter : (a b : Delimiter) → same_delimiter a b ≡ true → a ≡ b
@@ -201,30 +194,21 @@ nearest-below closer stack b h =
     last_two Caret q l = l
 
 -- a failed search changes the runs as the dropping says
-raised_drops : (d : Delimiter) (closer : Run) (stack : List Characters) (b : LowerBounds) → d ≡ closer.delimiter
-    → open_runs (raised_at d closer (length stack) b) stack ≡ dropped_by closer (open_runs b stack)
-unfolding open_runs
-raised_drops Star closer stack b e = rw (← e) (open_runs_from-same b (raised_at Star closer (length stack) b) (length stack) 0 stack []
-    flags (omega arith))
-  where
-    flags : (d : Delimiter) (j : ℕ) → j < length stack → ltb j (drop_bound d (raised_at Star closer (length stack) b))
-        ≡ ltb j (drop_bound d b)
-    flags Star j l = refl
-    flags Underscore j l = refl
-    flags Tilde j l = refl
-    flags Caret j l = refl
-raised_drops Underscore closer stack b e = rw (← e) (open_runs_from-same b (raised_at Underscore closer (length stack) b) (length stack) 0
-    stack [] flags (omega arith))
-  where
-    flags : (d : Delimiter) (j : ℕ) → j < length stack → ltb j (drop_bound d (raised_at Underscore closer (length stack) b))
-        ≡ ltb j (drop_bound d b)
-    flags Star j l = refl
-    flags Underscore j l = refl
-    flags Tilde j l = refl
-    flags Caret j l = refl
-raised_drops Tilde closer stack b e = rw (← e) (open_runs-dropped b stack)
-raised_drops Caret closer stack b e = rw (← e) (open_runs-dropped b stack)
-
 pub open_runs-raised : (closer : Run) (stack : List Characters) (b : LowerBounds) → open_runs (raised_for closer (length stack) b) stack
     ≡ dropped_by closer (open_runs b stack)
-open_runs-raised closer stack b = raised_drops closer.delimiter closer stack b refl
+unfolding open_runs
+open_runs-raised closer stack b = open_runs_from-dropped closer.delimiter b (raised_for closer (length stack) b) (length stack) 0 stack []
+    (raised closer.delimiter) (omega arith)
+  where
+    raised : (e d : Delimiter) (j : ℕ) → j < length stack → ltb j (drop_bound d (raised_at e closer (length stack) b))
+        ≡ (ltb j (drop_bound d b) || drops e d)
+    raised e Tilde j l = raised_test (drops e Tilde) (length stack) b.tilde j l
+    raised e Caret j l = raised_test (drops e Caret) (length stack) b.caret j l
+    raised Star Star j l = or_false (ltb j 0)
+    raised Underscore Star j l = or_false (ltb j 0)
+    raised Tilde Star j l = or_false (ltb j 0)
+    raised Caret Star j l = or_false (ltb j 0)
+    raised Star Underscore j l = or_false (ltb j 0)
+    raised Underscore Underscore j l = or_false (ltb j 0)
+    raised Tilde Underscore j l = or_false (ltb j 0)
+    raised Caret Underscore j l = or_false (ltb j 0)

@@ -3,6 +3,7 @@ use Rattle.std.proofs.Common.{◌≡◌, ℕ, ◌+◌, ◌-◌, ◌<◌, ◌≤�
 use Rattle.std.proofs.Common.{sym, ◌∙◌, subst, arith}
 use Rattle.std.proofs.lemmas.List.{length-take-le, length_push}
 use Rattle.std.proofs.lemmas.List.Elements.{All-take, All-push}
+use Rattle.markdown_document.specs.Counts.{comparisons_per_delimiter}
 use Rattle.markdown_delims.specs.declared.run.Run.{Run}
 use Rattle.markdown_delims.specs.declared.run.Characters.{Characters}
 use Rattle.markdown_delims.specs.declared.bounds.LowerBounds.{LowerBounds}
@@ -15,25 +16,25 @@ use Rattle.markdown_delims.proofs.Searches.{open_runs-pushed, open_runs-lowered,
 use Rattle.markdown_delims.proofs.Searches.{may_take-fails, may_take-holds}
 
 module _ (stack : List Characters) (examined : ℕ) (b : LowerBounds) (sound : IsSound stack examined b) where
-  potential-push : (c : Characters) → potential_of (stack ++ c ∷ []) examined b ≡ potential_of stack examined b + 10
+  potential-push : (c : Characters) → potential_of (stack ++ c ∷ []) examined b ≡ potential_of stack examined b + comparisons_per_delimiter
   potential-push c =
-      rw length_push (let e : above_bounds (length stack + 1) b ≡ above_bounds (length stack) b + 9 = above_bounds-push stack b sound.bound
-      in nine _ _ _ _ e)
+      rw length_push (let e : above_bounds (length stack + 1) b ≡ above_bounds (length stack) b + 10 = above_bounds-push stack b sound.bound
+      in one_more _ _ _ _ e)
     where
-      nine : (x n a c : ℕ) → a ≡ c + 9 → x + (n + 1) + a ≡ (x + n + c) + 10
-      nine x n a c e = omega arith
+      one_more : (x n a c : ℕ) → a ≡ c + 10 → x + (n + 1) + a ≡ (x + n + c) + comparisons_per_delimiter
+      one_more x n a c e = omega arith
 
   pub openers_of-push : (c : Characters) → openers_of (stack ++ c ∷ []) examined b
       ≡ record {
         runs = record { dropped = false; opener = c } ∷ open_runs b stack;
         examined = examined;
         potential = potential_of stack
-            examined b + 10;
+            examined b + comparisons_per_delimiter;
       }
   openers_of-push c =
       rw (open_runs-pushed b stack c (drop_bound-within c.run.delimiter stack b sound.bound), potential-push c) refl
 
-  pub IsSound-push : (c : Characters) → 0 < c.count → potential_of stack examined b + 10 < 2 ^ 128 → IsSound (stack ++ c ∷ []) examined b
+  pub IsSound-push : (c : Characters) → 0 < c.count → potential_of stack examined b + comparisons_per_delimiter < 2 ^ 128 → IsSound (stack ++ c ∷ []) examined b
   IsSound-push c some room =
       record {
         bound = BoundStack-push stack b c sound.bound;
@@ -65,7 +66,7 @@ module _ (stack : List Characters) (examined : ℕ) (b : LowerBounds) (sound : I
   pub potential-raised : (closer : Run) (after : ℕ) → after + bound_for closer b ≡ examined + length stack
       → potential_of stack after (raised_for closer (length stack) b) ≤ potential_of stack examined b
   potential-raised closer after e =
-      paid _ _ _ _ _ _ (above_bounds-raised closer (length stack) b sound.bound.together) (bound_at-within closer.delimiter closer stack b
+      paid _ _ _ _ _ _ (above_bounds-raised closer (length stack) b) (bound_at-within closer.delimiter closer stack b
       sound.bound) e
     where
       paid : (a c l n x y : ℕ) → a + (n - l) ≤ c → l ≤ n → y + l ≡ x + n → y + n + a ≤ x + n + c

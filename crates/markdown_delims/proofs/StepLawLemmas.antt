@@ -1,14 +1,15 @@
 -- What each step of the reading of a chain keeps, reading keeps.
-use Rattle.std.proofs.Common.{◌≡◌, ℕ, zero, suc, ◌-◌, Bool, true, false, List, [], ◌∷◌, length, Option, Some, None, subst, arith}
-use Rattle.std.specs.Prelude.{IfSome}
+use Rattle.std.proofs.Common.{◌≡◌, ℕ, zero, suc, ◌-◌, Bool, true, false, List, [], ◌∷◌, map, length, Option, Some, None, refl, subst, arith}
+use Rattle.std.specs.Prelude.{⊤, IfSome}
+use Rattle.std.proofs.lemmas.Option.{IfSome_then}
 use Rattle.markdown_base.specs.Forest.{Forest, nil, node}
-use Rattle.markdown_chains.specs.Document.{Label}
-use Rattle.markdown_chains.specs.Setting.{Setting}
-use Rattle.markdown_chains.specs.Waiting.{as_closed}
+use Rattle.markdown_document.specs.Document.{Label}
+use Rattle.markdown_document.specs.Setting.{Setting}
+use Rattle.markdown_document.specs.Waiting.{as_closed}
+use Rattle.markdown_delims.specs.declared.run.Delimiter.{Delimiter}
 use Rattle.markdown_delims.specs.declared.run.Run.{Run}
 use Rattle.markdown_delims.specs.Layers.{run_of}
-use Rattle.markdown_delims.specs.MayPair.{is_tilde_or_caret}
-use Rattle.markdown_delims.specs.Pairing.{Read, done, FoundOpener, found_if, nearest_opener, dropped_if, layers, left_over, after_layers}
+use Rattle.markdown_delims.specs.Pairing.{Read, done, FoundOpener, found_if, nearest_opener, drop_read, layers, left_over, after_layers}
 use Rattle.markdown_delims.specs.Pairing.{after_search, closed_by, run_read, first_texts, after_tree, reads_from}
 
 -- a chain without its first trees
@@ -18,16 +19,17 @@ later (suc n) nil = nil
 later (suc n) (node a below after) = later n after
 
 -- i holds of the characters of a closer, of what was read before them and of the trees that are still to be read: it
--- stays so when a tree is read or passed over, when the characters of a run are, when characters are left open or as
--- text or go nowhere, and when they pair with a run that was found
+-- stays so when a tree is read or passed over, when the characters of a run are, when open runs are dropped, when
+-- characters are left open or as text, and when they pair with a run that was found
 pub record StaysTrue {A : Type 0} (s : Setting) (i : List (Label A) → List (Read A) → Forest (Label A) → Type 0) : Type 0 where
   pub tree : (a : Label A) (below after : Forest (Label A)) (rs : List (Read A)) → i [] rs (node a below after)
       → i [] (done (as_closed s.text a) below ∷ rs) after
   pub skip : (a : Label A) (below after : Forest (Label A)) (rs : List (Read A)) → i [] rs (node a below after) → i [] rs after
   pub texts : (n : ℕ) (chain : Forest (Label A)) (rs : List (Read A)) → i [] rs chain → i (first_texts s.text n chain) rs (later n chain)
-  pub left : (drops : Bool) (closer : Run) (vs : List (Label A)) (rs : List (Read A)) (rest : Forest (Label A)) → i vs rs rest
-      → i [] (left_over closer vs (dropped_if drops rs)) rest
-  pub gone : (vs : List (Label A)) (rs : List (Read A)) (rest : Forest (Label A)) → i vs rs rest → i [] rs rest
+  pub dropped : (d : Delimiter) (vs : List (Label A)) (rs : List (Read A)) (rest : Forest (Label A)) → i vs rs rest
+      → i vs (map (drop_read d) rs) rest
+  pub left : (closer : Run) (vs : List (Label A)) (rs : List (Read A)) (rest : Forest (Label A)) → i vs rs rest
+      → i [] (left_over closer vs rs) rest
   pub found : (closer : Run) (vs : List (Label A)) (rs : List (Read A)) (rest : Forest (Label A)) → i vs rs rest
       → IfSome (nearest_opener closer rs nil) (λ f. i (layers s f.run.delimiter f.characters vs f.inside).closing
       (after_layers f (layers s f.run.delimiter f.characters vs f.inside)) rest)
@@ -38,33 +40,83 @@ pub found-if : {A : Type 0} (p : FoundOpener A → Type 0) (b : Bool) (f : Found
 found-if p true f o h k = h
 found-if p false f o h k = k
 
-module _ {A : Type 0} (s : Setting) (i : List (Label A) → List (Read A) → Forest (Label A) → Type 0) (stays : StaysTrue s i) where
+-- the same, where g holds of a run and its characters when it is read, and of those that are left of them while it closes
+pub record StaysTrueOf {A : Type 0} (s : Setting) (g : Run → List (Label A) → Type 0)
+    (i : List (Label A) → List (Read A) → Forest (Label A) → Type 0) : Type 0 where
+  pub tree : (a : Label A) (below after : Forest (Label A)) (rs : List (Read A)) → run_of s.text a.part ≡ None
+      → i [] rs (node a below after) → i [] (done (as_closed s.text a) below ∷ rs) after
+  pub run : (run : Run) (a : Label A) (below after : Forest (Label A)) (rs : List (Read A)) → run_of s.text a.part ≡ Some run
+      → i [] rs (node a below after)
+      → g run (first_texts s.text run.length (node a below after))
+      × i (first_texts s.text run.length (node a below after)) rs (later (run.length - 1) after)
+  pub dropped : (d : Delimiter) (vs : List (Label A)) (rs : List (Read A)) (rest : Forest (Label A)) → i vs rs rest
+      → i vs (map (drop_read d) rs) rest
+  pub left : (closer : Run) (vs : List (Label A)) (rs : List (Read A)) (rest : Forest (Label A)) → g closer vs → i vs rs rest
+      → i [] (left_over closer vs rs) rest
+  pub found : (closer : Run) (vs : List (Label A)) (rs : List (Read A)) (rest : Forest (Label A)) → closer.can_close ≡ true
+      → g closer vs → i vs rs rest
+      → IfSome (nearest_opener closer rs nil) (λ f. g closer (layers s f.run.delimiter f.characters vs f.inside).closing
+      × i (layers s f.run.delimiter f.characters vs f.inside).closing
+      (after_layers f (layers s f.run.delimiter f.characters vs f.inside)) rest)
+
+module _ {A : Type 0} (s : Setting) (g : Run → List (Label A) → Type 0) (i : List (Label A) → List (Read A) → Forest (Label A) → Type 0)
+    (stays : StaysTrueOf s g i) where
   searched_stays : (again : List (Label A) → List (Read A) → List (Read A)) (closer : Run) (vs : List (Label A)) (rs : List (Read A))
       (rest : Forest (Label A)) (o : Option (FoundOpener A))
-      → ((left : List (Label A)) (others : List (Read A)) → i left others rest → i [] (again left others) rest) → i vs rs rest
-      → IfSome o (λ f. i (layers s f.run.delimiter f.characters vs f.inside).closing
+      → ((left : List (Label A)) (others : List (Read A)) → g closer left → i left others rest → i [] (again left others) rest)
+      → g closer vs → i vs rs rest
+      → IfSome o (λ f. g closer (layers s f.run.delimiter f.characters vs f.inside).closing
+      × i (layers s f.run.delimiter f.characters vs f.inside).closing
       (after_layers f (layers s f.run.delimiter f.characters vs f.inside)) rest)
       → i [] (after_search s again closer vs rs o) rest
-  searched_stays again closer vs rs rest None h k g = stays.left (is_tilde_or_caret closer.delimiter) closer vs rs rest k
-  searched_stays again closer vs rs rest (Some f) h k g =
-      h (layers s f.run.delimiter f.characters vs f.inside).closing (after_layers f (layers s f.run.delimiter f.characters vs f.inside)) g
+  searched_stays again closer vs rs rest None h q k f = stays.left closer vs
+      (map (drop_read closer.delimiter) rs) rest q (stays.dropped closer.delimiter vs rs rest k)
+  searched_stays again closer vs rs rest (Some f) h q k found =
+      h (layers s f.run.delimiter f.characters vs f.inside).closing (after_layers f (layers s f.run.delimiter f.characters vs f.inside))
+      found.0 found.1
 
-  closed_stays : (turns : ℕ) (closer : Run) (vs : List (Label A)) (rs : List (Read A)) (rest : Forest (Label A)) → i vs rs rest
-      → i [] (closed_by s turns closer vs rs) rest
+  closed_stays : (turns : ℕ) (closer : Run) (vs : List (Label A)) (rs : List (Read A)) (rest : Forest (Label A)) → closer.can_close ≡ true
+      → g closer vs → i vs rs rest → i [] (closed_by s turns closer vs rs) rest
   unfolding closed_by
-  closed_stays zero closer [] rs rest h = h
-  closed_stays (suc turns) closer [] rs rest h = h
-  closed_stays zero closer (v ∷ vs) rs rest h = stays.gone (v ∷ vs) rs rest h
-  closed_stays (suc turns) closer (v ∷ vs) rs rest h =
+  closed_stays zero closer [] rs rest c q h = h
+  closed_stays (suc turns) closer [] rs rest c q h = h
+  closed_stays zero closer (v ∷ vs) rs rest c q h = stays.left closer (v ∷ vs) rs rest q h
+  closed_stays (suc turns) closer (v ∷ vs) rs rest c q h =
       searched_stays (λ left others. closed_by s turns closer left others) closer (v ∷ vs) rs rest (nearest_opener closer rs nil)
-      (λ left others k. closed_stays turns closer left others rest k) h
-      (stays.found closer (v ∷ vs) rs rest h)
+      (λ left others p k. closed_stays turns closer left others rest c p k) q h
+      (stays.found closer (v ∷ vs) rs rest c q h)
 
-  pub run-stays : (closes : Bool) (run : Run) (vs : List (Label A)) (rs : List (Read A)) (rest : Forest (Label A)) → i vs rs rest
-      → i [] (run_read s closes run vs rs) rest
-  run-stays true run vs rs rest h = closed_stays (length vs) run vs rs rest h
-  run-stays false run vs rs rest h = stays.left false run vs rs rest h
+  read_stays : (closes : Bool) (run : Run) (vs : List (Label A)) (rs : List (Read A)) (rest : Forest (Label A)) → run.can_close ≡ closes
+      → g run vs → i vs rs rest → i [] (run_read s closes run vs rs) rest
+  read_stays true run vs rs rest c q h = closed_stays (length vs) run vs rs rest c q h
+  read_stays false run vs rs rest c q h = stays.left run vs rs rest q h
 
+  pub run-stays-of : (run : Run) (vs : List (Label A)) (rs : List (Read A)) (rest : Forest (Label A)) → g run vs → i vs rs rest
+      → i [] (run_read s run.can_close run vs rs) rest
+  run-stays-of run vs rs rest q h = read_stays run.can_close run vs rs rest refl q h
+
+  tree_stays : (go_on : ℕ → List (Read A) → List (Read A)) (a : Label A) (below after : Forest (Label A)) (rs : List (Read A))
+      (o : Option Run) → run_of s.text a.part ≡ o
+      → ((skip : ℕ) (others : List (Read A)) → i [] others (later skip after) → i [] (go_on skip others) nil) → i [] rs (node a below after)
+      → i [] (after_tree s go_on a below after rs o) nil
+  tree_stays go_on a below after rs None e h k = h 0 (done (as_closed s.text a) below ∷ rs) (stays.tree a below after rs e k)
+  tree_stays go_on a below after rs (Some run) e h k =
+      let r = stays.run run a below after rs e k in
+      h (run.length - 1) (run_read s run.can_close run (first_texts s.text run.length (node a below after)) rs)
+      (run-stays-of run (first_texts s.text run.length (node a below after)) rs (later (run.length - 1) after) r.0 r.1)
+
+  pub reads-stay-of : (skip : ℕ) (chain : Forest (Label A)) (rs : List (Read A)) → i [] rs (later skip chain)
+      → i [] (reads_from s skip chain rs) nil
+  unfolding reads_from
+  reads-stay-of zero nil rs h = h
+  reads-stay-of (suc skip) nil rs h = h
+  reads-stay-of (suc skip) (node a below after) rs h = reads-stay-of skip after rs h
+  reads-stay-of zero (node a below after) rs h =
+      tree_stays (λ skip others. reads_from s skip after others) a below after rs (run_of s.text a.part) refl
+      (λ skip others k. reads-stay-of skip after others k) h
+
+-- where nothing is known of runs
+module _ {A : Type 0} (s : Setting) (i : List (Label A) → List (Read A) → Forest (Label A) → Type 0) (stays : StaysTrue s i) where
   -- of a run of n the first character is read here
   texts_stay : (n : ℕ) (a : Label A) (below after : Forest (Label A)) (rs : List (Read A)) → i [] rs (node a below after)
       → i (first_texts s.text n (node a below after)) rs (later (n - 1) after)
@@ -73,22 +125,22 @@ module _ {A : Type 0} (s : Setting) (i : List (Label A) → List (Read A) → Fo
       subst (λ k. i (first_texts s.text (suc n) (node a below after)) rs (later k after)) (let e : n ≡ suc n - 1 = omega arith in e)
       (stays.texts (suc n) (node a below after) rs h)
 
-  tree_stays : (go_on : ℕ → List (Read A) → List (Read A)) (a : Label A) (below after : Forest (Label A)) (rs : List (Read A))
-      (o : Option Run)
-      → ((skip : ℕ) (others : List (Read A)) → i [] others (later skip after) → i [] (go_on skip others) nil) → i [] rs (node a below after)
-      → i [] (after_tree s go_on a below after rs o) nil
-  tree_stays go_on a below after rs None h k = h 0 (done (as_closed s.text a) below ∷ rs) (stays.tree a below after rs k)
-  tree_stays go_on a below after rs (Some run) h k =
-      h (run.length - 1) (run_read s run.can_close run (first_texts s.text run.length (node a below after)) rs)
-      (run-stays run.can_close run (first_texts s.text run.length (node a below after)) rs (later (run.length - 1) after)
-      (texts_stay run.length a below after rs k))
+  abbrev Any : Run → List (Label A) → Type 0
+  Any run vs = ⊤
+
+  of_any : StaysTrueOf s Any i
+  of_any = record {
+    tree = λ a below after rs e h. stays.tree a below after rs h;
+    run = λ run a below after rs e h. (tt, texts_stay run.length a below after rs h);
+    dropped = λ d vs rs rest h. stays.dropped d vs rs rest h;
+    left = λ closer vs rs rest q h. stays.left closer vs rs rest h;
+    found = λ closer vs rs rest c q h. IfSome_then (nearest_opener closer rs nil) (stays.found closer vs rs rest h) (λ f k. (tt, k));
+  }
+
+  pub run-stays : (run : Run) (vs : List (Label A)) (rs : List (Read A)) (rest : Forest (Label A)) → i vs rs rest
+      → i [] (run_read s run.can_close run vs rs) rest
+  run-stays run vs rs rest h = run-stays-of s Any i of_any run vs rs rest tt h
 
   pub reads-stay : (skip : ℕ) (chain : Forest (Label A)) (rs : List (Read A)) → i [] rs (later skip chain)
       → i [] (reads_from s skip chain rs) nil
-  unfolding reads_from
-  reads-stay zero nil rs h = h
-  reads-stay (suc skip) nil rs h = h
-  reads-stay (suc skip) (node a below after) rs h = reads-stay skip after rs h
-  reads-stay zero (node a below after) rs h =
-      tree_stays (λ skip others. reads_from s skip after others) a below after rs (run_of s.text a.part)
-      (λ skip others k. reads-stay skip after others k) h
+  reads-stay skip chain rs h = reads-stay-of s Any i of_any skip chain rs h

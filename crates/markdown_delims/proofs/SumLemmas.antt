@@ -4,15 +4,15 @@ use Rattle.std.proofs.Common.{◌≡◌, ℕ, zero, suc, ◌+◌, ◌≤◌, Boo
 use Rattle.std.specs.Prelude.{IfSome, not, ◌&&◌}
 use Rattle.std.proofs.lemmas.Option.{IfSome_then}
 use Rattle.markdown_base.specs.Forest.{Forest, nil, node}
-use Rattle.markdown_chains.specs.Document.{Label, shaped, as_text, is_unresolved}
-use Rattle.markdown_chains.specs.Setting.{Setting}
+use Rattle.markdown_document.specs.Document.{Label, shaped, as_text, is_unresolved}
+use Rattle.markdown_document.specs.Setting.{Setting}
 use Rattle.markdown_delims.specs.declared.run.Delimiter.{Delimiter}
 use Rattle.markdown_delims.specs.declared.run.Run.{Run}
 use Rattle.markdown_delims.specs.Layers.{marks_of, layer_of_one, layer_of_two, spanned}
 use Rattle.markdown_delims.specs.MayPair.{may_pair}
-use Rattle.markdown_chains.specs.Waiting.{text_if}
+use Rattle.markdown_document.specs.Waiting.{text_if}
 use Rattle.markdown_delims.specs.Pairing.{Read, done, waiting, texts_before, all_done, read_trees, FoundOpener, nearest_opener, drop_read}
-use Rattle.markdown_delims.specs.Pairing.{dropped_if, Layers, layers, trees_done, still_waiting, last_first, opened_if, left_over}
+use Rattle.markdown_delims.specs.Pairing.{Layers, layers, trees_done, still_waiting, last_first, opened_if, left_over}
 use Rattle.markdown_delims.specs.Pairing.{after_layers, first_texts, reads_from, runs_paired, paired}
 use Rattle.markdown_delims.specs.Quotes.{first_turn, quotes_after, with_quotes}
 use Rattle.markdown_delims.proofs.StepLawLemmas.{later, StaysTrue, found-if, reads-stay}
@@ -65,14 +65,10 @@ module _ {A : Type 0} (s : Setting) (g : Label A → ℕ) (no_more : CountsNoMor
       (nearest_opener closer rs (texts_before xs inside)) (omega (arith, e))
       (sum_nearest closer rs (texts_before xs inside) n (omega (arith, e, sum_texts xs inside)))
 
-  sum_dropped : (rs : List (Read A)) → sum_read (map drop_read rs) ≡ sum_read rs
-  sum_dropped [] = refl
-  sum_dropped (done a below ∷ rs) = ap (λ n. g a + (sum_of g below + n)) (sum_dropped rs)
-  sum_dropped (waiting dropped run xs ∷ rs) = ap (λ n. sum_all g xs + n) (sum_dropped rs)
-
-  sum_drop_if : (b : Bool) (rs : List (Read A)) → sum_read (dropped_if b rs) ≡ sum_read rs
-  sum_drop_if true rs = sum_dropped rs
-  sum_drop_if false rs = refl
+  sum_dropped : (d : Delimiter) (rs : List (Read A)) → sum_read (map (drop_read d) rs) ≡ sum_read rs
+  sum_dropped d [] = refl
+  sum_dropped d (done a below ∷ rs) = ap (λ n. g a + (sum_of g below + n)) (sum_dropped d rs)
+  sum_dropped d (waiting dropped run xs ∷ rs) = ap (λ n. sum_all g xs + n) (sum_dropped d rs)
 
   abbrev LayersSum : ℕ → Layers A → Type 0
   LayersSum n l = sum_of g l.whole + (sum_all g l.opening + sum_all g l.closing) ≤ n
@@ -138,8 +134,8 @@ module _ {A : Type 0} (s : Setting) (g : Label A → ℕ) (no_more : CountsNoMor
     tree = λ a below after rs h. omega (arith, h, sum_text_if (is_unresolved a.part.shape) a);
     skip = λ a below after rs h. omega (arith, h);
     texts = λ k chain rs h. omega (arith, h, sum_firsts k chain);
-    left = λ drops closer vs rs rest h. omega (arith, h, sum_left closer vs (dropped_if drops rs), sum_drop_if drops rs);
-    gone = λ vs rs rest h. omega (arith, h);
+    dropped = λ d vs rs rest h. omega (arith, h, sum_dropped d rs);
+    left = λ closer vs rs rest h. omega (arith, h, sum_left closer vs rs);
     found = λ closer vs rs rest h.
         IfSome_then (nearest_opener closer rs nil) (sum_nearest closer rs nil (sum_read rs) (omega arith))
         (λ f k. omega (arith, h, sum_pair vs f (sum_read rs) k));

@@ -2,11 +2,11 @@
 use Rattle.std.proofs.Common.{◌≡◌, ℕ, ◌≤◌, Bool, false, refl, sym, subst, arith}
 use Rattle.std.specs.Prelude.{slice_range}
 use Rattle.markdown_base.specs.Forest.{Forest, nil, node}
-use Rattle.markdown_chains.specs.Document.{Label, is_unresolved}
-use Rattle.markdown_chains.specs.Labels.{weight}
-use Rattle.markdown_chains.specs.Setting.{Setting}
-use Rattle.markdown_chains.specs.Totals.{weight_if}
-use Rattle.markdown_chains.proofs.PlaceLemmas.{some_weight}
+use Rattle.markdown_document.specs.Document.{Label, is_unresolved}
+use Rattle.markdown_document.specs.Labels.{weight}
+use Rattle.markdown_document.specs.Setting.{Setting}
+use Rattle.markdown_document.specs.Totals.{weight_if}
+use Rattle.markdown_document.proofs.PlaceLemmas.{some_weight}
 use Rattle.markdown_delims.specs.Layers.{marks_of}
 use Rattle.markdown_delims.specs.PairingLaws.{WeightLaw}
 use Rattle.markdown_delims.specs.Pairing.{paired}

@@ -1,5 +1,4 @@
--- The lower bounds of a stack of open runs, and what they say of it. Those of `~` and `^` are raised together, and
--- so are counted once.
+-- The ten lower bounds of a stack of open runs, and what they say of it.
 use Rattle.std.specs.Prelude.{◌≡◌, ℕ, ◌+◌, ◌-◌, ◌%◌, ◌≤◌, min, List, length, take, true, false, ◌==◌, if◌then◌else◌}
 use Rattle.std.specs.Prelude.{All}
 use Rattle.markdown_delims.specs.declared.run.Delimiter.{Delimiter}
@@ -8,7 +7,7 @@ use Rattle.markdown_delims.specs.declared.run.Run.{Run}
 use Rattle.markdown_delims.specs.declared.run.Characters.{Characters}
 use Rattle.markdown_delims.specs.declared.bounds.CharacterBounds.{CharacterBounds}
 use Rattle.markdown_delims.specs.declared.bounds.LowerBounds.{LowerBounds}
-use Rattle.markdown_delims.specs.MayPair.{same_delimiter, both, lengths_agree}
+use Rattle.markdown_delims.specs.MayPair.{same_delimiter, drops, both, lengths_agree}
 
 -- nothing was looked for yet
 abbrev pub no_bounds : CharacterBounds
@@ -49,12 +48,16 @@ character_raised_for closer len b =
       remainder_two = if closer.length % 3 == 2 then len else b.remainder_two;
     }
 
--- the bounds after a search that found nothing, by the closer's character
+-- the bounds after a search that found nothing, by the closer's character: below its own no run pairs with it, and
+-- below those of the runs that it drops none pairs at all
 abbrev pub raised_at : Delimiter → Run → ℕ → LowerBounds → LowerBounds
-raised_at Star closer len b = record b { star = character_raised_for closer len b.star }
-raised_at Underscore closer len b = record b { underscore = character_raised_for closer len b.underscore }
-raised_at Tilde closer len b = record b { tilde = len; caret = len }
-raised_at Caret closer len b = record b { tilde = len; caret = len }
+raised_at d closer len b =
+    record {
+      star = if same_delimiter d Star then character_raised_for closer len b.star else b.star;
+      underscore = if same_delimiter d Underscore then character_raised_for closer len b.underscore else b.underscore;
+      tilde = if drops d Tilde then len else b.tilde;
+      caret = if drops d Caret then len else b.caret;
+    }
 
 -- the bounds after a closer's search that found nothing, over a stack of this length
 abbrev pub raised_for : Run → ℕ → LowerBounds → LowerBounds
@@ -95,7 +98,7 @@ character_above len b =
 -- how many there are for all characters
 abbrev pub above_bounds : ℕ → LowerBounds → ℕ
 above_bounds len b =
-    character_above len b.star + character_above len b.underscore + (len - b.tilde)
+    character_above len b.star + character_above len b.underscore + (len - b.tilde) + (len - b.caret)
 
 -- a run of this character does not pair with a closer of this remainder by its length
 abbrev pub IsOutOfStep : Delimiter → ℕ → Characters → Type 0
@@ -123,4 +126,3 @@ pub record BoundStack (stack : List Characters) (b : LowerBounds) : Type 0 where
   pub underscore : BoundCharacter Underscore stack b.underscore
   pub tilde_within : b.tilde ≤ length stack
   pub caret_within : b.caret ≤ length stack
-  pub together : b.tilde ≡ b.caret

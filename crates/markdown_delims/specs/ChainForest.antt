@@ -6,6 +6,7 @@ use Rattle.markdown_base.specs.Arena.{Arena}
 use Rattle.markdown_base.specs.ArenaForest.{links_of, Spells}
 use Rattle.markdown_base.specs.BlockTree.{Numbered, numbered}
 use Rattle.markdown_base.specs.Forest.{Forest, nil, node, Each, roots, relabelled}
+use Rattle.markdown_document.specs.Counts.{comparisons_per_delimiter}
 use Rattle.markdown_delims.specs.declared.marks.Marks.{Marks}
 use Rattle.markdown_delims.specs.OpenRuns.{Openers}
 use Rattle.markdown_delims.specs.Entries.{paired}
@@ -56,4 +57,4 @@ pub record IsEmptied (openers : Openers) : Type 0 where
 pub record CanPairAll (text : List ℕ) (nodes : List (Node Item)) (first : ℕ) (openers : Openers) : Type 0 where
   pub forest : Forest ℕ
   pub chain : IsChain text nodes first forest
-  pub room : openers.examined + 10 * delimiters_of (chain_of nodes forest) < 2 ^ 128
+  pub room : openers.examined + comparisons_per_delimiter * delimiters_of (chain_of nodes forest) < 2 ^ 128

@@ -10,7 +10,7 @@ use Rattle.markdown_delims.specs.declared.run.Delimiter.{Delimiter}
 use Rattle.markdown_delims.specs.declared.run.Run.{Run}
 use Rattle.markdown_delims.specs.declared.run.Characters.{Characters}
 use Rattle.markdown_delims.specs.MarkBodies.{whole_text, layer_of_one, layer_of_two, run_of}
-use Rattle.markdown_delims.specs.MayPair.{OpenRun, is_tilde_or_caret, drop_run, may_take}
+use Rattle.markdown_delims.specs.MayPair.{OpenRun, drop_run, may_take}
 
 -- what was read of a chain: a tree; characters that stay text; a run that is still open, dropped or not.
 -- Characters stand from a byte on, and are named by the number of their first node.
@@ -74,15 +74,15 @@ search closer (waiting start r ∷ es) inside =
     if may_take closer r then Some (record { inside = inside; start = start; opener = r.opener; before = es })
     else search closer es (characters r.opener.number start r.opener.count inside)
 
--- a search by `~` or `^` that found none drops every `~` and every `^` run
-abbrev pub drop_entry : Entry → Entry
-drop_entry (settled a below) = settled a below
-drop_entry (lone number start n) = lone number start n
-drop_entry (waiting start r) = waiting start (drop_run r)
+-- an entry after a search by a closer of this character that found none
+abbrev pub drop_entry : Delimiter → Entry → Entry
+drop_entry d (settled a below) = settled a below
+drop_entry d (lone number start n) = lone number start n
+drop_entry d (waiting start r) = waiting start (drop_run d r)
 
--- after a search by `~` or `^` that found nothing
+-- the entries after a search that found none
 abbrev pub entries_dropped : Run → List Entry → List Entry
-entries_dropped closer es = if is_tilde_or_caret closer.delimiter then map drop_entry es else es
+entries_dropped closer es = map (drop_entry closer.delimiter) es
 
 -- layers round a chain, from the inside out, by twos and then a one: of an opener from node `number` and byte
 -- `start` on, of which `top` characters are left, and of a closer from byte `end` on
@@ -134,7 +134,7 @@ after_search m again start closer es (Some t) =
 
 -- each find uses a character at least, so one turn for each is enough
 unfoldable pub closed_in : Marks → ℕ → ℕ → Characters → List Entry → List Entry
-closed_in m zero start closer es = es
+closed_in m zero start closer es = kept start closer es
 closed_in m (suc turns) start closer es =
     after_search m (λ i c fs. closed_in m turns i c fs) start closer es (search closer.run es nil)
 

@@ -1,28 +1,24 @@
 -- What the characters of a pair become, by the options.
-use Rattle.std.specs.Prelude.{ℕ, zero, suc, Bool, true, false, ◌==◌, List, Option, Some, None, slice_index, slice_range}
-use Rattle.std.specs.Int.RustNames.{bit_and}
+use Rattle.std.specs.Prelude.{ℕ, zero, suc, Bool, true, false, List, Option, Some, None, slice_index, slice_range}
+use Rattle.markdown_base.specs.EnabledOptions.{strikethrough_on, subscript_on, superscript_on}
 use Rattle.markdown_base.specs.Event.{TagView, emphasis, strong, strikethrough, superscript, subscript}
 use Rattle.markdown_base.specs.declared.item.ItemBody.{ItemBody}
 use Rattle.markdown_base.specs.declared.item.ItemBody.TheVariants as body
 use Rattle.markdown_base.specs.declared.options.Options.{Options}
-use Rattle.markdown_chains.specs.Document.{Shape, leaf, enclosed, plain, backslash_break, unresolved, Part, Label}
-use Rattle.markdown_chains.specs.Document.{text_over}
+use Rattle.markdown_document.specs.Document.{Shape, leaf, enclosed, plain, backslash_break, unresolved, Part, Label}
+use Rattle.markdown_document.specs.Document.{text_over}
 use Rattle.markdown_delims.specs.declared.marks.Marks.{Marks}
 use Rattle.markdown_delims.specs.declared.run.Delimiter.{Delimiter}
 use Rattle.markdown_delims.specs.declared.run.Delimiter.TheVariants.{Star, Underscore, Tilde, Caret}
 use Rattle.markdown_delims.specs.declared.run.Run.{Run}
 use Rattle.markdown_delims.specs.MayPair.{delimiter_of}
 
--- an option is on
-abbrev pub has_option : Options → ℕ → Bool
-has_option options bits = bit_and options.0 bits == bits
-
 -- the marks of a set of options
 abbrev pub marks_of : Options → Marks
 marks_of options = record {
-  strikethrough = has_option options 8;
-  superscript = has_option options 8192;
-  subscript = has_option options 16384;
+  strikethrough = strikethrough_on options;
+  superscript = superscript_on options;
+  subscript = subscript_on options;
 }
 
 -- a mark where it is on, and else what stands in its place

@@ -1,6 +1,7 @@
 -- Which delimiter characters pair.
 use Rattle.std.specs.Prelude.{ℕ, ◌+◌, ◌%◌, List, [], ◌∷◌, map, Bool, true, false, not, ◌&&◌, ◌||◌, ◌==◌, if◌then◌else◌}
 use Rattle.std.specs.Prelude.{Option, Some, None}
+use Rattle.markdown_base.specs.Bytes.{asterisk, caret, tilde, underscore}
 use Rattle.markdown_delims.specs.declared.run.Delimiter.{Delimiter}
 use Rattle.markdown_delims.specs.declared.run.Delimiter.TheVariants.{Star, Underscore, Tilde, Caret}
 use Rattle.markdown_delims.specs.declared.run.Run.{Run}
@@ -9,8 +10,10 @@ use Rattle.markdown_delims.specs.declared.run.Characters.{Characters}
 -- the character that a byte is
 abbrev pub delimiter_of : ℕ → Option Delimiter
 delimiter_of byte =
-    if byte == 42 then Some Star else if byte == 95 then Some Underscore else if byte == 126 then Some Tilde
-    else if byte == 94 then Some Caret else None
+    if byte == asterisk then Some Star
+    else if byte == underscore then Some Underscore
+    else if byte == tilde then Some Tilde
+    else if byte == caret then Some Caret else None
 
 -- the same character
 abbrev pub same_delimiter : Delimiter → Delimiter → Bool
@@ -20,12 +23,18 @@ same_delimiter Tilde Tilde = true
 same_delimiter Caret Caret = true
 same_delimiter _ _ = false
 
--- the delimiters of which a search that finds none drops all
+-- the delimiters that a failed search can drop
 abbrev pub is_tilde_or_caret : Delimiter → Bool
 is_tilde_or_caret Star = false
 is_tilde_or_caret Underscore = false
 is_tilde_or_caret Tilde = true
 is_tilde_or_caret Caret = true
+
+-- a search by a closer of the first character that finds none drops each open run of the second
+abbrev pub drops : Delimiter → Delimiter → Bool
+drops Tilde Tilde = true
+drops Caret Caret = true
+drops _ _ = false
 
 -- the delimiter whose runs pair only with runs of their length
 abbrev pub needs_equal_length : Delimiter → Bool
@@ -67,10 +76,10 @@ nearest closer [] = None
 nearest closer (r ∷ rs) = if may_take closer r then Some (record { opener = r.opener; before = rs })
     else nearest closer rs
 
--- a `~` or `^` run that pairs no more
-abbrev pub drop_run : OpenRun → OpenRun
-drop_run r = record { dropped = r.dropped || is_tilde_or_caret r.opener.run.delimiter; opener = r.opener }
+-- an open run after a search by a closer of this character that found none
+abbrev pub drop_run : Delimiter → OpenRun → OpenRun
+drop_run d r = record { dropped = r.dropped || drops d r.opener.run.delimiter; opener = r.opener }
 
--- a search by `~` that found none drops every `~` run, and one by `^` every `^` run
+-- the open runs after a search that found none
 abbrev pub dropped_by : Run → List OpenRun → List OpenRun
-dropped_by closer rs = if is_tilde_or_caret closer.delimiter then map drop_run rs else rs
+dropped_by closer rs = map (drop_run closer.delimiter) rs

@@ -25,7 +25,7 @@ open_runs_from b place (c ∷ cs) rs = open_runs_from b (suc place) cs (open_run
 unfoldable pub open_runs : LowerBounds → List Characters → List OpenRun
 open_runs b stack = open_runs_from b 0 stack []
 
--- what was examined, the open runs, and for each bound the open runs at or above it (those of `~` and `^` are one)
+-- what was examined, the open runs, and for each bound the open runs at or above it
 abbrev pub potential_of : List Characters → ℕ → LowerBounds → ℕ
 potential_of stack examined b = examined + length stack + above_bounds (length stack) b
 

@@ -3,13 +3,13 @@
 use Rattle.std.specs.Prelude.{ℕ, zero, suc, ◌-◌, Bool, true, false, not, ◌&&◌, ◌||◌, List, [], ◌∷◌, map, length, Option}
 use Rattle.std.specs.Prelude.{Some, None}
 use Rattle.markdown_base.specs.Forest.{Forest, nil, node}
-use Rattle.markdown_chains.specs.Document.{Label, as_text}
-use Rattle.markdown_chains.specs.Setting.{Setting}
-use Rattle.markdown_chains.specs.Waiting.{as_closed}
+use Rattle.markdown_document.specs.Document.{Label, as_text}
+use Rattle.markdown_document.specs.Setting.{Setting}
+use Rattle.markdown_document.specs.Waiting.{as_closed}
 use Rattle.markdown_delims.specs.declared.run.Delimiter.{Delimiter}
 use Rattle.markdown_delims.specs.declared.run.Run.{Run}
 use Rattle.markdown_delims.specs.Layers.{marks_of, layer_of_one, layer_of_two, spanned, run_of}
-use Rattle.markdown_delims.specs.MayPair.{is_tilde_or_caret, may_pair}
+use Rattle.markdown_delims.specs.MayPair.{drops, may_pair}
 use Rattle.markdown_delims.specs.Quotes.{with_quotes}
 
 -- what was read of a chain: a tree; or a run that is still open, dropped or not, by its characters that are not
@@ -54,15 +54,10 @@ nearest_opener closer (waiting dropped run xs ∷ rs) inside =
     found_if (not dropped && may_pair run closer) (record { inside = inside; run = run; characters = xs; before = rs })
     (nearest_opener closer rs (texts_before xs inside))
 
--- a search by `~` or `^` that finds none drops every `~` and every `^` run
-abbrev pub drop_read : {A : Type 0} → Read A → Read A
-drop_read (done a below) = done a below
-drop_read (waiting dropped run xs) = waiting (dropped || is_tilde_or_caret run.delimiter) run xs
-
--- after a search that found none, where it drops runs
-abbrev pub dropped_if : {A : Type 0} → Bool → List (Read A) → List (Read A)
-dropped_if true rs = map drop_read rs
-dropped_if false rs = rs
+-- what was read, after a search by a closer of this character that found none
+abbrev pub drop_read : {A : Type 0} → Delimiter → Read A → Read A
+drop_read d (done a below) = done a below
+drop_read d (waiting dropped run xs) = waiting (dropped || drops d run.delimiter) run xs
 
 -- layers round a chain, and the characters of the opener and of the closer that are left
 pub record Layers (A : Type 0) : Type 0 where
@@ -119,15 +114,15 @@ after_layers f made = trees_done made.whole (still_waiting f.run made.opening f.
 -- after a search: a closer with characters left searches again
 abbrev pub after_search : {A : Type 0} → Setting → (again : List (Label A) → List (Read A) → List (Read A)) → Run
     → List (Label A) → List (Read A) → Option (FoundOpener A) → List (Read A)
-after_search s again closer vs rs None = left_over closer vs (dropped_if (is_tilde_or_caret closer.delimiter) rs)
+after_search s again closer vs rs None = left_over closer vs (map (drop_read closer.delimiter) rs)
 after_search s again closer vs rs (Some f) =
     again (layers s f.run.delimiter f.characters vs f.inside).closing
     (after_layers f (layers s f.run.delimiter f.characters vs f.inside))
 
--- the characters of a closer search, while there are some; each find uses one at least
+-- the characters of a closer search, while there are some; each find uses one at least, so one turn for each is enough
 unfoldable pub closed_by : {A : Type 0} → Setting → ℕ → Run → List (Label A) → List (Read A) → List (Read A)
 closed_by s turns closer [] rs = rs
-closed_by s zero closer (v ∷ vs) rs = rs
+closed_by s zero closer (v ∷ vs) rs = left_over closer (v ∷ vs) rs
 closed_by s (suc turns) closer (v ∷ vs) rs =
     after_search s (λ left others. closed_by s turns closer left others) closer (v ∷ vs) rs
     (nearest_opener closer rs nil)

@@ -2,9 +2,9 @@
 use Rattle.std.specs.Prelude.{◌≡◌, ◌≢◌, ℕ, zero, suc, ◌-◌, ◌≤◌, ⊤, Bool, true, false, List, [], ◌∷◌, Option, Some, None}
 use Rattle.std.specs.Prelude.{IfSome, IfNone}
 use Rattle.markdown_base.specs.Forest.{Forest, nil, node, Each, Throughout}
-use Rattle.markdown_chains.specs.Document.{Shape, leaf, Label, Plain, is_unresolved}
-use Rattle.markdown_chains.specs.Labels.{Begins, is_plain, weight, retag, retagged}
-use Rattle.markdown_chains.specs.Setting.{Setting}
+use Rattle.markdown_document.specs.Document.{Shape, leaf, Label, Plain, is_unresolved}
+use Rattle.markdown_document.specs.Labels.{Begins, is_plain, weight, retag, retagged}
+use Rattle.markdown_document.specs.Setting.{Setting}
 use Rattle.markdown_delims.specs.declared.run.Run.{Run}
 use Rattle.markdown_delims.specs.Layers.{run_of}
 use Rattle.markdown_delims.specs.MayPair.{is_tilde_or_caret, may_pair}

@@ -1,5 +1,6 @@
 -- Quotes of a chain, and a hard break by a backslash at its end.
 use Rattle.std.specs.Prelude.{Bool, true, false, ◌&&◌, ◌||◌, ◌==◌, if◌then◌else◌}
+use Rattle.markdown_base.specs.Bytes.{apostrophe, backslash}
 use Rattle.markdown_base.specs.declared.item.ItemBody.{ItemBody}
 use Rattle.markdown_base.specs.declared.item.ItemBody.TheVariants as body
 use Rattle.markdown_base.specs.BlockTree.{Numbered}
@@ -26,11 +27,11 @@ right_double = body.SynthesizeChar 8221
 
 -- a backslash
 abbrev pub shown_backslash : ItemBody
-shown_backslash = body.SynthesizeChar 92
+shown_backslash = body.SynthesizeChar backslash
 
 -- what a body is to the reading of quotes
 abbrev pub kind_of : ItemBody → Kind
-kind_of (body.MaybeSmartQuote quote opens closes) = if quote == 39 then kind.Single opens closes
+kind_of (body.MaybeSmartQuote quote opens closes) = if quote == apostrophe then kind.Single opens closes
     else kind.Double opens closes
 kind_of (body.HardBreak by_backslash) = if by_backslash then kind.Break else kind.Other
 kind_of other = kind.Other

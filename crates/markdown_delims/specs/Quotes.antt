@@ -1,11 +1,12 @@
 -- Quotes of a chain under smart punctuation, and a hard break by a backslash at its end.
 use Rattle.std.specs.Prelude.{ℕ, encode_utf8, Bool, true, false, ◌&&◌, ◌||◌, ◌==◌, if◌then◌else◌, [], ◌∷◌}
+use Rattle.markdown_base.specs.Bytes.{apostrophe, backslash}
 use Rattle.markdown_base.specs.Event.{text}
 use Rattle.markdown_base.specs.Forest.{Forest, nil, node}
 use Rattle.markdown_base.specs.declared.item.ItemBody.{ItemBody}
 use Rattle.markdown_base.specs.declared.item.ItemBody.TheVariants as body
-use Rattle.markdown_chains.specs.Document.{Shape, leaf, enclosed, plain, backslash_break, unresolved, Label, shaped}
-use Rattle.markdown_chains.specs.Document.{made}
+use Rattle.markdown_document.specs.Document.{Shape, leaf, enclosed, plain, backslash_break, unresolved, Label, shaped}
+use Rattle.markdown_document.specs.Document.{made}
 use Rattle.markdown_delims.specs.declared.quotes.Kind.{Kind}
 use Rattle.markdown_delims.specs.declared.quotes.Kind.TheVariants as kind
 
@@ -31,7 +32,7 @@ right_double = synthesized 8221
 
 -- a backslash
 abbrev pub shown_backslash : Shape
-shown_backslash = synthesized 92
+shown_backslash = synthesized backslash
 
 -- what a shape is to the reading of quotes: a `'` or a `"` with whether it can open and can close, a hard break by a
 -- backslash, or another
@@ -41,7 +42,7 @@ kind_by false opens closes = kind.Double opens closes
 
 -- what an open item is to quotes
 abbrev pub kind_of_open : ItemBody → Kind
-kind_of_open (body.MaybeSmartQuote quote opens closes) = kind_by (quote == 39) opens closes
+kind_of_open (body.MaybeSmartQuote quote opens closes) = kind_by (quote == apostrophe) opens closes
 kind_of_open other = kind.Other
 
 -- what a shape is to quotes

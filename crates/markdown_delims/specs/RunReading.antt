@@ -5,6 +5,7 @@ use Rattle.markdown_base.specs.Arena.{Arena}
 use Rattle.markdown_base.specs.BlockTree.{Numbered}
 use Rattle.markdown_base.specs.Forest.{Forest, nil, node, first_root}
 use Rattle.markdown_base.specs.WellFormed.{RunCharacter, StandsInRun, run_character}
+use Rattle.markdown_document.specs.Counts.{comparisons_per_delimiter}
 use Rattle.markdown_delims.specs.declared.marks.Marks.{Marks}
 use Rattle.markdown_delims.specs.MayPair.{OpenRun}
 use Rattle.markdown_delims.specs.OpenRuns.{Openers}
@@ -72,7 +73,7 @@ pub record ReadFurther (m : Marks) (text : List ℕ) (h : Chain) (s t : Arena It
   pub is_read : IsRead h s t es new.runs last' l rest
   pub whole : IsWhole text rest
   pub same : paired_from m text 0 rest es ≡ paired_from m text 0 chain begun
-  pub paid : new.potential + 10 * delimiters_of rest ≤ old.potential + 10 * delimiters_of chain
+  pub paid : new.potential + comparisons_per_delimiter * delimiters_of rest ≤ old.potential + comparisons_per_delimiter * delimiters_of chain
   pub found : old.examined + finds_from m text 0 chain begun ≤ new.examined + finds_from m text 0 rest es
   pub further : Rises h.touched from rest h.bound
 
@@ -93,4 +94,4 @@ pub record CanReadTree (text : List ℕ) (ix : ℕ) (last : Option ℕ) (s : Are
   pub stands : Stands chain s es last (Some ix) rest
   pub whole : IsWhole text rest
   pub runs_are : runs ≡ open_of es
-  pub room : cost + 10 * delimiters_of rest < 2 ^ 128
+  pub room : cost + comparisons_per_delimiter * delimiters_of rest < 2 ^ 128

@@ -14,7 +14,7 @@ pub struct CharacterBounds {
     pub remainder_two: usize,
 }
 
-/// The lower bounds of a stack. Those of `~` and `^` are raised together.
+/// The lower bounds of a stack.
 #[derive(Clone, Copy)]
 pub struct LowerBounds {
     pub star: CharacterBounds,
@@ -106,10 +106,8 @@ impl LowerBounds {
         match closer.delimiter {
             Delimiter::Star => self.star = self.star.raised_for(closer, len),
             Delimiter::Underscore => self.underscore = self.underscore.raised_for(closer, len),
-            Delimiter::Tilde | Delimiter::Caret => {
-                self.tilde = len;
-                self.caret = len;
-            }
+            Delimiter::Tilde => self.tilde = len,
+            Delimiter::Caret => self.caret = len,
         }
     }
 

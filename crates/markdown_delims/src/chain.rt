@@ -3,16 +3,16 @@ ghost use Rattle.std.specs.Prelude.{◌≡◌, ℕ, ◌+◌, ◌-◌, ◌*◌, �
 ghost use Rattle.markdown_base.specs.BlockTree.{trees_at};
 ghost use Rattle.markdown_base.specs.Forest.{Forest};
 ghost use Rattle.markdown_base.specs.WellFormed.{run_character};
-ghost use Rattle.markdown_chains.specs.Places.{trees_from};
-ghost use Rattle.markdown_chains.specs.Setting.{Rules, setting_of};
-ghost use Rattle.markdown_chains.specs.Tables.{Tables};
+ghost use Rattle.markdown_document.specs.Places.{trees_from};
+ghost use Rattle.markdown_document.specs.Setting.{Rules, setting_of};
+ghost use Rattle.markdown_document.specs.Tables.{Tables};
 ghost use Rattle.markdown_delims.specs.EntryFinds.{finds_from};
 ghost use Rattle.markdown_delims.specs.PairingFinds.{finds_in};
 ghost use Rattle.markdown_delims.specs.RunReading.{counts_one, delimiters_of};
 ghost use Rattle.markdown_delims.specs.Quoting.{IsSpelled};
 ghost use Rattle.markdown_delims.specs.ChainForest.{IsChain, IsPaired, IsEmptied, CanPairAll, chain_of};
 ghost use Rattle.markdown_delims.specs.PairedChain.{CanPair, PairsChain, ExaminesAtMost};
-ghost use Rattle.markdown_chains.specs.Counts.{RisesAtLeast};
+ghost use Rattle.markdown_document.specs.Counts.{RisesAtLeast, comparisons_per_delimiter};
 
 use crate::marks::Marks;
 use crate::open_runs::OpenRuns;
@@ -21,7 +21,7 @@ use crate::read::read_tree;
 use markdown_base::item::{Item, ItemBody};
 use markdown_base::options::Options;
 use markdown_base::tree::Tree;
-use markdown_chains::work::Work;
+use markdown_document::work::Work;
 use std::alloc::AllocError;
 
 /// 1 for a character of a delimiter run, 0 for all else.
@@ -67,7 +67,7 @@ fn pair_runs(
     ensures pairs { OnOk result ((f : Forest ℕ) → IsChain text.now tree.old.nodes first f
         → IsPaired marks text.now tree.old tree.new first f) }
     ensures examined { OnOk result ((f : Forest ℕ) → IsChain text.now tree.old.nodes first f
-        → openers.new.examined ≤ openers.old.examined + 10 * delimiters_of (chain_of tree.old.nodes f)) }
+        → openers.new.examined ≤ openers.old.examined + comparisons_per_delimiter * delimiters_of (chain_of tree.old.nodes f)) }
     ensures found { OnOk result ((f : Forest ℕ) → IsChain text.now tree.old.nodes first f
         → openers.old.examined + finds_from marks text.now 0 (chain_of tree.old.nodes f) [] ≤ openers.new.examined) }
 {
@@ -89,7 +89,8 @@ fn pair_runs(
 /// (CommonMark 6.2).
 ///
 /// `open_runs` is emptied first; its memory is kept from chain to chain. `work` counts the characters of runs, and the
-/// open runs that were compared with a closer: at most ten for each character, and at least one for each search of a
+/// open runs that were compared with a closer: at most `comparisons_per_delimiter` for
+/// each character, and at least one for each search of a
 /// closer that finds. After a refusal of memory the nodes of the chain may be in any state.
 pub fn pair_chain(
     tree: &mut Tree<Item>,
@@ -104,7 +105,7 @@ pub fn pair_chain(
         → PairsChain (setting_of text.now rules) first tree.old.nodes tree.new.nodes) }
     ensures place { OnOk result (tree.new ≡ record tree.old { nodes = tree.new.nodes }) }
     ensures examined { OnOk result (ExaminesAtMost
-        (10 * delimiters_of (trees_at tree.old.nodes (Some first))) work.old.examined work.new.examined) }
+        (comparisons_per_delimiter * delimiters_of (trees_at tree.old.nodes (Some first))) work.old.examined work.new.examined) }
     ensures found { OnOk result ((rules : Rules) (tables : Tables) → rules.options ≡ options
         → RisesAtLeast (finds_in (setting_of text.now rules) (trees_from text.now tables tree.old.nodes (Some first)))
         work.old.examined work.new.examined) }

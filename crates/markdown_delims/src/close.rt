@@ -1,5 +1,6 @@
 //! A closer pairs for as long as it has characters and finds an opener.
 ghost use Rattle.std.specs.Prelude.{◌≡◌, ◌+◌, ◌^◌, ◌<◌, ◌≤◌, List, IfOk};
+ghost use Rattle.markdown_document.specs.Counts.{comparisons_per_delimiter};
 ghost use Rattle.markdown_delims.specs.Entries.{Entry, kept, with_run};
 ghost use Rattle.markdown_delims.specs.EntryFinds.{run_finds};
 ghost use Rattle.markdown_delims.specs.ChainStanding.{CanRead, ReadsOn};
@@ -21,11 +22,11 @@ fn keep(
     last: Option<usize>,
 ) -> Result<(Option<usize>, Option<usize>), AllocError>
     requires some { 0 < left.count }
-    requires room { openers.old.potential + 10 < 2 ^ 128 }
+    requires room { openers.old.potential + comparisons_per_delimiter < 2 ^ 128 }
     requires stands { CanRead start left last tree.now openers.old.runs }
     ensures ok { IfOk result (λ r. ReadsOn (λ es. kept start left es) start left last tree.now tree.now openers.old.runs
         openers.new.runs r.0 r.1) }
-    ensures paid { openers.new.potential ≤ openers.old.potential + 10 }
+    ensures paid { openers.new.potential ≤ openers.old.potential + comparisons_per_delimiter }
     ensures counted { openers.new.examined ≡ openers.old.examined }
 {
     // bounds the numbers
@@ -53,11 +54,11 @@ pub fn read_run(
 ) -> Result<(Option<usize>, Option<usize>), AllocError>
     requires some { 0 < met.count }
     requires bytes { start + met.count < 2 ^ 64 }
-    requires room { openers.old.potential + 10 < 2 ^ 128 }
+    requires room { openers.old.potential + comparisons_per_delimiter < 2 ^ 128 }
     requires stands { CanRead start met last tree.old openers.old.runs }
     ensures ok { IfOk result (λ r. ReadsOn (λ es. with_run marks start met es) start met last tree.old tree.new
         openers.old.runs openers.new.runs r.0 r.1) }
-    ensures paid { openers.new.potential ≤ openers.old.potential + 10 }
+    ensures paid { openers.new.potential ≤ openers.old.potential + comparisons_per_delimiter }
     ensures found { openers.old.examined + run_finds met.run met.count openers.old.runs ≤ openers.new.examined }
 {
     if !met.run.can_close {

@@ -1,5 +1,7 @@
 //! Laws of pairing. The functions have no code: what each ensures is proved.
 ghost use Rattle.std.specs.Prelude.{ℕ, ⊤};
+ghost use Rattle.markdown_delims.specs.JoinedRuns.{JoinedLaw};
+ghost use Rattle.markdown_delims.specs.NestedPairs.{NestLaw};
 ghost use Rattle.markdown_delims.specs.PairingLaws.{ClosedLaw, OrderLaw, JoinsLaw, MissesNoneLaw, NoneMissedLaw};
 ghost use Rattle.markdown_delims.specs.PairingLaws.{KeepsLaw, BeginsLaw, WeightLaw, TagLaw};
 
@@ -21,6 +23,16 @@ pub fn pairs_join_what_may_pair()
 /// Where a closer finds none, no open run that is not dropped may pair with it.
 pub fn closer_misses_none()
     ensures { MissesNoneLaw ℕ × MissesNoneLaw ⊤ }
+{}
+
+/// Where the trees of a chain lie in order, any two pairs nest or lie apart.
+pub fn pairs_nest_or_lie_apart()
+    ensures { NestLaw ℕ × NestLaw ⊤ }
+{}
+
+/// Each pair goes from a character of an opener to a character of a closer, and the two may pair.
+pub fn each_pair_joins_runs()
+    ensures { JoinedLaw ℕ × JoinedLaw ⊤ }
 {}
 
 /// Of two runs of `*` or `_` in a chain that may pair, the earlier one as the opener, some pair encloses what is left

@@ -4,7 +4,6 @@ ghost use Rattle.markdown_delims.specs.MarkBodies.{layer_of_one, layer_of_two, r
 ghost use Rattle.markdown_delims.specs.MayPair.{delimiter_of};
 
 use crate::run::{Delimiter, Run};
-use bitflags::Flags;
 use markdown_base::item::{Item, ItemBody};
 use markdown_base::options::Options;
 
@@ -24,9 +23,9 @@ impl Marks {
         ensures { result ≡ marks_of options }
     {
         Marks {
-            strikethrough: Flags::contains(&options, Options::ENABLE_STRIKETHROUGH),
-            superscript: Flags::contains(&options, Options::ENABLE_SUPERSCRIPT),
-            subscript: Flags::contains(&options, Options::ENABLE_SUBSCRIPT),
+            strikethrough: options.contains(Options::ENABLE_STRIKETHROUGH),
+            superscript: options.contains(Options::ENABLE_SUPERSCRIPT),
+            subscript: options.contains(Options::ENABLE_SUBSCRIPT),
         }
     }
 

@@ -1,6 +1,7 @@
 //! The delimiter runs that are still open, and the search for the nearest one with which a closer may pair.
 ghost use Rattle.std.specs.Prelude.{false, ◌≡◌, ℕ, ◌+◌, ◌^◌, ◌<◌, ◌≤◌, [], ◌∷◌, IfSome, IfNone, OnOk, OnErr};
 ghost use Rattle.std.specs.Prelude.{slice_index_or, vec_len};
+ghost use Rattle.markdown_document.specs.Counts.{comparisons_per_delimiter};
 ghost use Rattle.markdown_delims.specs.MayPair.{may_pair, nearest, dropped_by};
 ghost use Rattle.markdown_delims.specs.declared.run.Characters.{Characters as CharactersValue};
 
@@ -81,12 +82,12 @@ impl OpenRuns {
     /// Opens a run.
     pub fn push(&mut self, opener: Characters) -> Result<(), AllocError>
         requires some { 0 < opener.count }
-        requires room { self.old.potential + 10 < 2 ^ 128 }
+        requires room { self.old.potential + comparisons_per_delimiter < 2 ^ 128 }
         ensures ok { OnOk result (self.new
             ≡ record {
               runs = record { dropped = false; opener = opener } ∷ self.old.runs;
               examined = self.old.examined;
-              potential = self.old.potential + 10;
+              potential = self.old.potential + comparisons_per_delimiter;
             }) }
         ensures err { OnErr result (self.new ≡ self.old) }
     {

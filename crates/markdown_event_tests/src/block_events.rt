@@ -1,30 +1,19 @@
 //! The events of each body of a block result, with their ranges, over trees made by hand.
-use crate::rows::{parser_of, parser_shows};
-use bitflags::Flags;
 use markdown_base::block_parts::{BlockParts, HeadingAttributes};
 use markdown_base::cow_str::CowStr;
-use markdown_base::event::Event;
 use markdown_base::index::{AlignmentIndex, CowIndex, HeadingIndex};
 use markdown_base::item::ItemBody;
 use markdown_base::options::Options;
 use markdown_base::tag::{Alignment, BlockQuoteKind, HeadingLevel, MetadataBlockKind};
-use markdown_tests::builders::{Outline, item, no_parts, one_text, text, tree_of};
-use markdown_tests::rows::gives;
+use markdown_test_helpers::parts::{no_parts, one_text};
+use markdown_test_helpers::rows::gives;
+use markdown_test_helpers::trees::{Outline, item, text, tree_of};
+use markdown_test_parsers::html::parser_shows;
+use markdown_test_parsers::parsers::{all_noted, parser_of};
 use std::alloc::{AllocError, Global};
-use std::ops::Range;
 use std::test::Fail;
 
-/// Events as they are printed, each with its range.
-fn printed(alloc: Global, events: &[(Event<'_>, Range<usize>)]) -> Result<String, AllocError> {
-    let mut notes = String::new(alloc);
-    for (event, range) in events {
-        let note = format!(in alloc; "{:?} {}..{} ", event, range.start, range.end)?;
-        notes.push_str(note.as_str())?;
-    }
-    Ok(notes)
-}
-
-/// The events of a tree over a text, as they are printed.
+/// The events of a tree over a text, written down.
 fn events_of<'a>(
     alloc: Global,
     source: &'a str,
@@ -33,11 +22,9 @@ fn events_of<'a>(
 ) -> Result<String, Fail> {
     let tree = tree_of(alloc, outline)?;
     let parser = parser_of(alloc, source, Options::empty(), tree, parts)?;
-    let (events, callback) = parser.into_offset_iter().into_events(alloc)?;
+    let (events, callback) = all_noted(alloc, parser)?;
     drop(callback);
-    let notes = printed(alloc, events.as_slice());
-    drop(events);
-    Ok(notes?)
+    Ok(events)
 }
 
 /// A tree over `abc` gives these events; it may name one text.
@@ -54,7 +41,7 @@ fn tree_gives(
 /// A body with a text in it gives this Start and this End.
 fn block_gives(alloc: Global, body: ItemBody, start: &str, end: &str) -> Result<(), Fail> {
     let outline = [(0, item(0, 3, body)), (1, text(1, 2))];
-    let wanted = format!(in alloc; "Start({start}) 0..3 Text(\"b\") 1..2 End({end}) 0..3 ")?;
+    let wanted = format!(in alloc; "<{start}>0..3 [b]1..2 </{end}>0..3 ")?;
     tree_gives(alloc, &outline, body, wanted.as_str())
 }
 
@@ -64,69 +51,48 @@ fn leaf_gives(alloc: Global, body: ItemBody, name: &str) -> Result<(), Fail> {
         (0, item(0, 3, ItemBody::ListItem(2))),
         (1, item(1, 2, body)),
     ];
-    let wanted = format!(in alloc; "Start(Item) 0..3 {name} 1..2 End(Item) 0..3 ")?;
+    let wanted = format!(in alloc; "<li>0..3 {name}1..2 </li>0..3 ")?;
     tree_gives(alloc, &outline, body, wanted.as_str())
 }
 
 #[test]
 fn trees(rt: HostRuntime) -> Result<(), Fail> {
     let rows = &[
-        (
-            ItemBody::BlockQuote(None),
-            "BlockQuote(None)",
-            "BlockQuote(None)",
-        ),
+        (ItemBody::Paragraph, "p", "p"),
+        (ItemBody::Heading(HeadingLevel::H3, None), "h3", "h3"),
+        (ItemBody::BlockQuote(None), "blockquote", "blockquote"),
         (
             ItemBody::BlockQuote(Some(BlockQuoteKind::Tip)),
-            "BlockQuote(Some(Tip))",
-            "BlockQuote(Some(Tip))",
+            "blockquote Tip",
+            "blockquote Tip",
         ),
+        (ItemBody::IndentCodeBlock, "code", "code"),
+        (ItemBody::HtmlBlock, "html", "html"),
+        (ItemBody::List(true, b'-', 0), "ul", "ul"),
+        (ItemBody::List(true, b'.', 0), "ol 0", "ol"),
+        (ItemBody::List(false, b')', 3), "ol 3", "ol"),
+        (ItemBody::ListItem(2), "li", "li"),
         (
-            ItemBody::IndentCodeBlock,
-            "CodeBlock(Indented)",
-            "CodeBlock",
+            ItemBody::MetadataBlock(MetadataBlockKind::YamlStyle),
+            "yaml",
+            "yaml",
         ),
-        (ItemBody::HtmlBlock, "HtmlBlock", "HtmlBlock"),
-        (ItemBody::List(true, b'-', 0), "List(None)", "List(false)"),
-        (ItemBody::List(true, b'.', 0), "List(Some(0))", "List(true)"),
-        (
-            ItemBody::List(false, b')', 3),
-            "List(Some(3))",
-            "List(true)",
-        ),
-        (ItemBody::ListItem(2), "Item", "Item"),
         (
             ItemBody::MetadataBlock(MetadataBlockKind::PlusesStyle),
-            "MetadataBlock(PlusesStyle)",
-            "MetadataBlock(PlusesStyle)",
+            "pluses",
+            "pluses",
         ),
-        (
-            ItemBody::DefinitionList(true),
-            "DefinitionList",
-            "DefinitionList",
-        ),
-        (
-            ItemBody::DefinitionListTitle,
-            "DefinitionListTitle",
-            "DefinitionListTitle",
-        ),
-        (
-            ItemBody::DefinitionListDefinition(4),
-            "DefinitionListDefinition",
-            "DefinitionListDefinition",
-        ),
-        (ItemBody::TableHead, "TableHead", "TableHead"),
-        (ItemBody::TableRow, "TableRow", "TableRow"),
-        (ItemBody::TableCell, "TableCell", "TableCell"),
-        (
-            ItemBody::FencedCodeBlock(CowIndex(0)),
-            "CodeBlock(Fenced(\"x\"))",
-            "CodeBlock",
-        ),
+        (ItemBody::DefinitionList(true), "dl", "dl"),
+        (ItemBody::DefinitionListTitle, "dt", "dt"),
+        (ItemBody::DefinitionListDefinition(4), "dd", "dd"),
+        (ItemBody::TableHead, "thead", "thead"),
+        (ItemBody::TableRow, "tr", "tr"),
+        (ItemBody::TableCell, "td", "td"),
+        (ItemBody::FencedCodeBlock(CowIndex(0)), "code (x)", "code"),
         (
             ItemBody::FootnoteDefinition(CowIndex(0)),
-            "FootnoteDefinition(\"x\")",
-            "FootnoteDefinition",
+            "footnote (x)",
+            "footnote",
         ),
     ];
     for &(body, start, end) in rows {
@@ -142,18 +108,18 @@ fn single_events(rt: HostRuntime) -> Result<(), Fail> {
             ItemBody::Text {
                 backslash_escaped: true,
             },
-            "Text(\"b\")",
+            "[b]",
         ),
-        (ItemBody::SynthesizeText(CowIndex(0)), "Text(\"x\")"),
-        (ItemBody::SynthesizeChar('c'), "Text(\"c\")"),
-        (ItemBody::Html, "Html(\"b\")"),
-        (ItemBody::InlineHtml, "InlineHtml(\"b\")"),
-        (ItemBody::OwnedInlineHtml(CowIndex(0)), "InlineHtml(\"x\")"),
-        (ItemBody::TaskListMarker(true), "TaskListMarker(true)"),
-        (ItemBody::TaskListMarker(false), "TaskListMarker(false)"),
-        (ItemBody::SoftBreak, "SoftBreak"),
-        (ItemBody::HardBreak(false), "HardBreak"),
-        (ItemBody::Rule, "Rule"),
+        (ItemBody::SynthesizeText(CowIndex(0)), "[x]"),
+        (ItemBody::SynthesizeChar('c'), "=[c]"),
+        (ItemBody::Html, "{b}"),
+        (ItemBody::InlineHtml, "(b)"),
+        (ItemBody::OwnedInlineHtml(CowIndex(0)), "(x)"),
+        (ItemBody::TaskListMarker(true), "<done>"),
+        (ItemBody::TaskListMarker(false), "<task>"),
+        (ItemBody::SoftBreak, "/"),
+        (ItemBody::HardBreak(false), "//"),
+        (ItemBody::Rule, "<hr>"),
     ];
     for &(body, name) in rows {
         leaf_gives(rt.alloc(), body, name)?;
@@ -181,9 +147,9 @@ fn a_table(rt: HostRuntime) -> Result<(), Fail> {
         (1, item(2, 3, ItemBody::TableRow)),
     ];
     let found = events_of(alloc, "abc", &outline, two_columns(alloc)?)?;
-    let events = "Start(Table([None, Right])) 0..3 Start(TableHead) 0..2 Start(TableCell) 0..1 \
-        Text(\"a\") 0..1 End(TableCell) 0..1 Start(TableCell) 1..2 End(TableCell) 1..2 \
-        End(TableHead) 0..2 Start(TableRow) 2..3 End(TableRow) 2..3 End(Table) 0..3 ";
+    let events =
+        "<table [None, Right]>0..3 <thead>0..2 <td>0..1 [a]0..1 </td>0..1 <td>1..2 </td>1..2 \
+        </thead>0..2 <tr>2..3 </tr>2..3 </table>0..3 ";
     gives("a table", found.as_str(), events)
 }
 
@@ -218,12 +184,8 @@ fn headings_that_share_attributes(rt: HostRuntime) -> Result<(), Fail> {
         (0, item(1, 2, shared)),
         (0, item(2, 3, shared)),
     ];
-    let events =
-        "Start(Heading { level: H6, id: None, classes: [], attrs: [] }) 0..1 End(Heading(H6)) 0..1 \
-        Start(Heading { level: H2, id: Some(\"i\"), classes: [\"c\"], \
-        attrs: [(\"k\", Some(\"v\")), (\"n\", None)] }) 1..2 End(Heading(H2)) 1..2 \
-        Start(Heading { level: H2, id: Some(\"i\"), classes: [\"c\"], \
-        attrs: [(\"k\", Some(\"v\")), (\"n\", None)] }) 2..3 End(Heading(H2)) 2..3 ";
+    let events = "<h6>0..1 </h6>0..1 <h2 #(i) .(c) (k):(v) (n)>1..2 </h2>1..2 \
+        <h2 #(i) .(c) (k):(v) (n)>2..3 </h2>2..3 ";
     let found = events_of(alloc, "abc", &outline, attributed(alloc)?)?;
     gives("headings", found.as_str(), events)
 }

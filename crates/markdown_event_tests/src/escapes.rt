@@ -1,8 +1,8 @@
 //! What stands in HTML for each byte that can stand in a text.
-use crate::rows::html_of;
-use crate::signs::{Made, Sign};
+use crate::signs::{Sign, items_of};
 use markdown_base::tag::LinkType;
-use markdown_tests::rows::gives;
+use markdown_test_helpers::rows::gives;
+use markdown_test_parsers::html::html_of;
 use std::alloc::{AllocError, Global};
 use std::test::Fail;
 
@@ -121,7 +121,7 @@ fn is_written<'s>(
     signs: &'s [Sign<'s>],
     expected: &[u8],
 ) -> Result<(), Fail> {
-    let html = html_of(alloc, Made::of(alloc, signs))?;
+    let html = html_of(alloc, items_of(alloc, signs))?;
     gives(row, html.as_str().as_bytes() == expected, true)
 }
 

@@ -2,14 +2,10 @@
 use markdown_base::cow_str::CowStr;
 use markdown_base::event::Event;
 use markdown_base::fault::Fault;
-use markdown_base::tag::{LinkType, Tag, TagEnd};
+use markdown_base::tag::{Tag, TagEnd};
 
 /// An item of an iterator over events.
 pub type Item<'a> = Result<Event<'a>, Fault>;
-
-pub fn text<'a>(words: &'a str) -> Item<'a> {
-    Ok(Event::Text(CowStr::Borrowed(words)))
-}
 
 pub fn start<'a>(tag: Tag<'a>) -> Item<'a> {
     Ok(Event::Start(tag))
@@ -21,29 +17,6 @@ pub fn end<'a>(tag: TagEnd) -> Item<'a> {
 
 pub fn reference<'a>(name: &'a str) -> Item<'a> {
     Ok(Event::FootnoteReference(CowStr::Borrowed(name)))
-}
-
-pub fn image<'a>(destination: &'a str, title: &'a str) -> Item<'a> {
-    start(Tag::Image {
-        link_type: LinkType::Inline,
-        dest_url: CowStr::Borrowed(destination),
-        title: CowStr::Borrowed(title),
-        id: CowStr::Borrowed(""),
-    })
-}
-
-pub fn link<'a>(link_type: LinkType, destination: &'a str, title: &'a str) -> Item<'a> {
-    start(Tag::Link {
-        link_type,
-        dest_url: CowStr::Borrowed(destination),
-        title: CowStr::Borrowed(title),
-        id: CowStr::Borrowed(""),
-    })
-}
-
-/// Whether a call answered None.
-pub fn is_nothing<T: Drop>(answer: Option<T>) -> bool {
-    answer.is_none()
 }
 
 /// Whether it is a soft break.

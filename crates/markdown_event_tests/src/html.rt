@@ -2,15 +2,15 @@
 ghost use Rattle.std.specs.Iterator.{IsFinite};
 
 use crate::events::{Item, harden};
-use crate::rows::html_of;
-use crate::signs::{Made, Sign};
+use crate::signs::{Sign, items_of};
 use markdown_base::fault::Fault;
 use markdown_base::tag::{
     Alignment, BlockQuoteKind, HeadingLevel, LinkType, MetadataBlockKind, TagEnd,
 };
 use markdown_out::html::push_html;
 use markdown_out::merge::TextMergeStream;
-use markdown_tests::rows::gives;
+use markdown_test_helpers::rows::gives;
+use markdown_test_parsers::html::html_of;
 use std::alloc::{AllocError, Global};
 use std::test::Fail;
 
@@ -36,7 +36,7 @@ fn ends_with<'s>(
     html: &str,
     fault: Option<Fault>,
 ) -> Result<(), Fail> {
-    let (found, all) = written(alloc, Made::of(alloc, signs))?;
+    let (found, all) = written(alloc, items_of(alloc, signs))?;
     gives(
         html,
         (found, all.as_str().strip_prefix("old ")),
@@ -233,13 +233,30 @@ static IMAGE: [Sign<'static>; 10] = [
     Sign::SoftBreak,
 ];
 
+/// What stands in an image without belonging there: a Start that nothing ends, and Ends of what was never begun.
+static ANYTHING: [Sign<'static>; 11] = [
+    Sign::Image("u", ""),
+    Sign::Table(&[]),
+    Sign::Close(TagEnd::Paragraph),
+    Sign::Code("c"),
+    Sign::Html("<i>"),
+    Sign::InlineHtml("<b>"),
+    Sign::SoftBreak,
+    Sign::Reference("n"),
+    Sign::Task(true),
+    Sign::Close(TagEnd::List(true)),
+    Sign::Words("z"),
+];
+
 #[test]
 fn images(rt: HostRuntime) -> Result<(), Fail> {
     let alloc = rt.alloc();
     let open = [Sign::Image("u", ""), Sign::Words("a\"b")];
     writes(alloc, &open, "<img src=\"u\" alt=\"a&quot;b\" />")?;
     let html = "<img src=\"c\" alt=\"a b $x$[x]\" title=\"t\" />\n";
-    writes(alloc, &IMAGE, html)
+    writes(alloc, &IMAGE, html)?;
+    let html = "<img src=\"u\" alt=\"c&lt;b&gt; [1][x]\" />z";
+    writes(alloc, &ANYTHING, html)
 }
 
 static TABLE: [Sign<'static>; 22] = [
@@ -282,7 +299,8 @@ fn tables(rt: HostRuntime) -> Result<(), Fail> {
     writes(alloc, &TABLE, html)
 }
 
-static NO_ROW: [Sign<'static>; 4] = [
+static NO_ROW: [Sign<'static>; 5] = [
+    Sign::Close(TagEnd::Paragraph),
     Sign::Table(&[Alignment::Left]),
     Sign::Open(TagEnd::TableCell),
     Sign::Close(TagEnd::TableCell),
@@ -292,7 +310,7 @@ static NO_ROW: [Sign<'static>; 4] = [
 #[test]
 fn a_table_without_rows(rt: HostRuntime) -> Result<(), Fail> {
     let alloc = rt.alloc();
-    let html = "<table><th style=\"text-align: left\"></th><th>";
+    let html = "</p>\n<table><th style=\"text-align: left\"></th><th>";
     writes(alloc, &NO_ROW, html)
 }
 
@@ -337,7 +355,7 @@ fn merged_ends_with<'s>(
     html: &str,
     fault: Option<Fault>,
 ) -> Result<(), Fail> {
-    let merge = TextMergeStream::new(alloc, Made::of(alloc, signs));
+    let merge = TextMergeStream::new(alloc, items_of(alloc, signs));
     let (found, all) = written(alloc, merge)?;
     gives(
         html,
@@ -380,6 +398,6 @@ static SOFT: [Sign<'static>; 4] = [
 #[test]
 fn html_of_mapped_events(rt: HostRuntime) -> Result<(), Fail> {
     let alloc = rt.alloc();
-    let html = html_of(alloc, Made::of(alloc, &SOFT).map(harden))?;
+    let html = html_of(alloc, items_of(alloc, &SOFT).map(harden))?;
     gives("a soft break", html.as_str(), "<p>a<br />\nb")
 }

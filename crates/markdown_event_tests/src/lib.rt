@@ -15,11 +15,11 @@ mod merged;
 #[cfg(test)]
 mod merges;
 #[cfg(test)]
+mod odd_texts;
+#[cfg(test)]
 mod parser;
 #[cfg(test)]
 mod program;
-#[cfg(test)]
-mod rows;
 #[cfg(test)]
 mod signs;
 #[cfg(test)]

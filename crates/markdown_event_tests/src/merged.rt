@@ -1,6 +1,5 @@
 //! Parsers under merges and adapters, and what is written of them.
 use crate::events::{harden, is_soft_break};
-use crate::rows::html_of;
 use markdown_base::cow_str::CowStr;
 use markdown_base::event::Event;
 use markdown_base::fault::Fault;
@@ -8,8 +7,9 @@ use markdown_inline::walk::Parser;
 use markdown_out::laws::a_mapped_iterator_can_be_merged;
 use markdown_out::merge::{TextMergeStream, TextMergeWithOffset};
 use markdown_render::merged::{merged_html, offsets_can_be_merged};
-use markdown_tests::notes::notes_of;
-use markdown_tests::rows::gives;
+use markdown_test_helpers::notes::notes_of;
+use markdown_test_helpers::rows::gives;
+use markdown_test_parsers::html::html_of;
 use std::alloc::Global;
 use std::ops::Range;
 use std::test::Fail;
@@ -55,7 +55,7 @@ fn ranges_of_a_merged_map(rt: HostRuntime) -> Result<(), Fail> {
     let mapped = iter.map(soften);
     a_mapped_iterator_can_be_merged(&mapped);
     let notes = notes_of(alloc, TextMergeWithOffset::new(alloc, mapped))?;
-    gives("a\nb", notes.as_str(), "<p>0..3 [a b]0..3 </p>0..3 ")
+    gives("a\nb", notes.as_str(), "<p>0..3 +[a b]0..3 </p>0..3 ")
 }
 
 /// The merge of a text's events is this, each with its range.
@@ -71,7 +71,7 @@ fn ranges_of_merged_parsers(rt: HostRuntime) -> Result<(), Fail> {
         ("a\nb", "<p>0..3 [a]0..1 /1..2 [b]2..3 </p>0..3 "),
         (
             "\n    first line\n    second line\n",
-            "?5..32 [first line\nsecond line\n]5..32 ?5..32 ",
+            "<code>5..32 +[first line\nsecond line\n]5..32 </code>5..32 ",
         ),
     ] {
         merge_gives(rt.alloc(), source, wanted)?;

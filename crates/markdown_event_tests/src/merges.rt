@@ -1,12 +1,13 @@
 //! What the merges give, with ample memory.
-use crate::events::{Item, is_nothing, text};
-use crate::rows::said_of;
-use crate::signs::{Made, Sign, item_of};
+use crate::events::Item;
+use crate::signs::{Sign, item_of, items_of};
 use markdown_base::event::Event;
 use markdown_base::fault::Fault;
 use markdown_base::tag::TagEnd;
 use markdown_out::merge::{TextMergeStream, TextMergeWithOffset};
-use markdown_tests::rows::gives;
+use markdown_test_helpers::events::text;
+use markdown_test_helpers::lists::{Items, Listed, is_nothing, said_of};
+use markdown_test_helpers::rows::gives;
 use std::alloc::{AllocError, Global};
 use std::ops::Range;
 use std::test::Fail;
@@ -22,7 +23,7 @@ fn say_item(alloc: Global, item: &Item<'_>) -> Result<String, AllocError> {
 
 /// The merge of these items up to its first None, written down.
 fn merged<'s>(alloc: Global, signs: &'s [Sign<'s>]) -> Result<String, Fail> {
-    let merge = TextMergeStream::new(alloc, Made::of(alloc, signs));
+    let merge = TextMergeStream::new(alloc, items_of(alloc, signs));
     said_of(alloc, merge, say_item)
 }
 
@@ -53,34 +54,16 @@ fn ranged<'a>(item: Item<'a>, range: Range<usize>) -> Ranged<'a> {
 
 /// The items that signs stand for, with their ranges.
 #[derive(Drop)]
-struct MadeRanged<'s> {
+struct SignedRanged<'s> {
     alloc: Global,
     rows: &'s [(Sign<'s>, usize, usize)],
-    at: usize,
-    left: usize,
 }
 
-impl<'s> Iterator for MadeRanged<'s> {
+impl<'s> Listed for SignedRanged<'s> {
     type Item = Ranged<'s>;
 
-    ghost use Rattle.std.specs.Prelude.{◌≤◌};
-    ghost use Rattle.std.specs.Iterator.{at_most};
-
-    ghost next_gives = { λ s r t. t.left ≤ s.left };
-
-    ghost remaining = { λ s. at_most s.left };
-
-    fn size_hint(&self) -> (usize, Option<usize>) {
-        (0, None)
-    }
-
-    fn next(&mut self) -> Option<Ranged<'s>> {
-        if self.left == 0 {
-            return None;
-        }
-        self.left -= 1;
-        let (sign, start, end) = *self.rows.get(self.at)?;
-        self.at = self.at.saturating_add(1);
+    fn item(&self, at: usize) -> Option<Ranged<'s>> {
+        let (sign, start, end) = *self.rows.get(at)?;
         Some(ranged(item_of(self.alloc, sign), start..end))
     }
 }
@@ -98,12 +81,7 @@ fn say_ranged(alloc: Global, item: &Ranged<'_>) -> Result<String, AllocError> {
 
 /// The merge of these items up to its first None, written down, each with its range.
 fn merged_ranges<'s>(alloc: Global, rows: &'s [(Sign<'s>, usize, usize)]) -> Result<String, Fail> {
-    let items = MadeRanged {
-        alloc,
-        rows,
-        at: 0,
-        left: rows.len(),
-    };
+    let items = Items::of(SignedRanged { alloc, rows }, rows.len());
     said_of(alloc, TextMergeWithOffset::new(alloc, items), say_ranged)
 }
 
@@ -120,46 +98,27 @@ fn runs_with_ranges(rt: HostRuntime) -> Result<(), Fail> {
     gives("code", notes.as_str(), wanted)
 }
 
-/// Gives answers that are None in the middle: a text for a letter, and None for any other sign.
+/// Answers that are None in the middle: a text for a letter, and None for any other sign.
 #[derive(Drop)]
 struct Answers<'a> {
     signs: &'a [u8],
-    at: usize,
-    left: usize,
 }
 
 /// The answer for a sign.
 fn answer_of<'a>(sign: u8) -> Option<Item<'a>> {
     match sign {
-        b'a' => Some(text("a")),
-        b'b' => Some(text("b")),
-        b'c' => Some(text("c")),
+        b'a' => Some(Ok(text("a"))),
+        b'b' => Some(Ok(text("b"))),
+        b'c' => Some(Ok(text("c"))),
         _ => None,
     }
 }
 
-impl<'a> Iterator for Answers<'a> {
+impl<'a> Listed for Answers<'a> {
     type Item = Item<'a>;
 
-    ghost use Rattle.std.specs.Prelude.{◌≤◌};
-    ghost use Rattle.std.specs.Iterator.{at_most};
-
-    ghost next_gives = { λ s r t. t.left ≤ s.left };
-
-    ghost remaining = { λ s. at_most s.left };
-
-    fn size_hint(&self) -> (usize, Option<usize>) {
-        (0, None)
-    }
-
-    fn next(&mut self) -> Option<Item<'a>> {
-        if self.left == 0 {
-            return None;
-        }
-        self.left -= 1;
-        let sign = *self.signs.get(self.at)?;
-        self.at = self.at.saturating_add(1);
-        answer_of(sign)
+    fn item(&self, at: usize) -> Option<Item<'a>> {
+        answer_of(*self.signs.get(at)?)
     }
 }
 
@@ -172,11 +131,7 @@ fn is_text<'a>(answer: Option<Item<'a>>, words: &str) -> bool {
 
 #[test]
 fn stretches_between_nones(rt: HostRuntime) -> Result<(), Fail> {
-    let answers = Answers {
-        signs: b"a.bc..",
-        at: 0,
-        left: 6,
-    };
+    let answers = Items::of(Answers { signs: b"a.bc.." }, 6);
     let mut merge = TextMergeStream::new(rt.alloc(), answers);
     let first = is_text(merge.next(), "a");
     let second = is_text(merge.next(), "bc");

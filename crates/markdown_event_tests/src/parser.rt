@@ -1,24 +1,19 @@
 //! What parsers give, with ample memory.
-ghost use Rattle.std.specs.Prelude.{◌≡◌, ◌+◌, ◌%◌, ◌^◌};
-
-use crate::events::is_nothing;
-use crate::rows::{parser_gives, parser_of, parser_shows};
-use bitflags::Flags;
-use markdown_base::cow_str::CowStr;
 use markdown_base::event::Event;
 use markdown_base::fault::Fault;
-use markdown_base::item::{Item, ItemBody};
+use markdown_base::item::ItemBody;
 use markdown_base::options::Options;
-use markdown_base::tag::LinkType;
-use markdown_base::tree::Tree;
+use markdown_defs::{BoxedCallback, BrokenLinkCallback, DefaultBrokenLinkCallback};
 use markdown_inline::runs::{gather, gather_offsets};
 use markdown_inline::walk::Parser;
-use markdown_spans::defs::{
-    BoxedCallback, BrokenLink, BrokenLinkCallback, Closure, DefaultBrokenLinkCallback,
-};
-use markdown_tests::builders::{Outline, item, no_parts, text, tree_of};
-use markdown_tests::rows::gives;
-use std::alloc::{AllocError, Global};
+use markdown_test_helpers::lists::is_nothing;
+use markdown_test_helpers::parts::no_parts;
+use markdown_test_helpers::rows::gives;
+use markdown_test_helpers::trees::{Outline, item, nested, text, tree_of};
+use markdown_test_parsers::callbacks::{Recording, Reply, questions_in};
+use markdown_test_parsers::html::parser_shows;
+use markdown_test_parsers::parsers::{all_noted, ask_for, parser_asking, parser_gives, parser_of};
+use std::alloc::Global;
 use std::ops::Range;
 use std::test::Fail;
 
@@ -35,8 +30,21 @@ fn texts(rt: HostRuntime) -> Result<(), Fail> {
         ("hello world", "<p>0..11 [hello world]0..11 </p>0..11 "),
         ("a\nb", "<p>0..3 [a]0..1 /1..2 [b]2..3 </p>0..3 "),
         ("<", "<p>0..1 [<]0..1 </p>0..1 "),
-        ("#", "?0..1 ?0..1 "),
-        ("###\n", "?0..4 ?0..4 "),
+        ("#", "<h1>0..1 </h1>0..1 "),
+        ("###\n", "<h3>0..4 </h3>0..4 "),
+        (
+            "hello\n```test\ntadam\n```",
+            "<p>0..6 [hello]0..5 </p>0..6 <code (test)>6..23 [tadam\n]14..20 </code>6..23 ",
+        ),
+        (
+            "hello\n\n    ```test\n    tadam\nhello",
+            "<p>0..6 [hello]0..5 </p>0..6 <code>11..29 [```test\n]11..19 [tadam\n]23..29 </code>11..29 \
+            <p>29..34 [hello]29..34 </p>29..34 ",
+        ),
+        (
+            "3. a\n4. b",
+            "<ol 3>0..9 <li>0..5 [a]3..4 </li>0..5 <li>5..9 [b]8..9 </li>5..9 </ol>0..9 ",
+        ),
     ];
     for &(source, events) in rows {
         text_gives(rt.alloc(), source, events)?;
@@ -71,41 +79,20 @@ fn trees_made_by_hand(rt: HostRuntime) -> Result<(), Fail> {
     tree_gives(rt.alloc(), "ab", &tight, events)
 }
 
-/// A hundred thousand paragraphs, each in the one before it.
-fn nested(alloc: Global) -> Result<Tree<Item>, AllocError> {
-    let mut tree = Tree::new(alloc)?;
-    for _ in 0..100_000 {
-        tree.append(item(0, 1, ItemBody::Paragraph))?;
-        tree.push()?;
-    }
-    Ok(tree)
-}
-
 #[test]
 fn a_deep_tree(rt: HostRuntime) -> Result<(), Fail> {
     let alloc = rt.alloc();
-    let tree = nested(alloc)?;
+    let tree = nested(alloc, item(0, 1, ItemBody::Paragraph), 100_000)?;
     let parser = parser_of(alloc, "a", Options::empty(), tree, no_parts(alloc))?;
     let events = gather_offsets(parser.into_offset_iter(), alloc)?.len();
     gives("nested paragraphs", events, 200_000)
-}
-
-/// How many of so many calls of `next` give something.
-fn given(parser: &mut Parser<'_>, calls: u64) -> u64 {
-    let mut given = 0u64;
-    for _ in 0..calls {
-        if !is_nothing(parser.next()) {
-            given = given.saturating_add(1);
-        }
-    }
-    given
 }
 
 #[test]
 fn a_walk_that_changes_hands(rt: HostRuntime) -> Result<(), Fail> {
     let alloc = rt.alloc();
     let mut parser = Parser::new(alloc, "*hello* world")?;
-    let given = given(&mut parser, 3);
+    let given = ask_for(&mut parser, 3);
     let events = "</em>0..7 [ world]7..13 </p>0..13 ";
     parser_gives(alloc, "*hello* world", parser, events)?;
     gives("events before", given, 3)
@@ -115,7 +102,7 @@ fn a_walk_that_changes_hands(rt: HostRuntime) -> Result<(), Fail> {
 fn a_walk_that_is_over_changes_hands(rt: HostRuntime) -> Result<(), Fail> {
     let alloc = rt.alloc();
     let mut ended = Parser::new(alloc, "")?;
-    let given = given(&mut ended, 2);
+    let given = ask_for(&mut ended, 2);
     parser_gives(alloc, "", ended, "")?;
     gives("events before", given, 0)
 }
@@ -139,72 +126,50 @@ fn adapters(rt: HostRuntime) -> Result<(), Fail> {
 
 #[test]
 fn all_at_once(rt: HostRuntime) -> Result<(), Fail> {
-    let events = gather(Parser::new(rt.alloc(), "a\nb")?, rt.alloc())?.len();
-    gives("a\nb", events, 5)
+    let alloc = rt.alloc();
+    let events = gather(Parser::new(alloc, "a\nb")?, alloc)?;
+    let printed = format!(in alloc; "{events:?}");
+    drop(events);
+    gives(
+        "a\nb",
+        printed?.as_str(),
+        "[Ok(Start(Paragraph)), Ok(Text(\"a\")), Ok(SoftBreak), Ok(Text(\"b\")), Ok(End(Paragraph))]",
+    )
 }
 
-#[derive(Drop)]
-struct Silent;
+/// A label that is defined nowhere, and its events where nobody answers.
+const UNKNOWN: (&str, &str) = ("[a]", "<p>0..3 [[]0..1 [a]1..2 []]2..3 </p>0..3 ");
 
-impl BoxedCallback for Silent {
-    fn answer(
-        &mut self,
-        span: Range<usize>,
-        link_type: LinkType,
-        reference: &str,
-    ) -> Option<(CowStr<'static>, CowStr<'static>)> {
-        let _ = span;
-        let _ = link_type;
-        let _ = reference;
-        None
-    }
-}
-
-/// How many events a text has, with a callback.
-fn count_with<'a, F: BrokenLinkCallback<'a>>(
+/// It stays text with a callback.
+fn stays_with<'a, F: BrokenLinkCallback<'a>>(
     alloc: Global,
-    source: &'a str,
+    row: &str,
     callback: F,
-) -> Result<usize, Fail>
+) -> Result<(), Fail>
     requires { F.can_ask callback }
 {
-    let parser = Parser::new_with_broken_link_callback(
-        alloc,
-        source,
-        Options::empty(),
-        Some(callback),
-    )?;
-    Ok(gather(parser, alloc)?.len())
-}
-
-/// How many events a text has with a callback that counts questions, and how many were asked.
-fn count_with_a_closure(alloc: Global, source: &str) -> Result<(usize, u64), Fail> {
-    let mut asked = 0u64;
-    let counting = |link: BrokenLink| -> Option<(CowStr, CowStr)>
-        ensures answer { result ≡ None }
-        ensures counted { asked.exit ≡ (asked.entry + 1) % 2 ^ 64 }
-    {
-        asked = asked.wrapping_add(1);
-        let _ = link;
-        None
-    };
-    let events = count_with(alloc, source, Closure::new(counting))?;
-    Ok((events, asked))
-}
-
-/// How many events a text has with a boxed callback.
-fn count_with_a_box(alloc: Global, source: &str) -> Result<usize, Fail> {
-    let boxed: Box<dyn BoxedCallback> = Box::new(alloc, Silent)?;
-    count_with(alloc, source, boxed)
+    let (source, wanted) = UNKNOWN;
+    let (events, callback) = all_noted(alloc, parser_asking(alloc, source, callback)?)?;
+    gives(
+        row,
+        (events.as_str(), is_nothing(callback)),
+        (wanted, false),
+    )
 }
 
 #[test]
-fn callbacks(rt: HostRuntime) -> Result<(), Fail> {
+fn callbacks_that_do_not_answer(rt: HostRuntime) -> Result<(), Fail> {
     let alloc = rt.alloc();
-    gives("a box", count_with_a_box(alloc, "a")?, 3)?;
-    gives("a closure", count_with_a_closure(alloc, "a")?, (3, 0))?;
-    let with_default = count_with(alloc, "a", DefaultBrokenLinkCallback)?;
-    gives("the default", with_default, 3)
+    let recording = Recording::replying(alloc, Reply::Nothing);
+    let boxed: Box<dyn BoxedCallback> = Box::new(alloc, recording)?;
+    stays_with(alloc, "a box", boxed)?;
+    stays_with(alloc, "the default", DefaultBrokenLinkCallback)?;
+    let (source, _) = UNKNOWN;
+    gives(
+        "a closure",
+        questions_in(alloc, source, usize::MAX)?,
+        (5, 1),
+    )
 }
 
 #[test]
@@ -214,4 +179,16 @@ fn an_empty_text_at_the_place_of_another_is_kept(rt: HostRuntime) -> Result<(), 
     let tree = tree_of(alloc, &[(0, paragraph), (1, text(0, 0)), (1, text(0, 2))])?;
     let parser = parser_of(alloc, "ab", Options::ENABLE_GFM, tree, no_parts(alloc))?;
     parser_shows(alloc, "ab", parser, "<p>ab</p>\n")
+}
+
+#[test]
+fn a_text_made_by_hand_is_escaped(rt: HostRuntime) -> Result<(), Fail> {
+    let alloc = rt.alloc();
+    let source = "a<b>&\"";
+    let tree = tree_of(
+        alloc,
+        &[(0, item(0, 6, ItemBody::Paragraph)), (1, text(0, 6))],
+    )?;
+    let parser = parser_of(alloc, source, Options::empty(), tree, no_parts(alloc))?;
+    parser_shows(alloc, source, parser, "<p>a&lt;b&gt;&amp;\"</p>\n")
 }

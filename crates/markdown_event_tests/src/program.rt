@@ -1,6 +1,6 @@
 //! The program's texts and statuses.
 use markdown_render::run::run;
-use markdown_tests::rows::gives;
+use markdown_test_helpers::rows::gives;
 use std::alloc::{AllocError, Global};
 use std::io::{self, ErrorKind, Read, Write};
 use std::test::Fail;

@@ -1,10 +1,12 @@
 //! Events of tests, each by a sign that can be copied, so that lists of them are constants. An event is made when it is
 //! asked for: no list of events goes at the end of a scope, for which a proof takes many seconds.
-use crate::events::{Item, end, image, link, reference, start, text};
+use crate::events::{Item, end, reference, start};
 use markdown_base::cow_str::CowStr;
 use markdown_base::event::Event;
 use markdown_base::fault::Fault;
 use markdown_base::tag::{Alignment, CodeBlockKind, HeadingLevel, LinkType, Tag, TagEnd};
+use markdown_test_helpers::events::{image, link, text};
+use markdown_test_helpers::lists::{Items, Listed};
 use std::alloc::{AllocError, Global};
 
 /// An event, or an error.
@@ -108,9 +110,9 @@ pub fn item_of<'s>(alloc: Global, sign: Sign<'s>) -> Item<'s> {
         Sign::Ordered(first) => start(Tag::List(Some(first))),
         Sign::Fenced(info) => start(Tag::CodeBlock(CodeBlockKind::Fenced(CowStr::Borrowed(info)))),
         Sign::Definition(name) => start(Tag::FootnoteDefinition(CowStr::Borrowed(name))),
-        Sign::Link(link_type, destination, title) => link(link_type, destination, title),
-        Sign::Image(destination, title) => image(destination, title),
-        Sign::Words(words) => text(words),
+        Sign::Link(link_type, destination, title) => Ok(link(link_type, destination, title)),
+        Sign::Image(destination, title) => Ok(image(destination, title)),
+        Sign::Words(words) => Ok(text(words)),
         Sign::Code(words) => Ok(Event::Code(CowStr::Borrowed(words))),
         Sign::InlineMath(words) => Ok(Event::InlineMath(CowStr::Borrowed(words))),
         Sign::DisplayMath(words) => Ok(Event::DisplayMath(CowStr::Borrowed(words))),
@@ -127,47 +129,23 @@ pub fn item_of<'s>(alloc: Global, sign: Sign<'s>) -> Item<'s> {
     }
 }
 
-/// The items that signs stand for, in order.
+/// The items that signs stand for.
 #[derive(Drop)]
-pub struct Made<'s> {
+pub struct Signed<'s> {
     alloc: Global,
     signs: &'s [Sign<'s>],
-    at: usize,
-    left: usize,
 }
 
-impl<'s> Made<'s> {
-    pub fn of(alloc: Global, signs: &'s [Sign<'s>]) -> Made<'s> {
-        Made {
-            alloc,
-            signs,
-            at: 0,
-            left: signs.len(),
-        }
-    }
-}
-
-impl<'s> Iterator for Made<'s> {
+impl<'s> Listed for Signed<'s> {
     type Item = Item<'s>;
 
-    ghost use Rattle.std.specs.Prelude.{◌≤◌};
-    ghost use Rattle.std.specs.Iterator.{at_most};
-
-    ghost next_gives = { λ s r t. t.left ≤ s.left };
-
-    ghost remaining = { λ s. at_most s.left };
-
-    fn size_hint(&self) -> (usize, Option<usize>) {
-        (0, None)
-    }
-
-    fn next(&mut self) -> Option<Item<'s>> {
-        if self.left == 0 {
-            return None;
-        }
-        self.left -= 1;
-        let sign = self.signs.get(self.at)?;
-        self.at = self.at.saturating_add(1);
+    fn item(&self, at: usize) -> Option<Item<'s>> {
+        let sign = self.signs.get(at)?;
         Some(item_of(self.alloc, *sign))
     }
+}
+
+/// The items that signs stand for, in order.
+pub fn items_of<'s>(alloc: Global, signs: &'s [Sign<'s>]) -> Items<Signed<'s>> {
+    Items::of(Signed { alloc, signs }, signs.len())
 }

@@ -1,47 +1,12 @@
 //! Whole runs with a callback: the HTML of a text, all events in a list, and what became of the callback.
-use bitflags::Flags;
-use markdown_base::cow_str::CowStr;
 use markdown_base::options::Options;
-use markdown_inline::walk::Parser;
+use markdown_defs::{BrokenLinkCallback, DefaultBrokenLinkCallback};
 use markdown_render::{merged_html, render};
-use markdown_spans::defs::{BrokenLink, BrokenLinkCallback, DefaultBrokenLinkCallback};
-use markdown_tests::rows::gives;
+use markdown_test_helpers::rows::gives;
+use markdown_test_parsers::callbacks::{Recording, Reply};
+use markdown_test_parsers::parsers::{all_noted, parser_asking};
 use std::alloc::Global;
 use std::test::Fail;
-
-/// Answers each question alike, and counts them.
-#[derive(Drop)]
-struct Counting {
-    asked: u64,
-    destination: &'static str,
-    title: &'static str,
-}
-
-impl<'input> BrokenLinkCallback<'input> for Counting {
-    ghost can_ask = { λ _. Unit {0} };
-
-    ghost answers = { λ old question answer new. Unit {0} };
-
-    fn handle_broken_link(
-        &mut self,
-        link: BrokenLink<'input>,
-    ) -> Option<(CowStr<'input>, CowStr<'input>)> {
-        drop(link);
-        self.asked = self.asked.wrapping_add(1);
-        Some((
-            CowStr::Borrowed(self.destination),
-            CowStr::Borrowed(self.title),
-        ))
-    }
-}
-
-fn answering(destination: &'static str, title: &'static str) -> Counting {
-    Counting {
-        asked: 0,
-        destination,
-        title,
-    }
-}
 
 /// A text is rendered as this, with nobody to ask.
 fn is_rendered(alloc: Global, source: &str, wanted: &str) -> Result<(), Fail> {
@@ -69,10 +34,12 @@ const ASKING: (&str, &str) = (
     "<p>Hello world, check out <a href=\"http://example.com\" title=\"my example website\">my website</a>.</p>\n",
 );
 
+const WEBSITE: Reply = Reply::Target("http://example.com", "my example website");
+
 #[test]
 fn html_with_a_callback(rt: HostRuntime) -> Result<(), Fail> {
     let (source, wanted) = ASKING;
-    let callback = answering("http://example.com", "my example website");
+    let callback = Recording::replying(rt.alloc(), WEBSITE);
     let html = render(rt.alloc(), source, Options::empty(), Some(callback))?;
     gives(source, html.as_str(), wanted)
 }
@@ -80,7 +47,7 @@ fn html_with_a_callback(rt: HostRuntime) -> Result<(), Fail> {
 #[test]
 fn merged_html_with_a_callback(rt: HostRuntime) -> Result<(), Fail> {
     let (source, wanted) = ASKING;
-    let callback = answering("http://example.com", "my example website");
+    let callback = Recording::replying(rt.alloc(), WEBSITE);
     let html = merged_with(rt.alloc(), source, callback)?;
     gives(source, html.as_str(), wanted)
 }
@@ -93,43 +60,35 @@ fn merged_with<'a, F: BrokenLinkCallback<'a>>(
 ) -> Result<String, Fail>
     requires { F.can_ask callback }
 {
-    let parser = Parser::new_with_broken_link_callback(
-        alloc,
-        source,
-        Options::empty(),
-        Some(callback),
-    )?;
-    Ok(merged_html(alloc, parser)?)
+    Ok(merged_html(alloc, parser_asking(alloc, source, callback)?)?)
 }
 
-/// How many events a text has, and how often its callback was asked.
-fn given_and_asked(
-    alloc: Global,
-    source: &str,
-    callback: Counting,
-) -> Result<(usize, Option<u64>), Fail> {
-    let parser = Parser::new_with_broken_link_callback(
-        alloc,
-        source,
-        Options::empty(),
-        Some(callback),
-    )?;
-    let (events, callback) = parser.into_offset_iter().into_events(alloc)?;
-    let given = events.len();
-    drop(events);
-    Ok((given, callback.map(|it| it.asked)))
+/// The events of a text, and how often a callback that answers was asked, if it comes back.
+fn given_and_asked(alloc: Global, source: &str) -> Result<(String, Option<u64>), Fail> {
+    let callback = Recording::replying(alloc, Reply::Target("YOLO", "SWAG"));
+    let (events, callback) = all_noted(alloc, parser_asking(alloc, source, callback)?)?;
+    Ok((events, callback.map(|it| it.asked)))
 }
 
 #[test]
 fn callbacks_come_back(rt: HostRuntime) -> Result<(), Fail> {
     let rows = &[
-        ("This is a link w/o def: [hello][world]", 6, 1),
-        ("[a] [b]", 9, 2),
-        ("[a]\n\n[a]: /u", 5, 0),
+        (
+            "This is a link w/o def: [hello][world]",
+            "<p>0..38 [This is a link w/o def: ]0..24 <a ReferenceUnknown (YOLO) (SWAG) (world)>24..38 \
+            [hello]25..30 </a>24..38 </p>0..38 ",
+            1,
+        ),
+        (
+            "[a]\n\n[a]: /u",
+            "<p>0..4 <a Shortcut (/u) () (a)>0..3 [a]1..2 </a>0..3 </p>0..4 ",
+            0,
+        ),
+        ("a", "<p>0..1 [a]0..1 </p>0..1 ", 0),
     ];
-    for &(source, given, asked) in rows {
-        let found = given_and_asked(rt.alloc(), source, answering("YOLO", "SWAG"))?;
-        gives(source, found, (given, Some(asked)))?;
+    for &(source, events, asked) in rows {
+        let (found, counted) = given_and_asked(rt.alloc(), source)?;
+        gives(source, (found.as_str(), counted), (events, Some(asked)))?;
     }
     Ok(())
 }

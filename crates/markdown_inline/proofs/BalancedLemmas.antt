@@ -3,11 +3,12 @@ use Rattle.std.proofs.Common.{◌≡◌, ℕ, List, [], ◌∷◌, ◌++◌, ref
 use Rattle.std.specs.declared.ops.Range.{Range}
 use Rattle.markdown_base.specs.Event.{EventView, start, end, end_of}
 use Rattle.markdown_base.specs.Forest.{Forest, nil, node}
-use Rattle.markdown_chains.specs.Document.{Shape, leaf, enclosed, plain, backslash_break, unresolved, Label}
+use Rattle.markdown_document.specs.Document.{Shape, leaf, enclosed, plain, backslash_break, unresolved, Label}
 use Rattle.markdown_delims.proofs.SumLemmas.{sum_of}
 use Rattle.markdown_inline.specs.Balanced.{Ranged, Awaited, EndsInTurn, AreBalanced, AreBalancedFrom, BalancedLaw}
+use Rattle.markdown_inline.specs.ResolvedDocument.{resolved_blocks}
 use Rattle.markdown_inline.proofs.EndOrderLemmas.{total}
-use Rattle.markdown_inline.proofs.WholeReadingLemmas.{alone, alone_at, alone_event, events_in, opened_events, whole_events, whole_read}
+use Rattle.markdown_inline.proofs.WholeReadingLemmas.{alone, alone_at, alone_event, ranged_in, opened_events, whole_events, whole_such}
 
 -- an event that is no Start and no End
 lone_turn : (e : EventView) (range : Range ℕ) (awaited : List Awaited) (rest : List Awaited → Type 0) → total (alone_event e) ≡ 0
@@ -34,14 +35,15 @@ goes_on backslash_break range es fs lone inside after awaited rest h = after awa
 goes_on (unresolved b) range es fs lone inside after awaited rest h = after awaited rest h
 
 -- so are the events of a forest before what goes on balanced
-balanced_in : {A : Type 0} (f : Forest (Label A)) → sum_of alone f ≡ 0 → Goes (events_in f)
+balanced_in : {A : Type 0} (f : Forest (Label A)) → sum_of alone f ≡ 0 → Goes (ranged_in f)
 balanced_in nil lone awaited rest h = h
 balanced_in (node a below later) lone awaited rest h =
-    goes_on a.part.shape a.part.range (events_in below) (events_in later) (omega (arith, lone)) (balanced_in below (omega (arith, lone)))
+    goes_on a.part.shape a.part.range (ranged_in below) (ranged_in later) (omega (arith, lone)) (balanced_in below (omega (arith, lone)))
     (balanced_in later (omega (arith, lone))) awaited rest h
 
 pub balanced-law : BalancedLaw
 balanced-law blocks asks answers =
-    let r = whole_read blocks asks answers in
-    subst AreBalanced (sym (whole_events blocks asks answers)) (subst AreBalanced (append-nil (events_in r.forest))
-    (balanced_in r.forest r.lone [] [] refl))
+    let r = whole_such blocks asks answers in
+    let trees = (resolved_blocks blocks asks answers).trees in
+    subst AreBalanced (sym (whole_events blocks asks answers)) (subst AreBalanced (append-nil (ranged_in trees))
+    (balanced_in trees r.lone [] [] refl))

@@ -12,8 +12,8 @@ use Rattle.markdown_base.specs.BlockTree.{item_at}
 use Rattle.markdown_base.specs.Questions.{Question, Answer, Answers}
 use Rattle.markdown_inline.specs.Counts.{no_chain, counts_ahead}
 use Rattle.markdown_inline.proofs.CountLemmas.{begins-none}
-use Rattle.markdown_chains.specs.Above.{above_at, no_blocks}
-use Rattle.markdown_chains.specs.Setting.{Known, Setting}
+use Rattle.markdown_document.specs.Above.{above_at, no_blocks}
+use Rattle.markdown_document.specs.Setting.{Known, Setting}
 use Rattle.markdown_inline.specs.Elements.{Element, question, Reading, nothing, then_reads}
 use Rattle.markdown_base.specs.Event.{start, end, end_of, hard_break}
 use Rattle.markdown_base.specs.Forest.{Forest, nil, node}
@@ -22,28 +22,28 @@ use Rattle.markdown_base.specs.declared.item.Item.{Item}
 use Rattle.markdown_base.specs.declared.item.ItemBody.{ItemBody}
 use Rattle.markdown_base.specs.declared.node.Node.{Node}
 use Rattle.markdown_base.proofs.ArenaForestLemmas.{opens}
-use Rattle.markdown_chains.specs.Stages.{Stage, known_at, chain_at, times_in}
+use Rattle.markdown_document.specs.Stages.{Stage, known_at, chain_at, times_in}
 use Rattle.markdown_resolver.specs.ChainCounts.{chain_counts}
 use Rattle.markdown_resolver.specs.Chains.{AreAbove, ResolvesFrom, CanResolve, StopsIn}
 use Rattle.markdown_inline.specs.Moves.{BeginsWithEvent}
 use Rattle.markdown_inline.specs.Reading.{opened, settled_reading, then_resolved, chain_reading, reading}
 use Rattle.markdown_inline.specs.Walk.{around, left_of}
-use Rattle.markdown_chains.specs.Places.{label_at, trees_from, IsPlaced}
+use Rattle.markdown_document.specs.Places.{label_at, trees_from, IsPlaced}
 use Rattle.markdown_resolver.specs.PassOne.{Outcome}
 use Rattle.markdown_resolver.specs.Resolved.{resolved, all_paired}
-use Rattle.markdown_chains.specs.Document.{plain_tags, Plain, Shape, leaf, enclosed, plain, backslash_break, unresolved, is_unresolved}
-use Rattle.markdown_chains.specs.Document.{shape_of}
-use Rattle.markdown_chains.specs.Labels.{GivesFirst, Begins}
+use Rattle.markdown_document.specs.Document.{plain_tags, Plain, Shape, leaf, enclosed, plain, backslash_break, unresolved, is_unresolved}
+use Rattle.markdown_document.specs.Document.{shape_of}
+use Rattle.markdown_document.specs.Labels.{GivesFirst, Begins}
 use Rattle.markdown_resolver.specs.Kept.{IsSettled}
-use Rattle.markdown_chains.specs.Totals.{same, naming}
-use Rattle.markdown_chains.specs.Tables.{Tables, Named, number_of, size_for}
-use Rattle.markdown_chains.proofs.TablesLemmas.{same-apart, grown-same, grown-longer}
-use Rattle.markdown_chains.proofs.PlaceLemmas.{times-past, named-past, shape-open}
+use Rattle.markdown_document.specs.Totals.{same, naming}
+use Rattle.markdown_document.specs.Tables.{Tables, Named, number_of, size_for}
+use Rattle.markdown_document.proofs.TablesLemmas.{same-apart, grown-same, grown-longer}
+use Rattle.markdown_document.proofs.PlaceLemmas.{times-past, named-past, shape-open}
 use Rattle.markdown_inline.specs.WalkTotals.{climbed, left_total, steps_of}
 use Rattle.markdown_inline.specs.Standing.{SpineLies, Stands}
 use Rattle.markdown_inline.proofs.LeftFrameLemmas.{AboveFramed, above_framed}
 use Rattle.markdown_inline.proofs.ReadingLemmas.{reading-settled, opened-open}
-use Rattle.markdown_chains.proofs.TablesLemmas.{same-refl}
+use Rattle.markdown_document.proofs.TablesLemmas.{same-refl}
 use Rattle.markdown_resolver.proofs.ResolvingLemmas.{resolved-settled, resolved-begins, IsKept-from_IsSettled}
 
 pub times_above-past : (k : Links) (p : ℕ → Type 0) (spine : List ℕ) (n : ℕ) → AllReach k p spine → k.size ≤ n

@@ -8,15 +8,15 @@ use Rattle.markdown_base.specs.declared.item.Item.{Item}
 use Rattle.markdown_base.specs.declared.node.Node.{Node}
 use Rattle.markdown_base.proofs.ArenaForestLemmas.{forest_at-none}
 use Rattle.markdown_base.specs.ArenaForest.{links_of}
-use Rattle.markdown_chains.specs.Document.{Shape, Origin, event_of_shape, leaf, enclosed, plain, backslash_break, unresolved, Plain}
-use Rattle.markdown_chains.specs.Document.{plain_tags}
-use Rattle.markdown_chains.specs.Places.{trees_from}
-use Rattle.markdown_chains.specs.declared.work.Work.{Work}
-use Rattle.markdown_chains.specs.Counts.{ChainCounts, no_counts, risen, RisesAtLeast, RisesAtMost, WorkRises}
-use Rattle.markdown_chains.specs.Labels.{GivesFirst, Begins}
-use Rattle.markdown_chains.specs.Above.{Above, inside_item, inside_all}
-use Rattle.markdown_chains.specs.Setting.{Setting}
-use Rattle.markdown_chains.specs.Tables.{Tables}
+use Rattle.markdown_document.specs.Document.{Shape, Origin, event_of_shape, leaf, enclosed, plain, backslash_break, unresolved, Plain}
+use Rattle.markdown_document.specs.Document.{plain_tags}
+use Rattle.markdown_document.specs.Places.{trees_from}
+use Rattle.markdown_document.specs.declared.work.Work.{Work}
+use Rattle.markdown_document.specs.Counts.{ChainCounts, no_counts, risen, RisesAtLeast, RisesAtMost, WorkRises, comparisons_per_delimiter}
+use Rattle.markdown_document.specs.Labels.{GivesFirst, Begins}
+use Rattle.markdown_document.specs.Above.{Above, inside_item, inside_all}
+use Rattle.markdown_document.specs.Setting.{Setting}
+use Rattle.markdown_document.specs.Tables.{Tables}
 use Rattle.markdown_inline.specs.Counts.{Counting, no_chain, before_event, first_counts, unless_ended, counts_around, counts_ahead}
 use Rattle.markdown_inline.specs.Walk.{closing}
 
@@ -94,7 +94,7 @@ pub rises-chain : (n : ChainCounts) (old mid new : Work) → WorkRises n old mid
 rises-chain n old mid new a b = record {
   items = b.items ∙ a.items;
   delimiters = b.delimiters ∙ a.delimiters;
-  examined = then_stays (10 * n.delimiters) old.examined mid.examined new.examined a.examined b.examined;
+  examined = then_stays (comparisons_per_delimiter * n.delimiters) old.examined mid.examined new.examined a.examined b.examined;
   found = least_stays n.found old.examined mid.examined new.examined a.found b.examined;
   code_visits = then_stays n.items old.code_visits mid.code_visits new.code_visits a.code_visits b.code_visits;
   math_visits = then_stays n.items old.math_visits mid.math_visits new.math_visits a.math_visits b.math_visits;

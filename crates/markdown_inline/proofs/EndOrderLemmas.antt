@@ -1,9 +1,9 @@
 -- Lists of numbers that a forest's labels have, in the order in which its trees end: what is dropped from such a list, and
 -- sums of what stands before each number.
-use Rattle.std.proofs.Common.{◌≡◌, ℕ, ◌+◌, ◌-◌, ◌<◌, ◌≤◌, List, [], ◌∷◌, ◌++◌, refl, sym, ap, ◌∙◌, append_assoc, arith}
-use Rattle.std.specs.Prelude.{⊤}
+use Rattle.std.proofs.Common.{◌≡◌, ℕ, ◌+◌, ◌-◌, ◌<◌, ◌≤◌, Bool, true, false, List, [], ◌∷◌, ◌++◌, refl, sym, ap, ◌∙◌, append_assoc, arith}
+use Rattle.std.specs.Prelude.{⊤, if◌then◌else◌}
 use Rattle.markdown_base.specs.Forest.{Forest, nil, node}
-use Rattle.markdown_chains.specs.Document.{Shape, Label}
+use Rattle.markdown_document.specs.Document.{Shape, Label}
 use Rattle.markdown_delims.proofs.SumLemmas.{sum_of}
 
 -- the sum of a list
@@ -81,6 +81,37 @@ fits_later limit later before n m (x ∷ ns) h e f = (
   fits_later limit later before (n + x) (m + x) ns h
       (omega (arith, e)) f.1,
 )
+
+-- expansions from one limit to the next: each was made while something was left
+pub record Spent (limit : ℕ) (ns : List ℕ) (later : ℕ) : Type 0 where
+  pub left : later ≤ limit - total ns
+  pub fits : Fits limit 0 ns
+
+-- none was
+pub spent_none : (limit : ℕ) → Spent limit [] limit
+spent_none limit = record { left = omega arith; fits = tt }
+
+-- a look-up was made while something was left
+pub spends : (limit : ℕ) (ns : List ℕ) (later size : ℕ) (b : Bool) → 1 ≤ later → Spent limit ns later
+    → Spent limit (ns ++ (if b then size ∷ [] else [])) (later - size)
+spends limit ns later size true some s =
+    record {
+      left = omega (arith, total_append ns (size ∷ []), some, s.left);
+      fits = fits_append limit 0 ns (size ∷ []) s.fits
+          (omega (arith, some, s.left), tt);
+    }
+spends limit ns later size false some s = record {
+  left = omega (arith, total_append ns [], some, s.left);
+  fits = fits_append limit 0 ns []
+      s.fits tt;
+}
+
+-- from one limit to the next, and to the one after it
+pub spent_both : (a b c : ℕ) (ns ms : List ℕ) → Spent a ns b → Spent b ms c → Spent a (ns ++ ms) c
+spent_both a b c ns ms s t = record {
+  left = omega (arith, total_append ns ms, s.left, t.left);
+  fits = fits_append a 0 ns ms s.fits (fits_later a b (total ns) 0 (0 + total ns) ms s.left (omega arith) t.fits);
+}
 
 -- the numbers of a forest's labels, each when its tree ends, and then others
 abbrev pub ends_onto : {A : Type 0} → (Shape → List ℕ) → Forest (Label A) → List ℕ → List ℕ

@@ -11,11 +11,16 @@ pub mod WalkStepsLemmas
 pub mod ParserLemmas
 pub mod StartLemmas
 pub mod RunLemmas
--- the events of a whole document
+pub mod OneForestLemmas
+pub mod CountsLawLemmas
+-- the tree and the events of a whole document
+pub mod TreeReadingLemmas
 pub mod EndOrderLemmas
 pub mod PairedEndsLemmas
 pub mod ResolvedEndsLemmas
 pub mod LinksApartLemmas
+pub mod ResolvedShapesLemmas
+pub mod LookUpsLemmas
 pub mod WholeReadingLemmas
 pub mod BalancedLemmas
 pub mod NoLinkInLinkEventsLemmas

@@ -1,19 +1,21 @@
 -- What the events of a forest list at their Ends is what its labels have, in the order in which its trees end; and where what
 -- stands before each fits, all but the last sum to less than the limit.
-use Rattle.std.proofs.Common.{◌≡◌, ℕ, ◌+◌, ◌<◌, ◌≤◌, List, [], ◌∷◌, ◌++◌, refl, sym, subst, append_assoc, append-nil, arith}
+use Rattle.std.proofs.Common.{◌≡◌, ℕ, ◌+◌, ◌<◌, ◌≤◌, List, [], ◌∷◌, ◌++◌, refl, sym, subst, append_assoc, append-nil, arith, map}
 use Rattle.std.specs.declared.ops.Range.{Range}
 use Rattle.markdown_base.specs.Event.{EventView, start, end, end_of}
 use Rattle.markdown_base.specs.Forest.{Forest, nil, node}
-use Rattle.markdown_spans.specs.Blocks.{block_text}
-use Rattle.markdown_chains.specs.Document.{Shape, leaf, enclosed, plain, backslash_break, unresolved, Label}
+use Rattle.markdown_blocks.specs.Blocks.{block_text}
+use Rattle.markdown_document.specs.Document.{Shape, leaf, enclosed, plain, backslash_break, unresolved, Label}
 use Rattle.markdown_delims.proofs.SumLemmas.{sum_of}
+use Rattle.markdown_brackets.specs.Lookup.{size_of}
 use Rattle.markdown_inline.specs.Balanced.{Ranged}
-use Rattle.markdown_inline.specs.LimitLaw.{ExpandsBelow, LimitLaw, expansions, expansions_from, listed_at_ends, sum_but_last, tag_expansion}
+use Rattle.markdown_inline.specs.LimitLaw.{ExpandsBelow, LimitLaw, LookUpLaw, expansions, expansions_from, listed_at_ends, sum_but_last, tag_expansion}
 use Rattle.markdown_inline.specs.ParserLeft.{expansion_limit}
+use Rattle.markdown_inline.specs.ResolvedDocument.{resolved_blocks}
 use Rattle.markdown_inline.proofs.EndOrderLemmas.{Fits, IsWithin, ends_drop, ends_mono, ends_onto, keep_list, total, within_same}
 use Rattle.markdown_inline.proofs.EndOrderLemmas.{within_trans}
-use Rattle.markdown_inline.proofs.WholeReadingLemmas.{alone, alone_at, alone_event, events_in, expansion_at, opened_events, whole_events}
-use Rattle.markdown_inline.proofs.WholeReadingLemmas.{whole_read}
+use Rattle.markdown_inline.proofs.WholeReadingLemmas.{alone, alone_at, alone_event, ranged_in, expansion_at, opened_events, whole_events}
+use Rattle.markdown_inline.proofs.WholeReadingLemmas.{whole_such}
 
 -- an event that is no Start and no End lists nothing
 lone_lists : (e : EventView) (opened : List (List ℕ)) (rest : List (List ℕ) → List ℕ) → total (alone_event e) ≡ 0
@@ -59,10 +61,10 @@ module _ {A : Type 0} where
   tree_lists (unresolved b) range below later es fs lone i h opened rest =
       ends_drop expansion_at below (expansions_from opened (fs ++ rest)) (ends later (expansions_from opened rest)) (h opened rest)
 
-  lists_in : (f : Forest (Label A)) → sum_of alone f ≡ 0 → Lists (events_in f) (ends f)
+  lists_in : (f : Forest (Label A)) → sum_of alone f ≡ 0 → Lists (ranged_in f) (ends f)
   lists_in nil lone opened rest = within_same (expansions_from opened rest)
   lists_in (node a below later) lone opened rest =
-      tree_lists a.part.shape a.part.range below later (events_in below) (events_in later) (omega (arith, lone))
+      tree_lists a.part.shape a.part.range below later (ranged_in below) (ranged_in later) (omega (arith, lone))
       (lists_in below (omega (arith, lone))) (lists_in later (omega (arith, lone))) opened rest
 
 -- what stands before the last is all but the last
@@ -76,9 +78,16 @@ below_limit limit (n ∷ ns) some f = omega (arith, last_fits limit 0 n ns f)
 
 pub limit-law : LimitLaw
 limit-law blocks asks answers =
-    let r = whole_read blocks asks answers in
+    let r = whole_such blocks asks answers in
+    let trees = (resolved_blocks blocks asks answers).trees in
     let limit : ℕ = expansion_limit (block_text blocks) in
-    let within = lists_in r.forest r.lone [] [] in
-    let below : ExpandsBelow limit (events_in r.forest ++ []) = below_limit limit (expansions (events_in r.forest ++ [])) (omega arith)
+    let within = lists_in trees r.lone [] [] in
+    let below : ExpandsBelow limit (ranged_in trees ++ []) = below_limit limit (expansions (ranged_in trees ++ [])) (omega arith)
     (within.fits limit 0 0 (omega arith) r.spent.fits) in
-    subst (ExpandsBelow limit) (sym (whole_events blocks asks answers)) (subst (ExpandsBelow limit) (append-nil (events_in r.forest)) below)
+    subst (ExpandsBelow limit) (sym (whole_events blocks asks answers)) (subst (ExpandsBelow limit) (append-nil (ranged_in trees)) below)
+
+-- of all that look-ups found
+pub look_up-law : LookUpLaw
+look_up-law blocks asks answers =
+    let limit : ℕ = expansion_limit (block_text blocks) in
+    below_limit limit (map size_of (resolved_blocks blocks asks answers).found) (omega arith) (whole_such blocks asks answers).found.fits

@@ -4,15 +4,15 @@ use Rattle.std.proofs.Common.{◌≡◌, ℕ, Bool, true, false, List, [], ◌�
 use Rattle.std.specs.Prelude.{⊤, slice_range}
 use Rattle.markdown_base.specs.Event.{TagView, link}
 use Rattle.markdown_base.specs.Forest.{Forest, nil, node}
-use Rattle.markdown_chains.specs.Above.{Above}
-use Rattle.markdown_chains.specs.Document.{Tags, Shape, leaf, enclosed, plain, backslash_break, unresolved, Label, shaped, is_unresolved}
-use Rattle.markdown_chains.specs.Document.{text_over}
-use Rattle.markdown_chains.specs.ChainRest.{open_body}
-use Rattle.markdown_chains.specs.Setting.{Setting, Known}
-use Rattle.markdown_chains.specs.Waiting.{text_if, is_quiet}
-use Rattle.markdown_code.specs.AfterLess.{Markup, autolink, html}
-use Rattle.markdown_code.specs.Finds.{Find, SpanText, code_span, code_trees, find, is_escaped, markup, markup_trees, math_span, nothing}
-use Rattle.markdown_code.specs.Finds.{read_tree, read_unless, trees_for}
+use Rattle.markdown_document.specs.Above.{Above}
+use Rattle.markdown_document.specs.Document.{Tags, Shape, leaf, enclosed, plain, backslash_break, unresolved, Label, shaped, is_unresolved}
+use Rattle.markdown_document.specs.Document.{text_over}
+use Rattle.markdown_document.specs.ChainRest.{open_body}
+use Rattle.markdown_document.specs.Setting.{Setting, Known}
+use Rattle.markdown_document.specs.Waiting.{text_if, is_quiet}
+use Rattle.markdown_spans.specs.AfterLess.{Markup, autolink, html}
+use Rattle.markdown_spans.specs.Finds.{Find, SpanText, code_span, code_trees, find, is_escaped, markup, markup_trees, math_span, nothing}
+use Rattle.markdown_spans.specs.Finds.{read_tree, read_unless, trees_for}
 use Rattle.markdown_delims.specs.Layers.{enclosed_if, layer_of_one, layer_of_two, marks_of}
 use Rattle.markdown_delims.specs.Pairing.{paired}
 use Rattle.markdown_delims.specs.Quotes.{first_turn, is_closed_later, is_end, kind_of_shape, quotes_after, with_quotes}
@@ -30,6 +30,7 @@ use Rattle.markdown_brackets.specs.QuietItems.{all_done}
 use Rattle.markdown_brackets.proofs.NoLinkLemmas.{no_link_in_link}
 use Rattle.markdown_resolver.specs.PassOne.{around, pass_one, read_other}
 use Rattle.markdown_resolver.specs.Resolved.{all_paired, paired_from, paired_if_open, resolved}
+use Rattle.markdown_inline.specs.ResolvedShapes.{IsMark}
 use Rattle.markdown_inline.proofs.EndOrderLemmas.{total, total_ends}
 use Rattle.markdown_inline.proofs.PairedEndsLemmas.{IsNoBracket, NumbersNoMarks, below_within}
 
@@ -84,12 +85,12 @@ nothing_below A (unresolved b) = tt
 links_numbered : NumbersNoMarks links_at
 links_numbered = record {
   lone = λ e origins h. refl;
-  mark = λ tag h. no_bracket_no_link tag h;
+  mark = λ tag h. mark_no_link tag h;
 }
   where
-    no_bracket_no_link : (tag : TagView) → IsNoBracket tag → link_of tag ≡ []
-    no_bracket_no_link (link v) h = absurd h
-    no_bracket_no_link other h = refl
+    mark_no_link : (tag : TagView) → IsMark tag → link_of tag ≡ []
+    mark_no_link (link v) h = absurd h
+    mark_no_link other h = refl
 
 module _ {A : Type 0} where
   abbrev links : Forest (Label A) → ℕ

@@ -6,14 +6,15 @@ use Rattle.markdown_base.specs.Event.{EventView, TagView, start, end, end_of, li
 use Rattle.markdown_base.specs.Forest.{Forest, nil, node}
 use Rattle.markdown_base.specs.declared.tag.LinkType.{LinkType}
 use Rattle.markdown_base.specs.declared.tag.LinkType.TheVariants as kind
-use Rattle.markdown_chains.specs.Document.{Shape, leaf, enclosed, plain, backslash_break, unresolved, Label}
+use Rattle.markdown_document.specs.Document.{Shape, leaf, enclosed, plain, backslash_break, unresolved, Label}
 use Rattle.markdown_delims.proofs.SumLemmas.{sum_of}
 use Rattle.markdown_brackets.specs.NoLinkInLink.{ClosesOverNone, HasNoLinkInLink, HasNoneBelow, IsFreeOfLinks, IsNoLink, OpensNoLink}
 use Rattle.markdown_brackets.specs.NoLinkInLink.{is_autolink}
 use Rattle.markdown_inline.specs.Balanced.{Ranged}
 use Rattle.markdown_inline.specs.NoLinkInLinkEvents.{NoLinkInLink, NoLinkInLinkFrom, NoLinkInLinkLaw, StartsNoLinkInLink}
+use Rattle.markdown_inline.specs.ResolvedDocument.{resolved_blocks}
 use Rattle.markdown_inline.proofs.EndOrderLemmas.{total}
-use Rattle.markdown_inline.proofs.WholeReadingLemmas.{alone, alone_at, alone_event, events_in, opened_events, whole_events, whole_read}
+use Rattle.markdown_inline.proofs.WholeReadingLemmas.{alone, alone_at, alone_event, ranged_in, opened_events, whole_events, whole_such}
 
 autolink_is : (k : LinkType) → is_autolink k ≡ true → k ≡ kind.Autolink
 autolink_is kind.Autolink e = refl
@@ -58,15 +59,16 @@ goes_on backslash_break range below es fs free lone apart inside after within re
 goes_on (unresolved b) range below es fs free lone apart inside after within rest freed h = after within rest (λ some. (freed some).2) h
 
 -- a forest before what goes on so
-apart_in : {A : Type 0} (f : Forest (Label A)) → sum_of alone f ≡ 0 → HasNoLinkInLink f → Goes (events_in f) (IsFreeOfLinks f)
+apart_in : {A : Type 0} (f : Forest (Label A)) → sum_of alone f ≡ 0 → HasNoLinkInLink f → Goes (ranged_in f) (IsFreeOfLinks f)
 apart_in nil lone apart within rest freed h = h
 apart_in (node a below later) lone apart within rest freed h =
-    goes_on a.part.shape a.part.range below (events_in below) (events_in later) (IsFreeOfLinks later) (omega (arith, lone)) apart.0
+    goes_on a.part.shape a.part.range below (ranged_in below) (ranged_in later) (IsFreeOfLinks later) (omega (arith, lone)) apart.0
     (apart_in below (omega (arith, lone)) apart.1)
     (apart_in later (omega (arith, lone)) apart.2) within rest freed h
 
 pub no-link-law : NoLinkInLinkLaw
 no-link-law blocks asks answers =
-    let r = whole_read blocks asks answers in
+    let r = whole_such blocks asks answers in
+    let trees = (resolved_blocks blocks asks answers).trees in
     subst NoLinkInLink (sym (whole_events blocks asks answers))
-    (subst NoLinkInLink (append-nil (events_in r.forest)) (apart_in r.forest r.lone r.apart 0 [] (λ some. absurd (omega (arith, some))) tt))
+    (subst NoLinkInLink (append-nil (ranged_in trees)) (apart_in trees r.lone r.apart 0 [] (λ some. absurd (omega (arith, some))) tt))

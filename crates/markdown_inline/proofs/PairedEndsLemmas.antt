@@ -3,15 +3,15 @@
 use Rattle.std.proofs.Common.{◌≡◌, ℕ, zero, suc, Bool, true, false, List, [], ◌∷◌, ◌++◌, map, refl, sym, subst, ap, ◌∙◌}
 use Rattle.std.specs.Prelude.{⊤, IfSome, not, ◌&&◌, encode_utf8, slice_range}
 use Rattle.std.proofs.lemmas.Option.{IfSome_then}
-use Rattle.markdown_base.specs.Event.{EventView, TagView, link, image, start, end, text}
+use Rattle.markdown_base.specs.Event.{EventView, TagView, link, image, text}
 use Rattle.markdown_base.specs.Forest.{Forest, nil, node}
-use Rattle.markdown_chains.specs.ChainRest.{end_of, start_of}
-use Rattle.markdown_chains.specs.Document.{Origin, made, sliced, Shape, leaf, enclosed, Label, as_text, is_unresolved, text_over}
-use Rattle.markdown_chains.specs.Setting.{Setting}
-use Rattle.markdown_chains.specs.Waiting.{as_closed, text_if}
+use Rattle.markdown_document.specs.ChainRest.{end_of, start_of}
+use Rattle.markdown_document.specs.Document.{Origin, made, sliced, Shape, leaf, enclosed, Label, as_text, is_unresolved, text_over}
+use Rattle.markdown_document.specs.Setting.{Setting}
+use Rattle.markdown_document.specs.Waiting.{as_closed, text_if}
 use Rattle.markdown_delims.specs.Layers.{enclosed_if, layer_of_one, layer_of_two, marks_of, spanned}
 use Rattle.markdown_delims.specs.MayPair.{may_pair}
-use Rattle.markdown_delims.specs.Pairing.{FoundOpener, Layers, Read, after_layers, all_done, done, drop_read, dropped_if, first_texts}
+use Rattle.markdown_delims.specs.Pairing.{FoundOpener, Layers, Read, after_layers, all_done, done, drop_read, first_texts}
 use Rattle.markdown_delims.specs.Pairing.{last_first, layers, left_over, nearest_opener, opened_if, paired, read_trees, reads_from}
 use Rattle.markdown_delims.specs.Pairing.{runs_paired, still_waiting, texts_before, trees_done, waiting}
 use Rattle.markdown_delims.specs.Quotes.{first_turn, is_closed_later, is_end, kind_of_shape, quotes_after, with_quotes}
@@ -22,14 +22,9 @@ use Rattle.markdown_delims.specs.declared.run.Run.{Run}
 use Rattle.markdown_delims.proofs.LayerLawLemmas.{turn-made}
 use Rattle.markdown_delims.proofs.StepLawLemmas.{StaysTrue, found-if, later, reads-stay}
 use Rattle.markdown_resolver.specs.Resolved.{all_paired, paired_from, paired_if_open}
+use Rattle.markdown_inline.specs.ResolvedShapes.{IsMadeEvent, IsMark}
 use Rattle.markdown_inline.proofs.EndOrderLemmas.{IsWithin, drop_list, ends_drop, ends_mono, ends_onto, keep_list, within_same}
 use Rattle.markdown_inline.proofs.EndOrderLemmas.{within_trans}
-
--- an event that stands for itself: no Start, and no End
-abbrev pub IsLone : EventView → Type 0
-IsLone (start tag) = ⊥
-IsLone (end e) = ⊥
-IsLone other = ⊤
 
 -- a tag of no link and of no image
 abbrev pub IsNoBracket : TagView → Type 0
@@ -37,14 +32,20 @@ IsNoBracket (link v) = ⊥
 IsNoBracket (image v) = ⊥
 IsNoBracket other = ⊤
 
--- what has numbers is at most Starts and Ends that stand as leaves, links and images
+-- what is made of open items has none, but links and images
 pub record NumbersNoMarks (own : Shape → List ℕ) : Type 0 where
-  pub lone : (e : EventView) (origins : List Origin) → IsLone e → own (leaf e origins) ≡ []
-  pub mark : (tag : TagView) → IsNoBracket tag → own (enclosed tag) ≡ []
+  pub lone : (e : EventView) (origins : List Origin) → IsMadeEvent e → own (leaf e origins) ≡ []
+  pub mark : (tag : TagView) → IsMark tag → own (enclosed tag) ≡ []
+
+-- a mark is no link and no image
+pub mark_bracket : (tag : TagView) → IsMark tag → IsNoBracket tag
+mark_bracket (link v) h = absurd h
+mark_bracket (image v) h = absurd h
+mark_bracket other h = tt
 
 module _ (own : Shape → List ℕ) (numbers : NumbersNoMarks own) where
   -- what pairs make has none
-  enclosed_none : (b : Bool) (tag : TagView) (other : Shape) → IsNoBracket tag → own other ≡ [] → own (enclosed_if b tag other) ≡ []
+  enclosed_none : (b : Bool) (tag : TagView) (other : Shape) → IsMark tag → own other ≡ [] → own (enclosed_if b tag other) ≡ []
   enclosed_none true tag other h e = numbers.mark tag h
   enclosed_none false tag other h e = e
 
@@ -139,14 +140,10 @@ module _ (own : Shape → List ℕ) (numbers : NumbersNoMarks own) where
         (ends_nearest closer rs (texts_before xs inside) whole (λ t. ap (λ (l : List ℕ). ends_read rs l) (ends_texts xs inside t) ∙ e t))
 
     -- whether a run is dropped changes no number
-    ends_dropped : (rs : List (Read A)) (t : List ℕ) → ends_read (map drop_read rs) t ≡ ends_read rs t
-    ends_dropped [] t = refl
-    ends_dropped (done a below ∷ rs) t = ends_dropped rs (ends below (of a ++ t))
-    ends_dropped (waiting dropped run xs ∷ rs) t = ends_dropped rs (backward xs t)
-
-    ends_drop_if : (b : Bool) (rs : List (Read A)) (t : List ℕ) → ends_read (dropped_if b rs) t ≡ ends_read rs t
-    ends_drop_if true rs t = ends_dropped rs t
-    ends_drop_if false rs t = refl
+    ends_dropped : (d : Delimiter) (rs : List (Read A)) (t : List ℕ) → ends_read (map (drop_read d) rs) t ≡ ends_read rs t
+    ends_dropped d [] t = refl
+    ends_dropped d (done a below ∷ rs) t = ends_dropped d rs (ends below (of a ++ t))
+    ends_dropped d (waiting dropped run xs ∷ rs) t = ends_dropped d rs (backward xs t)
 
     -- a layer round a chain
     one_layer : (s : Setting) (shape : Shape) (x v : Label A) (inside : Forest (Label A)) (ns ms : List ℕ) → own shape ≡ [] → IsWithin ns ms
@@ -262,9 +259,10 @@ module _ (own : Shape → List ℕ) (numbers : NumbersNoMarks own) where
           within_trans (ends_read rs (forward (first_texts s.text n chain) (ends (later n chain) t))) (ends_read rs (ends chain t))
           (ends whole t)
           (mono_read rs (forward (first_texts s.text n chain) (ends (later n chain) t)) (ends chain t) (ends_firsts s n chain t)) (h t);
-      left = λ drops closer vs rs rest h t.
-          subst (λ (xs : List ℕ). IsWithin xs (ends whole t)) (sym (ends_left closer vs (dropped_if drops rs) (ends rest t)
-          ∙ ends_drop_if drops rs (forward vs (ends rest t)))) (h t);
+      dropped = λ d vs rs rest h t.
+          subst (λ (xs : List ℕ). IsWithin xs (ends whole t)) (sym (ends_dropped d rs (forward vs (ends rest t)))) (h t);
+      left = λ closer vs rs rest h t.
+          subst (λ (xs : List ℕ). IsWithin xs (ends whole t)) (sym (ends_left closer vs rs (ends rest t))) (h t);
       gone = λ vs rs rest h t.
           within_trans (ends_read rs (ends rest t)) (ends_read rs (forward vs (ends rest t))) (ends whole t)
           (mono_read rs (ends rest t) (forward vs (ends rest t)) (drop_forward vs (ends rest t) (ends rest t) (within_same (ends rest t))))

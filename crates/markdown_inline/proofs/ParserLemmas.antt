@@ -13,14 +13,14 @@ use Rattle.markdown_base.specs.declared.fault.Fault.TheVariants.{Memory}
 use Rattle.markdown_base.specs.Event.{event_view}
 use Rattle.markdown_base.specs.Item.{range_of}
 use Rattle.markdown_base.specs.declared.item.Item.{Item}
-use Rattle.markdown_spans.specs.Allocations.{Allocated}
-use Rattle.markdown_spans.specs.Footnotes.{footnote_at}
+use Rattle.markdown_defs.specs.Allocations.{Allocated}
+use Rattle.markdown_defs.specs.Footnotes.{footnote_at}
 use Rattle.std.proofs.Math.Path.{fun_ext}
-use Rattle.markdown_chains.specs.Counts.{no_counts}
-use Rattle.markdown_chains.specs.Document.{plain_tags}
-use Rattle.markdown_chains.specs.declared.work.Work.{Work}
-use Rattle.markdown_chains.specs.Places.{trees_from}
-use Rattle.markdown_chains.specs.Stages.{stage, known_at}
+use Rattle.markdown_document.specs.Counts.{no_counts}
+use Rattle.markdown_document.specs.Document.{plain_tags}
+use Rattle.markdown_document.specs.declared.work.Work.{Work}
+use Rattle.markdown_document.specs.Places.{trees_from}
+use Rattle.markdown_document.specs.Stages.{stage, known_at}
 use Rattle.markdown_resolver.specs.ChainCounts.{chain_counts}
 use Rattle.markdown_inline.specs.Counts.{Counting}
 use Rattle.markdown_resolver.specs.Chains.{AreAbove, ResolvesChain, CanResolve, StopsIn}
@@ -30,15 +30,15 @@ use Rattle.markdown_inline.specs.Moves.{Began, RefusedAt, Took, WentPast, shape_
 use Rattle.markdown_inline.specs.NextGives.{NextGives, IsEventOf, IsPlacedOf, GivesItem}
 use Rattle.markdown_inline.specs.ParserLeft.{parser_known, parser_counts, parser_work, parser_callback, parser_steps, parser_setting}
 use Rattle.markdown_inline.specs.ParserLeft.{elements, parser_text, IsOver}
-use Rattle.markdown_chains.specs.Above.{above_cursor}
-use Rattle.markdown_chains.specs.Setting.{Setting, rules_from, setting_of}
-use Rattle.markdown_chains.specs.Tables.{tables_of}
+use Rattle.markdown_document.specs.Above.{above_cursor}
+use Rattle.markdown_document.specs.Setting.{Setting, rules_from, setting_of}
+use Rattle.markdown_document.specs.Tables.{tables_of}
 use Rattle.markdown_inline.specs.Walk.{left_of}
 use Rattle.markdown_inline.specs.WalkSteps.{HasEnded, TreeStands, Went, Gives, Passed, OpensWith, IsRefused, IsBefore, tree_left}
 use Rattle.markdown_inline.specs.WalkSteps.{way_at}
 use Rattle.markdown_inline.specs.declared.bodies.Way.{Way}
 use Rattle.markdown_inline.specs.declared.walk.Parser.{Parser}
-use Rattle.markdown_chains.proofs.CallbackLemmas.{Asks-append, Asks-some}
+use Rattle.markdown_document.proofs.CallbackLemmas.{Asks-append, Asks-some}
 use Rattle.markdown_inline.proofs.ChainLemmas.{ChainMoves, are_above, moves_chain, can_resolve, stops_chain}
 use Rattle.markdown_inline.proofs.CountLemmas.{rises-none, rises-chain}
 use Rattle.markdown_inline.proofs.WalkStepsLemmas.{counts_ended, left_of_ended, steps_ended, steps_at_cursor}

@@ -1,12 +1,11 @@
 -- The questions of a reading are those of its chains, and all `]` of a chain stand in its document.
-use Rattle.std.proofs.Common.{◌≡◌, ℕ, ◌+◌, ◌≤◌, Bool, true, false, List, [], ◌∷◌, ◌++◌, length, map, cond, refl, ap, ◌∙◌, arith}
+use Rattle.std.proofs.Common.{◌≡◌, ℕ, ◌+◌, ◌≤◌, Bool, true, false, List, [], ◌++◌, length, cond, refl, ap, ◌∙◌, arith}
 use Rattle.std.proofs.Common.{length-append}
 use Rattle.std.specs.Prelude.{count_by, slice_range}
 use Rattle.std.proofs.lemmas.List.Sums.{sum_by-append, sum_by-cons}
 use Rattle.markdown_base.specs.BlockTree.{Numbered, tree_of}
 use Rattle.markdown_base.specs.Event.{end, end_of}
 use Rattle.markdown_base.specs.Forest.{Forest, nil, node, preorder, relabelled, roots}
-use Rattle.markdown_base.specs.Questions.{Question}
 use Rattle.markdown_base.specs.WellFormed.{IsWellFormed}
 use Rattle.markdown_base.specs.declared.block_parts.BlockParts.{BlockParts}
 use Rattle.markdown_base.specs.declared.item.Item.{Item}
@@ -15,15 +14,16 @@ use Rattle.markdown_base.specs.declared.item.ItemBody.TheVariants as body
 use Rattle.markdown_base.specs.declared.node.Node.{Node}
 use Rattle.markdown_brackets.specs.QuestionEnds.{AsksAtMost, StandInLine, closers_among, closes_bracket}
 use Rattle.markdown_brackets.specs.Reference.{is_closer}
-use Rattle.markdown_chains.specs.Above.{Above, inside_label, no_blocks}
-use Rattle.markdown_chains.specs.ChainRest.{open_body}
-use Rattle.markdown_chains.specs.Document.{Label, Plain, Shape, backslash_break, document, enclosed, label_of, leaf}
-use Rattle.markdown_chains.specs.Document.{plain, plain_tags, shape_of, unresolved}
-use Rattle.markdown_chains.specs.Setting.{Known, Rules, Setting, setting_of}
-use Rattle.markdown_chains.specs.Tables.{Tables}
-use Rattle.markdown_inline.specs.Elements.{Element, Reading, nothing, question, questions_of, then_reads}
+use Rattle.markdown_document.specs.Above.{Above, inside_label, no_blocks}
+use Rattle.markdown_document.specs.ChainRest.{open_body}
+use Rattle.markdown_document.specs.Document.{Label, Plain, Shape, backslash_break, document, enclosed, label_of, leaf}
+use Rattle.markdown_document.specs.Document.{plain, plain_tags, shape_of, unresolved}
+use Rattle.markdown_document.specs.Setting.{Known, Rules, Setting, setting_of}
+use Rattle.markdown_document.specs.Tables.{Tables}
+use Rattle.markdown_inline.specs.Elements.{Reading, nothing, questions_of, then_reads}
 use Rattle.markdown_inline.specs.QuestionLaws.{AsksApart, closers_of, document_reading}
 use Rattle.markdown_inline.specs.Reading.{chain_reading, opened, reading, settled_reading}
+use Rattle.markdown_inline.proofs.RunLemmas.{questions_of-questions}
 use Rattle.markdown_resolver.specs.ChainQuestions.{EachChain}
 use Rattle.markdown_resolver.specs.PassOne.{Outcome}
 use Rattle.markdown_resolver.specs.Resolved.{all_paired, resolved}
@@ -36,12 +36,6 @@ record Few (most : ℕ) (r : Reading) : Type 0 where
 
 more_few : (n m : ℕ) (r : Reading) → n ≤ m → Few n r → Few m r
 more_few n m r l h = record { once = λ known. omega (arith, h.once known, l); silent = h.silent }
-
--- questions, and then what follows
-questions_before : (questions : List Question) (es : List Element)
-    → questions_of (map question questions ++ es) ≡ questions ++ questions_of es
-questions_before [] es = refl
-questions_before (q ∷ questions) es = ap (λ (qs : List Question). q ∷ qs) (questions_before questions es)
 
 -- a settled forest asks nothing
 module _ {A : Type 0} where
@@ -107,7 +101,7 @@ module _ (s : Setting) where
         let r : Outcome (Unit {0}) = resolved s plain_tags above chain known in
         let here = (resolved_asks s plain_tags above chain known).once in
         let later = (settled_few (all_paired s r.forest) most after h).once r.known in
-        let all = ap length (questions_before r.questions (settled_reading (all_paired s r.forest) after r.known)) in
+        let all = ap length (questions_of-questions r.questions (settled_reading (all_paired s r.forest) after r.known)) in
         let sum = length-append r.questions (questions_of (settled_reading (all_paired s r.forest) after r.known)) in
         omega (arith, here, later, all, sum, roots_few chain);
     silent = λ known z.
@@ -115,7 +109,7 @@ module _ (s : Setting) where
         let here = (resolved_asks s plain_tags above chain known).silent z in
         let zero = resolved_stays_zero s plain_tags above chain known z in
         let later = (settled_few (all_paired s r.forest) most after h).silent r.known zero in
-        questions_before r.questions (settled_reading (all_paired s r.forest) after r.known) ∙ rw (here, later) refl;
+        questions_of-questions r.questions (settled_reading (all_paired s r.forest) after r.known) ∙ rw (here, later) refl;
   }
 
   reading_few : (f : Forest Plain) (above : Above) (most : ℕ) (after : Reading) → Few most after
@@ -163,7 +157,7 @@ document_asks source nodes tables rules known =
     record { once = omega (arith, few.once known, closers_seen source tables (tree_of nodes)); silent = few.silent known }
 
 -- what holds of each chain, where one thing follows from another
-each_also : {A : Type 0} (P Q : Forest (Label A) → Type 0) → ((chain : Forest (Label A)) → P chain → Q chain) → (f : Forest (Label A))
+pub each_also : {A : Type 0} (P Q : Forest (Label A) → Type 0) → ((chain : Forest (Label A)) → P chain → Q chain) → (f : Forest (Label A))
     → EachChain P f → EachChain Q f
 each_also P Q also nil h = tt
 each_also P Q also (node a below after) h =

@@ -7,11 +7,11 @@ use Rattle.markdown_inline.specs.Elements.{Reading, then_reads}
 use Rattle.markdown_base.specs.Event.{start, end, end_of, hard_break}
 use Rattle.markdown_base.specs.Forest.{Forest, nil, node}
 use Rattle.markdown_inline.specs.Reading.{opened, settled_reading, chain_reading, reading}
-use Rattle.markdown_chains.specs.Above.{Above, inside_label}
-use Rattle.markdown_chains.specs.Setting.{Setting}
+use Rattle.markdown_document.specs.Above.{Above, inside_label}
+use Rattle.markdown_document.specs.Setting.{Setting}
 use Rattle.markdown_delims.specs.Pairing.{paired}
 use Rattle.markdown_resolver.specs.Resolved.{paired_from, paired_if_open, all_paired}
-use Rattle.markdown_chains.specs.Document.{plain_tags, is_unresolved, Shape, leaf, enclosed, plain, backslash_break, unresolved, Plain}
+use Rattle.markdown_document.specs.Document.{plain_tags, is_unresolved, Shape, leaf, enclosed, plain, backslash_break, unresolved, Plain}
 use Rattle.markdown_resolver.specs.Kept.{IsQuiet, IsSettled}
 use Rattle.markdown_resolver.proofs.ResolvingLemmas.{resolved-quiet, all_paired-paired}
 
@@ -28,7 +28,7 @@ opened-open plain range inside after whole h = cc h
 opened-open backslash_break range inside after whole h = cc h
 opened-open (unresolved b) range inside after whole h = refl
 
-opened-settled : (shape : Shape) (range : Range ℕ) (inside inside' : Reading → Reading) (after after' whole whole' : Reading)
+pub opened-settled : (shape : Shape) (range : Range ℕ) (inside inside' : Reading → Reading) (after after' whole whole' : Reading)
     → is_unresolved shape ≡ false
     → ((inner : Reading) → inside inner ≡ inside' inner) → after ≡ after' → opened shape range inside after whole
     ≡ opened shape range inside' after' whole'

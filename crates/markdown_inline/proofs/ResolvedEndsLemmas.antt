@@ -13,23 +13,24 @@ use Rattle.markdown_base.specs.declared.block_parts.LinkDef.{LinkDef}
 use Rattle.markdown_base.specs.declared.item.ItemBody.{ItemBody}
 use Rattle.markdown_base.specs.declared.item.ItemBody.TheVariants as body
 use Rattle.markdown_base.specs.declared.tag.LinkType.{LinkType}
-use Rattle.markdown_spans.specs.Definitions as definitions
-use Rattle.markdown_spans.specs.Definitions.{Labelled}
-use Rattle.markdown_chains.specs.Above.{Above}
-use Rattle.markdown_chains.specs.ChainRest.{begun_at, cut_shape, end_of, open_body, past_byte, start_of}
-use Rattle.markdown_chains.specs.Document.{made, sliced, Tags, Shape, leaf, enclosed, Label, math}
-use Rattle.markdown_chains.specs.Setting.{Setting, Known}
-use Rattle.markdown_chains.specs.Waiting.{is_quiet}
-use Rattle.markdown_code.specs.AfterLess.{Markup, autolink, html}
-use Rattle.markdown_code.specs.Finds.{Find, SpanText, address, code_span, code_trees, find, is_escaped, markup, markup_trees, math_span}
-use Rattle.markdown_code.specs.Finds.{nothing, read_tree, read_unless, trees_for}
+use Rattle.markdown_defs.specs.Definitions as definitions
+use Rattle.markdown_defs.specs.Definitions.{Labelled}
+use Rattle.markdown_document.specs.Above.{Above}
+use Rattle.markdown_document.specs.ChainRest.{begun_at, cut_shape, end_of, open_body, past_byte, start_of}
+use Rattle.markdown_document.specs.Document.{made, sliced, Tags, Shape, leaf, enclosed, Label, math}
+use Rattle.markdown_document.specs.Setting.{Setting, Known}
+use Rattle.markdown_document.specs.Waiting.{is_quiet}
+use Rattle.markdown_spans.specs.AfterLess.{Markup, autolink, html}
+use Rattle.markdown_spans.specs.Finds.{Find, SpanText, address, code_span, code_trees, find, is_escaped, markup, markup_trees, math_span}
+use Rattle.markdown_spans.specs.Finds.{nothing, read_tree, read_unless, trees_for}
 use Rattle.markdown_delims.specs.Pairing.{paired}
 use Rattle.markdown_brackets.specs.BracketDecision.{Around, a_wikilink, Closing, Progress, Wikilink, Written, after_look_up, a_footnote}
 use Rattle.markdown_brackets.specs.BracketDecision.{a_link, a_text, decided, decided_before, footnote_label, footnote_tried, footnote_used}
 use Rattle.markdown_brackets.specs.BracketDecision.{inline_link, inline_target, link_label, look_up_tried, no_link, one_decided}
 use Rattle.markdown_brackets.specs.BracketDecision.{opener_tried, past_second, question_at, spent_by, target_tried, to_be, tried}
 use Rattle.markdown_brackets.specs.BracketDecision.{wikilink_in, wikilink_opener, wikilink_or_one, wikilink_tried, written}
-use Rattle.markdown_brackets.specs.BracketOptions.{footnote_style, wikilinks_on}
+use Rattle.markdown_base.specs.EnabledOptions.{wikilinks_on}
+use Rattle.markdown_brackets.specs.BracketOptions.{footnote_style}
 use Rattle.markdown_brackets.specs.ClosingBracket.{closed, footnote_onto, put, put_decided, wikilink_target}
 use Rattle.markdown_brackets.specs.FootnoteUse.{is_reference}
 use Rattle.markdown_brackets.specs.LeftList.{Entry, Mark, Split, before_footnote, before_link, before_wikilink, behind, bracket_taken}
@@ -42,12 +43,13 @@ use Rattle.markdown_brackets.specs.ReadChain.{begun, closing, read, read_as, rea
 use Rattle.markdown_brackets.specs.Reference.{is_closer}
 use Rattle.markdown_brackets.proofs.ClosingBracketLemmas.{some_of}
 use Rattle.markdown_brackets.proofs.NoLinkLemmas.{wikilink_keeps}
-use Rattle.markdown_inline.specs.LimitLaw.{is_looked_up}
+use Rattle.markdown_inline.specs.LookUps.{is_looked_up}
+use Rattle.markdown_inline.specs.ResolvedShapes.{IsMadeEvent}
 use Rattle.markdown_resolver.specs.PassOne.{around, pass_one, read_on, read_other}
 use Rattle.markdown_resolver.specs.Resolved.{all_paired, resolved}
 use Rattle.markdown_inline.proofs.EndOrderLemmas.{IsWithin, drop_list, ends_append, ends_drop, ends_mono, ends_onto, keep_list}
 use Rattle.markdown_inline.proofs.EndOrderLemmas.{within_nothing, within_same, within_trans}
-use Rattle.markdown_inline.proofs.PairedEndsLemmas.{IsLone, NumbersNoMarks, all_within, paired_within, text_none}
+use Rattle.markdown_inline.proofs.PairedEndsLemmas.{NumbersNoMarks, all_within, paired_within, text_none}
 
 -- what has numbers beside: nothing but what look-ups made. A fact of a list and of a limit holds of what is within the list
 -- too, and after a look-up
@@ -67,7 +69,7 @@ none_before : (xs ns ms : List ℕ) → xs ≡ [] → IsWithin ns ms → IsWithi
 none_before xs ns ms e w = subst (λ (l : List ℕ). IsWithin (l ++ ns) ms) (sym e) w
 
 -- what a look-up finds takes its bytes off the limit, which was not 0
-abbrev TakesFrom : ℕ → LookedUp → Type 0
+abbrev pub TakesFrom : ℕ → LookedUp → Type 0
 TakesFrom limit l = MatchOption l.target (l.limit ≡ limit) (λ v. (1 ≤ limit) × (l.limit ≡ limit - size_of v))
 
 takes_if_answered : (limit : ℕ) (answers : Answers) (q : Question) (a : Option Answer) → 1 ≤ limit
@@ -85,7 +87,7 @@ takes_if_found true limit (a ∷ answers) q None h = takes_if_answered limit ans
 some_left : (n : ℕ) → (n == 0) ≡ false → 1 ≤ n
 some_left n e = grind (arith, nat_tests)
 
-takes_from : (defined : List Labelled) (asks : Bool) (limit : ℕ) (answers : Answers) (q : Question)
+pub takes_from : (defined : List Labelled) (asks : Bool) (limit : ℕ) (answers : Answers) (q : Question)
     → TakesFrom limit (look_up defined asks limit answers q)
 takes_from defined asks limit answers q =
     cond_both (limit == 0) (finds_nothing limit answers [])
@@ -93,7 +95,7 @@ takes_from defined asks limit answers q =
     (λ e. takes_if_found asks limit answers q (definitions.look_up q.reference defined) (some_left limit e))
 
 -- math stands for itself, displayed or not
-lone_math : (display : Bool) (bytes : List ℕ) → IsLone (math display bytes)
+lone_math : (display : Bool) (bytes : List ℕ) → IsMadeEvent (math display bytes)
 lone_math true bytes = tt
 lone_math false bytes = tt
 

@@ -8,20 +8,20 @@ use Rattle.markdown_base.specs.Questions.{Question, Answer, Answers}
 use Rattle.markdown_base.specs.Event.{event_view}
 use Rattle.markdown_base.specs.declared.event.Event.{Event}
 use Rattle.markdown_base.specs.declared.fault.Fault.{Fault}
-use Rattle.markdown_spans.specs.Callback.{Asks}
+use Rattle.markdown_defs.specs.Callback.{Asks}
 use Rattle.markdown_inline.specs.Elements.{Element, Placed, question, event, events_of, questions_of}
 use Rattle.markdown_inline.specs.NextGives.{NextGives, GivesItem, IsEventOf}
 use Rattle.markdown_inline.specs.ParserLeft.{elements, parser_text, parser_callback}
 use Rattle.markdown_inline.specs.Runs.{AreOf, GaveAll, GaveRest, WasRefused, IsRun}
 use Rattle.markdown_inline.specs.declared.walk.Parser.{Parser}
-use Rattle.markdown_chains.proofs.CallbackLemmas.{Asks-append}
+use Rattle.markdown_document.proofs.CallbackLemmas.{Asks-append}
 
 -- questions are no events
 pub events_of-questions : (questions : List Question) (es : List Element) → events_of (map question questions ++ es) ≡ events_of es
 events_of-questions [] es = refl
 events_of-questions (q ∷ questions) es = events_of-questions questions es
 
-questions_of-questions : (questions : List Question) (es : List Element) → questions_of (map question questions ++ es) ≡ questions
+pub questions_of-questions : (questions : List Question) (es : List Element) → questions_of (map question questions ++ es) ≡ questions
     ++ questions_of es
 questions_of-questions [] es = refl
 questions_of-questions (q ∷ questions) es = ap (λ qs. q ∷ qs) (questions_of-questions questions es)
@@ -37,52 +37,73 @@ module _ {S F I : Type 0} (step : F → Question → Option Answer → F → Typ
       → events_of (elements (at s) (g.answers ++ later)) ≡ g.placed ∷ events_of (elements (at t) later)
   events_before s t item g later = rw (g.left later) (events_of-questions g.questions (event g.placed ∷ elements (at t) later))
 
+  -- and the questions
+  questions_before : (s t : S) (item : I) (g : GivesItem step is_of (at s) item (at t)) (later : Answers)
+      → questions_of (elements (at s) (g.answers ++ later)) ≡ g.questions ++ questions_of (elements (at t) later)
+  questions_before s t item g later = rw (g.left later) (questions_of-questions g.questions (event g.placed ∷ elements (at t) later))
+
   -- after an item come all that are left then
-  then_all : (s t : S) (item : I) (rest : List (Result I Fault)) → Steps s (Some (Ok item)) t → GaveAll is_of (at t) rest
-      → GaveAll is_of (at s) (Ok item ∷ rest)
+  then_all : (s t : S) (item : I) (rest : List (Result I Fault)) → Steps s (Some (Ok item)) t → GaveAll is_of step (at t) rest
+      → GaveAll is_of step (at s) (Ok item ∷ rest)
   then_all s t item rest h r =
       let g = h.gives in
+      let a = r.rest in
       record {
         given = item ∷ r.given;
         no_fault = ap (λ xs. Ok item ∷ xs) r.no_fault;
-        events = g.placed ∷ r.events;
-        are = (g.is_item, rw h.text at r.are);
-        answers = g.answers ++ r.answers;
-        left = λ later. rw (append_assoc g.answers r.answers later) (events_before s t item g (r.answers ++ later)
-            ∙ ap (λ xs. g.placed ∷ xs) (r.left later));
+        callback = r.callback;
+        rest = record {
+          events = g.placed ∷ a.events;
+          are = (g.is_item, rw h.text at a.are);
+          answers = g.answers ++ a.answers;
+          asked = rw (questions_before s t item g a.answers) (Asks-append step (parser_callback (at s)) (parser_callback (at t)) r.callback
+              g.questions (questions_of (elements (at t) a.answers)) g.answers a.answers g.asked a.asked);
+          left = λ later. rw (append_assoc g.answers a.answers later) (events_before s t item g (a.answers ++ later)
+              ∙ ap (λ xs. g.placed ∷ xs) (a.left later));
+        };
       }
 
   -- or a beginning of them
-  then_refused : (s t : S) (item : I) (rest : List (Result I Fault)) → Steps s (Some (Ok item)) t → WasRefused is_of (at t) rest
-      → WasRefused is_of (at s) (Ok item ∷ rest)
+  then_refused : (s t : S) (item : I) (rest : List (Result I Fault)) → Steps s (Some (Ok item)) t → WasRefused is_of step (at t) rest
+      → WasRefused is_of step (at s) (Ok item ∷ rest)
   then_refused s t item rest h r =
       let g = h.gives in
+      let b = r.beginning in
+      let then : List Element = event g.placed ∷ b.first in
       record {
         given = item ∷ r.given;
         one_fault = ap (λ xs. Ok item ∷ xs) r.one_fault;
-        events = g.placed ∷ r.events;
-        are = (g.is_item, rw h.text at r.are);
-        answers = g.answers ++ r.answers;
-        begins = λ later.
-            let b = r.begins later in (
-              b.0,
-              rw (append_assoc g.answers r.answers later) (events_before s t item g (r.answers ++ later)
-                  ∙ ap (λ xs. g.placed ∷ xs) b.1),
-            );
+        callback = r.callback;
+        beginning = record {
+          first = map question g.questions ++ then;
+          are = rw (events_of-questions g.questions then) (g.is_item, rw h.text at b.are);
+          answers = g.answers ++ b.answers;
+          asked = rw (questions_of-questions g.questions then) (Asks-append step (parser_callback (at s)) (parser_callback (at t)) r.callback
+              g.questions (questions_of b.first) g.answers b.answers g.asked b.asked);
+          begins = λ later.
+              let o = b.begins later in
+              (o.0, rw (append_assoc g.answers b.answers later, g.left (b.answers ++ later), o.1) (simp append_assoc));
+        };
       }
 
   -- after an error nothing comes
   only_error : (s t : S) (fault : Fault) (rest : List (Result I Fault)) → Steps s (Some (Err fault)) t → Drains Steps t rest
-      → WasRefused is_of (at s) (Err fault ∷ rest)
+      → WasRefused is_of step (at s) (Err fault ∷ rest)
   only_error s t fault [] h d =
       let g = h.gives in
+      let asks : questions_of (map question g.questions ++ []) ≡ g.questions = questions_of-questions g.questions []
+      ∙ append-nil g.questions in
       record {
         given = [];
         one_fault = rw g.memory refl;
-        events = [];
-        are = tt;
-        answers = g.answers;
-        begins = λ later. let b = g.begins later in (events_of b.0, ap events_of b.1 ∙ events_of-questions g.questions b.0);
+        callback = parser_callback (at t);
+        beginning = record {
+          first = map question g.questions ++ [];
+          are = rw (events_of-questions g.questions []) tt;
+          answers = g.answers;
+          asked = rw asks g.asked;
+          begins = λ later. let b = g.begins later in (b.0, rw (append-nil (map question g.questions)) b.1);
+        };
       }
   only_error s t fault (x ∷ rest) h (u, (v, (j, k, y), z)) = cc ((k.stays h.gives.over).0)
 
@@ -163,23 +184,16 @@ module _ {S F I : Type 0} (step : F → Question → Option Answer → F → Typ
       }
 
   -- a run up to None
-  pub is_run : (s : S) (all : List (Result I Fault)) → Drains Steps s all → IsRun is_of (at s) all
-  is_run s [] (u, (t, y, z)) = inl (record {
-    given = [];
-    no_fault = refl;
-    events = [];
-    are = tt;
-    answers = [];
-    left = λ later. rw y
-        (ap events_of (z.gives.none_left later));
-  })
+  pub is_run : (s : S) (all : List (Result I Fault)) → Drains Steps s all → IsRun is_of step (at s) all
+  is_run s [] (u, (t, y, z)) =
+      inl (record { given = []; no_fault = refl; callback = parser_callback (at u); rest = gave_rest s s u [] (gave_none s) (rw y z) })
   is_run s (Ok item ∷ rest) (u, (t, (j, h, y), z)) =
       ⊎_elim (λ r. inl (then_all s j item rest h r)) (λ r. inr (then_refused s j item rest h r)) (is_run j rest (u, (t, y, z)))
   is_run s (Err fault ∷ rest) (u, (t, (j, h, y), z)) = inr (only_error s j fault rest h (u, (t, y, z)))
 
   -- what `collect` makes is such a run
   pub collected : {Z E : Type 0} (s : S) (r : Result (Vec (Result I Fault) Z) E) → IsCollectResult Steps s r
-      → IfOk r (λ v. IsRun is_of (at s) v.items)
+      → IfOk r (λ v. IsRun is_of step (at s) v.items)
   collected s (Ok v) (xs, (t, y, n), i) =
       let d : Drains Steps s xs = let u = n tt in (u.0, (t, y, u.1)) in
       rw i.0 (is_run s xs d)

@@ -7,18 +7,18 @@ use Rattle.std.proofs.Math.Path.{fun_ext}
 use Rattle.markdown_base.specs.CowText.{text_of}
 use Rattle.markdown_base.specs.declared.fault.Fault.{Fault}
 use Rattle.markdown_base.specs.declared.options.Options.{Options}
-use Rattle.markdown_spans.specs.Allocations.{Allocated, HoldsParts}
-use Rattle.markdown_spans.specs.Definitions.{firsts}
-use Rattle.markdown_spans.specs.Folding.{is_match}
-use Rattle.markdown_spans.specs.Footnotes.{footnote_at, unused}
-use Rattle.markdown_chains.proofs.FoundLemmas.{listed, listed-append, total-preorder, listed_once}
+use Rattle.markdown_defs.specs.Allocations.{Allocated, HoldsParts}
+use Rattle.markdown_defs.specs.Definitions.{firsts}
+use Rattle.markdown_defs.specs.Folding.{is_match}
+use Rattle.markdown_defs.specs.Footnotes.{footnote_at, unused}
+use Rattle.markdown_document.proofs.FoundLemmas.{listed, listed-append, total-preorder, listed_once}
 use Rattle.std.specs.List.{list_any, cons_option, filter_map}
 use Rattle.std.proofs.lemmas.List.Elements.{filter_map-append}
 use Rattle.std.proofs.lemmas.Map.Keys.{IsDistinct-tail}
 use Rattle.markdown_base.specs.Arena.{Arena, child_of, sibling_of}
 use Rattle.markdown_base.specs.ArenaForest.{links_of, Spells, numbers_below}
 use Rattle.std.specs.Option.{option_map}
-use Rattle.markdown_chains.specs.ItemRules.{StandsBefore}
+use Rattle.markdown_document.specs.ItemRules.{StandsBefore}
 use Rattle.markdown_base.specs.BlockTree.{Numbered, numbered, item_at, tree_of}
 use Rattle.markdown_base.specs.Forest.{Forest, nil, node, Each, Throughout, preorder, first_root, relabelled}
 use Rattle.markdown_base.specs.Item.{alignments_named, is_childless, is_inline, is_open, is_resolved, text_named}
@@ -30,21 +30,22 @@ use Rattle.markdown_base.specs.declared.item.ItemBody.{ItemBody}
 use Rattle.markdown_base.specs.declared.node.Node.{Node}
 use Rattle.markdown_base.proofs.ForestLemmas.{Throughout-weaker, relabelled-Throughout, relabelled-relabelled}
 use Rattle.markdown_base.specs.Questions.{Answers}
-use Rattle.markdown_spans.specs.Blocks.{block_text, block_options, block_tree, block_parts, IsOfText}
-use Rattle.markdown_spans.specs.declared.blocks.Blocks.{Blocks}
+use Rattle.markdown_blocks.specs.Blocks.{block_text, block_options, block_tree, block_parts, IsOfText}
+use Rattle.markdown_blocks.specs.declared.blocks.Blocks.{Blocks}
 use Rattle.markdown_inline.specs.ParserLeft.{elements, rules_of, reading_of, expansion_limit, ReadsBlocks, ReadsText}
+use Rattle.markdown_inline.specs.ParserLeft.{block_definitions, parser_definitions}
 use Rattle.markdown_inline.specs.Walk.{left_of}
-use Rattle.markdown_chains.specs.Places.{label_at, trees_from, IsPlaced, HasSlices}
-use Rattle.markdown_chains.specs.Document.{block_of, label_of, document}
-use Rattle.markdown_chains.specs.Setting.{Rules, rules_from, use_count, uses_of}
+use Rattle.markdown_document.specs.Places.{label_at, trees_from, IsPlaced, HasSlices}
+use Rattle.markdown_document.specs.Document.{block_of, label_of, document}
+use Rattle.markdown_document.specs.Setting.{Rules, rules_from, use_count, uses_of}
 use Rattle.markdown_resolver.specs.Kept.{IsQuiet, IsQuietBelow, IsKept}
-use Rattle.markdown_chains.specs.Totals.{total, same, same_as, naming}
+use Rattle.markdown_document.specs.Totals.{total, same, same_as, naming}
 use Rattle.markdown_inline.specs.WalkTotals.{left_total}
 use Rattle.markdown_inline.specs.Standing.{Stands}
 use Rattle.markdown_inline.specs.declared.walk.Parser.{Parser}
-use Rattle.markdown_chains.specs.Tables.{Tables, Named, some_text, some_link, some_alignments, link_named, NamesEntries, tables_of}
-use Rattle.markdown_chains.specs.Tables.{tables_at_start}
-use Rattle.markdown_chains.proofs.PlaceLemmas.{named-past, open-unresolved}
+use Rattle.markdown_document.specs.Tables.{Tables, Named, some_text, some_link, some_alignments, link_named, NamesEntries, tables_of}
+use Rattle.markdown_document.specs.Tables.{tables_at_start}
+use Rattle.markdown_document.proofs.PlaceLemmas.{named-past, open-unresolved}
 use Rattle.markdown_inline.proofs.ParserLemmas.{elements-parts}
 
 -- the texts that are named
@@ -308,6 +309,7 @@ starts_left blocks p answers text options held tree same reset limit =
 -- a parser of a block result of a text is one of some block result of the text
 pub of_some_text : {F : Type 0} (text : List ℕ) (options : Options) (blocks : Blocks) (made : Result (Parser F) Fault)
     → IsOfText text options blocks
-    → IfOk made (ReadsBlocks blocks) → IfOk made (ReadsText text options)
-of_some_text text options blocks (Ok p) of left = (blocks, of, left)
-of_some_text text options blocks (Err fault) of left = tt
+    → IfOk made (ReadsBlocks blocks) → IfOk made (λ p. parser_definitions p ≡ block_definitions blocks)
+    → IfOk made (ReadsText text options)
+of_some_text text options blocks (Ok p) of left found = record { blocks = blocks; of_text = of; left = left; definitions = found }
+of_some_text text options blocks (Err fault) of left found = tt

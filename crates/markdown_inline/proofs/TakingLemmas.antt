@@ -25,16 +25,16 @@ use Rattle.markdown_base.specs.declared.item.ItemBody.{ItemBody}
 use Rattle.markdown_base.specs.declared.tag.Alignment.{Alignment}
 use Rattle.markdown_base.specs.declared.tag.HeadingLevel.{HeadingLevel}
 use Rattle.markdown_base.specs.declared.tag.Tag.{Tag}
-use Rattle.markdown_spans.specs.Allocations.{Allocated, LinkParts, LeavesEmptyCow, LeavesEmptyLink, LeavesEmptyAlignment}
-use Rattle.markdown_chains.specs.Origins.{IsLinkFrom, IsSlicedOf, Origin, origin_at, origin_of}
-use Rattle.markdown_chains.specs.Document.{Shape, leaf, enclosed, plain, backslash_break, unresolved, sliced, made, container_of}
-use Rattle.markdown_chains.specs.Document.{shape_of, event_of_shape}
-use Rattle.markdown_chains.specs.Places.{HasSliceLink}
-use Rattle.markdown_chains.specs.Tables.{Tables, Named, some_text, some_link, some_alignments, text_at, link_at, link_origin_at, link_view}
-use Rattle.markdown_chains.specs.Tables.{link_named, alignments_at, attributes_at, attributes_view, size_for, tables_of, NamesEntries}
-use Rattle.markdown_chains.specs.Tables.{IsSameEntry}
-use Rattle.markdown_chains.specs.Totals.{same, times_named}
-use Rattle.markdown_chains.proofs.TablesLemmas.{same_entry-refl}
+use Rattle.markdown_defs.specs.Allocations.{Allocated, LinkParts, LeavesEmptyCow, LeavesEmptyLink, LeavesEmptyAlignment}
+use Rattle.markdown_document.specs.Origins.{IsLinkFrom, IsSlicedOf, Origin, origin_at, origin_of}
+use Rattle.markdown_document.specs.Document.{Shape, leaf, enclosed, plain, backslash_break, unresolved, sliced, made, container_of}
+use Rattle.markdown_document.specs.Document.{shape_of, event_of_shape}
+use Rattle.markdown_document.specs.Places.{HasSliceLink}
+use Rattle.markdown_document.specs.Tables.{Tables, Named, some_text, some_link, some_alignments, text_at, link_at, link_origin_at, link_view}
+use Rattle.markdown_document.specs.Tables.{link_named, alignments_at, attributes_at, attributes_view, size_for, tables_of, NamesEntries}
+use Rattle.markdown_document.specs.Tables.{IsSameEntry}
+use Rattle.markdown_document.specs.Totals.{same, times_named}
+use Rattle.markdown_document.proofs.TablesLemmas.{same_entry-refl}
 use Rattle.markdown_inline.specs.Slices.{texts_of, IsFrom, TagIsFrom, StartIsFrom}
 use Rattle.markdown_inline.specs.WalkSteps.{OpensWith, TakesOnly, beginning, way_at_shape, way_at}
 

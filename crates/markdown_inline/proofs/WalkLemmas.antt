@@ -9,8 +9,8 @@ use Rattle.markdown_base.specs.BlockTree.{item_at}
 use Rattle.markdown_inline.specs.Elements.{Placed, Reading, event, nothing, then_reads}
 use Rattle.markdown_inline.specs.Counts.{Counting, no_chain, counts_around, counts_ahead, first_counts, unless_ended, LeavesAhead}
 use Rattle.markdown_inline.proofs.CountLemmas.{counts_around-snoc, event-none}
-use Rattle.markdown_chains.specs.Above.{Above, no_blocks, inside_item, inside_all, above_at}
-use Rattle.markdown_chains.specs.Setting.{Known, Setting}
+use Rattle.markdown_document.specs.Above.{Above, no_blocks, inside_item, inside_all, above_at}
+use Rattle.markdown_document.specs.Setting.{Known, Setting}
 use Rattle.std.specs.declared.ops.Range.{Range}
 use Rattle.markdown_base.specs.Event.{EventView, TagView, start, end_of, hard_break}
 use Rattle.markdown_base.specs.Item.{LiesIn, range_of, is_open}
@@ -22,14 +22,14 @@ use Rattle.markdown_base.proofs.ArenaLemmas.{All-front}
 use Rattle.markdown_base.proofs.ForestLemmas.{All-append}
 use Rattle.markdown_inline.specs.Reading.{opened, reading}
 use Rattle.markdown_inline.specs.Walk.{ended, around, left_of, closing}
-use Rattle.markdown_chains.specs.Places.{label_at, trees_from, IsPlaced}
-use Rattle.markdown_chains.specs.Totals.{total, same, naming, weight_at}
-use Rattle.markdown_chains.specs.Tables.{Tables, Named}
+use Rattle.markdown_document.specs.Places.{label_at, trees_from, IsPlaced}
+use Rattle.markdown_document.specs.Totals.{total, same, naming, weight_at}
+use Rattle.markdown_document.specs.Tables.{Tables, Named}
 use Rattle.markdown_inline.specs.WalkTotals.{climbed, left_total, named_left, one_if, waits_at, steps_of}
 use Rattle.markdown_inline.specs.Standing.{AboveKept, Stands}
-use Rattle.markdown_chains.specs.Document.{plain_tags, Origin, Shape, leaf, enclosed, plain, backslash_break, unresolved, shape_of}
-use Rattle.markdown_chains.specs.Document.{event_of_shape}
-use Rattle.markdown_chains.proofs.PlaceLemmas.{some_weight}
+use Rattle.markdown_document.specs.Document.{plain_tags, Origin, Shape, leaf, enclosed, plain, backslash_break, unresolved, shape_of}
+use Rattle.markdown_document.specs.Document.{event_of_shape}
+use Rattle.markdown_document.proofs.PlaceLemmas.{some_weight}
 
 -- a walk went from l below spine to m below deeper, and gave these events
 pub record Moves (s : Setting) (tables : Tables) (nodes : List (Node Item)) (l : Option ℕ) (spine : List ℕ) (m : Option ℕ) (deeper : List ℕ)

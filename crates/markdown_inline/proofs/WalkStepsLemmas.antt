@@ -7,23 +7,23 @@ use Rattle.markdown_base.specs.Arena.{Arena, child_of, sibling_of}
 use Rattle.markdown_base.specs.ArenaForest.{links_of}
 use Rattle.markdown_base.specs.BlockTree.{item_at}
 use Rattle.markdown_inline.specs.Elements.{Placed, Reading, event}
-use Rattle.markdown_chains.specs.Setting.{Rules, Setting, Known, setting_of}
+use Rattle.markdown_document.specs.Setting.{Rules, Setting, Known, setting_of}
 use Rattle.markdown_base.specs.Event.{EventView, TagView, start, end}
 use Rattle.markdown_base.specs.Item.{range_of}
 use Rattle.markdown_base.specs.declared.item.Item.{Item}
 use Rattle.markdown_base.specs.declared.node.Node.{Node}
 use Rattle.markdown_base.specs.declared.tag.TagEnd.{TagEnd}
 use Rattle.markdown_base.proofs.ArenaForestLemmas.{opens}
-use Rattle.markdown_spans.specs.Allocations.{Allocated}
+use Rattle.markdown_defs.specs.Allocations.{Allocated}
 use Rattle.markdown_inline.specs.Counts.{Counting, no_chain, counts_ahead, tree_counts, unless_ended, LeavesAhead}
 use Rattle.markdown_inline.proofs.CountLemmas.{counts-end}
 use Rattle.markdown_inline.specs.Walk.{ended, left_of, closing}
-use Rattle.markdown_chains.specs.Totals.{same, naming}
+use Rattle.markdown_document.specs.Totals.{same, naming}
 use Rattle.markdown_inline.specs.WalkTotals.{named_left}
-use Rattle.markdown_chains.specs.Places.{IsPlaced}
+use Rattle.markdown_document.specs.Places.{IsPlaced}
 use Rattle.markdown_inline.specs.Standing.{Stands}
-use Rattle.markdown_chains.specs.Document.{Origin, Shape, leaf, enclosed, plain, backslash_break, unresolved, shape_of, event_of_shape}
-use Rattle.markdown_chains.specs.Tables.{Tables, Named, tables_of}
+use Rattle.markdown_document.specs.Document.{Origin, Shape, leaf, enclosed, plain, backslash_break, unresolved, shape_of, event_of_shape}
+use Rattle.markdown_document.specs.Tables.{Tables, Named, tables_of}
 use Rattle.markdown_inline.specs.WalkSteps.{TreeStands, HasEnded, Went, Passed, CanBegin, IsRefused, TakesOnly, tree_left, tree_steps}
 use Rattle.markdown_inline.specs.WalkSteps.{beginning, way_at, way_at_shape}
 use Rattle.markdown_inline.proofs.TakingLemmas.{leaf_shape, some_leaf, some_tag, plain_shape, way-shape, takes_nothing}

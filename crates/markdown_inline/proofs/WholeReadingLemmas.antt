@@ -1,8 +1,9 @@
--- The reading of a whole document has the events of one forest, in which no Start and no End stands alone, no link stands
--- in a link, and what was looked up expands to little.
-use Rattle.std.proofs.Common.{◌≡◌, ℕ, ◌+◌, ◌-◌, ◌≤◌, Bool, true, false, List, [], ◌∷◌, ◌++◌, None, refl, sym, subst, ap, ◌∙◌, append_assoc}
-use Rattle.std.proofs.Common.{append-nil, arith}
+-- In the tree of a whole document no Start and no End stands alone, no link stands in a link, and what was looked up expands to
+-- little.
+use Rattle.std.proofs.Common.{◌≡◌, ℕ, ◌+◌, ◌-◌, Bool, true, false, List, [], ◌∷◌, ◌++◌, refl, sym, subst, ap, ◌∙◌}
+use Rattle.std.proofs.Common.{arith, map}
 use Rattle.std.specs.Prelude.{⊤, if◌then◌else◌}
+use Rattle.std.proofs.lemmas.List.{map-append}
 use Rattle.std.specs.declared.ops.Range.{Range}
 use Rattle.markdown_base.specs.BlockTree.{Numbered, tree_of}
 use Rattle.markdown_base.specs.Event.{EventView, TagView, start, end, end_of, link, image, hard_break}
@@ -12,29 +13,32 @@ use Rattle.markdown_base.specs.Questions.{Answers}
 use Rattle.markdown_base.specs.WellFormed.{AllKeepRules, PartCounts, counts_of}
 use Rattle.markdown_base.specs.declared.item.ItemBody.{ItemBody}
 use Rattle.markdown_base.specs.declared.item.ItemBody.TheVariants as body
-use Rattle.markdown_spans.specs.Blocks.{block_parts, block_text, block_tree}
-use Rattle.markdown_spans.specs.declared.blocks.Blocks.{Blocks}
-use Rattle.markdown_chains.specs.Above.{Above, inside_label, no_blocks}
-use Rattle.markdown_chains.specs.ChainRest.{cut_event, cut_shape, without_first}
-use Rattle.markdown_chains.specs.Document.{Origin, sliced, made, Shape, leaf, enclosed, plain, backslash_break, unresolved, Label, Plain}
-use Rattle.markdown_chains.specs.Document.{plain_tags, document, label_of, shape_of}
-use Rattle.markdown_chains.specs.Setting.{Setting, Known, setting_of}
-use Rattle.markdown_chains.specs.Tables.{Tables, tables_at_start}
+use Rattle.markdown_blocks.specs.Blocks.{block_parts, block_text, block_tree}
+use Rattle.markdown_blocks.specs.declared.blocks.Blocks.{Blocks}
+use Rattle.markdown_document.specs.Above.{Above, inside_label, no_blocks}
+use Rattle.markdown_document.specs.ChainRest.{cut_event, cut_shape, without_first}
+use Rattle.markdown_document.specs.Document.{Origin, sliced, made, Shape, leaf, enclosed, plain, backslash_break, unresolved, Label, Plain}
+use Rattle.markdown_document.specs.Document.{plain_tags, document, label_of, shape_of}
+use Rattle.markdown_document.specs.Setting.{Setting, Known, setting_of}
+use Rattle.markdown_document.specs.Tables.{Tables, tables_at_start}
 use Rattle.markdown_delims.proofs.SumLemmas.{sum_of}
 use Rattle.markdown_brackets.specs.Lookup.{size_of}
 use Rattle.markdown_brackets.specs.NoLinkInLink.{ClosesOverNone, HasNoLinkInLink, HasNoneBelow, IsFreeOfLinks, IsNoLink, OpensNoLink}
-use Rattle.markdown_resolver.specs.PassOne.{Outcome}
-use Rattle.markdown_resolver.specs.Resolved.{all_paired, resolved}
 use Rattle.markdown_inline.specs.Balanced.{Ranged, ranged}
-use Rattle.markdown_inline.specs.Elements.{Reading, events_of, nothing, then_reads}
-use Rattle.markdown_inline.specs.LimitLaw.{is_looked_up, tag_expansion}
+use Rattle.markdown_inline.specs.Elements.{Placed, events_of}
+use Rattle.markdown_inline.specs.LimitLaw.{tag_expansion}
+use Rattle.markdown_inline.specs.LookUps.{is_looked_up}
 use Rattle.markdown_inline.specs.ParserLeft.{known_at_start, reading_of, rules_of}
-use Rattle.markdown_inline.specs.Reading.{chain_reading, opened, reading, settled_reading}
+use Rattle.markdown_inline.specs.ResolvedDocument.{Resolution, Resolving, no_trees, resolved_blocks, resolved_chain, resolved_document}
+use Rattle.markdown_inline.specs.ResolvedDocument.{resolved_tree, tree_then}
+use Rattle.markdown_inline.specs.ResolvedShapes.{IsMadeEvent}
+use Rattle.markdown_inline.specs.TreeReading.{BlockTreeLaw, GivesBoth, IsLone, events_in, tree_events}
 use Rattle.markdown_inline.proofs.LinksApartLemmas.{resolved_apart}
-use Rattle.markdown_inline.proofs.EndOrderLemmas.{Fits, ends_append, ends_onto, fits_append, fits_later, total, total_append, total_ends}
-use Rattle.markdown_inline.proofs.PairedEndsLemmas.{IsLone, IsNoBracket}
+use Rattle.markdown_inline.proofs.EndOrderLemmas.{Spent, ends_append, ends_onto, spends, spent_both, spent_none, total, total_append, total_ends}
+use Rattle.markdown_inline.proofs.LookUpsLemmas.{resolved_spent}
+use Rattle.markdown_inline.proofs.PairedEndsLemmas.{IsNoBracket, mark_bracket}
 use Rattle.markdown_inline.proofs.ResolvedEndsLemmas.{Keeps, resolved_holds}
-use Rattle.markdown_inline.proofs.RunLemmas.{events_of-questions}
+use Rattle.markdown_inline.proofs.TreeReadingLemmas.{blocks_read}
 
 -- the events of a forest of which nothing is open
 abbrev pub opened_events : Shape → Range ℕ → (inside after : List Ranged) → List Ranged
@@ -44,34 +48,26 @@ opened_events plain range inside after = inside ++ after
 opened_events backslash_break range inside after = (hard_break, range) ∷ after
 opened_events (unresolved b) range inside after = after
 
-abbrev pub events_in : {A : Type 0} → Forest (Label A) → List Ranged
-events_in nil = []
-events_in (node a below after) = opened_events a.part.shape a.part.range (events_in below) (events_in after)
+abbrev pub ranged_in : {A : Type 0} → Forest (Label A) → List Ranged
+ranged_in nil = []
+ranged_in (node a below after) = opened_events a.part.shape a.part.range (ranged_in below) (ranged_in after)
 
--- the events of a reading
-abbrev pub read : Reading → Known → List Ranged
-read r known = ranged (events_of (r known))
+-- they are the events of the reading, each with its range alone
+ranged_tree : (shape : Shape) (range : Range ℕ) (es fs : List Placed)
+    → ranged (tree_events shape range es fs) ≡ opened_events shape range (ranged es) (ranged fs)
+ranged_tree (leaf e origins) range es fs = refl
+ranged_tree (enclosed tag) range es fs =
+    ap (λ (l : List Ranged). (start tag, range) ∷ l) (map-append (λ (e : Placed). (e.0, e.1)) es ((end (end_of tag), range, []) ∷ fs))
+ranged_tree plain range es fs = map-append (λ (e : Placed). (e.0, e.1)) es fs
+ranged_tree backslash_break range es fs = refl
+ranged_tree (unresolved b) range es fs = refl
 
-read_settled : (shape : Shape) (range : Range ℕ) (inside : Reading → Reading) (after : Reading) (known : Known) (es fs rest : List Ranged)
-    → ((inner : Reading) → read (inside inner) known ≡ es ++ read inner known) → read after known ≡ fs ++ rest
-    → read (opened shape range inside after after) known ≡ opened_events shape range es fs ++ rest
-read_settled (leaf e origins) range inside after known es fs rest i h = ap (λ (xs : List Ranged). (e, range) ∷ xs) h
-read_settled (enclosed tag) range inside after known es fs rest i h =
-    ap (λ (xs : List Ranged). (start tag, range) ∷ xs)
-    (i (then_reads (end (end_of tag), range, []) after) ∙ ap (λ (xs : List Ranged). es ++ (end (end_of tag), range) ∷ xs) h
-    ∙ sym (append_assoc es ((end (end_of tag), range) ∷ fs) rest))
-read_settled plain range inside after known es fs rest i h = i after ∙ ap (λ (xs : List Ranged). es ++ xs) h ∙ sym (append_assoc es fs rest)
-read_settled backslash_break range inside after known es fs rest i h = ap (λ (xs : List Ranged). (hard_break, range) ∷ xs) h
-read_settled (unresolved b) range inside after known es fs rest i h = h
-
--- what a resolved forest reads as
-settled_events : {A : Type 0} (f : Forest (Label A)) (after : Reading) (known : Known) → read (settled_reading f after) known ≡ events_in f
-    ++ read after known
-settled_events nil after known = refl
-settled_events (node a below later) after known =
-    read_settled a.part.shape a.part.range (λ inner. settled_reading below inner) (settled_reading later after) known (events_in below)
-    (events_in later) (read after known)
-    (λ inner. settled_events below inner known) (settled_events later after known)
+ranged_same : {A : Type 0} (f : Forest (Label A)) → ranged (events_in f) ≡ ranged_in f
+ranged_same nil = refl
+ranged_same (node a below after) =
+    ranged_tree a.part.shape a.part.range (events_in below) (events_in after)
+    ∙ ap (λ (l : List Ranged). opened_events a.part.shape a.part.range l (ranged (events_in after))) (ranged_same below)
+    ∙ ap (λ (l : List Ranged). opened_events a.part.shape a.part.range (ranged_in below) l) (ranged_same after)
 
 -- 1 for a Start or an End that stands as a leaf
 abbrev pub alone_event : EventView → List ℕ
@@ -100,10 +96,15 @@ cut_alone n e (sliced ∷ origins) = shortened e
     shortened (start tag) = refl
     shortened other = refl
 
+made_lone : (e : EventView) → IsMadeEvent e → IsLone e
+made_lone (start tag) h = absurd h
+made_lone (end e) h = absurd h
+made_lone other h = tt
+
 -- look-ups and pairs make no Start or End alone
 alone_keeps : Keeps alone_at (λ ns limit. total ns ≡ 0)
 alone_keeps = record {
-  numbers = record { lone = λ e origins h. lone_none e h; mark = λ tag h. refl };
+  numbers = record { lone = λ e origins h. lone_none e (made_lone e h); mark = λ tag h. refl };
   cut = cut_same;
   other_link = λ v e. refl;
   other_image = λ v e. refl;
@@ -121,34 +122,19 @@ abbrev pub expansion_at : Shape → List ℕ
 expansion_at (enclosed tag) = tag_expansion tag
 expansion_at other = []
 
--- expansions from one limit to the next: each was made while something was left
-pub record Spent (limit : ℕ) (ns : List ℕ) (later : ℕ) : Type 0 where
-  pub left : later ≤ limit - total ns
-  pub fits : Fits limit 0 ns
+no_bracket_none : (tag : TagView) → IsNoBracket tag → tag_expansion tag ≡ []
+no_bracket_none (link v) h = absurd h
+no_bracket_none (image v) h = absurd h
+no_bracket_none other h = refl
 
 if_none : (b : Bool) (ns : List ℕ) → b ≡ false → (if b then ns else []) ≡ []
 if_none true ns e = cc e
 if_none false ns e = refl
 
--- a look-up was made while something was left
-spends : (limit : ℕ) (ns : List ℕ) (later size : ℕ) (b : Bool) → 1 ≤ later → Spent limit ns later
-    → Spent limit (ns ++ (if b then size ∷ [] else [])) (later - size)
-spends limit ns later size true some s =
-    record {
-      left = omega (arith, total_append ns (size ∷ []), some, s.left);
-      fits = fits_append limit 0 ns (size ∷ []) s.fits
-          (omega (arith, some, s.left), tt);
-    }
-spends limit ns later size false some s = record {
-  left = omega (arith, total_append ns [], some, s.left);
-  fits = fits_append limit 0 ns []
-      s.fits tt;
-}
-
 -- look-ups alone expand to something, and each takes its bytes of the limit
 expansions_keep : (limit : ℕ) → Keeps expansion_at (Spent limit)
 expansions_keep limit = record {
-  numbers = record { lone = λ e origins h. refl; mark = mark_none };
+  numbers = record { lone = λ e origins h. refl; mark = λ tag h. no_bracket_none tag (mark_bracket tag h) };
   cut = cut_same;
   other_link = λ v e. if_none (is_looked_up v.kind) (size_of v ∷ []) e;
   other_image = λ v e. if_none (is_looked_up v.kind) (size_of v ∷ []) e;
@@ -157,33 +143,20 @@ expansions_keep limit = record {
   image_found = λ ns later v h s. spends limit ns later (size_of v) (is_looked_up v.kind) h s;
 }
   where
-    mark_none : (tag : TagView) → IsNoBracket tag → tag_expansion tag ≡ []
-    mark_none (link v) h = absurd h
-    mark_none (image v) h = absurd h
-    mark_none other h = refl
-
     cut_same : (n : ℕ) (shape : Shape) → expansion_at (cut_shape n shape) ≡ expansion_at shape
     cut_same n (leaf e origins) = refl
     cut_same n other = refl
 
-spent_none : (limit : ℕ) → Spent limit [] limit
-spent_none limit = record { left = omega arith; fits = tt }
+-- of what a part of a document is resolved to: no Start and no End stands alone, no link stands in a link, and what look-ups
+-- found, as the events show it and in all, fits in the limit
+pub record IsSuch (known : Known) (r : Resolution (Unit {0})) : Type 0 where
+  pub lone : sum_of alone r.trees ≡ 0
+  pub apart : HasNoLinkInLink r.trees
+  pub spent : Spent known.limit (ends_onto expansion_at r.trees []) r.known.limit
+  pub found : Spent known.limit (map size_of r.found) r.known.limit
 
--- from one limit to the next, and to the one after it
-spent_both : (a b c : ℕ) (ns ms : List ℕ) → Spent a ns b → Spent b ms c → Spent a (ns ++ ms) c
-spent_both a b c ns ms s t = record {
-  left = omega (arith, total_append ns ms, s.left, t.left);
-  fits = fits_append a 0 ns ms s.fits (fits_later a b (total ns) 0 (0 + total ns) ms s.left (omega arith) t.fits);
-}
-
--- what reads as the events of a forest, and then as what comes after it
-pub record IsReadAs (reads : Reading → Reading) (known : Known) : Type 0 where
-  pub forest : Forest Plain
-  pub later : Known
-  pub events : (after : Reading) → read (reads after) known ≡ events_in forest ++ read after later
-  pub lone : sum_of alone forest ≡ 0
-  pub apart : HasNoLinkInLink forest
-  pub spent : Spent known.limit (ends_onto expansion_at forest []) later.limit
+none_such : (known : Known) → IsSuch known (no_trees known)
+none_such known = record { lone = refl; apart = tt; spent = spent_none known.limit; found = spent_none known.limit }
 
 -- a shape of a block result: no link, no image, and no Start or End alone
 abbrev pub IsBlockShape : Shape → Type 0
@@ -200,7 +173,7 @@ block_alone (leaf e origins) h = lone_none e h
 block_alone other h = refl
 
 block_expansion : (shape : Shape) → IsBlockShape shape → expansion_at shape ≡ []
-block_expansion (enclosed tag) h = (expansions_keep 0).numbers.mark tag h
+block_expansion (enclosed tag) h = no_bracket_none tag h
 block_expansion other h = refl
 
 block_link : (shape : Shape) → IsBlockShape shape → IsNoLink shape
@@ -230,108 +203,58 @@ module _ {A : Type 0} where
   free_blocks (node a below after) h = (block_link a.part.shape h.0, free_blocks below h.1, free_blocks after h.2)
 
 -- a chain
-chain_read : (s : Setting) (above : Above) (chain : Forest Plain) (known : Known) → AreBlockShapes chain
-    → IsReadAs (λ after. chain_reading s plain_tags above chain after) known
-chain_read s above chain known h =
-    let r : Outcome (Unit {0}) = resolved s plain_tags above chain known in
+chain_such : (s : Setting) (above : Above) (chain : Forest Plain) (known : Known) → AreBlockShapes chain
+    → IsSuch known (resolved_chain s plain_tags above chain known)
+chain_such s above chain known h =
+    let trees : Forest Plain = (resolved_chain s plain_tags above chain known).trees in
     record {
-      forest = all_paired s r.forest;
-      later = r.known;
-      events = λ after. ap ranged (events_of-questions r.questions (settled_reading (all_paired s r.forest) after r.known))
-          ∙ settled_events (all_paired s r.forest) after r.known;
       lone =
           let none = resolved_holds alone_at (λ ns limit. total ns ≡ 0) alone_keeps s plain_tags above chain known
           (none_at alone_at block_alone chain h) refl in
-          omega (arith, none, total_ends alone_at (all_paired s r.forest) []);
+          omega (arith, none, total_ends alone_at trees []);
       apart = resolved_apart s plain_tags above chain known (free_blocks chain h);
       spent = resolved_holds expansion_at (Spent known.limit) (expansions_keep known.limit) s plain_tags above chain known
           (none_at expansion_at block_expansion chain h) (spent_none known.limit);
+      found = resolved_spent s plain_tags above chain known;
     }
 
--- a tree of a document, by its shape
-abbrev over : Shape → Range ℕ → Plain
-over shape range = record { tag = tt; part = record { shape = shape; range = range; block = None } }
+-- a tree over what is below it, before what comes after it
+then_such : (a : Plain) (below after : Resolving (Unit {0})) (known : Known) → IsBlockShape a.part.shape → IsSuch known (below known)
+    → IsSuch (below known).known (after (below known).known) → IsSuch known (tree_then a below after known)
+then_such a below after known h i r =
+    let inside : Resolution (Unit {0}) = below known in
+    let later : Resolution (Unit {0}) = after inside.known in
+    let rest : List ℕ = ends_onto expansion_at later.trees [] in
+    let listed : ends_onto expansion_at inside.trees (expansion_at a.part.shape ++ rest) ≡ ends_onto expansion_at inside.trees [] ++ rest =
+    ap (λ (l : List ℕ). ends_onto expansion_at inside.trees (l ++ rest)) (block_expansion a.part.shape h)
+    ∙ ends_append expansion_at inside.trees [] rest in
+    record {
+      lone = omega (arith, ap total (block_alone a.part.shape h), i.lone, r.lone);
+      apart = (block_apart a.part.shape inside.trees h, i.apart, r.apart);
+      spent = subst (λ (l : List ℕ). Spent known.limit l later.known.limit) (sym listed) (spent_both known.limit inside.known.limit
+          later.known.limit (ends_onto expansion_at inside.trees []) rest i.spent r.spent);
+      found = subst (λ (l : List ℕ). Spent known.limit l later.known.limit) (sym (map-append size_of inside.found later.found))
+          (spent_both known.limit inside.known.limit later.known.limit (map size_of inside.found) (map size_of later.found) i.found r.found);
+    }
 
--- without what is below it
-leaf_read : (shape : Shape) (range : Range ℕ) (e : EventView) (later : Reading → Reading) (known : Known) → IsBlockShape shape
-    → ((fs : List Ranged) → opened_events shape range [] fs ≡ (e, range) ∷ fs)
-    → IsReadAs later known → (reads : Reading → Reading)
-    → ((after : Reading) → read (reads after) known ≡ (e, range) ∷ read (later after) known) → IsReadAs reads known
-leaf_read shape range e later known h shows r reads so = record {
-  forest = node (over shape range) nil r.forest;
-  later = r.later;
-  events = λ after. so after ∙ ap (λ (xs : List Ranged). (e, range) ∷ xs) (r.events after)
-      ∙ ap (λ (xs : List Ranged). xs ++ read after r.later) (sym (shows (events_in r.forest)));
-  lone = omega (arith, ap total (block_alone shape h), r.lone);
-  apart = (block_apart shape nil h, tt, r.apart);
-  spent = subst (λ (l : List ℕ). Spent known.limit (l ++ ends_onto expansion_at r.forest []) r.later.limit) (sym (block_expansion shape h))
-      r.spent;
-}
-
--- with what is below it
-both_read : (shape : Shape) (range : Range ℕ) (inside later : Reading → Reading) (known : Known) → IsBlockShape shape
-    → (i : IsReadAs inside known) → (r : IsReadAs later i.later) → (reads : Reading → Reading)
-    → ((after : Reading) → read (reads after) known ≡ opened_events shape range (events_in i.forest) (events_in r.forest)
-    ++ read after r.later) → IsReadAs reads known
-both_read shape range inside later known h i r reads so = record {
-  forest = node (over shape range) i.forest r.forest;
-  later = r.later;
-  events = so;
-  lone = omega (arith, ap total (block_alone shape h), i.lone, r.lone);
-  apart = (block_apart shape i.forest h, i.apart, r.apart);
-  spent =
-      let rest : List ℕ = ends_onto expansion_at r.forest [] in
-      let listed : ends_onto expansion_at i.forest (expansion_at shape ++ rest) ≡ ends_onto expansion_at i.forest [] ++ rest =
-      ap (λ (l : List ℕ). ends_onto expansion_at i.forest (l ++ rest)) (block_expansion shape h) ∙ ends_append expansion_at i.forest [] rest
-      in
-      subst (λ (l : List ℕ). Spent known.limit l r.later.limit) (sym listed) (spent_both known.limit i.later.limit r.later.limit
-      (ends_onto expansion_at i.forest []) rest i.spent r.spent);
-}
-
-tree_read : (shape : Shape) (range : Range ℕ) (inside later whole : Reading → Reading) → IsBlockShape shape
-    → ((known : Known) → IsReadAs inside known) → ((known : Known) → IsReadAs later known)
-    → ((known : Known) → IsReadAs whole known) → (known : Known) → IsReadAs (λ after. opened shape range inside (later after) (whole after))
-    known
-tree_read (leaf e origins) range inside later whole h i l w known =
-    leaf_read (leaf e origins) range e later known h (λ fs. refl) (l known) (λ after. opened (leaf e origins) range inside (later after)
-    (whole after)) (λ after. refl)
-tree_read (enclosed tag) range inside later whole h i l w known =
-    let b = i known in
-    let r = l b.later in
-    both_read (enclosed tag) range inside later known h b r (λ after. opened (enclosed tag) range inside (later after) (whole after))
-    (λ after. ap (λ (xs : List Ranged). (start tag, range) ∷ xs)
-    (b.events (then_reads (end (end_of tag), range, []) (later after)) ∙ ap (λ (xs : List Ranged). events_in b.forest
-    ++ (end (end_of tag), range) ∷ xs) (r.events after)
-    ∙ sym (append_assoc (events_in b.forest) ((end (end_of tag), range) ∷ events_in r.forest) (read after r.later))))
-tree_read plain range inside later whole h i l w known =
-    let b = i known in
-    let r = l b.later in
-    both_read plain range inside later known h b r (λ after. opened plain range inside (later after) (whole after))
-    (λ after. b.events (later after) ∙ ap (λ (xs : List Ranged). events_in b.forest ++ xs) (r.events after)
-    ∙ sym (append_assoc (events_in b.forest) (events_in r.forest) (read after r.later)))
-tree_read backslash_break range inside later whole h i l w known =
-    leaf_read backslash_break range hard_break later known h (λ fs. refl) (l known) (λ after. opened backslash_break range inside
-    (later after) (whole after)) (λ after. refl)
-tree_read (unresolved b) range inside later whole h i l w known = w known
+tree_such : (shape : Shape) (a : Plain) (below after chain : Resolving (Unit {0})) → IsBlockShape a.part.shape
+    → ((known : Known) → IsSuch known (below known)) → ((known : Known) → IsSuch known (after known))
+    → ((known : Known) → IsSuch known (chain known)) → (known : Known) → IsSuch known (resolved_tree shape a below after chain known)
+tree_such (leaf e origins) a below after chain h i l w known = then_such a no_trees after known h (none_such known) (l known)
+tree_such (enclosed tag) a below after chain h i l w known = then_such a below after known h (i known) (l (below known).known)
+tree_such plain a below after chain h i l w known = then_such a below after known h (i known) (l (below known).known)
+tree_such backslash_break a below after chain h i l w known = then_such a no_trees after known h (none_such known) (l known)
+tree_such (unresolved b) a below after chain h i l w known = w known
 
 -- a document
-document_read : (s : Setting) (above : Above) (f : Forest Plain) (known : Known) → AreBlockShapes f
-    → IsReadAs (λ after. reading s plain_tags above f after) known
-document_read s above nil known h = record {
-  forest = nil;
-  later = known;
-  events = λ after. refl;
-  lone = refl;
-  apart = tt;
-  spent =
-      spent_none known.limit;
-}
-document_read s above (node a below later) known h =
-    tree_read a.part.shape a.part.range (λ inner. reading s plain_tags (inside_label a above) below inner)
-    (λ after. reading s plain_tags above later after)
-    (λ after. chain_reading s plain_tags above (node a below later) after) h.0 (λ k. document_read s (inside_label a above) below k h.1)
-    (λ k. document_read s above later k h.2)
-    (λ k. chain_read s above (node a below later) k h) known
+document_such : (s : Setting) (above : Above) (f : Forest Plain) (known : Known) → AreBlockShapes f
+    → IsSuch known (resolved_document s plain_tags above f known)
+document_such s above nil known h = none_such known
+document_such s above (node a below later) known h =
+    tree_such a.part.shape a (λ k. resolved_document s plain_tags (inside_label a above) below k)
+    (λ k. resolved_document s plain_tags above later k) (λ k. resolved_chain s plain_tags above (node a below later) k) h.0
+    (λ k. document_such s (inside_label a above) below k h.1) (λ k. document_such s above later k h.2)
+    (λ k. chain_such s above (node a below later) k h) known
 
 -- the shapes of a well-formed block result
 block_shape : (tables : Tables) (source : List ℕ) (b : ItemBody) → is_resolved b ≡ false → IsBlockShape (shape_of tables source b)
@@ -353,12 +276,10 @@ block_shapes source tables counts (node a below after) h = (
 )
 
 -- the whole
-pub whole_read : (blocks : Blocks) (asks : Bool) (answers : Answers)
-    → IsReadAs (λ after. reading (setting_of (block_text blocks) (rules_of blocks asks)) plain_tags (no_blocks (block_text blocks))
-    (document (block_text blocks) (tables_at_start (block_parts blocks)) (block_tree blocks).nodes) after)
-    (known_at_start (block_text blocks) answers)
-whole_read blocks asks answers =
-    document_read (setting_of (block_text blocks) (rules_of blocks asks)) (no_blocks (block_text blocks))
+pub whole_such : (blocks : Blocks) (asks : Bool) (answers : Answers)
+    → IsSuch (known_at_start (block_text blocks) answers) (resolved_blocks blocks asks answers)
+whole_such blocks asks answers =
+    document_such (setting_of (block_text blocks) (rules_of blocks asks)) (no_blocks (block_text blocks))
     (document (block_text blocks) (tables_at_start (block_parts blocks)) (block_tree blocks).nodes)
     (known_at_start (block_text blocks) answers)
     (block_shapes (block_text blocks) (tables_at_start (block_parts blocks)) (counts_of (block_parts blocks))
@@ -366,6 +287,28 @@ whole_read blocks asks answers =
 
 -- its events
 pub whole_events : (blocks : Blocks) (asks : Bool) (answers : Answers) → ranged (events_of (reading_of blocks asks answers))
-    ≡ events_in (whole_read blocks asks answers).forest
-whole_events blocks asks answers = (whole_read blocks asks answers).events nothing
-    ∙ append-nil (events_in (whole_read blocks asks answers).forest)
+    ≡ ranged_in (resolved_blocks blocks asks answers).trees
+whole_events blocks asks answers =
+    ap ranged (blocks_read blocks asks answers).0 ∙ ranged_same (resolved_blocks blocks asks answers).trees
+
+-- no leaf of it is a Start or an End
+gives_both : (shape : Shape) → total (alone_at shape) ≡ 0 → GivesBoth shape
+gives_both (leaf e origins) h = lone e h
+  where
+    lone : (e : EventView) → total (alone_event e) ≡ 0 → IsLone e
+    lone (start tag) h = cc h
+    lone (end e) h = cc h
+    lone other h = tt
+gives_both other h = tt
+
+all_give : {A : Type 0} (f : Forest (Label A)) → sum_of alone f ≡ 0 → Each (λ (a : Label A). GivesBoth a.part.shape) f
+all_give nil h = tt
+all_give (node a below after) h =
+    (gives_both a.part.shape (omega (arith, h)), all_give below (omega (arith, h)), all_give after (omega (arith, h)))
+
+pub block_tree-law : BlockTreeLaw
+block_tree-law blocks asks answers = record {
+  events = (blocks_read blocks asks answers).0;
+  both = all_give (resolved_blocks blocks asks answers).trees (whole_such blocks asks answers).lone;
+  questions = (blocks_read blocks asks answers).1;
+}

@@ -4,18 +4,25 @@ use Rattle.std.specs.Prelude.{is_some}
 use Rattle.std.specs.declared.ops.Range.{Range}
 use Rattle.markdown_base.specs.Questions.{Question, Answer, Answers}
 use Rattle.markdown_base.specs.declared.event.Event.{Event}
-use Rattle.markdown_spans.specs.Blocks.{block_text}
-use Rattle.markdown_spans.specs.declared.blocks.Blocks.{Blocks}
+use Rattle.markdown_blocks.specs.Blocks.{block_text, block_tree, block_parts}
+use Rattle.markdown_blocks.specs.declared.blocks.Blocks.{Blocks}
+use Rattle.markdown_document.specs.Above.{Above}
+use Rattle.markdown_document.specs.Document.{document, plain_tags}
+use Rattle.markdown_document.specs.Setting.{Known, setting_of}
+use Rattle.markdown_document.specs.Tables.{tables_at_start}
+use Rattle.markdown_resolver.proofs.ChainQuestionsLemmas.{resolved_asks}
 use Rattle.markdown_inline.specs.Balanced.{ranged}
-use Rattle.markdown_inline.specs.Elements.{Placed, events_of}
+use Rattle.markdown_inline.specs.Elements.{Element, Placed, events_of, questions_of}
 use Rattle.markdown_inline.specs.NextGives.{IsPlacedOf}
-use Rattle.markdown_inline.specs.ParserLeft.{parser_callback, reading_of}
+use Rattle.markdown_inline.specs.ParserLeft.{elements, known_at_start, parser_callback, reading_of, rules_of}
+use Rattle.markdown_inline.specs.QuestionLaws.{AsksApart}
 use Rattle.markdown_inline.specs.Runs.{AreOf, GaveRest}
-use Rattle.markdown_inline.specs.WholeRun.{IsWhole, IsWholeFromStart, viewed}
+use Rattle.markdown_inline.specs.WholeRun.{AsksApartAndOnce, AsksOnce, IsWhole, IsWholeFromStart, viewed}
 use Rattle.markdown_inline.specs.declared.walk.Parser.{Parser}
 use Rattle.markdown_inline.proofs.BalancedLemmas.{balanced-law}
 use Rattle.markdown_inline.proofs.LimitLawLemmas.{limit-law}
 use Rattle.markdown_inline.proofs.NoLinkInLinkEventsLemmas.{no-link-law}
+use Rattle.markdown_inline.proofs.QuestionLawsLemmas.{document_asks, document_ends, each_also}
 
 -- events that are those of a reading, one by one
 viewed-ranged : (source : List ℕ) (given : List (Event × Range ℕ)) (events : List Placed) → AreOf IsPlacedOf source given events
@@ -38,12 +45,35 @@ whole_reading blocks asks answers =
           answers;
     }
 
+-- what a reading asks
+asks_once : (blocks : Blocks) (asks : Bool) (answers : Answers) → AsksOnce blocks asks (questions_of (reading_of blocks asks answers))
+asks_once blocks asks answers =
+    let source = block_text blocks in
+    let nodes = (block_tree blocks).nodes in
+    let tables = tables_at_start (block_parts blocks) in
+    let rules = rules_of blocks asks in
+    let s = setting_of source rules in
+    record {
+      at_most = document_asks source nodes tables rules (known_at_start source answers);
+      in_chains = each_also (AsksApart s) (λ chain. (above : Above) (known : Known) → AsksApartAndOnce s above known chain)
+          (λ chain apart above known. record { at_most = resolved_asks s plain_tags above chain known; apart = apart above known })
+          (document source tables nodes) (document_ends source nodes (block_parts blocks) tables rules blocks.well_formed);
+    }
+
 -- and of what into_events gives
 pub whole_run : {F : Type 0} (step : F → Question → Option Answer → F → Type 0) (p : Parser F) (given : List (Event × Range ℕ))
     (callback : Option F)
-    → GaveRest IsPlacedOf step p given callback → IsWholeFromStart p given
+    → GaveRest IsPlacedOf step p given callback → IsWholeFromStart step p given callback
 whole_run step p given callback r blocks reads =
     let answers : Answers = r.answers ++ [] in
-    let same : viewed given ≡ ranged (events_of (reading_of blocks (is_some (parser_callback p)) answers)) =
+    let asks = is_some (parser_callback p) in
+    let same : viewed given ≡ ranged (events_of (reading_of blocks asks answers)) =
     viewed-ranged _ given r.events r.are ∙ ap ranged (sym (r.left [])) ∙ ap (λ es. ranged (events_of es)) (reads answers) in
-    subst (IsWhole (block_text blocks)) (sym same) (whole_reading blocks (is_some (parser_callback p)) answers)
+    record {
+      events = subst (IsWhole (block_text blocks)) (sym same) (whole_reading blocks asks answers);
+      questions = questions_of (elements p r.answers);
+      answers = r.answers;
+      asked = r.asked;
+      once = subst (λ (es : List Element). AsksOnce blocks asks (questions_of es)) (sym (reads r.answers))
+          (asks_once blocks asks r.answers);
+    }

@@ -6,16 +6,22 @@ use Rattle.markdown_base.specs.Forest.{Forest, nil, node}
 use Rattle.markdown_base.specs.declared.item.Item.{Item}
 use Rattle.markdown_base.specs.declared.node.Node.{Node}
 use Rattle.markdown_base.specs.declared.tag.TagEnd.{TagEnd}
-use Rattle.markdown_chains.specs.Above.{Above, no_blocks, inside_label, inside_item, above_at}
-use Rattle.markdown_chains.specs.Counts.{ChainCounts, no_counts}
-use Rattle.markdown_chains.specs.Document.{Tags, plain_tags, Shape, leaf, enclosed, plain, backslash_break, unresolved}
-use Rattle.markdown_chains.specs.Document.{Label}
-use Rattle.markdown_chains.specs.Places.{trees_from}
-use Rattle.markdown_chains.specs.Setting.{Setting, Known}
-use Rattle.markdown_chains.specs.Tables.{Tables}
+use Rattle.markdown_document.specs.Above.{Above, no_blocks, inside_label, inside_item, above_at}
+use Rattle.markdown_document.specs.Counts.{ChainCounts, no_counts}
+use Rattle.markdown_document.specs.Document.{Tags, plain_tags, Shape, leaf, enclosed, plain, backslash_break}
+use Rattle.markdown_document.specs.Document.{unresolved}
+use Rattle.markdown_document.specs.Document.{Label}
+use Rattle.markdown_document.specs.Places.{trees_from}
+use Rattle.markdown_document.specs.Setting.{Setting, Known}
+use Rattle.markdown_document.specs.Tables.{Tables}
+use Rattle.markdown_document.specs.declared.work.Work.{Work}
 use Rattle.markdown_resolver.specs.ChainCounts.{chain_counts}
 use Rattle.markdown_inline.specs.Elements.{Placed}
 use Rattle.markdown_inline.specs.Walk.{closing}
+
+-- the counts before any chain is resolved
+abbrev pub no_work : Work
+no_work = record { delimiters = 0; examined = 0; items = 0; code_visits = 0; math_visits = 0 }
 
 -- the counts of the chain that is reached before an event, by what is known
 abbrev pub Counting : Type 0

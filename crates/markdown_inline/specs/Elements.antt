@@ -3,8 +3,8 @@ use Rattle.std.specs.Prelude.{ℕ, List, [], ◌∷◌}
 use Rattle.std.specs.declared.ops.Range.{Range}
 use Rattle.markdown_base.specs.Event.{EventView}
 use Rattle.markdown_base.specs.Questions.{Question}
-use Rattle.markdown_chains.specs.Document.{Origin}
-use Rattle.markdown_chains.specs.Setting.{Known}
+use Rattle.markdown_document.specs.Document.{Origin}
+use Rattle.markdown_document.specs.Setting.{Known}
 
 -- an event with its range, and with the origin of each of its texts
 abbrev pub Placed : Type 0

@@ -1,26 +1,16 @@
 -- References expand to few bytes: the destinations and titles that look-ups of labels found in a whole document, all
 -- but the last, have fewer bytes than the limit at the start.
-use Rattle.std.specs.Prelude.{ℕ, ◌+◌, ◌<◌, Bool, true, false, if◌then◌else◌, List, [], ◌∷◌, ◌++◌}
+use Rattle.std.specs.Prelude.{ℕ, ◌+◌, ◌<◌, Bool, if◌then◌else◌, List, [], ◌∷◌, ◌++◌, map}
 use Rattle.markdown_base.specs.Event.{TagView, link, image, LinkView, EventView, start, end}
 use Rattle.markdown_base.specs.Questions.{Answers}
-use Rattle.markdown_base.specs.declared.tag.LinkType.{LinkType}
-use Rattle.markdown_base.specs.declared.tag.LinkType.TheVariants as kind
-use Rattle.markdown_spans.specs.Blocks.{block_text}
-use Rattle.markdown_spans.specs.declared.blocks.Blocks.{Blocks}
+use Rattle.markdown_blocks.specs.Blocks.{block_text}
+use Rattle.markdown_blocks.specs.declared.blocks.Blocks.{Blocks}
 use Rattle.markdown_brackets.specs.Lookup.{size_of}
 use Rattle.markdown_inline.specs.Balanced.{Ranged, ranged}
 use Rattle.markdown_inline.specs.Elements.{events_of}
+use Rattle.markdown_inline.specs.LookUps.{is_looked_up}
 use Rattle.markdown_inline.specs.ParserLeft.{expansion_limit, reading_of}
-
--- the type of a link or an image whose label was looked up
-abbrev pub is_looked_up : LinkType → Bool
-is_looked_up kind.Reference = true
-is_looked_up kind.ReferenceUnknown = true
-is_looked_up kind.Collapsed = true
-is_looked_up kind.CollapsedUnknown = true
-is_looked_up kind.Shortcut = true
-is_looked_up kind.ShortcutUnknown = true
-is_looked_up other = false
+use Rattle.markdown_inline.specs.ResolvedDocument.{resolved_blocks}
 
 -- the bytes of destination and title, where they were looked up
 abbrev pub looked_up_size : LinkView → List ℕ
@@ -64,3 +54,8 @@ ExpandsBelow limit events = sum_but_last (expansions events) < limit
 abbrev pub LimitLaw : Type 0
 LimitLaw = (blocks : Blocks) (asks : Bool) (answers : Answers)
     → ExpandsBelow (expansion_limit (block_text blocks)) (ranged (events_of (reading_of blocks asks answers)))
+
+-- so it is of all that look-ups found for its tree, also of what no event shows
+abbrev pub LookUpLaw : Type 0
+LookUpLaw = (blocks : Blocks) (asks : Bool) (answers : Answers)
+    → sum_but_last (map size_of (resolved_blocks blocks asks answers).found) < expansion_limit (block_text blocks)

@@ -7,10 +7,10 @@ use Rattle.std.specs.Prelude.{slice_range}
 use Rattle.std.specs.declared.ops.Range.{Range}
 use Rattle.markdown_base.specs.Questions.{Question, Answer, Answers}
 use Rattle.markdown_base.specs.declared.event.Event.{Event}
-use Rattle.markdown_spans.specs.Callback.{Asks}
+use Rattle.markdown_defs.specs.Callback.{Asks}
 use Rattle.markdown_inline.specs.Elements.{Placed, Element, question, event}
-use Rattle.markdown_chains.specs.declared.work.Work.{Work}
-use Rattle.markdown_chains.specs.Counts.{no_counts, WorkRises}
+use Rattle.markdown_document.specs.declared.work.Work.{Work}
+use Rattle.markdown_document.specs.Counts.{no_counts, WorkRises}
 use Rattle.markdown_inline.specs.Counts.{LeavesAhead}
 use Rattle.markdown_inline.specs.NextGives.{IsPlacedOf}
 use Rattle.markdown_inline.specs.ParserLeft.{parser_text, parser_callback, parser_steps, parser_definitions}
@@ -20,9 +20,9 @@ use Rattle.markdown_base.specs.Item.{range_of}
 use Rattle.markdown_base.specs.declared.fault.Fault.{Fault}
 use Rattle.markdown_base.specs.declared.fault.Fault.TheVariants.{Memory}
 use Rattle.markdown_base.specs.declared.item.Item.{Item}
-use Rattle.markdown_spans.specs.Allocations.{Allocated}
-use Rattle.markdown_chains.specs.Document.{Shape, shape_of}
-use Rattle.markdown_chains.specs.Tables.{tables_of}
+use Rattle.markdown_defs.specs.Allocations.{Allocated}
+use Rattle.markdown_document.specs.Document.{Shape, shape_of}
+use Rattle.markdown_document.specs.Tables.{tables_of}
 use Rattle.markdown_inline.specs.WalkSteps.{CanBegin, OpensWith, TakesOnly, TreeStands, way_at}
 use Rattle.markdown_inline.specs.declared.bodies.Way.{Way}
 use Rattle.markdown_inline.specs.declared.walk.Stop.{Stop}

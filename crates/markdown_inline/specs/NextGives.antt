@@ -6,8 +6,8 @@ use Rattle.markdown_base.specs.Questions.{Question, Answer, Answers}
 use Rattle.markdown_base.specs.declared.event.Event.{Event}
 use Rattle.markdown_base.specs.declared.fault.Fault.{Fault}
 use Rattle.markdown_base.specs.declared.fault.Fault.TheVariants.{Memory}
-use Rattle.markdown_spans.specs.Callback.{Asks}
-use Rattle.markdown_chains.specs.Counts.{WorkRises}
+use Rattle.markdown_defs.specs.Callback.{Asks}
+use Rattle.markdown_document.specs.Counts.{WorkRises}
 use Rattle.markdown_inline.specs.Elements.{Placed, Element, question, event}
 use Rattle.markdown_inline.specs.ParserLeft.{parser_text, parser_definitions, parser_callback, elements, parser_counts}
 use Rattle.markdown_inline.specs.ParserLeft.{parser_work, IsOver}

@@ -4,7 +4,7 @@ use Rattle.markdown_base.specs.Event.{EventView, start, end, link}
 use Rattle.markdown_base.specs.Questions.{Answers}
 use Rattle.markdown_base.specs.declared.tag.LinkType.TheVariants as kind
 use Rattle.markdown_base.specs.declared.tag.TagEnd.TheVariants as closes
-use Rattle.markdown_spans.specs.declared.blocks.Blocks.{Blocks}
+use Rattle.markdown_blocks.specs.declared.blocks.Blocks.{Blocks}
 use Rattle.markdown_inline.specs.Balanced.{Ranged, ranged}
 use Rattle.markdown_inline.specs.Elements.{events_of}
 use Rattle.markdown_inline.specs.ParserLeft.{reading_of}

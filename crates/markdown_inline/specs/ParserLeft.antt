@@ -2,29 +2,27 @@
 -- the answers that its callback will give.
 use Rattle.std.specs.Prelude.{◌≡◌, ℕ, max, Bool, List, [], length, Option, is_some}
 use Rattle.std.specs.List.{list_any}
+use Rattle.markdown_base.specs.Arena.{Arena}
 use Rattle.markdown_base.specs.CowText.{text_of}
 use Rattle.markdown_base.specs.Questions.{Answers}
+use Rattle.markdown_base.specs.declared.item.Item.{Item}
 use Rattle.markdown_base.specs.declared.options.Options.{Options}
-use Rattle.markdown_spans.specs.Blocks.{block_text, block_options, block_tree, block_parts, IsOfText}
-use Rattle.markdown_spans.specs.Definitions.{Labelled, firsts}
-use Rattle.markdown_spans.specs.Folding.{is_match}
-use Rattle.markdown_spans.specs.declared.blocks.Blocks.{Blocks}
-use Rattle.markdown_chains.specs.Above.{no_blocks}
-use Rattle.markdown_chains.specs.Document.{plain_tags, document}
-use Rattle.markdown_chains.specs.Counts.{ChainCounts}
+use Rattle.markdown_blocks.specs.Blocks.{block_text, block_options, block_tree, block_parts, IsOfText}
+use Rattle.markdown_defs.specs.Definitions.{Labelled, firsts}
+use Rattle.markdown_defs.specs.Folding.{is_match}
+use Rattle.markdown_blocks.specs.declared.blocks.Blocks.{Blocks}
+use Rattle.markdown_document.specs.Above.{no_blocks}
+use Rattle.markdown_document.specs.Document.{plain_tags, document}
+use Rattle.markdown_document.specs.Counts.{ChainCounts}
 use Rattle.markdown_inline.specs.Counts.{tree_counts}
 use Rattle.markdown_inline.specs.Elements.{Element, nothing}
 use Rattle.markdown_inline.specs.Reading.{reading}
-use Rattle.markdown_chains.specs.Setting.{Rules, Setting, Known, rules_from, setting_of, uses_of}
-use Rattle.markdown_chains.specs.Tables.{tables_of, tables_at_start}
+use Rattle.markdown_document.specs.Setting.{Rules, Setting, Known, rules_from, setting_of, uses_of}
+use Rattle.markdown_document.specs.Tables.{tables_of, tables_at_start}
 use Rattle.markdown_inline.specs.WalkSteps.{tree_left, tree_steps}
 use Rattle.markdown_inline.specs.declared.walk.Parser.{Parser}
 use Rattle.markdown_inline.specs.declared.walk.OffsetIter.{OffsetIter}
-use Rattle.markdown_chains.specs.declared.work.Work.{Work}
-
--- no extension is on
-abbrev pub no_options : Options
-no_options = record { 0 = 0 }
+use Rattle.markdown_document.specs.declared.work.Work.{Work}
 
 -- how many bytes references may expand to, at the start
 abbrev pub expansion_limit : List ℕ → ℕ
@@ -34,11 +32,15 @@ expansion_limit source = max (length source) 100000
 abbrev pub known_at_start : List ℕ → Answers → Known
 known_at_start source answers = record { limit = expansion_limit source; answers = answers; uses = λ name. 0 }
 
+-- the definitions of a block result that can be found: of those with labels of equal folding the first
+abbrev pub block_definitions : Blocks → List Labelled
+block_definitions blocks = firsts (block_parts blocks).definitions.items
+
 -- what the rules of a chain go by in a block result, where there is somebody to ask and where not
 abbrev pub rules_of : Blocks → Bool → Rules
 rules_of blocks asks = record {
   options = block_options blocks;
-  definitions = firsts (block_parts blocks).definitions.items;
+  definitions = block_definitions blocks;
   is_footnote = λ name. list_any (λ n. is_match (text_of n) name) (block_parts blocks).footnotes.items;
   asks = asks;
 }
@@ -66,6 +68,10 @@ parser_callback p = p.resolver.callback
 abbrev pub parser_work : {F : Type 0} → Parser F → Work
 parser_work p = p.resolver.work
 
+-- the arena that it walks over
+abbrev pub parser_tree : {F : Type 0} → Parser F → Arena Item
+parser_tree p = p.tree
+
 -- what the rules of its chains go by
 abbrev pub parser_setting : {F : Type 0} → Parser F → Setting
 parser_setting p = setting_of p.resolver.text.now (rules_from p.resolver.options p.resolver.tables
@@ -92,9 +98,13 @@ abbrev pub ReadsBlocks : {F : Type 0} → Blocks → Parser F → Type 0
 ReadsBlocks blocks p = (answers : Answers)
     → elements p answers ≡ reading_of blocks (is_some (parser_callback p)) answers
 
--- the same of some block result of a text and options: one that is well formed and covers the text
-abbrev pub ReadsText : {F : Type 0} → List ℕ → Options → Parser F → Type 0
-ReadsText text options p = (blocks : Blocks) × IsOfText text options blocks × ReadsBlocks blocks p
+-- the same of some block result of a text and options: one that is well formed and covers the text. The definitions
+-- that can be found are those of this block result.
+pub record ReadsText {F : Type 0} (text : List ℕ) (options : Options) (p : Parser F) : Type 0 where
+  pub blocks : Blocks
+  pub of_text : IsOfText text options blocks
+  pub left : ReadsBlocks blocks p
+  pub definitions : parser_definitions p ≡ block_definitions blocks
 
 -- a bound on the steps to come, and so on the items
 abbrev pub parser_steps : {F : Type 0} → Parser F → ℕ

@@ -9,10 +9,10 @@ use Rattle.markdown_base.specs.declared.item.Item.{Item}
 use Rattle.markdown_base.specs.declared.node.Node.{Node}
 use Rattle.markdown_brackets.specs.QuestionEnds.{AsksAtMost, EndApart}
 use Rattle.markdown_brackets.specs.Reference.{is_closer}
-use Rattle.markdown_chains.specs.Above.{Above, no_blocks}
-use Rattle.markdown_chains.specs.Document.{Plain, document, plain_tags}
-use Rattle.markdown_chains.specs.Setting.{Known, Rules, Setting, setting_of}
-use Rattle.markdown_chains.specs.Tables.{Tables}
+use Rattle.markdown_document.specs.Above.{Above, no_blocks}
+use Rattle.markdown_document.specs.Document.{Plain, document, plain_tags}
+use Rattle.markdown_document.specs.Setting.{Known, Rules, Setting, setting_of}
+use Rattle.markdown_document.specs.Tables.{Tables}
 use Rattle.markdown_inline.specs.Elements.{Element, nothing, questions_of}
 use Rattle.markdown_inline.specs.Reading.{reading}
 use Rattle.markdown_resolver.specs.ChainQuestions.{EachChain}

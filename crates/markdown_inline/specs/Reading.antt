@@ -4,12 +4,12 @@ use Rattle.std.specs.Prelude.{ℕ, List, [], ◌++◌, map}
 use Rattle.std.specs.declared.ops.Range.{Range}
 use Rattle.markdown_base.specs.Event.{start, end, end_of, hard_break}
 use Rattle.markdown_base.specs.Forest.{Forest, nil, node}
-use Rattle.markdown_chains.specs.Document.{Tags, Shape, leaf, enclosed, plain, backslash_break, unresolved, Label}
+use Rattle.markdown_document.specs.Document.{Tags, Shape, leaf, enclosed, plain, backslash_break, unresolved, Label}
 use Rattle.markdown_inline.specs.Elements.{Element, question, Reading, then_reads}
 use Rattle.markdown_resolver.specs.PassOne.{Outcome}
 use Rattle.markdown_resolver.specs.Resolved.{resolved, all_paired}
-use Rattle.markdown_chains.specs.Above.{Above, inside_label}
-use Rattle.markdown_chains.specs.Setting.{Setting}
+use Rattle.markdown_document.specs.Above.{Above, inside_label}
+use Rattle.markdown_document.specs.Setting.{Setting}
 
 -- the reading of a tree over a range, where `inside` reads what is below it before what follows, `after`
 -- follows, and `whole` is the reading of the chain from this tree on, where it is open

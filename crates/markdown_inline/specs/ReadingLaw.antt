@@ -1,9 +1,9 @@
 -- The law on which a walk rests that resolves a chain when it stands before it, and the chains of children later.
 use Rattle.std.specs.Prelude.{◌≡◌}
 use Rattle.markdown_base.specs.Forest.{Forest}
-use Rattle.markdown_chains.specs.Above.{Above}
-use Rattle.markdown_chains.specs.Document.{Plain, plain_tags}
-use Rattle.markdown_chains.specs.Setting.{Setting, Known}
+use Rattle.markdown_document.specs.Above.{Above}
+use Rattle.markdown_document.specs.Document.{Plain, plain_tags}
+use Rattle.markdown_document.specs.Setting.{Setting, Known}
 use Rattle.markdown_inline.specs.Elements.{Reading}
 use Rattle.markdown_inline.specs.Reading.{settled_reading, reading}
 use Rattle.markdown_resolver.specs.Kept.{IsQuietBelow}

@@ -3,8 +3,8 @@ use Rattle.std.specs.Prelude.{◌≡◌, ◌⊎◌, ℕ, List, [], ◌∷◌, �
 use Rattle.markdown_base.specs.Questions.{Question, Answer, Answers}
 use Rattle.markdown_base.specs.declared.fault.Fault.{Fault}
 use Rattle.markdown_base.specs.declared.fault.Fault.TheVariants.{Memory}
-use Rattle.markdown_spans.specs.Callback.{Asks}
-use Rattle.markdown_inline.specs.Elements.{Placed, events_of, questions_of}
+use Rattle.markdown_defs.specs.Callback.{Asks}
+use Rattle.markdown_inline.specs.Elements.{Element, Placed, events_of, questions_of}
 use Rattle.markdown_inline.specs.ParserLeft.{parser_text, parser_callback, elements}
 use Rattle.markdown_inline.specs.declared.walk.Parser.{Parser}
 
@@ -16,30 +16,6 @@ module _ {I : Type 0} (is_of : List ℕ → I → Placed → Type 0) where
   AreOf source (item ∷ items) [] = ⊥
   AreOf source (item ∷ items) (placed ∷ events) = is_of source item placed × AreOf source items events
 
-  -- the items are all events that were left, for the answers given
-  pub record GaveAll {F : Type 0} (p : Parser F) (all : List (Result I Fault)) : Type 0 where
-    pub given : List I
-    pub no_fault : all ≡ map (λ item. Ok item) given
-    pub events : List Placed
-    pub are : AreOf (parser_text p) given events
-    pub answers : Answers
-    pub left : (later : Answers) → events_of (elements p (answers ++ later)) ≡ events
-
-  -- the items are a beginning of the events that were left, whatever answers would have followed, and then
-  -- an error, after which nothing came
-  pub record WasRefused {F : Type 0} (p : Parser F) (all : List (Result I Fault)) : Type 0 where
-    pub given : List I
-    pub one_fault : all ≡ map (λ item. Ok item) given ++ Err Memory ∷ []
-    pub events : List Placed
-    pub are : AreOf (parser_text p) given events
-    pub answers : Answers
-    pub begins : (later : Answers) → (others : List Placed) × (events_of (elements p (answers ++ later)) ≡ events
-        ++ others)
-
-  -- there is no third way
-  abbrev pub IsRun : {F : Type 0} → Parser F → List (Result I Fault) → Type 0
-  IsRun p all = GaveAll p all ⊎ WasRefused p all
-
   -- the items are all events that were left, for the answers that the callback gave to all questions that were left
   pub record GaveRest {F : Type 0} (step : F → Question → Option Answer → F → Type 0) (p : Parser F) (given : List I)
       (callback : Option F) : Type 0 where
@@ -48,3 +24,34 @@ module _ {I : Type 0} (is_of : List ℕ → I → Placed → Type 0) where
     pub answers : Answers
     pub asked : Asks step (parser_callback p) (questions_of (elements p answers)) answers callback
     pub left : (later : Answers) → events_of (elements p (answers ++ later)) ≡ events
+
+  -- the items are the events of a beginning of what was left, for the answers that the callback gave to the questions
+  -- of this beginning, and whatever answers would have followed
+  pub record GaveBeginning {F : Type 0} (step : F → Question → Option Answer → F → Type 0) (p : Parser F)
+      (given : List I) (callback : Option F) : Type 0 where
+    pub first : List Element
+    pub are : AreOf (parser_text p) given (events_of first)
+    pub answers : Answers
+    pub asked : Asks step (parser_callback p) (questions_of first) answers callback
+    pub begins : (later : Answers) → (others : List Element) × (elements p (answers ++ later) ≡ first ++ others)
+
+  -- the items are all that was left
+  pub record GaveAll {F : Type 0} (step : F → Question → Option Answer → F → Type 0) (p : Parser F)
+      (all : List (Result I Fault)) : Type 0 where
+    pub given : List I
+    pub no_fault : all ≡ map (λ item. Ok item) given
+    pub callback : Option F
+    pub rest : GaveRest step p given callback
+
+  -- the items are a beginning of what was left, and then an error, after which nothing came
+  pub record WasRefused {F : Type 0} (step : F → Question → Option Answer → F → Type 0) (p : Parser F)
+      (all : List (Result I Fault)) : Type 0 where
+    pub given : List I
+    pub one_fault : all ≡ map (λ item. Ok item) given ++ Err Memory ∷ []
+    pub callback : Option F
+    pub beginning : GaveBeginning step p given callback
+
+  -- there is no third way
+  abbrev pub IsRun : {F : Type 0} → (F → Question → Option Answer → F → Type 0) → Parser F → List (Result I Fault)
+      → Type 0
+  IsRun step p all = GaveAll step p all ⊎ WasRefused step p all

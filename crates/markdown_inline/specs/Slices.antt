@@ -7,8 +7,8 @@ use Rattle.markdown_base.specs.declared.event.Event.{Event}
 use Rattle.markdown_base.specs.declared.tag.LinkType.{LinkType}
 use Rattle.markdown_base.specs.declared.tag.Tag.{Tag}
 use Rattle.markdown_base.specs.declared.tag.Tag.TheVariants as opens
-use Rattle.markdown_chains.specs.Origins.{Origin, sliced, made, origin_of, StandsIn, IsLinkFrom}
-use Rattle.markdown_chains.specs.Tables.{link_view}
+use Rattle.markdown_document.specs.Origins.{Origin, sliced, made, origin_of, StandsIn, IsLinkFrom}
+use Rattle.markdown_document.specs.Tables.{link_view}
 
 -- a text is borrowed, and is the source's bytes over some range
 abbrev pub IsSliceOf : List ℕ → CowStr → Type 0

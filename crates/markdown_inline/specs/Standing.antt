@@ -11,11 +11,11 @@ use Rattle.markdown_base.specs.Forest.{Forest, nil, node}
 use Rattle.markdown_base.specs.Item.{LiesIn, LiesIn-prop}
 use Rattle.markdown_base.specs.declared.item.Item.{Item}
 use Rattle.markdown_base.specs.declared.node.Node.{Node}
-use Rattle.markdown_chains.specs.Document.{Label}
+use Rattle.markdown_document.specs.Document.{Label}
 use Rattle.markdown_resolver.specs.Kept.{IsQuiet, IsQuietBelow, IsKept}
 use Rattle.markdown_inline.specs.WalkTotals.{times_left, named_left}
-use Rattle.markdown_chains.specs.Places.{IsPlaced-prop, IsPlaced, trees_from}
-use Rattle.markdown_chains.specs.Tables.{Tables, Named}
+use Rattle.markdown_document.specs.Places.{IsPlaced-prop, IsPlaced, trees_from}
+use Rattle.markdown_document.specs.Tables.{Tables, Named}
 
 -- the chains that follow the nodes of a spine are kept
 abbrev pub AboveKept : List ℕ → Tables → List (Node Item) → List ℕ → Type 0

@@ -9,14 +9,14 @@ use Rattle.markdown_base.specs.declared.item.Item.{Item}
 use Rattle.markdown_base.specs.declared.item.ItemBody.{ItemBody}
 use Rattle.markdown_base.specs.declared.node.Node.{Node}
 use Rattle.markdown_base.specs.declared.tag.TagEnd.{TagEnd}
-use Rattle.markdown_chains.specs.Document.{plain_tags, Shape, leaf, enclosed, plain, backslash_break, unresolved}
-use Rattle.markdown_chains.specs.Document.{shape_of}
+use Rattle.markdown_document.specs.Document.{plain_tags, Shape, leaf, enclosed, plain, backslash_break, unresolved}
+use Rattle.markdown_document.specs.Document.{shape_of}
 use Rattle.markdown_inline.specs.Elements.{Reading, nothing, then_reads}
 use Rattle.markdown_inline.specs.Reading.{reading}
-use Rattle.markdown_chains.specs.Above.{Above, no_blocks, inside_item, above_at}
-use Rattle.markdown_chains.specs.Setting.{Setting}
-use Rattle.markdown_chains.specs.Places.{trees_from}
-use Rattle.markdown_chains.specs.Tables.{Tables, no_tables}
+use Rattle.markdown_document.specs.Above.{Above, no_blocks, inside_item, above_at}
+use Rattle.markdown_document.specs.Setting.{Setting}
+use Rattle.markdown_document.specs.Places.{trees_from}
+use Rattle.markdown_document.specs.Tables.{Tables, no_tables}
 
 -- the End of a tree that was begun
 abbrev pub end_of_shape : Shape → Option TagEnd

@@ -12,15 +12,16 @@ use Rattle.markdown_base.specs.declared.event.Event.{Event}
 use Rattle.markdown_base.specs.declared.item.Item.{Item}
 use Rattle.markdown_base.specs.declared.item.ItemBody.{ItemBody}
 use Rattle.markdown_base.specs.declared.tag.TagEnd.{TagEnd}
-use Rattle.markdown_spans.specs.Allocations.{Allocated}
-use Rattle.markdown_chains.specs.Document.{Origin, Shape, leaf, enclosed, plain, backslash_break, unresolved, shape_of}
-use Rattle.markdown_chains.specs.Places.{HasSlices}
+use Rattle.markdown_defs.specs.Allocations.{Allocated}
+use Rattle.markdown_document.specs.Document.{Origin, Shape, leaf, enclosed, plain, backslash_break, unresolved}
+use Rattle.markdown_document.specs.Document.{shape_of}
+use Rattle.markdown_document.specs.Places.{HasSlices}
 use Rattle.markdown_inline.specs.Elements.{Placed, Reading, event}
-use Rattle.markdown_chains.specs.Setting.{Rules, Setting, Known, setting_of}
+use Rattle.markdown_document.specs.Setting.{Rules, Setting, Known, setting_of}
 use Rattle.markdown_inline.specs.Slices.{texts_of, AreFrom, StartIsFrom}
 use Rattle.markdown_inline.specs.Standing.{Stands}
-use Rattle.markdown_chains.specs.Totals.{times_named}
-use Rattle.markdown_chains.specs.Tables.{Tables, Named, NamesEntries, tables_of, no_tables, IsSameEntry, IsNoShorter}
+use Rattle.markdown_document.specs.Totals.{times_named}
+use Rattle.markdown_document.specs.Tables.{Tables, Named, NamesEntries, tables_of, no_tables, IsSameEntry, IsNoShorter}
 use Rattle.markdown_inline.specs.WalkTotals.{steps_of}
 use Rattle.markdown_inline.specs.Counts.{tree_counts, LeavesAhead}
 use Rattle.markdown_inline.specs.Walk.{left_of, closing}

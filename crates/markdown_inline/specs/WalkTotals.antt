@@ -6,8 +6,8 @@ use Rattle.markdown_base.specs.BlockTree.{item_at}
 use Rattle.markdown_base.specs.Item.{is_open}
 use Rattle.markdown_base.specs.declared.item.Item.{Item}
 use Rattle.markdown_base.specs.declared.node.Node.{Node}
-use Rattle.markdown_chains.specs.Totals.{weight_at, total, same, naming}
-use Rattle.markdown_chains.specs.Tables.{Named}
+use Rattle.markdown_document.specs.Totals.{weight_at, total, same, naming}
+use Rattle.markdown_document.specs.Tables.{Named}
 
 -- the sum over what is above the chain at hand: each node gone into counts `gone`, what follows it counts `count`
 abbrev pub climbed : (gone count : ℕ → ℕ) → Links → List ℕ → ℕ

@@ -1,15 +1,26 @@
--- What callers may rely on in the events of a whole document.
-use Rattle.std.specs.Prelude.{ℕ, List, map}
+-- What callers may rely on in the events of a whole document, and in what is asked on the way.
+use Rattle.std.specs.Prelude.{ℕ, Bool, List, map, Option, is_some}
 use Rattle.std.specs.declared.ops.Range.{Range}
 use Rattle.markdown_base.specs.Event.{event_view}
+use Rattle.markdown_base.specs.Forest.{Forest, roots}
+use Rattle.markdown_base.specs.Questions.{Question, Answer, Answers}
 use Rattle.markdown_base.specs.declared.event.Event.{Event}
-use Rattle.markdown_spans.specs.Blocks.{block_text}
-use Rattle.markdown_spans.specs.declared.blocks.Blocks.{Blocks}
+use Rattle.markdown_blocks.specs.Blocks.{block_text, block_tree, block_parts}
+use Rattle.markdown_blocks.specs.declared.blocks.Blocks.{Blocks}
+use Rattle.markdown_brackets.specs.QuestionEnds.{AsksAtMost, EndApart, closers_among}
+use Rattle.markdown_defs.specs.Callback.{Asks}
+use Rattle.markdown_document.specs.Above.{Above}
+use Rattle.markdown_document.specs.Document.{Plain, document, plain_tags}
+use Rattle.markdown_document.specs.Setting.{Known, Setting, setting_of}
+use Rattle.markdown_document.specs.Tables.{tables_at_start}
 use Rattle.markdown_inline.specs.Balanced.{Ranged, AreBalanced}
 use Rattle.markdown_inline.specs.LimitLaw.{ExpandsBelow}
 use Rattle.markdown_inline.specs.NoLinkInLinkEvents.{NoLinkInLink}
-use Rattle.markdown_inline.specs.ParserLeft.{ReadsBlocks, expansion_limit}
+use Rattle.markdown_inline.specs.ParserLeft.{ReadsBlocks, expansion_limit, parser_callback, rules_of}
+use Rattle.markdown_inline.specs.QuestionLaws.{closers_of}
 use Rattle.markdown_inline.specs.declared.walk.Parser.{Parser}
+use Rattle.markdown_resolver.specs.ChainQuestions.{EachChain}
+use Rattle.markdown_resolver.specs.Resolved.{resolved}
 
 -- events without the memory that holds their texts
 abbrev pub viewed : List (Event × Range ℕ) → List Ranged
@@ -21,6 +32,30 @@ pub record IsWhole (source : List ℕ) (events : List Ranged) : Type 0 where
   pub links_apart : NoLinkInLink events
   pub expands : ExpandsBelow (expansion_limit source) events
 
--- so are those that were left of a parser, if all of the reading of a block result was
-abbrev pub IsWholeFromStart : {F : Type 0} → Parser F → List (Event × Range ℕ) → Type 0
-IsWholeFromStart p given = (blocks : Blocks) → ReadsBlocks blocks p → IsWhole (block_text blocks) (viewed given)
+-- a chain asks at most one question for each of its `]`, none where the limit is 0 by then, and no two that end at the
+-- same byte
+pub record AsksApartAndOnce (s : Setting) (above : Above) (known : Known) (chain : Forest Plain) : Type 0 where
+  pub at_most : AsksAtMost (closers_among (roots chain)) known.limit (resolved s plain_tags above chain known).questions
+  pub apart : EndApart (resolved s plain_tags above chain known).questions
+
+-- so it is of each chain of a block result; and all that is asked of it are no more questions than it has `]`
+pub record AsksOnce (blocks : Blocks) (asks : Bool) (questions : List Question) : Type 0 where
+  pub at_most : AsksAtMost (closers_of (block_tree blocks).nodes) (expansion_limit (block_text blocks)) questions
+  pub in_chains : EachChain (λ (chain : Forest Plain). (above : Above) (known : Known)
+      → AsksApartAndOnce (setting_of (block_text blocks) (rules_of blocks asks)) above known chain)
+      (document (block_text blocks) (tables_at_start (block_parts blocks)) (block_tree blocks).nodes)
+
+-- these events were left of a parser of a block result, and the callback went by such questions
+pub record IsWholeRun {F : Type 0} (step : F → Question → Option Answer → F → Type 0) (blocks : Blocks) (p : Parser F)
+    (given : List (Event × Range ℕ)) (callback : Option F) : Type 0 where
+  pub events : IsWhole (block_text blocks) (viewed given)
+  pub questions : List Question
+  pub answers : Answers
+  pub asked : Asks step (parser_callback p) questions answers callback
+  pub once : AsksOnce blocks (is_some (parser_callback p)) questions
+
+-- so it is if all of the reading of a block result was left of it
+abbrev pub IsWholeFromStart : {F : Type 0} → (F → Question → Option Answer → F → Type 0) → Parser F
+    → List (Event × Range ℕ) → Option F → Type 0
+IsWholeFromStart step p given callback = (blocks : Blocks) → ReadsBlocks blocks p
+    → IsWholeRun step blocks p given callback

@@ -3,10 +3,10 @@ ghost use Rattle.std.specs.Prelude.{◌≡◌, ◌<◌, ◌∷◌, [], IfOk, IfS
 ghost use Rattle.markdown_base.specs.Event.{event_view, tag_view, link, image};
 ghost use Rattle.markdown_base.specs.CowText.{text_of};
 ghost use Rattle.markdown_base.specs.Item.{LiesIn};
-ghost use Rattle.markdown_spans.specs.Allocations.{HasLink, LeavesEmptyLink};
-ghost use Rattle.markdown_chains.specs.Document.{container_of, enclosed, math, shape_of};
-ghost use Rattle.markdown_chains.specs.Places.{HasSliceLink, HasSlices};
-ghost use Rattle.markdown_chains.specs.Tables.{NamesEntries, link_at, tables_of};
+ghost use Rattle.markdown_defs.specs.Allocations.{HasLink, LeavesEmptyLink};
+ghost use Rattle.markdown_document.specs.Document.{container_of, enclosed, math, shape_of};
+ghost use Rattle.markdown_document.specs.Places.{HasSliceLink, HasSlices};
+ghost use Rattle.markdown_document.specs.Tables.{NamesEntries, link_at, tables_of};
 ghost use Rattle.markdown_inline.specs.Slices.{TagIsFrom, texts_of};
 ghost use Rattle.markdown_inline.specs.WalkSteps.{CanBegin, ClosesTo, OpensWith, TakesOnly, way_at};
 
@@ -16,7 +16,7 @@ use markdown_base::event::Event;
 use markdown_base::index::LinkIndex;
 use markdown_base::item::{Item, ItemBody};
 use markdown_base::tag::{CodeBlockKind, Tag, TagEnd};
-use markdown_spans::defs::Allocations;
+use markdown_defs::Allocations;
 use std::alloc::{AllocError, Global};
 
 /// How a walk goes at an item, by its body.

@@ -4,15 +4,15 @@ ghost use Rattle.std.specs.Prelude.{◌≡◌, IfOk, IfSome, List, map, ℕ};
 ghost use Rattle.std.specs.Option.{option_map};
 ghost use Rattle.markdown_base.specs.CowText.{text_of};
 ghost use Rattle.markdown_base.specs.Event.{attribute_view, heading, tag_view};
-ghost use Rattle.markdown_spans.specs.Allocations.{HasHeading};
-ghost use Rattle.markdown_chains.specs.Tables.{attributes_for, attributes_view, heading_with};
+ghost use Rattle.markdown_defs.specs.Allocations.{HasHeading};
+ghost use Rattle.markdown_document.specs.Tables.{attributes_for, attributes_view, heading_with};
 ghost use Rattle.markdown_inline.specs.Slices.{TagIsFrom};
 
 use markdown_base::block_parts::HeadingAttributes;
 use markdown_base::cow_str::CowStr;
 use markdown_base::index::HeadingIndex;
 use markdown_base::tag::{HeadingLevel, Tag};
-use markdown_spans::defs::Allocations;
+use markdown_defs::Allocations;
 use std::alloc::{AllocError, Global};
 
 /// A heading with the attributes that it names, or with none. An error where memory for copies is refused.

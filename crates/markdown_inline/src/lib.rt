@@ -19,8 +19,8 @@ pub use markdown_base::tag::{
     Alignment, BlockQuoteKind, CodeBlockKind, HeadingLevel, LinkType, MetadataBlockKind, Tag,
     TagEnd,
 };
-pub use markdown_spans::blocks::Blocks;
-pub use markdown_spans::defs::{
+pub use markdown_blocks::Blocks;
+pub use markdown_defs::{
     BoxedCallback, BrokenLink, BrokenLinkCallback, Closure, DefaultBrokenLinkCallback, RefDefs,
 };
 pub use walk::{OffsetIter, Parser};

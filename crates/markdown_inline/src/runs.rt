@@ -7,8 +7,8 @@ ghost use Rattle.markdown_inline.specs.Runs.{IsRun};
 
 use crate::walk::{OffsetIter, Parser};
 use markdown_base::event::Event;
-use markdown_spans::blocks::Fault;
-use markdown_spans::defs::BrokenLinkCallback;
+use markdown_blocks::Fault;
+use markdown_defs::BrokenLinkCallback;
 use std::alloc::{AllocError, Global};
 use std::ops::Range;
 
@@ -18,7 +18,7 @@ pub fn gather<'input, F: BrokenLinkCallback<'input>>(
     alloc: Global,
 ) -> Result<Vec<Result<Event<'input>, Fault>>, AllocError>
     requires { IfSome (parser_callback parser) F.can_ask }
-    ensures { IfOk result (λ all. IsRun IsEventOf parser.entry all.items) }
+    ensures { IfOk result (λ all. IsRun IsEventOf F.answers parser.entry all.items) }
 {
     parser.collect(alloc)
 }
@@ -29,7 +29,7 @@ pub fn gather_offsets<'input, F: BrokenLinkCallback<'input>>(
     alloc: Global,
 ) -> Result<Vec<Result<(Event<'input>, Range<usize>), Fault>>, AllocError>
     requires { IfSome (parser_callback (offset_parser iter)) F.can_ask }
-    ensures { IfOk result (λ all. IsRun IsPlacedOf (offset_parser iter.entry) all.items) }
+    ensures { IfOk result (λ all. IsRun IsPlacedOf F.answers (offset_parser iter.entry) all.items) }
 {
     iter.collect(alloc)
 }

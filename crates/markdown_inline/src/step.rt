@@ -1,7 +1,7 @@
 //! One step of a walk over a tree of items.
 ghost use Rattle.std.specs.Prelude.{◌≡◌, ◌<◌, List, None, Some, MatchResult, length, ℕ};
-ghost use Rattle.markdown_spans.specs.Allocations.{Allocated};
-ghost use Rattle.markdown_chains.specs.Tables.{tables_of};
+ghost use Rattle.markdown_defs.specs.Allocations.{Allocated};
+ghost use Rattle.markdown_document.specs.Tables.{tables_of};
 ghost use Rattle.markdown_inline.specs.WalkSteps.{StepGives, TreeStands, IsRefused};
 
 use crate::bodies::{Way, close_item, way_of};

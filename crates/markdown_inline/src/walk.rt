@@ -1,24 +1,23 @@
 //! The walk over a block result that gives its events, and resolves each chain when it stands before it.
 ghost use Rattle.std.specs.Prelude.{◌≡◌, ◌<◌, ◌++◌, ◌∷◌, [], IfOk, IfErr, IfSome, IsTrue, None};
 ghost use Rattle.markdown_inline.specs.Standing.{Stands, Stands-prop};
-ghost use Rattle.markdown_chains.specs.Tables.{tables_of};
+ghost use Rattle.markdown_document.specs.Tables.{tables_of};
 
 use crate::bodies::{leaf_event, start_tag};
 use crate::step::{Step, take_step};
-use bitflags::Flags;
 use markdown_base::event::Event;
 use markdown_base::item::Item;
 use markdown_base::options::Options;
 use markdown_base::tag::TagEnd;
 use markdown_base::tree::Tree;
+use markdown_blocks::{Blocks, Fault};
 use markdown_brackets::chain_openers::ChainOpeners;
 use markdown_brackets::spent_ends::SpentEnds;
-use markdown_chains::work::Work;
-use markdown_code::span_closers::SpanClosers;
+use markdown_defs::{Allocations, BrokenLinkCallback, DefaultBrokenLinkCallback, RefDefs};
 use markdown_delims::open_runs::OpenRuns;
+use markdown_document::work::Work;
 use markdown_resolver::resolver::Resolver;
-use markdown_spans::blocks::{Blocks, Fault};
-use markdown_spans::defs::{Allocations, BrokenLinkCallback, DefaultBrokenLinkCallback, RefDefs};
+use markdown_spans::span_closers::SpanClosers;
 use std::alloc::Global;
 use std::fmt;
 use std::iter::FusedIterator;
@@ -51,7 +50,7 @@ pub enum Stop {
 /// ```
 #[derive(Drop)]
 pub struct Parser<'input, F = DefaultBrokenLinkCallback> {
-    /// For copies of heading attributes.
+    /// For copies of heading attributes, and for the list of all that is left.
     alloc: Global,
     tree: Tree<Item>,
     resolver: Resolver<'input, F>,
@@ -161,13 +160,13 @@ impl<'input, F: BrokenLinkCallback<'input>> Parser<'input, F> {
     }
 
     /// All that is left, with its ranges. The only error is `Fault::Memory`.
-    fn take_rest(&mut self, alloc: Global) -> Result<Vec<(Event<'input>, Range<usize>)>, Fault>
+    fn take_rest(&mut self) -> Result<Vec<(Event<'input>, Range<usize>)>, Fault>
         requires { IfSome (parser_callback self.old) F.can_ask }
         ensures all { IfOk result (λ given.
             GaveRest IsPlacedOf F.answers self.old given.items (parser_callback self.new)) }
         ensures refused { IfErr result (λ fault. fault ≡ Fault.Memory) }
     {
-        let mut events = Vec::new(alloc);
+        let mut events = Vec::new(self.alloc);
         'walk: while let Some(item) = self.next_placed() {
             match item {
                 Err(fault) => return Err(fault),
@@ -184,7 +183,13 @@ impl<'input, F: BrokenLinkCallback<'input>> Parser<'input, F> {
 
 impl<'input, F> Parser<'input, F> {
     ghost use Rattle.std.specs.Prelude.{◌≡◌, ◌≤◌, IfSome};
+    ghost use Rattle.markdown_inline.specs.OneForest.{ReadsOneForest};
     ghost use Rattle.markdown_inline.specs.ParserLeft.{parser_callback, parser_steps};
+
+    /// A fact of every parser, and no code: what is left of it is one forest, in which no item stands twice.
+    pub fn reads_one_forest(&self)
+        ensures { ReadsOneForest self.now }
+    {}
 
     /// Whom it asks.
     fn into_callback(self) -> Option<F>
@@ -268,6 +273,18 @@ impl<'input, F: BrokenLinkCallback<'input>> Iterator for OffsetIter<'input, F> {
 
 impl<'input, F: BrokenLinkCallback<'input>> FusedIterator for OffsetIter<'input, F> {}
 
+impl<'input, F> OffsetIter<'input, F> {
+    ghost use Rattle.markdown_inline.specs.OneForest.{ReadsOneForest};
+    ghost use Rattle.markdown_inline.specs.ParserLeft.{offset_parser};
+
+    /// A fact of every iterator, and no code: what is left of it is one forest, in which no item stands twice.
+    pub fn reads_one_forest(&self)
+        ensures { ReadsOneForest (offset_parser self.now) }
+    {
+        self.inner.reads_one_forest()
+    }
+}
+
 /// Without the tree and what it names, which may be as long as the text, and without the callback.
 impl<'input, F> fmt::Debug for Parser<'input, F> {
     fn fmt<W: fmt::Write>(&self, f: &mut fmt::Formatter<W>) -> fmt::Result {
@@ -289,13 +306,16 @@ impl<'input, F> fmt::Debug for OffsetIter<'input, F> {
 
 impl<'input> Parser<'input, DefaultBrokenLinkCallback> {
     ghost use Rattle.std.specs.Prelude.{◌≡◌, IfOk, IfErr};
-    ghost use Rattle.markdown_inline.specs.ParserLeft.{ReadsText, parser_text, parser_callback, no_options};
+    ghost use Rattle.markdown_base.specs.EnabledOptions.{no_options};
+    ghost use Rattle.markdown_inline.specs.Counts.{no_work};
+    ghost use Rattle.markdown_inline.specs.ParserLeft.{ReadsText, parser_text, parser_callback, parser_work};
 
     /// A parser of a text, with no extension.
     pub fn new(alloc: Global, text: &'input str) -> Result<Self, Fault>
         ensures left { IfOk result (ReadsText text.entry.now no_options) }
         ensures text { IfOk result (λ p. parser_text p ≡ text.entry.now) }
         ensures callback { IfOk result (λ p. parser_callback p ≡ None) }
+        ensures work { IfOk result (λ p. parser_work p ≡ no_work) }
         ensures refused { IfErr result (λ fault. fault ≡ Fault.Memory) }
     {
         Parser::new_ext(alloc, text, Options::empty())
@@ -306,6 +326,7 @@ impl<'input> Parser<'input, DefaultBrokenLinkCallback> {
         ensures left { IfOk result (ReadsText text.entry.now options) }
         ensures text { IfOk result (λ p. parser_text p ≡ text.entry.now) }
         ensures callback { IfOk result (λ p. parser_callback p ≡ None) }
+        ensures work { IfOk result (λ p. parser_work p ≡ no_work) }
         ensures refused { IfErr result (λ fault. fault ≡ Fault.Memory) }
     {
         Parser::new_with_broken_link_callback(alloc, text, options, None)
@@ -314,10 +335,11 @@ impl<'input> Parser<'input, DefaultBrokenLinkCallback> {
 
 impl<'input, F: BrokenLinkCallback<'input>> Parser<'input, F> {
     ghost use Rattle.std.specs.Prelude.{◌≡◌, IfOk, IfErr, IfSome};
-    ghost use Rattle.markdown_spans.specs.Blocks.{block_text, block_parts};
-    ghost use Rattle.markdown_spans.specs.Definitions.{firsts};
+    ghost use Rattle.markdown_blocks.specs.Blocks.{block_text};
+    ghost use Rattle.markdown_inline.specs.Counts.{no_work};
+    ghost use Rattle.markdown_inline.specs.CountsLaw.{CountsLaw, RisesPlainly};
     ghost use Rattle.markdown_inline.specs.ParserLeft.{ReadsText, ReadsBlocks, parser_text, parser_callback};
-    ghost use Rattle.markdown_inline.specs.ParserLeft.{parser_definitions, parser_work, offset_parser};
+    ghost use Rattle.markdown_inline.specs.ParserLeft.{block_definitions, parser_definitions, parser_work, offset_parser};
 
     /// A parser of a text, which asks `callback`, where there is one, about each link label that is
     /// defined nowhere.
@@ -330,6 +352,7 @@ impl<'input, F: BrokenLinkCallback<'input>> Parser<'input, F> {
         ensures left { IfOk result (ReadsText text.entry.now options) }
         ensures text { IfOk result (λ p. parser_text p ≡ text.entry.now) }
         ensures callback { IfOk result (λ p. parser_callback p ≡ callback) }
+        ensures work { IfOk result (λ p. parser_work p ≡ no_work) }
         ensures refused { IfErr result (λ fault. fault ≡ Fault.Memory) }
     {
         let blocks = Blocks::of_text(alloc, text, options)?;
@@ -344,9 +367,9 @@ impl<'input, F: BrokenLinkCallback<'input>> Parser<'input, F> {
     ) -> Result<Self, Fault>
         ensures left { IfOk result (ReadsBlocks blocks.entry) }
         ensures text { IfOk result (λ p. parser_text p ≡ block_text blocks.entry) }
-        ensures definitions { IfOk result (λ p. parser_definitions p
-            ≡ firsts (block_parts blocks.entry).definitions.items) }
+        ensures definitions { IfOk result (λ p. parser_definitions p ≡ block_definitions blocks.entry) }
         ensures callback { IfOk result (λ p. parser_callback p ≡ callback) }
+        ensures work { IfOk result (λ p. parser_work p ≡ no_work) }
         ensures refused { IfErr result (λ fault. fault ≡ Fault.Memory) }
     {
         let (text, options, tree, parts) = blocks.into_parts();
@@ -393,6 +416,14 @@ impl<'input, F: BrokenLinkCallback<'input>> Parser<'input, F> {
     {
         self.resolver.work
     }
+
+    /// A law, and no code: no count of a walk that is not refused memory reaches the greatest value, so that each rises by
+    /// plain addition. It is said of a walk with fewer than 2^62 steps to come, as `size_hint` tells; one with more has a
+    /// tree that no memory holds.
+    pub fn counts_stay_below_the_greatest(&self)
+        ensures walk { CountsLaw F.answers self.now }
+        ensures plainly { RisesPlainly }
+    {}
 }
 
 impl<'input, F: BrokenLinkCallback<'input>> OffsetIter<'input, F> {
@@ -418,19 +449,17 @@ impl<'input, F: BrokenLinkCallback<'input>> OffsetIter<'input, F> {
 
     /// All that is left, and the callback, which was asked all questions that were left. After a refusal both are
     /// gone.
-    pub fn into_events(
-        self,
-        alloc: Global,
-    ) -> Result<(Vec<(Event<'input>, Range<usize>)>, Option<F>), Fault>
+    pub fn into_events(self) -> Result<(Vec<(Event<'input>, Range<usize>)>, Option<F>), Fault>
         requires { IfSome (parser_callback (offset_parser self)) F.can_ask }
         ensures all { IfOk result (λ given. GaveRest IsPlacedOf F.answers (offset_parser self.entry) given.0.items
             given.1) }
-        ensures whole { IfOk result (λ given. IsWholeFromStart (offset_parser self.entry) given.0.items) }
+        ensures whole { IfOk result (λ given. IsWholeFromStart F.answers (offset_parser self.entry) given.0.items
+            given.1) }
         ensures refused { IfErr result (λ fault. fault ≡ Fault.Memory) }
     {
         let OffsetIter { inner } = self;
         let mut parser = inner;
-        let rest = parser.take_rest(alloc);
+        let rest = parser.take_rest();
         let callback = parser.into_callback();
         Ok((rest?, callback))
     }

@@ -3,6 +3,7 @@ use Rattle.std.specs.Prelude.{ℕ, Bool, true, false, not, ◌==◌, ◌&&◌, �
 use Rattle.std.specs.Prelude.{length, slice_get, slice_range}
 use Rattle.std.specs.Char.{is_whitespace, is_ascii_punctuation}
 use Rattle.std.specs.Str.{chars}
+use Rattle.markdown_base.specs.Bytes.{apostrophe, double_quote, underscore}
 use Rattle.markdown_items.specs.declared.flanking.Flags.{Flags}
 
 -- the character before a place in a line's content that begins at `start`: none at its first byte
@@ -38,7 +39,7 @@ is_right_flanking before after =
 
 -- `_`, and a quotation mark, which goes by the rules of `_`: no such delimiter opens or closes within a word
 abbrev pub stays_outside_words : ℕ → Bool
-stays_outside_words byte = (byte == 95) || ((byte == 39) || (byte == 34))
+stays_outside_words byte = (byte == underscore) || ((byte == apostrophe) || (byte == double_quote))
 
 -- a delimiter can open: it is left-flanking, and where it stays outside words, it is not right-flanking too,
 -- or is preceded by punctuation

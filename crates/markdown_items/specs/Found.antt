@@ -2,6 +2,8 @@
 use Rattle.std.specs.Prelude.{ℕ, ◌+◌, ◌-◌, true, not, ◌==◌, ◌&&◌, ◌||◌, List, Option, Some, None, slice_index}
 use Rattle.std.specs.Prelude.{slice_range, if◌then◌else◌}
 use Rattle.std.specs.Char.{is_ascii_punctuation}
+use Rattle.markdown_base.specs.Bytes.{ampersand, apostrophe, backslash, backtick, close_bracket, dollar_sign}
+use Rattle.markdown_base.specs.Bytes.{double_quote, exclamation_mark, less_than, open_bracket}
 use Rattle.markdown_base.specs.WellFormed.{is_delimiter}
 use Rattle.markdown_base.specs.declared.item.ItemBody.TheVariants as body
 use Rattle.markdown_scan.specs.Entity.{entity}
@@ -28,7 +30,7 @@ next_after at (found.Entity stop character) = stop
 unfoldable pub escape_at : List ℕ → ℕ → ℕ → Found
 escape_at text end at =
     if (at + 1 == end) || not (is_ascii_punctuation (slice_index text (at + 1))) then found.Text (at + 1)
-    else if slice_index text (at + 1) == 96 then found.EscapedBackticks (run_end text (at + 1) end)
+    else if slice_index text (at + 1) == backtick then found.EscapedBackticks (run_end text (at + 1) end)
     else found.Escape
 
 -- what was read as an entity at a place, or nothing
@@ -43,7 +45,7 @@ entity_at text end at = entity_found at (entity (slice_range text at end))
 -- a `!` before a `[` begins an image with it, and is text alone
 unfoldable pub image_at : List ℕ → ℕ → ℕ → Found
 image_at text end at =
-    if (at + 1 == end) || not (slice_index text (at + 1) == 91) then found.Text (at + 1) else found.Image
+    if (at + 1 == end) || not (slice_index text (at + 1) == open_bracket) then found.Text (at + 1) else found.Image
 
 -- a run up to a place, with its flags if it is a delimiter run
 abbrev pub run_found : ℕ → Option Flags → Found
@@ -63,20 +65,21 @@ mark_at line text at =
     let byte = slice_index text at in
     let before = character_before text line.start at in
     let after = character_after text (at + 1) in
-    if (byte == 36) && line.extensions.math then found.Mark (math_mark before after)
-    else if ((byte == 39) || (byte == 34)) && line.extensions.quotes then found.Mark (quote_mark byte before after)
+    if (byte == dollar_sign) && line.extensions.math then found.Mark (math_mark before after)
+    else if ((byte == apostrophe) || (byte == double_quote)) && line.extensions.quotes
+    then found.Mark (quote_mark byte before after)
     else found.Text (at + 1)
 
 -- what begins at a place in a line's content, by its byte
 unfoldable pub found_at : Line → List ℕ → ℕ → Found
 found_at line text at =
     let byte = slice_index text at in
-    if byte == 92 then escape_at text line.end at
-    else if byte == 96 then found.Backticks (run_end text at line.end)
-    else if byte == 38 then entity_at text line.end at
-    else if byte == 33 then image_at text line.end at
-    else if byte == 60 then found.Mark body.MaybeHtml
-    else if byte == 91 then found.Mark body.MaybeLinkOpen
-    else if byte == 93 then found.Mark (body.MaybeLinkClose true)
+    if byte == backslash then escape_at text line.end at
+    else if byte == backtick then found.Backticks (run_end text at line.end)
+    else if byte == ampersand then entity_at text line.end at
+    else if byte == exclamation_mark then image_at text line.end at
+    else if byte == less_than then found.Mark body.MaybeHtml
+    else if byte == open_bracket then found.Mark body.MaybeLinkOpen
+    else if byte == close_bracket then found.Mark (body.MaybeLinkClose true)
     else if is_delimiter byte then run_at line text at
     else mark_at line text at

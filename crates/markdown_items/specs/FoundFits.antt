@@ -2,6 +2,7 @@
 use Rattle.std.specs.Prelude.{◌≡◌, ℕ, ◌+◌, ◌<◌, ◌≤◌, true, nat_lt, List, [], ◌∷◌, ◌++◌, Option, Some, None}
 use Rattle.std.specs.Prelude.{slice_index, encode_utf8, if◌then◌else◌}
 use Rattle.std.specs.Str.{IsCharBoundary}
+use Rattle.markdown_base.specs.Bytes.{backtick, exclamation_mark, open_bracket}
 use Rattle.markdown_base.specs.WellFormed.{is_delimiter}
 use Rattle.markdown_builder.specs.Bodies.{mark_byte}
 use Rattle.markdown_builder.specs.BuilderView.{BuilderView, IsRunOf, follows_run}
@@ -28,10 +29,11 @@ abbrev pub FoundFits : List ℕ → ℕ → ℕ → Found → Type 0
 FoundFits text end at (found.Text next) = LiesFurther end at next
 FoundFits text end at found.Escape = (at + 1 < end) × IsCharBoundary text (at + 1)
 FoundFits text end at (found.Mark body) = mark_byte body ≡ Some (slice_index text at)
-FoundFits text end at found.Image = (at + 1 < end) × (slice_index text at ≡ 33) × (slice_index text (at + 1) ≡ 91)
-FoundFits text end at (found.Backticks stop) = LiesFurther end at stop × IsRunOf 96 text at stop
+FoundFits text end at found.Image = (at + 1 < end) × (slice_index text at ≡ exclamation_mark)
+    × (slice_index text (at + 1) ≡ open_bracket)
+FoundFits text end at (found.Backticks stop) = LiesFurther end at stop × IsRunOf backtick text at stop
 FoundFits text end at (found.EscapedBackticks stop) =
-    LiesFurther end (at + 1) stop × IsRunOf 96 text (at + 1) stop × IsCharBoundary text (at + 1)
+    LiesFurther end (at + 1) stop × IsRunOf backtick text (at + 1) stop × IsCharBoundary text (at + 1)
 FoundFits text end at (found.Run stop flags) =
     LiesFurther end at stop × IsRunOf (slice_index text at) text at stop × (is_delimiter (slice_index text at) ≡ true)
 FoundFits text end at (found.Entity stop character) = LiesFurther end at stop × IsCharBoundary text stop

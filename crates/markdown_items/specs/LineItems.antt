@@ -1,8 +1,11 @@
 -- What the bytes of a line's content may be, apart from text.
 use Rattle.std.specs.Prelude.{◌≡◌, ◌≢◌, ℕ, ◌<◌, ◌≤◌, Bool, true, false, not, ◌==◌, ◌&&◌, ◌||◌, nat_le, nat_lt, ◌+◌}
 use Rattle.std.specs.Prelude.{◌-◌, List, Option, Some, None, slice_index, slice_range, codes, if◌then◌else◌}
-use Rattle.std.specs.Int.RustNames.{bit_and}
+use Rattle.markdown_base.specs.EnabledOptions.{math_on, smart_punctuation_on, strikethrough_on, subscript_on}
+use Rattle.markdown_base.specs.EnabledOptions.{superscript_on}
+use Rattle.markdown_base.specs.declared.options.Options.{Options}
 use Rattle.std.specs.List.{list_any, prefix_len}
+use Rattle.markdown_base.specs.Bytes.{asterisk, backslash, caret, less_than, plus_sign, space, tilde, underscore}
 use Rattle.markdown_base.specs.declared.item.ItemBody.{ItemBody}
 use Rattle.markdown_base.specs.declared.item.ItemBody.TheVariants as body
 use Rattle.markdown_builder.specs.BuilderView.{IsRunOf}
@@ -10,23 +13,19 @@ use Rattle.markdown_items.specs.declared.extensions.Extensions.{Extensions}
 use Rattle.markdown_items.specs.declared.flanking.Flags.{Flags}
 use Rattle.markdown_items.specs.Flanking.{is_white, flags_of}
 
--- a set of options has one of them
-abbrev pub has : ℕ → ℕ → Bool
-has options option = bit_and options option == option
-
--- what the options turn on: `~` with strikethrough (8) or subscript (16384), `^` with superscript (8192),
--- quotation marks with smart punctuation (32), math (1024)
-abbrev pub extensions_of : ℕ → Extensions
+-- what the options turn on: `~` with strikethrough or subscript, `^` with superscript, quotation marks with smart
+-- punctuation, math
+abbrev pub extensions_of : Options → Extensions
 extensions_of options = record {
-  tildes = has options 8 || has options 16384;
-  carets = has options 8192;
-  quotes = has options 32;
-  math = has options 1024;
+  tildes = strikethrough_on options || subscript_on options;
+  carets = superscript_on options;
+  quotes = smart_punctuation_on options;
+  math = math_on options;
 }
 
 -- a backslash stands before a place in a line's content that begins at `start`, where a text begins
 abbrev pub is_escaped : List ℕ → ℕ → ℕ → Bool
-is_escaped text start at = nat_lt start at && (slice_index text (at - 1) == 92)
+is_escaped text start at = nat_lt start at && (slice_index text (at - 1) == backslash)
 
 -- the bytes that may begin something else than text
 abbrev pub is_special : ℕ → Bool
@@ -35,7 +34,8 @@ is_special byte = list_any (λ b. b == byte) (codes "!\"$&'*<[\\]^_`~")
 -- bytes of which most text is made: none of them is special
 abbrev pub is_plain : ℕ → Bool
 is_plain byte =
-    nat_le byte 32 || (nat_le 43 byte && nat_le byte 90 && not (byte == 60)) || (nat_le 97 byte && not (byte == 126))
+    nat_le byte space || (nat_le plus_sign byte && nat_le byte 90 && not (byte == less_than))
+    || (nat_le 97 byte && not (byte == tilde))
 
 -- `found` is the first place from `from` on whose byte may begin something else than text, or `end`
 pub record IsFirstSpecial (text : List ℕ) (from end found : ℕ) : Type 0 where
@@ -58,9 +58,9 @@ pub record IsWholeRun (text : List ℕ) (at end stop : ℕ) : Type 0 where
 -- one or two `~`, any of `^`
 abbrev pub makes_run : Extensions → ℕ → ℕ → Bool
 makes_run extensions byte count =
-    if (byte == 42) || (byte == 95) then true
-    else if byte == 126 then extensions.tildes && nat_le count 2
-    else if byte == 94 then extensions.carets
+    if (byte == asterisk) || (byte == underscore) then true
+    else if byte == tilde then extensions.tildes && nat_le count 2
+    else if byte == caret then extensions.carets
     else false
 
 -- the flags of a delimiter run between two characters, where it is one: with neither flag it is text

@@ -2,7 +2,6 @@
 ghost use Rattle.std.specs.Prelude.{◌≡◌};
 ghost use Rattle.markdown_items.specs.LineItems.{extensions_of};
 
-use bitflags::Flags;
 use markdown_base::options::Options;
 
 /// What is read beyond CommonMark.
@@ -22,7 +21,7 @@ impl Extensions {
     /// What a set of options turns on: `~` with strikethrough or subscript, `^` with superscript, quotation
     /// marks with smart punctuation.
     pub fn of(options: Options) -> Extensions
-        ensures { result ≡ extensions_of (⟦<Options as Flags>⟧.set_of options) }
+        ensures { result ≡ extensions_of options }
     {
         Extensions {
             tildes: options.contains(Options::ENABLE_STRIKETHROUGH)

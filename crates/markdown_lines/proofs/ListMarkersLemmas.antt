@@ -7,7 +7,7 @@ use Rattle.std.proofs.lemmas.List.Sums.{AllPass-from_list_all}
 use Rattle.std.specs.Prelude.{◌==◌, nat_lt}
 use Rattle.std.specs.Char.{is_ascii_digit}
 use Rattle.std.specs.List.{list_all, prefix_len, slice_get}
-use Rattle.markdown_lines.specs.ListMarkers.{decimal, is_delimiter, ordered_marker}
+use Rattle.markdown_lines.specs.ListMarkers.{decimal, ends_number, ordered_marker}
 
 -- one digit more
 pub decimal_more : (digits : List ℕ) (i : ℕ) → i < length digits
@@ -67,10 +67,10 @@ nine_test count h = grind (arith, nat_tests)
 -- the marker by its parts
 pub ordered_is : (bytes digits rest : List ℕ) (count character first : ℕ) → count ≡ prefix_len is_ascii_digit bytes
     → digits ≡ take count bytes → rest ≡ drop count bytes → Some character ≡ slice_get rest 0 → 0 < count → count ≤ 9
-    → is_delimiter character ≡ true → first ≡ decimal digits
+    → ends_number character ≡ true → first ≡ decimal digits
     → Some (record { character = character; first = first; width = count + 1 }) ≡ ordered_marker bytes
 ordered_is bytes digits [] count character first n d r at some few is value = cc
 ordered_is bytes digits (x ∷ xs) count character first n d r at some few is value =
     let same : character ≡ x = cc in
-    let stands = subst (λ byte. is_delimiter byte ≡ true) same is in
+    let stands = subst (λ byte. ends_number byte ≡ true) same is in
     rw (← n, ← d, ← r, zero_test count some, nine_test count few, stands, same, value) refl

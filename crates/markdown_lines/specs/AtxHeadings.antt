@@ -2,6 +2,7 @@
 use Rattle.std.specs.Prelude.{ℕ, ◌+◌, Bool, ◌==◌, ◌||◌, nat_lt, List, Option, Some, None, length, drop, slice_range}
 use Rattle.std.specs.Prelude.{if◌then◌else◌}
 use Rattle.std.specs.List.{prefix_len}
+use Rattle.markdown_base.specs.Bytes.{number_sign}
 use Rattle.markdown_base.specs.declared.tag.HeadingLevel.{HeadingLevel}
 use Rattle.markdown_base.specs.declared.tag.HeadingLevel.TheVariants as level
 use Rattle.markdown_lines.specs.declared.atx_heading.AtxHeading.{AtxHeading}
@@ -10,7 +11,7 @@ use Rattle.markdown_lines.specs.LineBytes.{without_end, is_parted}
 
 -- a `#`
 abbrev pub is_hash : ℕ → Bool
-is_hash byte = byte == 35
+is_hash byte = byte == number_sign
 
 -- one to six `#` have a level
 abbrev pub level_of : ℕ → Option HeadingLevel

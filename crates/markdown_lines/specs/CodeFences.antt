@@ -2,6 +2,7 @@
 use Rattle.std.specs.Prelude.{ℕ, ◌+◌, Bool, not, ◌==◌, ◌&&◌, ◌||◌, nat_le, List, Option, Some, None, length, drop}
 use Rattle.std.specs.Prelude.{slice_range, if◌then◌else◌}
 use Rattle.std.specs.List.{list_all, list_any, prefix_len}
+use Rattle.markdown_base.specs.Bytes.{backtick}
 use Rattle.markdown_lines.specs.declared.fence.Fence.{Fence}
 use Rattle.markdown_lines.specs.declared.fence.OpeningFence.{OpeningFence}
 use Rattle.markdown_lines.specs.Lines.{is_space_or_tab}
@@ -13,7 +14,7 @@ run_of byte bytes = prefix_len (λ b. b == byte) bytes
 
 -- a byte is a backtick
 abbrev pub is_backtick : ℕ → Bool
-is_backtick byte = byte == 96
+is_backtick byte = byte == backtick
 
 -- so many of a character open a fence before the rest of a line: three or more, and behind backticks no backtick
 abbrev pub opens_fence : ℕ → ℕ → List ℕ → Bool

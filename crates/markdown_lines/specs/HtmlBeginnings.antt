@@ -5,6 +5,7 @@ use Rattle.std.specs.Char.{is_ascii_alphanumeric, to_ascii_lowercase}
 use Rattle.std.specs.List.{list_all, list_any, prefix_len}
 use Rattle.std.specs.Option.{option_map_or, option_or}
 use Rattle.std.specs.Str.{bytes_eq}
+use Rattle.markdown_base.specs.Bytes.{exclamation_mark, greater_than, question_mark, slash}
 use Rattle.markdown_raw_html.specs.TagSource.{tag_at}
 use Rattle.markdown_scan.specs.Beginnings.{begins_with, begins_with_letter}
 use Rattle.markdown_lines.specs.declared.html_kind.HtmlKind.{HtmlKind}
@@ -45,12 +46,12 @@ tag_name bytes = take (prefix_len is_ascii_alphanumeric bytes) bytes
 -- a space, a tab, a `>` or nothing comes next
 abbrev pub is_after_name : List ℕ → Bool
 is_after_name [] = true
-is_after_name (byte ∷ bytes) = is_space_or_tab byte || (byte == 62)
+is_after_name (byte ∷ bytes) = is_space_or_tab byte || (byte == greater_than)
 
 -- bytes without the slash that they begin with, if they do
 abbrev pub behind_slash : List ℕ → List ℕ
 behind_slash [] = []
-behind_slash (byte ∷ bytes) = if byte == 47 then bytes else byte ∷ bytes
+behind_slash (byte ∷ bytes) = if byte == slash then bytes else byte ∷ bytes
 
 -- what follows that name
 abbrev pub behind_name : List ℕ → List ℕ
@@ -86,8 +87,8 @@ declared_kind rest =
 abbrev pub known_kind : List ℕ → Option HtmlKind
 known_kind [] = named_kind []
 known_kind (byte ∷ bytes) =
-    if byte == 63 then Some kind.Instruction
-    else if byte == 33 then declared_kind bytes
+    if byte == question_mark then Some kind.Instruction
+    else if byte == exclamation_mark then declared_kind bytes
     else named_kind (byte ∷ bytes)
 
 -- a tag goes on in no other line

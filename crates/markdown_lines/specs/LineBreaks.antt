@@ -1,5 +1,6 @@
 -- What stands between two lines of a paragraph, by the bytes at the first one's end.
 use Rattle.std.specs.Prelude.{◌≡◌, ℕ, ◌-◌, ◌%◌, true, false, cond, ◌==◌, List, nat_lt}
+use Rattle.markdown_base.specs.Bytes.{backslash, space}
 use Rattle.markdown_base.specs.declared.item.ItemBody.TheVariants as body
 use Rattle.markdown_lines.specs.declared.line_break.LineBreak.{LineBreak}
 use Rattle.markdown_lines.specs.Lines.{is_space_or_tab, IsRunBefore}
@@ -18,9 +19,9 @@ break_after stop backslashes spaces content =
 -- the break after a line whose content stands from `from` up to `stop`
 pub record IsLineBreak (text : List ℕ) (from stop : ℕ) (between : LineBreak) : Type 0 where
   pub backslashes : ℕ
-  pub backslash_run : IsRunBefore (λ byte. byte == 92) text from stop backslashes
+  pub backslash_run : IsRunBefore (λ byte. byte == backslash) text from stop backslashes
   pub spaces : ℕ
-  pub space_run : IsRunBefore (λ byte. byte == 32) text from stop spaces
+  pub space_run : IsRunBefore (λ byte. byte == space) text from stop spaces
   pub content : ℕ
   pub content_run : IsRunBefore is_space_or_tab text from spaces content
   pub value : between ≡ break_after stop backslashes spaces content

@@ -2,16 +2,17 @@
 use Rattle.std.specs.Prelude.{◌≡◌, ℕ, suc, ◌+◌, ◌<◌, ◌≤◌, Bool, true, false, ◌==◌, ◌||◌, List, Option, Some, None}
 use Rattle.std.specs.Prelude.{length, drop, slice_index}
 use Rattle.std.specs.Str.{IsCharBoundary}
+use Rattle.markdown_base.specs.Bytes.{carriage_return, line_feed, space, tab}
 use Rattle.markdown_scan.specs.LineEnd.{line_ending}
 use Rattle.markdown_lines.specs.declared.line.Line.{Line}
 
 -- a space or a tab
 abbrev pub is_space_or_tab : ℕ → Bool
-is_space_or_tab byte = (byte == 32) || (byte == 9)
+is_space_or_tab byte = (byte == space) || (byte == tab)
 
 -- the first byte of a line ending: a line feed or a carriage return
 abbrev pub is_line_ending : ℕ → Bool
-is_line_ending byte = (byte == 10) || (byte == 13)
+is_line_ending byte = (byte == line_feed) || (byte == carriage_return)
 
 -- one of the bytes that blank lines are made of
 abbrev pub is_in_blank_line : ℕ → Bool

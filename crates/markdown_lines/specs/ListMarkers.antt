@@ -3,6 +3,7 @@ use Rattle.std.specs.Prelude.{ℕ, ◌+◌, ◌-◌, ◌*◌, Bool, not, ◌==�
 use Rattle.std.specs.Prelude.{take, drop, slice_range, if◌then◌else◌}
 use Rattle.std.specs.Char.{is_ascii_digit}
 use Rattle.std.specs.List.{fold, list_all, prefix_len}
+use Rattle.markdown_base.specs.Bytes.{asterisk, close_parenthesis, full_stop, hyphen, plus_sign}
 use Rattle.markdown_lines.specs.declared.list_marker.ListMarker.{ListMarker}
 use Rattle.markdown_lines.specs.Lines.{is_space_or_tab}
 use Rattle.markdown_lines.specs.LineBytes.{is_parted}
@@ -13,17 +14,17 @@ decimal digits = fold (λ number digit. number * 10 + (digit - 48)) 0 digits
 
 -- a bullet: `-`, `+` or `*`
 abbrev pub is_bullet : ℕ → Bool
-is_bullet byte = (byte == 45) || (byte == 43) || (byte == 42)
+is_bullet byte = (byte == hyphen) || (byte == plus_sign) || (byte == asterisk)
 
 -- what ends the marker of an ordered list: a `.` or a `)`
-abbrev pub is_delimiter : ℕ → Bool
-is_delimiter byte = (byte == 46) || (byte == 41)
+abbrev pub ends_number : ℕ → Bool
+ends_number byte = (byte == full_stop) || (byte == close_parenthesis)
 
 -- the marker of an ordered list, of digits and what follows them: one to nine, and a `.` or `)`
 abbrev pub ordered_marker_of : List ℕ → List ℕ → ℕ → Option ListMarker
 ordered_marker_of digits [] count = None
 ordered_marker_of digits (byte ∷ rest) count =
-    if (count == 0) || nat_lt 9 count || not (is_delimiter byte) then None
+    if (count == 0) || nat_lt 9 count || not (ends_number byte) then None
     else Some (record { character = byte; first = decimal digits; width = count + 1 })
 
 -- that of the digits with which bytes begin
@@ -39,7 +40,7 @@ marker_of (byte ∷ bytes) =
 
 -- a marker that may interrupt a paragraph: that of a bullet list, or 1 of an ordered list
 abbrev pub may_interrupt : ListMarker → Bool
-may_interrupt marker = not (is_delimiter marker.character) || (marker.first == 1)
+may_interrupt marker = not (ends_number marker.character) || (marker.first == 1)
 
 -- what stands behind it is white space or nothing, and where it interrupts a paragraph it may do so, and its item is
 -- not blank

@@ -2,13 +2,14 @@
 use Rattle.std.specs.Prelude.{◌≡◌, ℕ, Bool, false, ◌==◌, ◌&&◌, ◌||◌, nat_le, nat_lt, List, [], ◌∷◌, Option, Some, None}
 use Rattle.std.specs.Prelude.{length, drop, if◌then◌else◌}
 use Rattle.std.specs.List.{count_by, list_all, prefix_len}
+use Rattle.markdown_base.specs.Bytes.{asterisk, equals_sign, hyphen, underscore}
 use Rattle.markdown_base.specs.declared.tag.HeadingLevel.{HeadingLevel}
 use Rattle.markdown_base.specs.declared.tag.HeadingLevel.TheVariants as level
 use Rattle.markdown_lines.specs.Lines.{is_space_or_tab}
 
 -- a character of thematic breaks
 abbrev pub is_break_mark : ℕ → Bool
-is_break_mark byte = (byte == 42) || (byte == 45) || (byte == 95)
+is_break_mark byte = (byte == asterisk) || (byte == hyphen) || (byte == underscore)
 
 -- one character, or a space or a tab
 abbrev pub is_of_break : ℕ → ℕ → Bool
@@ -35,7 +36,7 @@ pub record IsBrokenOff (content : List ℕ) (count : ℕ) : Type 0 where
 
 -- the level of a setext heading, by the character of its underline
 abbrev pub underline_level : ℕ → Option HeadingLevel
-underline_level byte = if byte == 61 then Some level.H1 else if byte == 45 then Some level.H2 else None
+underline_level byte = if byte == equals_sign then Some level.H1 else if byte == hyphen then Some level.H2 else None
 
 -- the level of the heading whose underline a line's content is: a run of `=` or `-`, and white space behind it
 abbrev pub setext_level : List ℕ → Option HeadingLevel

@@ -2,7 +2,7 @@
 ghost use Rattle.std.specs.Prelude.{◌≡◌, ◌≤◌, true, length, IfSome};
 ghost use Rattle.std.specs.Char.{is_ascii_digit};
 ghost use Rattle.std.specs.List.{list_all, prefix_len};
-ghost use Rattle.markdown_lines.specs.ListMarkers.{decimal, is_delimiter, list_marker_at, marker_of, may_interrupt};
+ghost use Rattle.markdown_lines.specs.ListMarkers.{decimal, ends_number, list_marker_at, marker_of, may_interrupt};
 ghost use Rattle.markdown_lines.specs.ListMarkers.{ordered_marker};
 
 use crate::bytes::{bytes_of, is_parted, is_white};
@@ -16,8 +16,8 @@ pub struct ListMarker {
 }
 
 /// Whether a byte ends the marker of an ordered list.
-fn is_delimiter(byte: u8) -> bool
-    ensures { result ≡ is_delimiter byte }
+fn ends_number(byte: u8) -> bool
+    ensures { result ≡ ends_number byte }
 {
     byte == b'.' || byte == b')'
 }
@@ -25,9 +25,9 @@ fn is_delimiter(byte: u8) -> bool
 impl ListMarker {
     /// Whether it is that of an item in an ordered list.
     fn is_ordered(self) -> bool
-        ensures { result ≡ is_delimiter self.character }
+        ensures { result ≡ ends_number self.character }
     {
-        is_delimiter(self.character)
+        ends_number(self.character)
     }
 
     /// Whether such an item may interrupt a paragraph: one of an ordered list has to be numbered 1.
@@ -74,7 +74,7 @@ fn ordered_marker(bytes: &[u8]) -> Option<ListMarker>
     let Some(character) = rest.first() else {
         return None;
     };
-    if count == 0 || count > 9 || !is_delimiter(*character) {
+    if count == 0 || count > 9 || !ends_number(*character) {
         return None;
     }
     Some(ListMarker {

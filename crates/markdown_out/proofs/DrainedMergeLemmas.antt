@@ -10,7 +10,7 @@ use Rattle.markdown_base.specs.declared.fault.Fault.TheVariants.{Memory}
 use Rattle.markdown_out.specs.Merge.{Item, merged, merge_answers}
 use Rattle.markdown_out.specs.MergeNext.{Gave, MergeState, PassesOn}
 use Rattle.markdown_out.specs.OutLaws.{StaysEnded, merge_steps, IsNewMerge, IsMergeOfAll, IsMergeSoFar, GivesTheMerge}
-use Rattle.markdown_out.proofs.MergeNextLemmas.{gave-append}
+use Rattle.markdown_out.proofs.MergeNextLemmas.{gave-append, gave-more}
 
 -- ---- answers up to the first None
 
@@ -132,11 +132,12 @@ module _ {A B : Type 0} (view : A → B) where
 
 module _ {S A : Type 0} (steps : S → Option A → S → Type 0) where
   -- an iterator that stays ended gives None and nothing else
-  ended-nones : {B : Type 0} (view : A → B) → StaysEnded steps → (s t u : S) (rs : List (Option A))
-      → steps s None t → Gave steps t rs u → AreNone (map (option_map view) rs)
-  ended-nones view ends s t u [] p g = tt
-  ended-nones view ends s t u (None ∷ rs) p g = ended-nones view ends t g.0 u rs g.1 g.2
-  ended-nones view ends s t u (Some x ∷ rs) p g = absurd (some-none (ends s t g.0 (Some x) p g.1))
+  ended-nones : {B : Type 0} (view : A → B) (it : S) → StaysEnded steps it → (so_far : List (Option A)) (s t u : S)
+      (rs : List (Option A)) → Gave steps it so_far s → steps s None t → Gave steps t rs u → AreNone (map (option_map view) rs)
+  ended-nones view it ends so_far s t u [] b p g = tt
+  ended-nones view it ends so_far s t u (None ∷ rs) b p g =
+      ended-nones view it ends (so_far ++ None ∷ []) t g.0 u rs (gave-more steps it s t so_far None b p) g.1 g.2
+  ended-nones view it ends so_far s t u (Some x ∷ rs) b p g = absurd (some-none (ends so_far s t g.0 (Some x) b p g.1))
     where
       some-none : {A : Type 0} {x : A} → Some x ≡ None → ⊥
       some-none {A} {x} e = cc
@@ -146,15 +147,23 @@ module _ {S A : Type 0} (steps : S → Option A → S → Type 0) where
     pub last : S
     pub end : S
     pub yields : Yields steps s xs last
+    pub before : Gave steps s (map (λ x. Some x) xs) last
     pub ends : steps last None end
     pub after : Gave steps end later u
 
   ended : (s u : S) (xs : List A) (later : List (Option A))
       → Gave steps s (map (λ x. Some x) xs ++ (None ∷ later)) u → IsEnded s xs later u
-  ended s u [] later g = record { last = s; end = g.0; yields = refl; ends = g.1; after = g.2 }
+  ended s u [] later g = record { last = s; end = g.0; yields = refl; before = refl; ends = g.1; after = g.2 }
   ended s u (x ∷ xs) later g =
       let rest = ended g.0 u xs later g.2 in
-      record { last = rest.last; end = rest.end; yields = (g.0, g.1, rest.yields); ends = rest.ends; after = rest.after }
+      record {
+        last = rest.last;
+        end = rest.end;
+        yields = (g.0, g.1, rest.yields);
+        before = (g.0, g.1, rest.before);
+        ends = rest.ends;
+        after = rest.after;
+      }
 
   yielded : (s u : S) (xs : List A) → Gave steps s (map (λ x. Some x) xs) u → Yields steps s xs u
   yielded s u [] g = g
@@ -246,12 +255,27 @@ module _ {M S T P : Type 0} (through : P → P → P) (view : Result T Fault →
   answered m t given h run = ap (λ k. merge_answers through k (map answer run.answers)) (sym h)
       ∙ (ap (merge_answers through (state m).held) (sym (append-nil (map answer run.answers))) ∙ run.leaves [])
 
-  module _ (ends : StaysEnded steps) where
+  none-missing : {A : Type 0} (a b : List A) (r : List (Option A)) → map (λ x. Some x) a ≡ map (λ x. Some x) b ++ (None ∷ r) → ⊥
+  none-missing [] [] r e = cc
+  none-missing [] (y ∷ b) r e = cc
+  none-missing (x ∷ a) [] r e = cc
+  none-missing (x ∷ a) (y ∷ b) r e = none-missing a b r (cons-tail e)
+
+  run-ended : (m t u : M) (xs : List (Result T Fault)) → (state m).over ≡ false → (state u).over ≡ false
+      → Yields calls m xs t → calls t None u → IsRun (state m) (map (λ i. Some i) (map view xs) ++ (None ∷ [])) (state u)
+  run-ended m t u [] o n y c =
+      run-more (state m) (state u) (state u) None [] (passes m u None o n (subst (λ k. calls k None u) (sym y) c)) (run-none (state u))
+  run-ended m t u (x ∷ xs) o n y c =
+      let next = never-over y.0 t xs y.2 (never-over-before t u None c n) in
+      run-more (state m) (state y.0) (state u) (Some x) (map (λ i. Some i) (map view xs) ++ (None ∷ []))
+      (passes m y.0 (Some x) o next y.1) (run-ended y.0 t u xs next n y.2 c)
+
+  module _ (m : M) (ends : StaysEnded steps (state m).iter) where
     -- what was given so far is a prefix of the merge of what was read
-    so-far : (m t : M) (xs : List (Result T Fault)) → (state m).held ≡ []
+    so-far : (t : M) (xs : List (Result T Fault)) → (state m).held ≡ []
         → IsRun (state m) (map (λ i. Some i) (map view xs)) (state t)
         → IsMergeSoFar through view steps (state m).iter xs
-    so-far m t xs h run = by_cut (cut run.answers)
+    so-far t xs h run = by_cut (cut run.answers)
       where
         its : List (Item P)
         its = map view xs
@@ -283,8 +307,9 @@ module _ {M S T P : Type 0} (through : P → P → P) (view : Result T Fault →
             let seen : map answer run.answers ≡ map (λ i. Some i) (map view c.before) ++ (None ∷ later) =
             ap (map answer) c.is ∙ (map-append answer (map (λ x. Some x) c.before) (None ∷ c.after)
             ∙ ap (λ ys. ys ++ (None ∷ later)) (views-some view c.before)) in
-            let prefix = prefix-stretch through (map view c.before) its later tail (ended-nones steps view ends e.last e.end (state t).iter
-            c.after e.ends e.after)
+            let none = ended-nones steps view (state m).iter ends (map (λ x. Some x) c.before) e.last e.end (state t).iter c.after
+            e.before e.ends e.after in
+            let prefix = prefix-stretch through (map view c.before) its later tail none
             (sym (answers-stretch through [] (map view c.before) later) ∙ (ap (merge_answers through []) (sym seen) ∙ all)) in
             record {
               so_far = c.before;
@@ -294,17 +319,11 @@ module _ {M S T P : Type 0} (through : P → P → P) (view : Result T Fault →
               merges = prefix.is;
             }
 
-    none-missing : {A : Type 0} (a b : List A) (r : List (Option A)) → map (λ x. Some x) a ≡ map (λ x. Some x) b ++ (None ∷ r) → ⊥
-    none-missing [] [] r e = cc
-    none-missing [] (y ∷ b) r e = cc
-    none-missing (x ∷ a) [] r e = cc
-    none-missing (x ∷ a) (y ∷ b) r e = none-missing a b r (cons-tail e)
-
     -- a run up to None gave the merge of what was read up to None
-    all-of : (m u : M) (xs : List (Result T Fault)) → (state m).held ≡ []
+    all-of : (u : M) (xs : List (Result T Fault)) → (state m).held ≡ []
         → IsRun (state m) (map (λ i. Some i) (map view xs) ++ (None ∷ [])) (state u)
         → IsMergeOfAll through view steps (state m).iter xs
-    all-of m u xs h run = by_cut (cut run.answers)
+    all-of u xs h run = by_cut (cut run.answers)
       where
         its : List (Item P)
         its = map view xs
@@ -326,26 +345,18 @@ module _ {M S T P : Type 0} (through : P → P → P) (view : Result T Fault →
             let seen : map answer run.answers ≡ map (λ i. Some i) (map view c.before) ++ (None ∷ later) =
             ap (map answer) c.is ∙ (map-append answer (map (λ x. Some x) c.before) (None ∷ c.after)
             ∙ ap (λ ys. ys ++ (None ∷ later)) (views-some view c.before)) in
+            let none = ended-nones steps view (state m).iter ends (map (λ x. Some x) c.before) e.last e.end (state u).iter c.after
+            e.before e.ends e.after in
             record {
               all = c.before;
               read = (e.end, (e.last, e.yields, e.ends));
-              merges = given-stretch through (map view c.before) its later tail (ended-nones steps view ends e.last e.end (state u).iter
-                  c.after e.ends e.after)
+              merges = given-stretch through (map view c.before) its later tail none
                   (sym (answers-stretch through [] (map view c.before) later) ∙ (ap (merge_answers through []) (sym seen) ∙ all));
             }
 
-    run-ended : (m t u : M) (xs : List (Result T Fault)) → (state m).over ≡ false → (state u).over ≡ false
-        → Yields calls m xs t → calls t None u → IsRun (state m) (map (λ i. Some i) (map view xs) ++ (None ∷ [])) (state u)
-    run-ended m t u [] o n y c =
-        run-more (state m) (state u) (state u) None [] (passes m u None o n (subst (λ k. calls k None u) (sym y) c)) (run-none (state u))
-    run-ended m t u (x ∷ xs) o n y c =
-        let next = never-over y.0 t xs y.2 (never-over-before t u None c n) in
-        run-more (state m) (state y.0) (state u) (Some x) (map (λ i. Some i) (map view xs) ++ (None ∷ []))
-        (passes m y.0 (Some x) o next y.1) (run-ended y.0 t u xs next n y.2 c)
-
     -- a new merge gives the merge
-    pub gives_the_merge : (m : M) → IsNewMerge (state m) → GivesTheMerge through view steps can rest state m
-    gives_the_merge m new = record {
-      all = λ given t u y c n. all-of m u given new.holds (run-ended m t u given new.goes_on n y c);
-      so_far = λ given t y n. so-far m t given new.holds (run-of m t given new.goes_on n y);
+    pub gives_the_merge : IsNewMerge (state m) → GivesTheMerge through view steps can rest state m
+    gives_the_merge new = record {
+      all = λ given t u y c n. all-of u given new.holds (run-ended m t u given new.goes_on n y c);
+      so_far = λ given t y n. so-far t given new.holds (run-of m t given new.goes_on n y);
     }

@@ -11,6 +11,7 @@ pub mod MergeLemmas
 pub mod HeldItemsLemmas
 pub mod MergeNextLemmas
 pub mod MergeLawsLemmas
+pub mod MergedRangesLemmas
 pub mod MergedHtmlLemmas
 pub mod DrainedMergeLemmas
 pub mod MappedMergeLemmas

@@ -1,34 +1,51 @@
 -- A mapped iterator, over one that stays ended, may be called again after None.
-use Rattle.std.proofs.Common.{◌≡◌, List, [], ◌∷◌, Option, Some, None, sym, subst}
+use Rattle.std.proofs.Common.{◌≡◌, List, [], ◌∷◌, Option, Some, None, ap, sym, subst}
 use Rattle.std.specs.Fn.{Mut}
 use Rattle.std.specs.Iterator.{Count, Yields, CallableOnAll}
 use Rattle.std.specs.Iterator.Adapters.{map_source, map_callee, map_steps}
 use Rattle.std.specs.declared.iter.Map.{Map}
-use Rattle.markdown_out.specs.MergeNext.{CanMerge}
+use Rattle.markdown_out.specs.MergeNext.{CanMerge, Gave}
 use Rattle.markdown_out.specs.OutLaws.{StaysEnded}
 
 module _ {S A : Type 0} (steps : S → Option A → S → Type 0) where
   some-none : {x : A} → Some x ≡ None → ⊥
   some-none {x} e = cc
 
-  no-item : StaysEnded steps → (s u t w : S) (xs : List A) (x : A) → steps s None u → Yields steps u xs t → steps t (Some x) w → ⊥
-  no-item ends s u t w [] x p y q = some-none (ends s u w (Some x) p (subst (λ k. steps k (Some x) w) (sym y) q))
-  no-item ends s u t w (z ∷ xs) x p y q = some-none (ends s u y.0 (Some z) p y.1)
+  no-item : (it : S) → StaysEnded steps it → (answers : List (Option A)) (s u t w : S) (xs : List A) (x : A)
+      → Gave steps it answers s → steps s None u → Yields steps u xs t → steps t (Some x) w → ⊥
+  no-item it ends answers s u t w [] x g p y q =
+      some-none (ends answers s u w (Some x) g p (subst (λ k. steps k (Some x) w) (sym y) q))
+  no-item it ends answers s u t w (z ∷ xs) x g p y q = some-none (ends answers s u y.0 (Some z) g p y.1)
 
   module _ {B F : Type 0} (g : Mut F (A × Unit {0}) B) (can : S → Type 0) (rest : S → Count) where
-    pub mapped_can_merge : StaysEnded steps → (m : Map S F) → CanMerge steps can rest (map_source m)
+    -- calls of the mapped iterator are calls of its source
+    source_answer : (m n : Map S F) (r : Option B) → map_steps steps g m r n
+        → (q : Option A) × steps (map_source m) q (map_source n)
+    source_answer m n None h = (None, h.0)
+    source_answer m n (Some y) h = (Some h.0, h.1)
+
+    source_gave : (m n : Map S F) (answers : List (Option B)) → Gave (map_steps steps g) m answers n
+        → (read : List (Option A)) × Gave steps (map_source m) read (map_source n)
+    source_gave m n [] h = ([], ap map_source h)
+    source_gave m n (r ∷ answers) (k, h, more) =
+        let q = source_answer m k r h in
+        let rest = source_gave k n answers more in (q.0 ∷ rest.0, (map_source k, q.1, rest.1))
+
+    pub mapped_can_merge : (m : Map S F) → StaysEnded steps (map_source m) → CanMerge steps can rest (map_source m)
         → CallableOnAll steps g (map_source m) (map_callee m)
         → CanMerge (map_steps steps g) (λ k. can (map_source k) × CallableOnAll steps g (map_source k) (map_callee k))
         (λ k. rest (map_source k)) m
-    mapped_can_merge ends m c f = record {
+    mapped_can_merge m ends c f = record {
       callable = (c.callable, f);
       ends = c.ends;
-      goes_on = λ t u may finite step.
-          let after = c.goes_on (map_source t) (map_source u) may.0 finite step.0 in (
+      goes_on = λ answers t u gave may finite step.
+          let read = source_gave m t answers gave in
+          let after = c.goes_on read.0 (map_source t) (map_source u) read.1 may.0 finite step.0 in (
             (
               after.0,
               record {
-                at = λ xs v q x w y folds next. absurd (no-item ends (map_source t) (map_source u) v w xs x step.0 y next);
+                at = λ xs v q x w y folds next. absurd (no-item (map_source m) ends read.0 (map_source t) (map_source u) v w xs x read.1
+                    step.0 y next);
               },
             ),
             after.1,

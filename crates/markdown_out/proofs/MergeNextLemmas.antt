@@ -29,20 +29,20 @@ module _ {S A : Type 0} (steps : S → Option A → S → Type 0) where
     pub can_merge-after : {s t : S} (r : Option A) → CanMerge steps can rest s → steps s r t → MakesProgress can rest s r t
         → CanMerge steps can rest t
     can_merge-after {s} {t} None c p m = record {
-      callable = (c.goes_on s t c.callable c.ends p).0;
+      callable = (c.goes_on [] s t refl c.callable c.ends p).0;
       ends = m.rests c.ends;
-      goes_on = c.goes_on;
+      goes_on = λ answers u v y. c.goes_on (None ∷ answers) u v (t, p, y);
     }
     can_merge-after {s} {t} (Some x) c p m = record {
       callable = m.keeps;
       ends = (m.on c.ends).1;
-      goes_on = c.goes_on;
+      goes_on = λ answers u v y. c.goes_on (Some x ∷ answers) u v (t, p, y);
     }
 
     -- an item takes one of those that are left, and None leaves no more
     pub fewer-after : {s t : S} (r : Option A) → CanMerge steps can rest s → steps s r t → MakesProgress can rest s r t
         → answer_count r + size (rest t) ≤ size (rest s)
-    fewer-after {s} {t} None c p m = omega (arith, (c.goes_on s t c.callable c.ends p).1)
+    fewer-after {s} {t} None c p m = omega (arith, (c.goes_on [] s t refl c.callable c.ends p).1)
     fewer-after {s} {t} (Some x) c p m = omega (arith, (m.on c.ends).2)
 
 -- more answers, and those to come

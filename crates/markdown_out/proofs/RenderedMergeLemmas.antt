@@ -1,6 +1,6 @@
 -- What `push_html` makes of a merge: the HTML of the merge of the events.
 use Rattle.std.proofs.Common.{◌≡◌, ◌⊎◌, ℕ, true, false, List, [], ◌∷◌, ◌++◌, map, Ok, Err, Result, Option, Some, None, refl, sym, ap, subst}
-use Rattle.std.proofs.Common.{◌∙◌, append_assoc, inl, inr}
+use Rattle.std.proofs.Common.{◌∙◌, append_assoc, append-nil, inl, inr}
 use Rattle.std.specs.Bool.{MatchBool}
 use Rattle.std.specs.List.{flat_map}
 use Rattle.std.specs.Iterator.{Count, Yields, Drains}
@@ -11,13 +11,13 @@ use Rattle.markdown_base.specs.declared.event.Event.{Event}
 use Rattle.markdown_base.specs.declared.fault.Fault.{Fault}
 use Rattle.markdown_base.specs.declared.fault.Fault.TheVariants.{Memory}
 use Rattle.markdown_out.specs.EventHtml.{html_of, open_html}
-use Rattle.markdown_out.specs.HtmlCorrect.{items, IsRendered, StopsAtError}
+use Rattle.markdown_out.specs.HtmlCorrect.{items, GoesTooDeep, IsRendered, StopsAtError}
 use Rattle.markdown_out.specs.Merge.{Item, PlacedText, text_item, text_of_item, Run, alone, texts, before_runs, runs, last_text}
 use Rattle.markdown_out.specs.Merge.{unless_empty, run_items, merged}
 use Rattle.markdown_out.specs.MergeNext.{MergeState, PassesOn, item_view}
 use Rattle.markdown_out.specs.Places.{bare, nowhere}
 use Rattle.markdown_out.specs.OutLaws.{event_item, item_events, merged_events, StaysEnded, merge_steps, IsNewMerge}
-use Rattle.markdown_out.specs.OutLaws.{IsRenderedMerged, StopsAtErrorMerged, IsRefusedMerged}
+use Rattle.markdown_out.specs.OutLaws.{GoesTooDeepMerged, IsRenderedMerged, StopsAtErrorMerged, IsRefusedMerged}
 use Rattle.markdown_out.proofs.DrainedMergeLemmas.{gives_the_merge}
 use Rattle.markdown_out.proofs.MergeLawsLemmas.{IsText, text_or_none}
 
@@ -237,6 +237,58 @@ stopped xs views fault rest e = by_cut (error_cut xs)
           merges = merges-events c.events views (ap (merged nowhere) (views-items c.events) ∙ same.0);
         }
 
+-- items before an error that begin with these, which are no errors
+until_error : (a b : List (Item U)) (f : Fault) (ra rb : List (Item U)) → HasNoError b → a ++ Err f ∷ ra ≡ b ++ rb
+    → (missing : List (Item U)) × (a ≡ b ++ missing)
+until_error a [] f ra rb h e = (a, refl)
+until_error [] (Ok y ∷ b) f ra rb h e = absurd (ok-error y f (sym (head-of e)))
+until_error a (Err y ∷ b) f ra rb h e = absurd h
+until_error (x ∷ a) (Ok y ∷ b) f ra rb h e =
+    let rest = until_error a b f ra rb h (tail-of e) in
+    (rest.0, ap (λ z. z ∷ a) (head-of e) ∙ ap (λ zs. Ok y ∷ zs) rest.1)
+
+-- items whose merge begins with these events begin with events of whose merge they are a prefix
+record IsBegun (xs : List Raw) (views : List EventView) : Type 0 where
+  pub events : List Event
+  pub after : List Raw
+  pub is : xs ≡ items events ++ after
+  pub missing : List EventView
+  pub prefix : merged_events (map event_view events) ≡ views ++ missing
+
+prefix-events : (es : List Event) (views : List EventView) (missing : List (Item U))
+    → merged nowhere (map event_item (map event_view es)) ≡ map event_item views ++ missing
+    → merged_events (map event_view es) ≡ views ++ flat_map item_events missing
+prefix-events es views missing e =
+    ap (flat_map item_events) e
+    ∙ (flat_map-append item_events (map event_item views) missing ∙ ap (λ vs. vs ++ flat_map item_events missing) (events-items views))
+
+begun-by : (xs : List Raw) (views : List EventView) (rest : List (Item U))
+    → merged nowhere (map view xs) ≡ map event_item views ++ rest → IsBegun xs views
+begun-by xs views rest e = by_cut (error_cut xs)
+  where
+    by_cut : AreEvents xs ⊎ IsErrorCut xs → IsBegun xs views
+    by_cut (inl a) = record {
+      events = a.events;
+      after = [];
+      is = a.are ∙ sym (append-nil (items a.events));
+      missing = flat_map item_events rest;
+      prefix = prefix-events a.events views rest (ap (merged nowhere) (sym (ap (map view) a.are ∙ views-items a.events)) ∙ e);
+    }
+    by_cut (inr c) =
+        let first = map event_item (map event_view c.events) in
+        let seen : map view xs ≡ first ++ Err c.fault ∷ map view c.after =
+        ap (map view) c.is ∙ (map-append view (items c.events) (Err c.fault ∷ c.after)
+        ∙ ap (λ ys. ys ++ Err c.fault ∷ map view c.after) (views-items c.events)) in
+        let m = until_error (merged nowhere first) (map event_item views) c.fault (merged nowhere (map view c.after)) rest
+        (no_error-views views) (sym (merged-error first c.fault (map view c.after)) ∙ (ap (merged nowhere) (sym seen) ∙ e)) in
+        record {
+          events = c.events;
+          after = Err c.fault ∷ c.after;
+          is = c.is;
+          missing = flat_map item_events m.0;
+          prefix = prefix-events c.events views m.0 m.1;
+        }
+
 -- ---- the calls
 
 module _ {S A : Type 0} (steps : S → Option A → S → Type 0) where
@@ -287,7 +339,7 @@ module _ {S M : Type 0} (steps : S → Option Raw → S → Type 0) (can : S →
   events-go-on m t [] o y = subst (λ k. (state k).over ≡ false) y o
   events-go-on m t (e ∷ es) o y = events-go-on y.0 t es (ok-goes-on m y.0 e o y.1) y.2
 
-  module _ (ends : StaysEnded steps) (m : M) (old new : List ℕ) (begun : IsNewMerge (state m)) where
+  module _ (m : M) (ends : StaysEnded steps (state m).iter) (old new : List ℕ) (begun : IsNewMerge (state m)) where
     -- the HTML of a merge is that of the merge of the events
     pub rendered-merged : IsRendered calls m old new → IsRenderedMerged steps (state m).iter old new
     rendered-merged r =
@@ -295,7 +347,7 @@ module _ {S M : Type 0} (steps : S → Option Raw → S → Type 0) (can : S →
         let views = map event_view es in
         let t = r.read.1.0 in
         let n = none-goes-on t r.read.0 (events-go-on m t es begun.goes_on r.read.1.1) r.read.1.2 in
-        let g = (gives_the_merge nowhere view steps can rest state ends m begun).all (items es) t r.read.0 r.read.1.1 r.read.1.2 n in
+        let g = (gives_the_merge nowhere view steps can rest state m ends begun).all (items es) t r.read.0 r.read.1.1 r.read.1.2 n in
         let given : merged nowhere (map view g.all) ≡ map event_item views = g.merges ∙ views-items es in
         let no_error = subst HasNoError (runs_of_items (map view g.all))
         (no_error-runs (runs (map view g.all)) (subst HasNoError (sym given) (no_error-views views))) in
@@ -328,7 +380,7 @@ module _ {S M : Type 0} (steps : S → Option Raw → S → Type 0) (can : S →
             → StopsAtErrorMerged steps (state m).iter old new fault ⊎ ((fault ≡ Memory) × IsRefusedMerged steps (state m).iter old new)
         by (inl p) =
             let last : (state r.left).over ≡ false = subst (λ k. (state k).over ≡ false) f.rest.2 p.goes_on in
-            let g = (gives_the_merge nowhere view steps can rest state ends m begun).so_far (items es ++ Err fault ∷ []) r.left r.read last
+            let g = (gives_the_merge nowhere view steps can rest state m ends begun).so_far (items es ++ Err fault ∷ []) r.left r.read last
             in
             let seen : map view (items es ++ Err fault ∷ []) ≡ map event_item (map event_view es) ++ Err fault ∷ [] =
             map-append view (items es) (Err fault ∷ []) ∙ ap (λ ys. ys ++ Err fault ∷ []) (views-items es) in
@@ -346,7 +398,27 @@ module _ {S M : Type 0} (steps : S → Option Raw → S → Type 0) (can : S →
           same-fault q.0,
           record {
             events = es;
-            prefix = (gives_the_merge nowhere view steps can rest state ends m begun).so_far (items es) f.mid f.first o;
+            prefix = (gives_the_merge nowhere view steps can rest state m ends begun).so_far (items es) f.mid f.first o;
             stands = r.stands;
           },
         )
+
+    -- and so it is where too many Starts are open in an image
+    pub deep-merged : GoesTooDeep calls m old new → GoesTooDeepMerged steps (state m).iter old new
+    deep-merged r =
+        let es = r.events in
+        let o = events-go-on m r.left es begun.goes_on r.read in
+        let g = (gives_the_merge nowhere view steps can rest state m ends begun).so_far (items es) r.left r.read o in
+        let b = begun-by g.so_far (map event_view es) g.missing (g.merges ∙ ap (λ ys. ys ++ g.missing) (views-items es)) in
+        let y = yields-prefix steps (state m).iter g.left (items b.events) b.after
+        (subst (λ xs. Yields steps (state m).iter xs g.left) b.is g.read) in
+        record {
+          events = b.events;
+          left = y.mid;
+          read = y.first;
+          given = map event_view es;
+          missing = b.missing;
+          prefix = b.prefix;
+          stands = r.stands;
+          deep = r.deep;
+        }

@@ -1,6 +1,7 @@
 -- Bytes: parts one after another, bytes that were appended whole or in part, and whether a line is fresh after them.
 use Rattle.std.specs.Prelude.{◌≡◌, ℕ, Bool, List, [], ◌∷◌, ◌++◌, ◌==◌}
 use Rattle.std.specs.Prelude.{String, string_bytes}
+use Rattle.markdown_base.specs.Bytes.{line_feed}
 
 -- the parts, one after another
 abbrev pub joined : List (List ℕ) → List ℕ
@@ -26,4 +27,4 @@ AppendsPart old new bytes = AppendsPrefix (string_bytes old) (string_bytes new) 
 -- whether a line is fresh after these bytes: the last is a newline (10); where there are none, what was so before
 abbrev pub fresh_after_bytes : Bool → List ℕ → Bool
 fresh_after_bytes before [] = before
-fresh_after_bytes before (b ∷ bytes) = fresh_after_bytes (b == 10) bytes
+fresh_after_bytes before (b ∷ bytes) = fresh_after_bytes (b == line_feed) bytes

@@ -4,26 +4,7 @@ use Rattle.std.specs.Prelude.{ℕ, Bool, List, [], ◌∷◌, ◌==◌, ◌||◌
 use Rattle.std.specs.List.{flat_map, list_any}
 use Rattle.std.specs.Char.{is_ascii_alphanumeric}
 use Rattle.percent_encoding.specs.Percent.{percent_encode_byte}
-
--- `"`
-abbrev pub double_quote : ℕ
-double_quote = 34
-
--- `&`
-abbrev pub ampersand : ℕ
-ampersand = 38
-
--- `'`
-abbrev pub apostrophe : ℕ
-apostrophe = 39
-
--- `<`
-abbrev pub less_than : ℕ
-less_than = 60
-
--- `>`
-abbrev pub greater_than : ℕ
-greater_than = 62
+use Rattle.markdown_base.specs.Bytes.{ampersand, apostrophe, double_quote, greater_than, less_than}
 
 -- what stands for a byte of running text
 abbrev pub text_byte : ℕ → List ℕ

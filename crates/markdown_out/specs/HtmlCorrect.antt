@@ -10,8 +10,8 @@ use Rattle.markdown_out.specs.ByteLists.{AppendsPrefix}
 use Rattle.markdown_out.specs.EventHtml.{html_of, open_html, bytes_after, closing_after}
 use Rattle.markdown_out.specs.LookBacks.{IsTooDeep}
 
--- events, as items of an iterator
-abbrev pub items : List Event → List (Result Event Fault)
+-- events, with their ranges or without, as items of an iterator
+abbrev pub items : {T : Type 0} → List T → List (Result T Fault)
 items events = map (λ e. Ok e) events
 
 module _ {S : Type 0} (steps : S → Option (Result Event Fault) → S → Type 0)

@@ -21,12 +21,13 @@ module _ {S A : Type 0} (steps : S → Option A → S → Type 0) where
   Gave s [] t = s ≡ t
   Gave s (r ∷ answers) t = (j : S) × steps s r j × Gave j answers t
 
-  -- the iterator may be called and ends; where it gave None it may be called again, and no more
-  -- items are left than before
+  -- The iterator may be called and ends. Wherever calls of it lead, where it gives None it may be
+  -- called again, and no more items are left than before.
   pub record CanMerge (can : S → Type 0) (rest : S → Count) (s : S) : Type 0 where
     pub callable : can s
     pub ends : IsFinite (rest s)
-    pub goes_on : (t u : S) → can t → IsFinite (rest t) → steps t None u → can u × (size (rest u) ≤ size (rest t))
+    pub goes_on : (answers : List (Option A)) (t u : S) → Gave s answers t → can t → IsFinite (rest t)
+        → steps t None u → can u × (size (rest u) ≤ size (rest t))
 
 -- a merge between calls: its iterator, the items that were read and not given yet, and whether a
 -- growth was refused

@@ -2,14 +2,16 @@
 use Rattle.std.specs.Prelude.{◌≡◌, ◌⊎◌, ℕ, false, List, [], ◌∷◌, ◌++◌, map, Ok, Err, Result, Option, None}
 use Rattle.std.specs.List.{flat_map, AllByRecursion}
 use Rattle.std.specs.Iterator.{Count, Drains, Yields}
+use Rattle.std.specs.declared.ops.Range.{Range}
 use Rattle.markdown_base.specs.Event.{EventView, text, event_view}
 use Rattle.markdown_base.specs.declared.event.Event.{Event}
 use Rattle.markdown_base.specs.declared.fault.Fault.{Fault}
 use Rattle.markdown_out.specs.EventHtml.{html_of, open_html}
 use Rattle.markdown_out.specs.HtmlCorrect.{items}
+use Rattle.markdown_out.specs.LookBacks.{IsTooDeep}
 use Rattle.markdown_out.specs.Merge.{Item, text_of_item, merged}
-use Rattle.markdown_out.specs.MergeNext.{MergeState, CallsMerge, item_view}
-use Rattle.markdown_out.specs.Places.{bare, nowhere}
+use Rattle.markdown_out.specs.MergeNext.{Gave, MergeState, CallsMerge, item_view}
+use Rattle.markdown_out.specs.Places.{bare, nowhere, through_ranges}
 
 -- not both are Texts
 abbrev pub AreApart : {P : Type 0} → Item P → Item P → Type 0
@@ -34,6 +36,23 @@ item_events (Err fault) = []
 abbrev pub merged_events : List EventView → List EventView
 merged_events events = flat_map item_events (merged nowhere (map event_item events))
 
+-- an event with its range
+abbrev pub RangedEvent : Type 0
+RangedEvent = EventView × Range ℕ
+
+-- as an item
+abbrev pub ranged_item : RangedEvent → Item (Range ℕ)
+ranged_item placed = Ok placed
+
+-- the event with its range that an item is, if it is one
+abbrev pub item_ranged : Item (Range ℕ) → List RangedEvent
+item_ranged (Ok placed) = placed ∷ []
+item_ranged (Err fault) = []
+
+-- the merge of a list of events with their ranges
+abbrev pub merged_ranged : List RangedEvent → List RangedEvent
+merged_ranged events = flat_map item_ranged (merged through_ranges (map ranged_item events))
+
 -- an event is no empty Text
 abbrev pub IsNoEmptyText : EventView → Type 0
 IsNoEmptyText (text []) = ⊥
@@ -44,9 +63,10 @@ abbrev pub MergingKeepsHtml : Type 0
 MergingKeepsHtml = (events : List EventView) → AllByRecursion IsNoEmptyText events
     → html_of (merged_events events) ≡ html_of events
 
--- after None comes nothing but None
-abbrev pub StaysEnded : {S A : Type 0} → (S → Option A → S → Type 0) → Type 0
-StaysEnded {S} {A} steps = (s t u : S) (r : Option A) → steps s None t → steps t r u → r ≡ None
+-- wherever calls of the iterator lead, after None comes nothing but None
+abbrev pub StaysEnded : {S A : Type 0} → (S → Option A → S → Type 0) → S → Type 0
+StaysEnded {S} {A} steps it = (answers : List (Option A)) (s t u : S) (r : Option A)
+    → Gave steps it answers s → steps s None t → steps t r u → r ≡ None
 
 module _ {S T P : Type 0} (through : P → P → P) (view : Result T Fault → Item P)
     (steps : S → Option (Result T Fault) → S → Type 0) (it : S) (given : List (Result T Fault)) where
@@ -105,3 +125,15 @@ module _ {S : Type 0} (steps : S → Option (Result Event Fault) → S → Type 
     pub events : List Event
     pub prefix : IsMergeSoFar nowhere (item_view bare) steps it (items events)
     pub stands : new ≡ old ++ open_html (map event_view events)
+
+  -- more Starts are open in an image than can be counted, in a prefix of the merge of the events read,
+  -- and the open HTML of that prefix stands
+  pub record GoesTooDeepMerged : Type 0 where
+    pub events : List Event
+    pub left : S
+    pub read : Yields steps it (items events) left
+    pub given : List EventView
+    pub missing : List EventView
+    pub prefix : merged_events (map event_view events) ≡ given ++ missing
+    pub stands : new ≡ old ++ open_html given
+    pub deep : IsTooDeep given

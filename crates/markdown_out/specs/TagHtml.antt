@@ -5,6 +5,7 @@ use Rattle.std.specs.Prelude.{if◌then◌else◌, slice_get, Option, Some, None
 use Rattle.std.specs.Option.{option_map_or}
 use Rattle.std.specs.List.{flat_map, before_first}
 use Rattle.std.specs.Fmt.{decimal}
+use Rattle.markdown_base.specs.Bytes.{space}
 use Rattle.markdown_base.specs.Event.{TagView, HeadingView, paragraph, heading, block_quote}
 use Rattle.markdown_base.specs.Event.{indented_code, fenced_code, html_block, list, list_item}
 use Rattle.markdown_base.specs.Event.{footnote_definition, definition_list, definition_list_title}
@@ -79,7 +80,7 @@ quote_class (Some quote.Caution) = codes " class=\"markdown-alert-caution\""
 
 -- the language that an info string names: what stands before its first space (32)
 abbrev pub language : List ℕ → List ℕ
-language info = before_first (λ b. b == 32) info
+language info = before_first (λ b. b == space) info
 
 -- a code block's Start, by its language
 abbrev pub code_block_parts : Bool → List ℕ → List (List ℕ)

@@ -6,14 +6,14 @@ ghost use Rattle.std.specs.Iterator.Adapters.{map_source, map_callee, map_steps}
 ghost use Rattle.std.specs.declared.ops.Range.{Range};
 ghost use Rattle.markdown_base.specs.declared.fault.Fault.{Fault};
 ghost use Rattle.markdown_base.specs.declared.fault.Fault.TheVariants.{Memory};
-ghost use Rattle.markdown_out.specs.HtmlCorrect.{IsRendered, StopsAtError};
+ghost use Rattle.markdown_out.specs.HtmlCorrect.{GoesTooDeep, IsRendered, StopsAtError};
 ghost use Rattle.markdown_out.specs.ImageHtml.{ImagesHaveParts};
 ghost use Rattle.markdown_out.specs.Merge.{Item, merged};
 ghost use Rattle.markdown_out.specs.MergeNext.{CanMerge, item_view};
 ghost use Rattle.markdown_out.specs.MergeState.{stream_state, offset_state};
 ghost use Rattle.markdown_out.specs.OutLaws.{HasNoNeighbours, MergingKeepsHtml, StaysEnded};
 ghost use Rattle.markdown_out.specs.OutLaws.{IsNewMerge, GivesTheMerge, merge_steps};
-ghost use Rattle.markdown_out.specs.OutLaws.{IsRenderedMerged, StopsAtErrorMerged, IsRefusedMerged};
+ghost use Rattle.markdown_out.specs.OutLaws.{GoesTooDeepMerged, IsRenderedMerged, StopsAtErrorMerged, IsRefusedMerged};
 ghost use Rattle.markdown_out.specs.Places.{bare, nowhere, ranged, through_ranges};
 
 use crate::merge::{TextMergeStream, TextMergeWithOffset};
@@ -51,7 +51,7 @@ pub fn merging_keeps_the_html()
 pub fn a_stream_gives_the_merge<'a, I: Iterator<Item = Result<Event<'a>, Fault>>>(
     merge: &TextMergeStream<'a, I>,
 )
-    ensures { StaysEnded I.next_gives → IsNewMerge (stream_state merge.now)
+    ensures { StaysEnded I.next_gives (stream_state merge.now).iter → IsNewMerge (stream_state merge.now)
         → GivesTheMerge nowhere (item_view bare) I.next_gives I.can_next I.remaining stream_state merge.now }
 {}
 
@@ -60,14 +60,15 @@ pub fn a_stream_with_offsets_gives_the_merge<
     'a,
     I: Iterator<Item = Result<(Event<'a>, Range<usize>), Fault>>,
 >(merge: &TextMergeWithOffset<'a, I>)
-    ensures { StaysEnded I.next_gives → IsNewMerge (offset_state merge.now)
+    ensures { StaysEnded I.next_gives (offset_state merge.now).iter → IsNewMerge (offset_state merge.now)
         → GivesTheMerge through_ranges (item_view ranged) I.next_gives I.can_next I.remaining offset_state merge.now }
 {}
 
 /// A mapped iterator can be merged where its source stays ended and can be merged, and the closure may
 /// be called at each item that may come.
 pub fn a_mapped_iterator_can_be_merged<I: Iterator, B, F: FnMut(I::Item) -> B>(mapped: &Map<I, F>)
-    ensures { StaysEnded I.next_gives → CanMerge I.next_gives I.can_next I.remaining (map_source mapped.now)
+    ensures { StaysEnded I.next_gives (map_source mapped.now)
+        → CanMerge I.next_gives I.can_next I.remaining (map_source mapped.now)
         → CallableOnAll I.next_gives F.FnMut (map_source mapped.now) (map_callee mapped.now)
         → CanMerge (map_steps I.next_gives F.FnMut) (λ m. I.can_next (map_source m)
         × CallableOnAll I.next_gives F.FnMut (map_source m) (map_callee m))
@@ -76,18 +77,25 @@ pub fn a_mapped_iterator_can_be_merged<I: Iterator, B, F: FnMut(I::Item) -> B>(m
 
 /// What `push_html` makes of such a merge of events: the HTML of the merge of the events; and at an
 /// error, the open HTML of the merge of the events before it, or, where the merge itself was refused
-/// memory, of a prefix of the merge of those read.
+/// memory, of a prefix of the merge of those read; so too where too many Starts are open in an image.
 pub fn html_of_a_merge_is_that_of_the_merged_events<
     'a,
     I: Iterator<Item = Result<Event<'a>, Fault>>,
 >(merge: &TextMergeStream<'a, I>)
-    ensures whole { StaysEnded I.next_gives → IsNewMerge (stream_state merge.now) → (old new : List ℕ)
+    ensures whole { StaysEnded I.next_gives (stream_state merge.now).iter → IsNewMerge (stream_state merge.now)
+        → (old new : List ℕ)
         → IsRendered (merge_steps nowhere (item_view bare) I.next_gives I.can_next I.remaining stream_state) merge.now
         old new
         → IsRenderedMerged I.next_gives (stream_state merge.now).iter old new }
-    ensures error { StaysEnded I.next_gives → IsNewMerge (stream_state merge.now) → (old new : List ℕ) (fault : Fault)
+    ensures error { StaysEnded I.next_gives (stream_state merge.now).iter → IsNewMerge (stream_state merge.now)
+        → (old new : List ℕ) (fault : Fault)
         → StopsAtError (merge_steps nowhere (item_view bare) I.next_gives I.can_next I.remaining stream_state) merge.now
         old new fault
         → StopsAtErrorMerged I.next_gives (stream_state merge.now).iter old new fault
         ⊎ ((fault ≡ Memory) × IsRefusedMerged I.next_gives (stream_state merge.now).iter old new) }
+    ensures deep { StaysEnded I.next_gives (stream_state merge.now).iter → IsNewMerge (stream_state merge.now)
+        → (old new : List ℕ)
+        → GoesTooDeep (merge_steps nowhere (item_view bare) I.next_gives I.can_next I.remaining stream_state) merge.now
+        old new
+        → GoesTooDeepMerged I.next_gives (stream_state merge.now).iter old new }
 {}

@@ -1,3 +1,6 @@
 -- laws on the open blocks, and on what containers take of a line
 pub mod OpenBlocksLemmas
 pub mod ContainersLemmas
+-- on lines that are taken, and on when lists become loose
+pub mod ParagraphsLemmas
+pub mod ListLoosenessLemmas

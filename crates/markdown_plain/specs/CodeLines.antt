@@ -1,5 +1,5 @@
 -- Lines of code and HTML blocks: what is left of a line from a place on, and where it stops.
-use Rattle.std.specs.Prelude.{ℕ, max, Bool, ◌==◌, ◌&&◌, nat_lt, List, [], ◌∷◌, slice_range, if◌then◌else◌}
+use Rattle.std.specs.Prelude.{ℕ, max, Bool, ◌==◌, ◌&&◌, nat_lt, List, codes, slice_range, if◌then◌else◌}
 use Rattle.markdown_scan.specs.LineStart.{LineLeft, space}
 use Rattle.markdown_lines.specs.declared.fence.Fence.{Fence}
 use Rattle.markdown_lines.specs.declared.held_line.HeldLine.{HeldLine}
@@ -31,7 +31,7 @@ is_closed_at text place line fence =
 -- the columns of space that a cut tab owes: one to three
 abbrev pub owed_spaces : ℕ → List ℕ
 owed_spaces columns =
-    if columns == 1 then 32 ∷ [] else if columns == 2 then 32 ∷ 32 ∷ [] else 32 ∷ 32 ∷ 32 ∷ []
+    if columns == 1 then codes " " else if columns == 2 then codes "  " else codes "   "
 
 -- what is left of a line from a place on ends an HTML block of a kind
 abbrev pub ends_html_at : List ℕ → Place → Line → HtmlKind → Bool

@@ -2,11 +2,9 @@
 -- what is left of it from a place on, by bytes and by columns.
 use Rattle.std.specs.Prelude.{◌≡◌, ℕ, ◌+◌, Bool, true, false, not, ◌==◌, ◌&&◌, ◌||◌, nat_le, nat_lt, List, [], ◌∷◌}
 use Rattle.std.specs.Prelude.{Option, Some, None, codes, slice_range, if◌then◌else◌}
-use Rattle.std.specs.Int.RustNames.{bit_and}
 use Rattle.std.specs.List.{prefix_len}
 use Rattle.markdown_base.specs.declared.item.ItemBody.{ItemBody}
 use Rattle.markdown_base.specs.declared.item.ItemBody.TheVariants as body
-use Rattle.markdown_base.specs.declared.options.Options.{Options}
 use Rattle.markdown_builder.specs.declared.open_block.OpenBlock.{OpenBlock}
 use Rattle.markdown_scan.specs.Beginnings.{begins_with}
 use Rattle.markdown_scan.specs.LineStart.{LineLeft, Space, space, past_marker}
@@ -63,10 +61,6 @@ is_container (body.List tight character first) = true
 is_container (body.ListItem indent) = true
 is_container (body.FootnoteDefinition ix) = true
 is_container other = false
-
--- footnote definitions are those of the old style
-abbrev pub old_footnotes : Options → Bool
-old_footnotes options = bit_and options.0 516 == 516
 
 -- how far the open containers go on in a line
 pub record Reach : Type 0 where

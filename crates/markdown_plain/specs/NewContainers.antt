@@ -2,10 +2,9 @@
 -- of the line inside them.
 use Rattle.std.specs.Prelude.{◌≡◌, ℕ, ◌+◌, ◌≤◌, ◌%◌, Bool, true, false, ◌&&◌, ◌==◌, nat_lt, List, [], ◌∷◌, ◌++◌}
 use Rattle.std.specs.Prelude.{Option, Some, None, drop, slice_get, codes, if◌then◌else◌}
-use Rattle.std.specs.Int.RustNames.{bit_and}
+use Rattle.markdown_base.specs.Bytes.{colon}
 use Rattle.markdown_base.specs.declared.item.ItemBody.{ItemBody}
 use Rattle.markdown_base.specs.declared.item.ItemBody.TheVariants as body
-use Rattle.markdown_base.specs.declared.options.Options.{Options}
 use Rattle.markdown_builder.specs.declared.open_block.OpenBlock.{OpenBlock}
 use Rattle.markdown_scan.specs.Beginnings.{begins_with}
 use Rattle.markdown_scan.specs.LineStart.{LineLeft, Space, space}
@@ -47,14 +46,10 @@ item_space stop left =
     if nat_lt (space 5 left).after.scanned stop && nat_lt 0 (space 5 left).columns && nat_lt (space 5 left).columns 5
     then space 5 left else record { columns = 1; after = (space 1 left).after }
 
--- footnotes are on, in either style
-abbrev pub footnotes_on : Options → Bool
-footnotes_on options = bit_and options.0 4 == 4
-
 -- a colon comes next
 abbrev pub is_colon : Option ℕ → Bool
 is_colon None = false
-is_colon (Some byte) = byte == 58
+is_colon (Some byte) = byte == colon
 
 -- the label of a footnote definition, and the length of its marker, by what the label was found to be
 abbrev pub note_marker : List ℕ → Option (ℕ × List ℕ) → Option (List ℕ × ℕ)

@@ -8,9 +8,13 @@ use Rattle.markdown_lines.specs.declared.line.Line.{Line}
 use Rattle.markdown_builder.specs.BuilderView.{BuilderView}
 use Rattle.markdown_plain.specs.declared.pass.Pass.{Pass}
 
+-- behind the first so many of some lines, one or more
+abbrev pub end_of : List HeldLine → ℕ → ℕ
+end_of lines count = option_map_or (λ line. line.next) (slice_get lines (count - 1)) 0
+
 -- behind the last of some lines
 abbrev pub lines_end : List HeldLine → ℕ
-lines_end lines = option_map_or (λ line. line.next) (slice_get lines (length lines - 1)) 0
+lines_end lines = end_of lines (length lines)
 
 -- behind a paragraph, or behind the underline of the heading that it is
 abbrev pub paragraph_end : List HeldLine → Option (HeadingLevel × Line) → ℕ

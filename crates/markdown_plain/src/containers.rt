@@ -4,6 +4,7 @@ ghost use Rattle.std.specs.Prelude.{◌≡◌, ℕ, ◌+◌, ◌<◌, ◌≤◌,
 ghost use Rattle.std.specs.Prelude.{nat_le, take, IfOk, IfSome, MatchOption};
 ghost use Rattle.std.specs.Option.{option_map};
 ghost use Rattle.markdown_base.specs.CowText.{text_of};
+ghost use Rattle.markdown_base.specs.EnabledOptions.{footnotes_on, old_footnotes_on};
 ghost use Rattle.markdown_lines.specs.LineBytes.{IsPartOf};
 ghost use Rattle.markdown_lines.specs.Places.{left_from};
 ghost use Rattle.markdown_scan.specs.LineStart.{past_marker};
@@ -14,7 +15,6 @@ ghost use Rattle.markdown_plain.specs.OpenBlocks.{room_in, without_leaf};
 ghost use Rattle.markdown_base.specs.declared.item.ItemBody.TheVariants as body;
 
 use crate::pass::{Pass, innermost};
-use bitflags::Flags;
 use markdown_base::cow_str::CowStr;
 use markdown_base::item::ItemBody;
 use markdown_base::options::Options;
@@ -194,7 +194,7 @@ fn reach_blocks(
 /// How far the open containers go on in a line.
 pub fn reach(pass: &Pass<'_>, line: Line) -> Reached
     ensures { spec.reach_of pass.now.placing.builder.text line.stop result
-        ≡ spec.reach_from (spec.old_footnotes pass.now.options) pass.now.looseness.item_is_empty line.stop
+        ≡ spec.reach_from (old_footnotes_on pass.now.options) pass.now.looseness.item_is_empty line.stop
         pass.now.placing.builder.blocks (spec.reach_start (spec.whole_line pass.now.placing.builder.text line)) }
 {
     reach_blocks(
@@ -300,15 +300,16 @@ impl<'a> Pass<'a> {
             .saturating_add(content.columns);
         self.placing.step_to(before.behind.at);
         self.placing.open_block(ItemBody::ListItem(indent))?;
-        self.looseness.open_item();
         Ok(content.behind)
     }
 
-    /// Opens a list for an item, where the innermost open block is none of the same kind.
+    /// Adds an item to the list that is the innermost open block, or where that is none of its kind, to one that is
+    /// opened. Of the item itself nothing is opened yet.
     fn open_list(&mut self, marker: ListMarker, at: usize) -> Result<(), AllocError>
         ensures text { IfOk result (λ _. self.new.placing.builder.text ≡ self.old.placing.builder.text) }
         ensures around { IfOk result (λ _. IfFitted self.old.placing self.new.placing
             (self.new.placing.builder.blocks ≡ opening.around_item at marker self.old.placing.builder.blocks)) }
+        ensures empty { IfOk result (λ _. self.new.looseness.item_is_empty ≡ true) }
         ensures same { self.new ≡ record self.old {
           placing = self.new.placing;
           looseness = self.new.looseness;
@@ -316,12 +317,12 @@ impl<'a> Pass<'a> {
     {
         if let Some(ItemBody::List(_, character, _)) = innermost(&self.placing) {
             if character == marker.character {
-                self.looseness.add_child(self.placing.open_blocks());
+                self.looseness.add_item(self.placing.open_blocks());
                 return Ok(());
             }
             self.close_block();
         }
-        self.looseness.add_child(self.placing.open_blocks());
+        self.looseness.add_block(self.placing.open_blocks());
         self.placing.step_to(at);
         let list = ItemBody::List(true, marker.character, marker.first);
         self.placing.open_block(list)?;
@@ -336,8 +337,8 @@ impl<'a> Pass<'a> {
         depth: usize,
     ) -> Result<Option<Place>, AllocError>
         ensures text { IfOk result (λ _. self.new.placing.builder.text ≡ self.old.placing.builder.text) }
-        ensures off { IfOk result (λ found. opening.footnotes_on self.old.options ≡ false → found ≡ None) }
-        ensures on { IfOk result (λ found. opening.footnotes_on self.old.options ≡ true → (content : List ℕ)
+        ensures off { IfOk result (λ found. footnotes_on self.old.options ≡ false → found ≡ None) }
+        ensures on { IfOk result (λ found. footnotes_on self.old.options ≡ true → (content : List ℕ)
             × IsPartOf self.old.placing.builder.text here.at line.stop content
             × MatchOption found (opening.note_of content ≡ None)
             (opening.InsideNote self.old.placing.builder.text here line.stop content)) }

@@ -1,7 +1,9 @@
 //! What decides whether lists are loose (CommonMark 5.3): blank lines between the items of a list, or between
 //! two blocks directly in an item.
-ghost use Rattle.std.specs.Prelude.{◌≡◌, ◌++◌, ◌∷◌, [], true, false, Some, None, IfOk};
-ghost use Rattle.markdown_plain.specs.ListLooseness.{blank_from, is_parted, loosened};
+ghost use Rattle.std.specs.Prelude.{◌≡◌, ◌++◌, ◌∷◌, [], true, false, List, Bool, Some, None, IfOk};
+ghost use Rattle.markdown_plain.specs.ListLooseness.{ItemRead, IsRead, blank_from, is_behind_blank, is_empty};
+ghost use Rattle.markdown_plain.specs.ListLooseness.{is_item, is_loose, new_item, with_block};
+ghost use Rattle.markdown_plain.specs.OpenBlocks.{innermost_is};
 
 use markdown_base::item::ItemBody;
 use markdown_builder::open_block::OpenBlock;
@@ -14,7 +16,7 @@ pub struct Looseness {
     lists: Vec<bool>,
     /// after blank lines, from which number on the open blocks had such a line
     blank_from: Option<usize>,
-    /// whether nothing stands yet in the item opened last
+    /// whether nothing stands yet in the last item of the innermost open list
     item_is_empty: bool,
 }
 
@@ -32,39 +34,69 @@ impl Looseness {
         }
     }
 
-    /// Whether nothing stands yet in the item opened last.
+    /// Whether nothing stands yet in the last item of the innermost open list.
     pub fn is_item_empty(&self) -> bool
         ensures { result ≡ self.now.item_is_empty }
     {
         self.item_is_empty
     }
 
-    /// A list is opened: it is tight.
+    /// A list is opened with its first item: it is tight, whether or not a blank line stands before it.
     pub fn open_list(&mut self) -> Result<(), AllocError>
-        ensures lists { IfOk result (λ _. self.new.lists.items ≡ self.old.lists.items ++ false ∷ []) }
-        ensures same { self.new ≡ record self.old { lists = self.new.lists } }
+        ensures read { IfOk result (λ _. (blank : Bool) → IsRead self.old.lists.items [] (new_item blank) self.new) }
+        ensures same { IfOk result (λ _. self.new
+            ≡ record self.old { lists = self.new.lists; item_is_empty = true }) }
     {
         self.lists.push(false)?;
+        self.item_is_empty = true;
         Ok(())
     }
 
-    /// The innermost list is closed. Answers whether it is loose.
-    pub fn close_list(&mut self) -> bool
-        ensures last { (self.old.lists.items ≡ [] → ⊥) → self.old.lists.items ≡ self.new.lists.items ++ result ∷ [] }
-        ensures none { self.old.lists.items ≡ [] → (self.new.lists.items ≡ []) × (result ≡ false) }
-        ensures same { self.new ≡ record self.old { lists = self.new.lists } }
+    /// An item is added to the innermost list, which is the innermost of the open blocks.
+    #[tactic(auto, using(crate::proofs::ListLoosenessLemmas::item_added))]
+    pub fn add_item(&mut self, blocks: &[OpenBlock])
+        ensures read { (outer : List Bool) (items : List ItemRead) (last : ItemRead) → IsRead outer items last self.old
+            → IsRead outer (items ++ last ∷ []) (new_item (is_behind_blank self.old.blank_from blocks.now)) self.new }
+        ensures same { self.new ≡ record self.old { lists = self.new.lists; item_is_empty = true } }
     {
+        if self.is_behind_blank(blocks) {
+            self.loosen();
+        }
+        self.item_is_empty = true;
+    }
+
+    /// A block is added to the innermost of the open blocks: an item, or none of which a list is loose.
+    #[tactic(auto, using(crate::proofs::ListLoosenessLemmas::block_added))]
+    pub fn add_block(&mut self, blocks: &[OpenBlock])
+        ensures inside { innermost_is is_item blocks.now ≡ true
+            → (outer : List Bool) (items : List ItemRead) (last : ItemRead) → IsRead outer items last self.old
+            → IsRead outer items (with_block last (is_behind_blank self.old.blank_from blocks.now)) self.new }
+        ensures elsewhere { innermost_is is_item blocks.now ≡ false → self.new.lists ≡ self.old.lists }
+        ensures same { self.new ≡ record self.old { lists = self.new.lists; item_is_empty = false } }
+    {
+        if is_in_item(blocks) && !self.item_is_empty && self.is_behind_blank(blocks) {
+            self.loosen();
+        }
+        self.item_is_empty = false;
+    }
+
+    /// The innermost list is closed. Answers whether it is loose. The list outside it is read on: this one stands in
+    /// its last item.
+    pub fn close_list(&mut self) -> bool
+        ensures decides { (outer : List Bool) (items : List ItemRead) (last : ItemRead)
+            → IsRead outer items last self.old
+            → (result ≡ is_loose (items ++ last ∷ [])) × (self.new.lists.items ≡ outer) }
+        ensures goes_on { (outer : List Bool) (items : List ItemRead) (last : ItemRead)
+            → self.new.lists.items ≡ outer ++ is_loose (items ++ last ∷ []) ∷ []
+            → is_empty last.blocks ≡ false → IsRead outer items last self.new }
+        ensures none { self.old.lists.items ≡ [] → (self.new.lists.items ≡ []) × (result ≡ false) }
+        ensures same { self.new ≡ record self.old { lists = self.new.lists; item_is_empty = false } }
+    {
+        self.item_is_empty = false;
         match self.lists.pop() {
             Some(loose) => loose,
             None => false,
         }
-    }
-
-    /// An item is opened.
-    pub fn open_item(&mut self)
-        ensures { self.new ≡ record self.old { item_is_empty = true } }
-    {
-        self.item_is_empty = true;
     }
 
     /// A line was blank for the open blocks from a number on.
@@ -84,23 +116,10 @@ impl Looseness {
         self.blank_from = None;
     }
 
-    /// A block is added to the innermost of the open blocks.
-    pub fn add_child(&mut self, blocks: &[OpenBlock])
-        ensures parted { is_parted self.old.blank_from self.old.item_is_empty blocks.now ≡ true
-            → self.new.lists.items ≡ loosened self.old.lists.items }
-        ensures together { is_parted self.old.blank_from self.old.item_is_empty blocks.now ≡ false
-            → self.new.lists ≡ self.old.lists }
-        ensures same { self.new ≡ record self.old { lists = self.new.lists; item_is_empty = false } }
-    {
-        if self.is_parted(blocks) {
-            self.loosen();
-        }
-        self.item_is_empty = false;
-    }
-
     /// The innermost list is loose.
     fn loosen(&mut self)
-        ensures loose { self.new.lists.items ≡ loosened self.old.lists.items }
+        ensures loose { (outer : List Bool) (before : Bool) → self.old.lists.items ≡ outer ++ before ∷ []
+            → self.new.lists.items ≡ outer ++ true ∷ [] }
         ensures same { self.new ≡ record self.old { lists = self.new.lists } }
     {
         if self.lists.is_empty() {
@@ -110,18 +129,26 @@ impl Looseness {
         self.lists[last] = true;
     }
 
-    /// Whether a blank line parts what comes from what stands before it in the list or item opened last.
-    fn is_parted(&self, blocks: &[OpenBlock]) -> bool
-        ensures { result ≡ is_parted self.now.blank_from self.now.item_is_empty blocks.now }
+    /// Whether the innermost of the open blocks had a blank line behind the last line that is not blank.
+    fn is_behind_blank(&self, blocks: &[OpenBlock]) -> bool
+        ensures { result ≡ is_behind_blank self.now.blank_from blocks.now }
     {
-        let (Some(from), Some(parent)) = (self.blank_from, blocks.last()) else {
-            return false;
-        };
-        let relevant = match parent.body {
-            ItemBody::ListItem(_) => !self.item_is_empty,
-            ItemBody::List(_, _, _) => true,
-            _ => false,
-        };
-        relevant && from < blocks.len()
+        match self.blank_from {
+            Some(from) => from < blocks.len(),
+            None => false,
+        }
+    }
+}
+
+/// Whether the innermost of some open blocks is an item.
+fn is_in_item(blocks: &[OpenBlock]) -> bool
+    ensures { result ≡ innermost_is is_item blocks.now }
+{
+    let Some(block) = blocks.last() else {
+        return false;
+    };
+    match block.body {
+        ItemBody::ListItem(_) => true,
+        _ => false,
     }
 }

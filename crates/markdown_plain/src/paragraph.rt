@@ -5,7 +5,7 @@ ghost use Rattle.markdown_base.specs.declared.item.ItemBody.TheVariants as body;
 ghost use Rattle.markdown_builder.specs.Bodies.{is_plain_block};
 ghost use Rattle.markdown_plain.specs.Fitting.{IfFitted, GoesOn, stepped};
 ghost use Rattle.markdown_plain.specs.OpenBlocks.{room_in, without_leaf};
-ghost use Rattle.markdown_plain.specs.Paragraphs.{has_paragraph, lines_end, paragraph_end, IsPlacedTo};
+ghost use Rattle.markdown_plain.specs.Paragraphs.{end_of, has_paragraph, lines_end, paragraph_end, IsPlacedTo};
 
 use crate::pass::Pass;
 use crate::placing::Placing;
@@ -20,8 +20,8 @@ use markdown_lines::line::Line;
 use markdown_lines::line_break::line_break;
 use std::alloc::{AllocError, Global};
 
-/// Takes the definition that begins a paragraph's lines. Answers how many lines it takes: none where there is
-/// none.
+/// Takes the definition that begins a paragraph's lines, up to where its last line ends. Answers how many lines it takes:
+/// none where there is none.
 fn take_definition<'a>(
     alloc: Global,
     placing: &mut Placing<'a>,
@@ -30,6 +30,10 @@ fn take_definition<'a>(
     ensures text { IfOk result (λ _. placing.new.builder.text ≡ placing.old.builder.text) }
     ensures steps { IfOk result (λ _. IfFitted placing.old placing.new
         (placing.new.builder ≡ stepped placing.old.builder placing.new.builder.at)) }
+    ensures within { IfOk result (λ taken. taken ≤ length lines.now) }
+    ensures none { IfOk result (λ taken. taken ≡ 0 → placing.new ≡ placing.old) }
+    ensures behind { IfOk result (λ taken. 0 < taken → IfFitted placing.old placing.new
+        (placing.new.builder.at ≡ end_of lines.now taken)) }
 {
     let text = placing.text();
     let Some(first) = lines.first() else {
@@ -41,13 +45,15 @@ fn take_definition<'a>(
     let Some(found) = read_definition(alloc, text, lines, first.start)? else {
         return Ok(0);
     };
-    let taken = found.lines;
+    let taken = found.lines.max(1).min(lines.len());
     placing.step_to(first.start);
     placing.add_definition(found)?;
+    placing.step_to(lines[taken - 1].next);
     Ok(taken)
 }
 
 /// Takes the definitions at the beginning of a paragraph's lines. Answers how many lines they take.
+#[tactic(auto, using(crate::proofs::ParagraphsLemmas::end_of_more))]
 fn take_definitions<'a>(
     alloc: Global,
     placing: &mut Placing<'a>,
@@ -56,6 +62,9 @@ fn take_definitions<'a>(
     ensures text { IfOk result (λ _. placing.new.builder.text ≡ placing.old.builder.text) }
     ensures steps { IfOk result (λ _. IfFitted placing.old placing.new
         (placing.new.builder ≡ stepped placing.old.builder placing.new.builder.at)) }
+    ensures within { IfOk result (λ taken. taken ≤ length lines.now) }
+    ensures behind { IfOk result (λ taken. 0 < taken → IfFitted placing.old placing.new
+        (placing.new.builder.at ≡ end_of lines.now taken)) }
 {
     let mut taken = 0;
     'definitions: for _ in 0..lines.len() {
@@ -196,7 +205,7 @@ impl<'a> Pass<'a> {
     }
 
     /// Ends the open paragraph, or makes it a heading that ends with the line of its underline. Answers
-    /// whether it had more than definitions.
+    /// whether it had more than definitions, which end with their last line.
     pub fn end_paragraph(
         &mut self,
         heading: Option<(HeadingLevel, Line)>,
@@ -207,6 +216,9 @@ impl<'a> Pass<'a> {
             (paragraph_end self.old.lines.items heading))) }
         ensures defines { IfOk result (λ left. left ≡ false → IfFitted self.old.placing self.new.placing
             (self.new.placing.builder ≡ stepped self.old.placing.builder self.new.placing.builder.at)) }
+        ensures behind { IfOk result (λ left. left ≡ false → 0 < length self.old.lines.items
+            → IfFitted self.old.placing self.new.placing
+            (self.new.placing.builder.at ≡ lines_end self.old.lines.items)) }
         ensures emptied { IfOk result (λ _. self.new.lines.items ≡ []) }
         ensures same { self.new ≡ record self.old { placing = self.new.placing; lines = self.new.lines } }
     {

@@ -1,8 +1,9 @@
 //! The state of the block pass between two lines, and the closing of blocks.
-ghost use Rattle.std.specs.Prelude.{◌≡◌, [], false, length, take, IfOk};
+ghost use Rattle.std.specs.Prelude.{◌≡◌, [], ◌&&◌, false, not, length, take, IfOk};
 ghost use Rattle.std.specs.Option.{option_map};
-ghost use Rattle.markdown_builder.specs.BuilderView.{innermost_block, nothing_made};
-ghost use Rattle.markdown_plain.specs.Fitting.{AllFitted, IfFitted, closed};
+ghost use Rattle.markdown_base.specs.declared.item.ItemBody.TheVariants as body;
+ghost use Rattle.markdown_builder.specs.BuilderView.{BuilderView, innermost_block, nothing_made};
+ghost use Rattle.markdown_plain.specs.Fitting.{AllFitted, HasBody, IfFitted, closed};
 ghost use Rattle.markdown_plain.specs.OpenBlocks.{innermost_is, is_list, room_in, without_leaf};
 ghost use Rattle.markdown_plain.specs.Containers.{closing_place};
 ghost use Rattle.markdown_plain.specs.Paragraphs.{has_paragraph};
@@ -100,7 +101,12 @@ impl<'a> Pass<'a> {
         ensures closes { IfFitted self.old.placing self.new.placing (self.new.placing.builder
             ≡ record (closed self.old.placing.builder) { at = closing_place self.old }) }
         ensures same { self.new ≡ record self.old { placing = self.new.placing; looseness = self.new.looseness } }
-        ensures looseness { self.new.looseness ≡ record self.old.looseness { lists = self.new.looseness.lists } }
+        ensures looseness { self.new.looseness ≡ record self.old.looseness {
+          lists = self.new.looseness.lists;
+          item_is_empty = self.new.looseness.item_is_empty;
+        } }
+        ensures stands { self.new.looseness.item_is_empty
+            ≡ (not (innermost_is is_list self.old.placing.builder.blocks) && self.old.looseness.item_is_empty) }
     {
         match innermost(&self.placing) {
             Some(ItemBody::List(_, character, first)) => {
@@ -128,7 +134,10 @@ impl<'a> Pass<'a> {
           lines = self.new.lines;
           looseness = self.new.looseness;
         } }
-        ensures looseness { self.new.looseness ≡ record self.old.looseness { lists = self.new.looseness.lists } }
+        ensures looseness { self.new.looseness ≡ record self.old.looseness {
+          lists = self.new.looseness.lists;
+          item_is_empty = self.new.looseness.item_is_empty;
+        } }
     {
         self.end_leaf()?;
         'blocks: for _closed in depth..self.depth() {
@@ -157,7 +166,7 @@ impl<'a> Pass<'a> {
         if self.is_in_list() {
             self.close_block();
         }
-        self.looseness.add_child(self.placing.open_blocks());
+        self.looseness.add_block(self.placing.open_blocks());
         Ok(())
     }
 
@@ -195,10 +204,11 @@ pub fn innermost(placing: &Placing<'_>) -> Option<ItemBody>
 #[tactic(auto, using(crate::proofs::OpenBlocksLemmas::outer_of_opened))]
 fn close_list(placing: &mut Placing<'_>, character: u8, first: u64, loose: bool)
     ensures text { placing.new.builder.text ≡ placing.old.builder.text }
+    ensures settles { IfFitted placing.old placing.new ((settled : BuilderView)
+        × HasBody placing.old.builder settled (body.List (not loose) character first)
+        × (placing.new.builder ≡ closed settled)) }
     ensures closes { IfFitted placing.old placing.new (placing.new.builder ≡ closed placing.old.builder) }
 {
-    if loose {
-        placing.change(ItemBody::List(false, character, first));
-    }
+    placing.change(ItemBody::List(!loose, character, first));
     placing.close();
 }

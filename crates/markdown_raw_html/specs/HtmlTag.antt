@@ -5,6 +5,8 @@ use Rattle.std.specs.Prelude.{if◌then◌else◌, option_and_then, unwrap_or, d
 use Rattle.std.specs.List.{list_any, prefix_len}
 use Rattle.std.specs.Option.{option_map, option_map_or, option_or}
 use Rattle.std.specs.Char.{is_ascii_alphabetic, is_ascii_alphanumeric}
+use Rattle.markdown_base.specs.Bytes.{apostrophe, backtick, carriage_return, double_quote, equals_sign, greater_than}
+use Rattle.markdown_base.specs.Bytes.{less_than, line_feed, slash, space, tab}
 
 -- what begins a text: how many bytes it takes
 abbrev pub TagPart : Type 0
@@ -58,7 +60,7 @@ is_of marks b = list_any (λ mark. mark == b) marks
 
 -- a space or a tab
 abbrev pub is_tag_blank : ℕ → Bool
-is_tag_blank = is_of (32 ∷ 9 ∷ [])
+is_tag_blank = is_of (space ∷ tab ∷ [])
 
 -- what stands in a tag's name after its first letter
 abbrev pub in_tag_name : ℕ → Bool
@@ -74,7 +76,9 @@ in_attribute b = is_ascii_alphanumeric b || is_of (codes "_.:-") b
 
 -- what stands in a value without quotes: all but spaces, tabs, line endings and ``"'=<>` ``
 abbrev pub in_unquoted : ℕ → Bool
-in_unquoted b = not (is_of (32 ∷ 9 ∷ 10 ∷ 13 ∷ 34 ∷ 39 ∷ 61 ∷ 60 ∷ 62 ∷ 96 ∷ []) b)
+in_unquoted b = not (is_of
+    (space ∷ tab ∷ line_feed ∷ carriage_return ∷ double_quote ∷ apostrophe ∷ equals_sign ∷ less_than ∷ greater_than
+    ∷ backtick ∷ []) b)
 
 -- this byte
 abbrev pub byte : ℕ → TagPart
@@ -82,7 +86,7 @@ byte mark = one (λ b. b == mark)
 
 -- a line feed, or a carriage return and the line feed that follows it, if one does
 abbrev pub line_end : TagPart
-line_end = either (byte 10) (both (byte 13) (optional (byte 10)))
+line_end = either (byte line_feed) (both (byte carriage_return) (optional (byte line_feed)))
 
 -- spaces and tabs, and up to one line ending
 abbrev pub white_space : TagPart
@@ -106,11 +110,11 @@ quoted_value mark = both (byte mark) (both (all (λ b. not (b == mark))) (byte m
 
 -- a value: without quotes, in single (39) or in double (34) quotes
 abbrev pub attribute_value : TagPart
-attribute_value = either unquoted_value (either (quoted_value 39) (quoted_value 34))
+attribute_value = either unquoted_value (either (quoted_value apostrophe) (quoted_value double_quote))
 
 -- `=` and a value, maybe white space before each of them
 abbrev pub value_specification : TagPart
-value_specification = both white_space (both (byte 61) (both white_space attribute_value))
+value_specification = both white_space (both (byte equals_sign) (both white_space attribute_value))
 
 -- white space, a name, and maybe a value
 abbrev pub attribute : TagPart
@@ -118,15 +122,15 @@ attribute = both (nonempty white_space) (both attribute_name (optional value_spe
 
 -- maybe white space, maybe `/`, and `>`
 abbrev pub open_tag_end : TagPart
-open_tag_end = both white_space (both (optional (byte 47)) (byte 62))
+open_tag_end = both white_space (both (optional (byte slash)) (byte greater_than))
 
 -- `<`, a name, attributes, and the end
 abbrev pub open_tag : TagPart
-open_tag = both (byte 60) (both tag_name (both (often attribute) open_tag_end))
+open_tag = both (byte less_than) (both tag_name (both (often attribute) open_tag_end))
 
 -- `</`, a name, maybe white space, and `>`
 abbrev pub closing_tag : TagPart
-closing_tag = both (byte 60) (both (byte 47) (both tag_name (both white_space (byte 62))))
+closing_tag = both (byte less_than) (both (byte slash) (both tag_name (both white_space (byte greater_than))))
 
 -- a tag
 abbrev pub html_tag : TagPart

@@ -1,12 +1,13 @@
 -- Laws of raw HTML, in a reader's words.
 use Rattle.std.specs.Prelude.{◌≡◌, ◌≤◌, ◌<◌, ℕ, ◌-◌, Bool, false, List, length, drop, IfSome, IsTrue}
+use Rattle.markdown_base.specs.Bytes.{greater_than, less_than}
 use Rattle.markdown_scan.specs.Beginnings.{begins_with, StandsBetween}
 use Rattle.markdown_raw_html.specs.HtmlTag.{html_tag}
 use Rattle.markdown_raw_html.specs.RawHtml.{through_first}
 
 -- a tag begins with `<` (60) and ends with `>` (62)
 abbrev pub TagStandsInAngleBrackets : List ℕ → Type 0
-TagStandsInAngleBrackets bytes = IfSome (html_tag bytes) (StandsBetween 60 62 bytes)
+TagStandsInAngleBrackets bytes = IfSome (html_tag bytes) (StandsBetween less_than greater_than bytes)
 
 -- the closing bytes stand at this place
 abbrev pub closes_at : List ℕ → List ℕ → ℕ → Bool

@@ -1,9 +1,9 @@
 //! Each promise with whether it holds.
 use crate::tables::{Call, answers_again};
-use crate::{lists, tables, texts, trees, wikilinks};
+use crate::{events, lists, tables, texts, trees};
 use std::alloc::Global;
 
-pub fn all(alloc: Global) -> [(&'static str, bool); 27] {
+pub fn all(alloc: Global) -> [(&'static str, bool); 23] {
     [
         (
             "a slice is copied without memory",
@@ -24,24 +24,8 @@ pub fn all(alloc: Global) -> [(&'static str, bool); 27] {
         ("a refused append leaves the tree", trees::appends(alloc)),
         ("a refused push leaves the tree", trees::pushes(alloc)),
         (
-            "a text's blocks are made or memory is refused",
-            trees::makes_blocks(alloc),
-        ),
-        (
             "a good tree is never refused for its rules",
             trees::checks(alloc),
-        ),
-        (
-            "the events are a beginning, and then an error ends them",
-            lists::walks(alloc),
-        ),
-        (
-            "the ranges are a beginning, and then an error ends them",
-            lists::walks_with_ranges(alloc),
-        ),
-        (
-            "the old text stands, and then a beginning of the HTML",
-            lists::renders_a_text(alloc),
         ),
         (
             "the merged events are a beginning, and then an error ends them",
@@ -56,24 +40,16 @@ pub fn all(alloc: Global) -> [(&'static str, bool); 27] {
             lists::renders_mixed_events(alloc),
         ),
         (
-            "the events of wikilinks are a beginning, and then an error ends them",
-            wikilinks::walks(alloc),
-        ),
-        (
-            "all events are given or none is",
-            wikilinks::collects(alloc),
-        ),
-        (
-            "a text is rendered whole or memory is refused",
-            wikilinks::renders(alloc),
-        ),
-        (
             "a look-up finds its definition, also after a refusal",
             answers_again(alloc, Call::LookUp),
         ),
         (
             "a footnote is found, also after a refusal",
             answers_again(alloc, Call::Contains),
+        ),
+        (
+            "uses are found, also after a refusal",
+            answers_again(alloc, Call::LookUpUses),
         ),
         ("a use is counted once or not at all", tables::counts(alloc)),
         (
@@ -103,6 +79,11 @@ pub fn all(alloc: Global) -> [(&'static str, bool); 27] {
         (
             "a broken link is freed from its source or gone",
             texts::frees_a_broken_link(alloc),
+        ),
+        ("an event is copied whole or stays", events::copies(alloc)),
+        (
+            "an event is freed from its source or gone",
+            events::frees(alloc),
         ),
     ]
 }

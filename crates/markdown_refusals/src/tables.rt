@@ -1,9 +1,9 @@
 //! The promises of definitions, footnotes and allocations: the same call answers as ever after a refusal.
-use markdown_base::block_parts::{BlockParts, HeadingAttributes, LinkDef};
 use markdown_base::cow_str::CowStr;
 use markdown_base::fault::Fault;
 use markdown_base::tag::{Alignment, LinkType};
-use markdown_spans::defs::Allocations;
+use markdown_defs::Allocations;
+use markdown_test_helpers::parts::{defining, no_attributes};
 use std::alloc::Global;
 
 /// What is asked for.
@@ -11,6 +11,7 @@ use std::alloc::Global;
 pub enum Call {
     LookUp,
     Contains,
+    LookUpUses,
     PutText,
     PutLink,
     PutAlignments,
@@ -19,22 +20,8 @@ pub enum Call {
 
 /// Allocations over one definition and one footnote; None where memory was refused.
 fn made(alloc: Global) -> Option<Allocations<'static>> {
-    let definition = LinkDef {
-        dest: CowStr::Borrowed("/u"),
-        title: None,
-        span: 3..7,
-    };
-    let mut definitions = Vec::new(alloc);
-    definitions.push((CowStr::Borrowed("ß"), definition)).ok()?;
-    let mut footnotes = Vec::new(alloc);
-    footnotes.push(CowStr::Borrowed("n")).ok()?;
-    let parts = BlockParts {
-        definitions,
-        footnotes,
-        cows: Vec::new(alloc),
-        alignments: Vec::new(alloc),
-        headings: Vec::new(alloc),
-    };
+    let mut parts = defining(alloc, &[("ß", "/u")]).ok()?;
+    parts.footnotes.push(CowStr::Borrowed("n")).ok()?;
     Allocations::new(alloc, parts).ok()
 }
 
@@ -57,12 +44,7 @@ fn put_alignments(alloc: Global, held: &mut Allocations<'static>) -> Result<usiz
 
 /// Puts in a heading's attributes: their number.
 fn put_attributes(alloc: Global, held: &mut Allocations<'static>) -> Result<usize, Fault> {
-    let made = held.allocate_heading(HeadingAttributes {
-        id: None,
-        classes: Vec::new(alloc),
-        attrs: Vec::new(alloc),
-    })?;
-    Ok(made.0)
+    Ok(held.allocate_heading(no_attributes(alloc))?.0)
 }
 
 /// Whether a key finds the definition.
@@ -73,11 +55,37 @@ fn looks_up(held: &Allocations<'static>) -> Result<bool, Fault> {
     }
 }
 
+/// Whether a name finds the footnote, which was used nowhere.
+fn is_unused(held: &mut Allocations<'static>) -> Result<bool, Fault> {
+    match held.footdefs.get_mut(CowStr::Borrowed("N"))? {
+        Some(footnote) => Ok(footnote.use_count == 0),
+        None => Ok(false),
+    }
+}
+
+/// Whether the one definition is listed, and the footnote is unused.
+fn is_as_made(held: &mut Allocations<'static>) -> bool {
+    lists_the_definition(held) && is_unused(held) == Ok(true)
+}
+
+/// Whether the one definition is listed.
+fn lists_the_definition(held: &Allocations<'static>) -> bool {
+    let mut listed = 0usize;
+    for (label, definition) in held.refdefs.iter() {
+        if label != "ß" || definition.dest.as_str() != "/u" {
+            return false;
+        }
+        listed = listed.saturating_add(1);
+    }
+    listed == 1
+}
+
 /// Whether a call finds what is there, or puts in what it is given under the first number.
 fn answers(alloc: Global, held: &mut Allocations<'static>, call: Call) -> Result<bool, Fault> {
     match call {
         Call::LookUp => looks_up(held),
         Call::Contains => held.footdefs.contains("N"),
+        Call::LookUpUses => is_unused(held),
         Call::PutText => Ok(held.allocate_cow(CowStr::Borrowed("a"))?.0 == 0),
         Call::PutLink => Ok(put_link(held)? == 0),
         Call::PutAlignments => Ok(put_alignments(alloc, held)? == 0),
@@ -85,14 +93,19 @@ fn answers(alloc: Global, held: &mut Allocations<'static>, call: Call) -> Result
     }
 }
 
-/// Whether a call does so, or memory was refused and then it does: what was refused put nothing in.
+/// Whether a call does so, or memory was refused and then it does: what was refused put nothing in, and all else is as
+/// it was.
 pub fn answers_again(alloc: Global, call: Call) -> bool {
     let Some(mut held) = made(alloc) else {
         return true;
     };
     match answers(alloc, &mut held, call) {
         Ok(answered) => answered,
-        Err(fault) => fault == Fault::Memory && answers(alloc, &mut held, call) == Ok(true),
+        Err(fault) => {
+            fault == Fault::Memory
+                && is_as_made(&mut held)
+                && answers(alloc, &mut held, call) == Ok(true)
+        }
     }
 }
 

@@ -3,11 +3,11 @@ use markdown_base::block_parts::LinkDef;
 use markdown_base::cow_str::CowStr;
 use markdown_base::fault::Fault;
 use markdown_base::tag::LinkType;
-use markdown_spans::defs::BrokenLink;
+use markdown_defs::BrokenLink;
 use std::alloc::{AllocError, Global};
 
 /// More bytes than are held in place.
-const LONG: &str = "a text of more than 22 bytes";
+pub const LONG: &str = "a text of more than 22 bytes";
 
 fn is_text(made: Result<CowStr<'_>, AllocError>) -> bool {
     match made {
@@ -20,9 +20,9 @@ fn is_text_or_refused(made: Result<CowStr<'_>, AllocError>) -> bool {
     made.is_err() || is_text(made)
 }
 
-/// A text on the heap; None where memory was refused.
-fn boxed(alloc: Global) -> Option<CowStr<'static>> {
-    Some(CowStr::from(String::from_str(alloc, LONG).ok()?))
+/// A text on the heap.
+pub fn boxed(alloc: Global) -> Result<CowStr<'static>, AllocError> {
+    Ok(CowStr::from(String::from_str(alloc, LONG)?))
 }
 
 /// The copy of a slice takes no memory.
@@ -37,29 +37,32 @@ pub fn frees_a_slice(alloc: Global) -> bool {
 /// A text that was not copied is as before.
 pub fn copies_a_boxed_text(alloc: Global) -> bool {
     match boxed(alloc) {
-        Some(text) => is_text_or_refused(text.try_clone(alloc)) && text.as_str() == LONG,
-        None => true,
+        Ok(text) => is_text_or_refused(text.try_clone(alloc)) && text.as_str() == LONG,
+        Err(_) => true,
     }
 }
 
 /// What is owned already takes no memory.
 pub fn frees_a_boxed_text(alloc: Global) -> bool {
     match boxed(alloc) {
-        Some(text) => is_text(text.into_static(alloc)),
-        None => true,
+        Ok(text) => is_text(text.into_static(alloc)),
+        Err(_) => true,
     }
 }
 
-fn definition(dest: CowStr<'static>) -> LinkDef<'static> {
+fn definition(dest: CowStr<'static>, title: CowStr<'static>) -> LinkDef<'static> {
     LinkDef {
         dest,
-        title: None,
+        title: Some(title),
         span: 3..7,
     }
 }
 
 fn is_definition(held: &LinkDef<'_>) -> bool {
-    held.dest.as_str() == LONG && held.title.is_none() && held.span == (3..7)
+    let Some(title) = &held.title else {
+        return false;
+    };
+    held.dest.as_str() == LONG && title.as_str() == LONG && held.span == (3..7)
 }
 
 fn is_definition_or_refused(made: Result<LinkDef<'_>, Fault>) -> bool {
@@ -71,15 +74,16 @@ fn is_definition_or_refused(made: Result<LinkDef<'_>, Fault>) -> bool {
 
 /// A definition that was not copied is as before.
 pub fn copies_a_definition(alloc: Global) -> bool {
-    let Some(dest) = boxed(alloc) else {
+    let (Ok(dest), Ok(title)) = (boxed(alloc), boxed(alloc)) else {
         return true;
     };
-    let held = definition(dest);
+    let held = definition(dest, title);
     is_definition_or_refused(held.try_clone(alloc)) && is_definition(&held)
 }
 
 pub fn frees_a_definition(alloc: Global) -> bool {
-    is_definition_or_refused(definition(CowStr::Borrowed(LONG)).into_static(alloc))
+    let held = definition(CowStr::Borrowed(LONG), CowStr::Borrowed(LONG));
+    is_definition_or_refused(held.into_static(alloc))
 }
 
 pub fn frees_a_broken_link(alloc: Global) -> bool {

@@ -1,21 +1,19 @@
 //! The promises of trees and of block results.
-use markdown_base::block_parts::BlockParts;
+use markdown_base::cow_str::CowStr;
+use markdown_base::index::{AlignmentIndex, CowIndex, HeadingIndex};
 use markdown_base::item::{Item, ItemBody};
 use markdown_base::options::Options;
+use markdown_base::tag::HeadingLevel;
 use markdown_base::tree::Tree;
-use markdown_spans::blocks::{Blocks, Fault};
+use markdown_blocks::{Blocks, Fault};
+use markdown_test_helpers::parts::{link_to, one_of_each};
+use markdown_test_helpers::trees::{delimiter, item, text, tree_of};
 use std::alloc::{AllocError, Global};
-
-const TEXT: &str = "a  \nb\n\nc";
 
 /// A tree with a paragraph in focus.
 fn paragraph(alloc: Global) -> Result<Tree<Item>, AllocError> {
     let mut tree = Tree::new(alloc)?;
-    tree.append(Item {
-        start: 0,
-        end: 8,
-        body: ItemBody::Paragraph,
-    })?;
+    tree.append(item(0, 8, ItemBody::Paragraph))?;
     Ok(tree)
 }
 
@@ -25,12 +23,7 @@ pub fn appends(alloc: Global) -> bool {
         return true;
     };
     let before = tree.len();
-    let rule = Item {
-        start: 0,
-        end: 1,
-        body: ItemBody::Rule,
-    };
-    match tree.append(rule) {
+    match tree.append(item(0, 1, ItemBody::Rule)) {
         Ok(ix) => ix == before && tree.cur() == Some(ix),
         Err(_) => tree.len() == before && tree.cur() == Some(1),
     }
@@ -50,34 +43,60 @@ pub fn pushes(alloc: Global) -> bool {
     }
 }
 
-/// Blocks of a text, or `Memory`.
-pub fn makes_blocks(alloc: Global) -> bool {
-    match Blocks::of_text(alloc, TEXT, Options::ENABLE_MATH) {
-        Ok(blocks) => {
-            let (text, options, tree, parts) = blocks.into_parts();
-            drop(parts);
-            text == TEXT && options == Options::ENABLE_MATH && tree.len() == 7
-        }
-        Err(fault) => fault == Fault::Memory,
-    }
+/// A text and the eight open bodies behind it.
+const OPEN: &str = "x*'$`<[![]y";
+
+/// A tree over it: a chain of them, a heading with attributes, and blocks that name a text and alignments.
+fn all_kinds(alloc: Global) -> Result<Tree<Item>, AllocError> {
+    let heading = ItemBody::Heading(HeadingLevel::H1, Some(HeadingIndex(1)));
+    tree_of(
+        alloc,
+        &[
+            (0, item(0, 11, ItemBody::BlockQuote(None))),
+            (1, item(0, 11, ItemBody::Paragraph)),
+            (2, text(0, 1)),
+            (2, delimiter(1, 1, true, true)),
+            (2, item(2, 3, ItemBody::MaybeSmartQuote(39, true, true))),
+            (2, item(3, 4, ItemBody::MaybeMath(true, true, 0))),
+            (2, item(4, 5, ItemBody::MaybeCode(1, false))),
+            (2, item(5, 6, ItemBody::MaybeHtml)),
+            (2, item(6, 7, ItemBody::MaybeLinkOpen)),
+            (2, item(7, 9, ItemBody::MaybeImage)),
+            (2, item(9, 10, ItemBody::MaybeLinkClose(true))),
+            (2, text(10, 11)),
+            (0, item(11, 11, heading)),
+            (1, item(11, 11, ItemBody::SynthesizeText(CowIndex(0)))),
+            (0, item(11, 11, ItemBody::Table(AlignmentIndex(0)))),
+        ],
+    )
 }
 
-/// A tree that keeps the rules passes, or memory was refused.
+/// What is checked, with a definition and a footnote among its parts.
+fn checked(alloc: Global) -> Result<Blocks<'static>, Fault> {
+    let tree = all_kinds(alloc)?;
+    let mut parts = one_of_each(alloc)?;
+    parts
+        .definitions
+        .push((CowStr::Borrowed("a"), link_to("/u")))?;
+    parts.footnotes.push(CowStr::Borrowed("n"))?;
+    Blocks::checked(alloc, OPEN, Options::ENABLE_MATH, tree, parts)
+}
+
+/// A tree that keeps the rules passes and is held as it is, or memory was refused.
 pub fn checks(alloc: Global) -> bool {
-    let Ok(tree) = paragraph(alloc) else {
-        return true;
-    };
-    let parts = BlockParts {
-        definitions: Vec::new(alloc),
-        footnotes: Vec::new(alloc),
-        cows: Vec::new(alloc),
-        alignments: Vec::new(alloc),
-        headings: Vec::new(alloc),
-    };
-    match Blocks::checked(alloc, TEXT, Options::ENABLE_MATH, tree, parts) {
+    match checked(alloc) {
         Ok(blocks) => {
-            drop(blocks);
-            true
+            let (text, options, tree, parts) = blocks.into_parts();
+            let held = [
+                tree.len(),
+                parts.definitions.len(),
+                parts.footnotes.len(),
+                parts.cows.len(),
+                parts.alignments.len(),
+                parts.headings.len(),
+            ];
+            drop(parts);
+            text == OPEN && options == Options::ENABLE_MATH && held == [16, 1, 1, 1, 1, 1]
         }
         Err(fault) => fault == Fault::Memory,
     }

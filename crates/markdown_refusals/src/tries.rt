@@ -1,84 +1,94 @@
-//! What is tried of each call of a kind, over lists whose items are made when they are asked for, so that
-//! only the call takes memory.
+//! What is tried of each call of a kind: the items of iterators, which are compared with those of a full run
+//! or of a list, and the HTML behind an old text.
 ghost use Rattle.std.specs.Iterator.{IsFinite};
 
 use markdown_base::event::Event;
 use markdown_base::fault::Fault;
 use markdown_out::html::push_html;
+use markdown_test_helpers::lists::{Listed, is_nothing, is_same};
 use std::alloc::Global;
 
-/// A list of items by their places, from 0 on.
-pub trait Listed: Drop {
-    type Item: PartialEq + Drop;
-
-    fn item(&self, at: usize) -> Option<Self::Item>;
-}
-
-/// The items of a list in order, at most so many.
-#[derive(Drop)]
-pub struct Items<L> {
-    list: L,
-    at: usize,
-    left: usize,
-}
-
-impl<L> Items<L> {
-    /// All of them.
-    pub fn of(list: L) -> Items<L> {
-        Items {
-            list,
-            at: 0,
-            left: 100,
+/// Whether a call made something, or memory was refused.
+pub fn is_made<T: Drop>(made: Result<T, Fault>) -> bool {
+    match made {
+        Ok(made) => {
+            drop(made);
+            true
         }
+        Err(fault) => fault == Fault::Memory,
     }
 }
 
-impl<L: Listed> Iterator for Items<L> {
-    type Item = Result<L::Item, Fault>;
-
-    ghost use Rattle.std.specs.Prelude.{◌≤◌};
-    ghost use Rattle.std.specs.Iterator.{at_most};
-
-    ghost next_gives = { λ s r t. t.left ≤ s.left };
-
-    ghost remaining = { λ s. at_most s.left };
-
-    fn size_hint(&self) -> (usize, Option<usize>) {
-        (0, None)
+/// All items of an iterator in a list; None where memory was refused.
+pub fn all_of<T: Drop, I: Iterator<Item = Result<T, Fault>> + Drop>(
+    alloc: Global,
+    items: I,
+) -> Option<Vec<T>>
+    requires can { I.can_next items }
+    requires ends { IsFinite (I.remaining items) }
+{
+    let mut all = Vec::new(alloc);
+    for item in items {
+        all.push(item.ok()?).ok()?;
     }
-
-    fn next(&mut self) -> Option<Result<L::Item, Fault>> {
-        if self.left == 0 {
-            return None;
-        }
-        self.left -= 1;
-        let item = self.list.item(self.at)?;
-        self.at = self.at.saturating_add(1);
-        Some(Ok(item))
-    }
+    Some(all)
 }
 
-fn is_nothing<T: Drop>(found: Option<T>) -> bool {
-    found.is_none()
-}
-
-fn is_same<T: PartialEq + Drop>(wanted: Option<T>, found: T) -> bool {
-    match wanted {
-        Some(wanted) => wanted == found,
+/// Whether an item stands there in a list.
+fn stands_at<T: PartialEq + Drop>(full: &[T], at: usize, item: T) -> bool {
+    match full.get(at) {
+        Some(wanted) => *wanted == item,
         None => false,
     }
 }
 
-/// Whether these are the items of a list, in order.
-pub fn is_all_of<L: Listed>(items: Vec<L::Item>, list: L) -> bool {
-    let mut at = 0usize;
-    for item in items.into_iter() {
-        if !is_same(list.item(at), item) {
-            return false;
+/// How items are beside those of a full run.
+#[derive(Clone, Copy, PartialEq, Drop)]
+pub enum Outcome {
+    /// The same.
+    Whole,
+    /// A beginning, then `Memory`, and then nothing.
+    Cut,
+    Wrong,
+}
+
+fn right_if(is_so: bool, outcome: Outcome) -> Outcome {
+    if is_so { outcome } else { Outcome::Wrong }
+}
+
+/// How the items of an iterator are beside those of a full run.
+pub fn compared<T: PartialEq + Drop, I: Iterator<Item = Result<T, Fault>> + Drop>(
+    items: I,
+    full: &[T],
+) -> Outcome
+    requires can { I.can_next items }
+    requires ends { IsFinite (I.remaining items) }
+{
+    let mut given = 0usize;
+    let mut is_cut = false;
+    for item in items {
+        if is_cut {
+            return Outcome::Wrong;
         }
-        at = at.saturating_add(1);
+        match item {
+            Ok(item) => {
+                if !stands_at(full, given, item) {
+                    return Outcome::Wrong;
+                }
+                given = given.saturating_add(1);
+            }
+            Err(fault) => {
+                if fault != Fault::Memory {
+                    return Outcome::Wrong;
+                }
+                is_cut = true;
+            }
+        }
     }
-    is_nothing(list.item(at))
+    if is_cut {
+        return Outcome::Cut;
+    }
+    right_if(given == full.len(), Outcome::Whole)
 }
 
 /// Whether None comes three times.
@@ -86,6 +96,29 @@ fn stays_over<T: Drop, I: Iterator<Item = T>>(items: &mut I) -> bool
     requires { (left : I) → I.can_next left }
 {
     is_nothing(items.next()) && is_nothing(items.next()) && is_nothing(items.next())
+}
+
+/// The same of an iterator that is lent, and that has to give None ever after.
+pub fn walked<T: PartialEq + Drop, I: Iterator<Item = Result<T, Fault>>>(
+    items: &mut I,
+    full: &[T],
+) -> Outcome
+    requires can { (left : I) → I.can_next left }
+{
+    'giving: for at in 0..1000 {
+        match items.next() {
+            Some(Ok(item)) => {
+                if !stands_at(full, at, item) {
+                    return Outcome::Wrong;
+                }
+            }
+            Some(Err(fault)) => {
+                return right_if(fault == Fault::Memory && stays_over(items), Outcome::Cut);
+            }
+            None => return right_if(at == full.len() && stays_over(items), Outcome::Whole),
+        }
+    }
+    Outcome::Wrong
 }
 
 /// Whether the items of a list come in order, and then None ever after; or a beginning of them, `Memory`,
@@ -113,7 +146,7 @@ pub fn gives<L: Listed, I: Iterator<Item = Result<L::Item, Fault>> + Drop>(
 }
 
 /// Whether the old text stands, and behind it all of the HTML; or a beginning of the HTML, and `Memory`.
-pub fn renders<'a, I: Iterator<Item = Result<Event<'a>, Fault>>>(
+pub fn writes<'a, I: Iterator<Item = Result<Event<'a>, Fault>>>(
     alloc: Global,
     events: I,
     html: &str,

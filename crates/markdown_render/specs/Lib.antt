@@ -3,3 +3,4 @@ pub mod Rendering
 pub mod Words
 pub mod Outcome
 pub mod Merged
+pub mod ParserHtml

@@ -1,12 +1,13 @@
 -- The HTML of what is left of a parser, neighbouring texts as one.
-use Rattle.std.specs.Prelude.{◌≡◌, ℕ, List, Option}
+use Rattle.std.specs.Prelude.{◌≡◌, ℕ, List, ◌++◌, Option}
 use Rattle.markdown_base.specs.Event.{EventView}
 use Rattle.markdown_base.specs.Questions.{Question, Answer}
 use Rattle.markdown_inline.specs.ParserLeft.{parser_callback, elements}
 use Rattle.markdown_inline.specs.declared.walk.Parser.{Parser}
 use Rattle.markdown_out.specs.EventHtml.{html_of}
 use Rattle.markdown_out.specs.OutLaws.{merged_events}
-use Rattle.markdown_render.specs.Rendering.{AreEventsFor}
+use Rattle.markdown_out.specs.LookBacks.{IsTooDeep}
+use Rattle.markdown_render.specs.Rendering.{AreEventsFor, AreFirstEventsFor}
 
 -- this is the HTML of the merge of all events that were left, for the answers of the parser's callback
 pub record IsMergedHtmlOf {F : Type 0} (step : F → Question → Option Answer → F → Type 0) (p : Parser F)
@@ -14,3 +15,12 @@ pub record IsMergedHtmlOf {F : Type 0} (step : F → Question → Option Answer 
   pub events : List EventView
   pub left : AreEventsFor step (parser_callback p) (elements p) events
   pub merged : html ≡ html_of (merged_events events)
+
+-- in a prefix of the merge of the first events that were left, more Starts are open in an image than can be counted
+pub record IsMergeTooDeep {F : Type 0} (step : F → Question → Option Answer → F → Type 0) (p : Parser F) : Type 0 where
+  pub events : List EventView
+  pub left : AreFirstEventsFor step (parser_callback p) (elements p) events
+  pub given : List EventView
+  pub missing : List EventView
+  pub prefix : merged_events events ≡ given ++ missing
+  pub deep : IsTooDeep given

@@ -1,23 +1,42 @@
 -- What a run of the program leaves, by what came of it.
-use Rattle.std.specs.Prelude.{◌≡◌, ℕ, List, Option, Result, Ok, Err, IfSome}
-use Rattle.std.specs.Io.KnownBytes.{Appends}
-use Rattle.markdown_base.specs.declared.fault.Fault.TheVariants.{Memory}
+use Rattle.std.specs.Prelude.{◌≡◌, ◌⊎◌, ℕ, List, ◌++◌, Option, Result, Ok, Err, IfSome}
+use Rattle.std.specs.Str.{IsUtf8}
+use Rattle.std.specs.Io.KnownBytes.{Appends, IsAtEnd}
+use Rattle.markdown_base.specs.declared.fault.Fault.TheVariants.{Memory, Blocks, Depth}
 use Rattle.markdown_base.specs.declared.options.Options.{Options}
-use Rattle.markdown_render.specs.Rendering.{IsRenderingOf}
+use Rattle.markdown_render.specs.Rendering.{IsRenderingOf, IsTooDeepOf}
 use Rattle.markdown_render.specs.declared.run.Failure.{Failure}
-use Rattle.markdown_render.specs.declared.run.Failure.TheVariants.{Fault, WriteFailed}
+use Rattle.markdown_render.specs.declared.run.Failure.TheVariants.{ReadFailed, NotText, Fault, WriteFailed}
 
 -- the exit status: 0 where nothing failed
 abbrev pub status_of : Result (Unit {0}) Failure → ℕ
 status_of (Ok done) = 0
 status_of (Err failure) = 1
 
-module _ {W : Type 0} (contents : W → Option (List ℕ)) (read : Option (List ℕ)) (options : Options) (old new : W) where
-  -- Where nothing failed the writer has the HTML of the bytes read with these options, as far as they are known. Where
-  -- writing failed, or memory was refused, nothing is said of it. Else nothing was written.
-  abbrev pub Leaves : Result (Unit {0}) Failure → Type 0
-  Leaves (Ok done) = IfSome read (λ bytes.
-      (html : List ℕ) × IsRenderingOf bytes options html × Appends (contents old) (contents new) html)
-  Leaves (Err WriteFailed) = Unit {0}
-  Leaves (Err (Fault Memory)) = Unit {0}
-  Leaves (Err other) = new ≡ old
+-- a prefix of these bytes, and no more, stands behind what was held, where that is known
+pub record AppendsKnownPrefix (old new : Option (List ℕ)) (bytes : List ℕ) : Type 0 where
+  pub prefix : List ℕ
+  pub missing : List ℕ
+  pub stands : Appends old new prefix
+  pub whole : prefix ++ missing ≡ bytes
+
+-- what is left of the reader before a run and after it, and the writer before and after, of which it is known what it
+-- holds
+module _ {W : Type 0} (contents : W → Option (List ℕ)) (options : Options) (unread left : Option (List ℕ)) (old new : W)
+  where
+    -- all was read, and its HTML with these options stands behind what the writer held, whole or in part
+    pub record IsWritten (stands : Option (List ℕ) → Option (List ℕ) → List ℕ → Type 0) : Type 0 where
+      pub all_read : IsAtEnd left
+      pub written : IfSome unread (λ bytes. (html : List ℕ) × IsRenderingOf bytes options html
+          × stands (contents old) (contents new) html)
+
+    -- Where nothing failed all is written. Nothing is written before all was read and rendered; where memory was refused,
+    -- it may have been before that or in writing.
+    abbrev pub Leaves : Result (Unit {0}) Failure → Type 0
+    Leaves (Ok done) = IsWritten Appends
+    Leaves (Err ReadFailed) = new ≡ old
+    Leaves (Err NotText) = (new ≡ old) × IfSome unread (λ bytes. IsUtf8 bytes → ⊥)
+    Leaves (Err (Fault Memory)) = (new ≡ old) ⊎ IsWritten AppendsKnownPrefix
+    Leaves (Err (Fault Depth)) = (new ≡ old) × IfSome unread (λ bytes. IsTooDeepOf bytes options)
+    Leaves (Err (Fault Blocks)) = ⊥
+    Leaves (Err WriteFailed) = IsWritten AppendsKnownPrefix

@@ -4,12 +4,13 @@ use Rattle.std.specs.Str.{IsUtf8}
 use Rattle.markdown_base.specs.Questions.{Question, Answer, Answers}
 use Rattle.markdown_base.specs.Event.{EventView}
 use Rattle.markdown_base.specs.declared.options.Options.{Options}
-use Rattle.markdown_spans.specs.Blocks.{IsOfText}
-use Rattle.markdown_spans.specs.Callback.{Asks}
-use Rattle.markdown_spans.specs.declared.blocks.Blocks.{Blocks}
+use Rattle.markdown_blocks.specs.Blocks.{IsOfText}
+use Rattle.markdown_defs.specs.Callback.{Asks}
+use Rattle.markdown_blocks.specs.declared.blocks.Blocks.{Blocks}
 use Rattle.markdown_inline.specs.Elements.{Element, events_of, questions_of}
 use Rattle.markdown_inline.specs.ParserLeft.{reading_of}
 use Rattle.markdown_out.specs.EventHtml.{html_of}
+use Rattle.markdown_out.specs.LookBacks.{IsTooDeep}
 
 -- the events among these elements
 abbrev pub views_of : List Element → List EventView
@@ -24,6 +25,18 @@ pub record AreEventsFor {F : Type 0} (step : F → Question → Option Answer �
   pub asked : Asks step callback (questions_of (read answers)) answers after
   pub are : (later : Answers) → views_of (read (answers ++ later)) ≡ events
 
+-- These are the first events of what is read, for the answers that the callback, if there is one, gave to the first
+-- questions in it, in order; whatever answers would follow.
+pub record AreFirstEventsFor {F : Type 0} (step : F → Question → Option Answer → F → Type 0) (callback : Option F)
+    (read : Answers → List Element) (events : List EventView) : Type 0 where
+  pub questions : List Question
+  pub answers : Answers
+  pub after : Option F
+  pub asked : Asks step callback questions answers after
+  pub first_asked : (later : Answers) → (more : List Question)
+      × (questions_of (read (answers ++ later)) ≡ questions ++ more)
+  pub are_first : (later : Answers) → (more : List EventView) × (views_of (read (answers ++ later)) ≡ events ++ more)
+
 -- this is the HTML of the events of a block result of the text with these options, read with the callback's answers
 pub record IsRenderingFor {F : Type 0} (step : F → Question → Option Answer → F → Type 0) (callback : Option F)
     (text : List ℕ) (options : Options) (html : List ℕ) : Type 0 where
@@ -33,6 +46,15 @@ pub record IsRenderingFor {F : Type 0} (step : F → Question → Option Answer 
   pub read : AreEventsFor step callback (reading_of blocks (is_some callback)) events
   pub rendered : html ≡ html_of events
 
+-- among the first events of such a block result more Starts are open in an image than can be counted
+pub record IsTooDeepFor {F : Type 0} (step : F → Question → Option Answer → F → Type 0) (callback : Option F)
+    (text : List ℕ) (options : Options) : Type 0 where
+  pub blocks : Blocks
+  pub of_text : IsOfText text options blocks
+  pub events : List EventView
+  pub read : AreFirstEventsFor step callback (reading_of blocks (is_some callback)) events
+  pub deep : IsTooDeep events
+
 -- the input is text, and this is the HTML of the events of a block result of it with these options, read with nobody
 -- to ask
 pub record IsRenderingOf (bytes : List ℕ) (options : Options) (html : List ℕ) : Type 0 where
@@ -40,3 +62,14 @@ pub record IsRenderingOf (bytes : List ℕ) (options : Options) (html : List ℕ
   pub blocks : Blocks
   pub of_text : IsOfText bytes options blocks
   pub rendered : (answers : Answers) → html ≡ html_of (views_of (reading_of blocks false answers))
+
+-- the input is text, and among the first events of such a block result more Starts are open in an image than can be
+-- counted
+pub record IsTooDeepOf (bytes : List ℕ) (options : Options) : Type 0 where
+  pub is_text : IsUtf8 bytes
+  pub blocks : Blocks
+  pub of_text : IsOfText bytes options blocks
+  pub events : List EventView
+  pub are_first : (answers : Answers) → (more : List EventView)
+      × (views_of (reading_of blocks false answers) ≡ events ++ more)
+  pub deep : IsTooDeep events

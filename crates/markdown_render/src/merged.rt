@@ -1,24 +1,24 @@
 //! Parsers under merges: neighbouring texts as one.
-ghost use Rattle.std.specs.Prelude.{IfOk, IfSome, string_bytes};
+ghost use Rattle.std.specs.Prelude.{◌≡◌, ◌⊎◌, IfOk, IfErr, IfSome, string_bytes};
 ghost use Rattle.std.specs.Iterator.{at_most};
 ghost use Rattle.markdown_inline.specs.NextGives.{NextGives, IsEventOf, IsPlacedOf};
 ghost use Rattle.markdown_inline.specs.ParserLeft.{parser_callback, parser_steps, offset_parser};
 ghost use Rattle.markdown_out.specs.MergeNext.{CanMerge};
 ghost use Rattle.markdown_out.specs.OutLaws.{StaysEnded};
-ghost use Rattle.markdown_render.specs.Merged.{IsMergedHtmlOf};
+ghost use Rattle.markdown_render.specs.Merged.{IsMergedHtmlOf, IsMergeTooDeep};
 
 use crate::pushed::push_items;
+use markdown_blocks::Fault;
+use markdown_defs::BrokenLinkCallback;
 use markdown_inline::walk::{OffsetIter, Parser};
 use markdown_out::merge::TextMergeStream;
-use markdown_spans::blocks::Fault;
-use markdown_spans::defs::BrokenLinkCallback;
 use std::alloc::Global;
 
 /// A parser may be merged: it stays ended, and after `None` it may be called again and has no more items left. So, by
 /// `a_mapped_iterator_can_be_merged`, may a mapped one.
 pub fn parsers_can_be_merged<'input, F: BrokenLinkCallback<'input>>(parser: &Parser<'input, F>)
     requires { IfSome (parser_callback parser.now) F.can_ask }
-    ensures stays_ended { StaysEnded (NextGives F.answers IsEventOf) }
+    ensures stays_ended { StaysEnded (NextGives F.answers IsEventOf) parser.now }
     ensures merges { CanMerge (NextGives F.answers IsEventOf) (λ p. IfSome (parser_callback p) F.can_ask)
         (λ p. at_most (parser_steps p)) parser.now }
 {}
@@ -26,7 +26,8 @@ pub fn parsers_can_be_merged<'input, F: BrokenLinkCallback<'input>>(parser: &Par
 /// So may its events with their ranges.
 pub fn offsets_can_be_merged<'input, F: BrokenLinkCallback<'input>>(iter: &OffsetIter<'input, F>)
     requires { IfSome (parser_callback (offset_parser iter.now)) F.can_ask }
-    ensures stays_ended { StaysEnded (λ o r t. NextGives F.answers IsPlacedOf (offset_parser o) r (offset_parser t)) }
+    ensures stays_ended { StaysEnded (λ o r t. NextGives F.answers IsPlacedOf (offset_parser o) r (offset_parser t))
+        iter.now }
     ensures merges { CanMerge (λ o r t. NextGives F.answers IsPlacedOf (offset_parser o) r (offset_parser t))
         (λ o. IfSome (parser_callback (offset_parser o)) F.can_ask) (λ o. at_most (parser_steps (offset_parser o)))
         iter.now }
@@ -36,13 +37,15 @@ pub fn offsets_can_be_merged<'input, F: BrokenLinkCallback<'input>>(iter: &Offse
 ///
 /// # Errors
 ///
-/// `Memory` where an allocation is refused, and `Depth` as `push_html` answers it.
+/// `Memory` where an allocation is refused, and `Depth` where more than 2^64 - 1 Starts are open in one image.
 pub fn merged_html<'input, F: BrokenLinkCallback<'input>>(
     alloc: Global,
     parser: Parser<'input, F>,
 ) -> Result<String, Fault>
     requires { IfSome (parser_callback parser) F.can_ask }
-    ensures { IfOk result (λ html. IsMergedHtmlOf F.answers parser.entry (string_bytes html)) }
+    ensures html { IfOk result (λ html. IsMergedHtmlOf F.answers parser.entry (string_bytes html)) }
+    ensures faults { IfErr result (λ fault. (fault ≡ Fault.Memory)
+        ⊎ ((fault ≡ Fault.Depth) × IsMergeTooDeep F.answers parser.entry)) }
 {
     let mut html = String::new(alloc);
     push_items(alloc, &mut html, TextMergeStream::new(alloc, parser))?;

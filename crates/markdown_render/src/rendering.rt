@@ -1,19 +1,20 @@
 //! A text rendered: the HTML of what a new parser of it gives.
-ghost use Rattle.std.specs.Prelude.{◌≢◌, IfOk, IfErr, IfSome, string_bytes};
-ghost use Rattle.markdown_render.specs.Rendering.{IsRenderingFor};
+ghost use Rattle.std.specs.Prelude.{◌≡◌, ◌⊎◌, IfOk, IfErr, IfSome, string_bytes};
+ghost use Rattle.markdown_render.specs.Rendering.{IsRenderingFor, IsTooDeepFor};
 
+use crate::laws::html_of_a_parser_is_that_of_its_reading;
 use crate::pushed::push_items;
 use markdown_base::fault::Fault;
 use markdown_base::options::Options;
+use markdown_defs::BrokenLinkCallback;
 use markdown_inline::walk::Parser;
-use markdown_spans::defs::BrokenLinkCallback;
 use std::alloc::Global;
 
 /// The HTML of a text. `callback`, where there is one, is asked about each link label that is defined nowhere.
 ///
 /// # Errors
 ///
-/// `Memory` where an allocation is refused, and `Depth` as `push_html` answers it.
+/// `Memory` where an allocation is refused, and `Depth` where more than 2^64 - 1 Starts are open in one image.
 pub fn render<'input, F: BrokenLinkCallback<'input>>(
     alloc: Global,
     text: &'input str,
@@ -23,10 +24,12 @@ pub fn render<'input, F: BrokenLinkCallback<'input>>(
     requires { IfSome callback F.can_ask }
     ensures html { IfOk result (λ html.
         IsRenderingFor F.answers callback text.entry.now options (string_bytes html)) }
-    ensures faults { IfErr result (λ fault. fault ≢ Fault.Blocks) }
+    ensures faults { IfErr result (λ fault. (fault ≡ Fault.Memory)
+        ⊎ ((fault ≡ Fault.Depth) × IsTooDeepFor F.answers callback text.entry.now options)) }
 {
     let mut html = String::new(alloc);
     let parser = Parser::new_with_broken_link_callback(alloc, text, options, callback)?;
+    html_of_a_parser_is_that_of_its_reading(&parser);
     push_items(alloc, &mut html, parser)?;
     Ok(html)
 }

@@ -1,20 +1,20 @@
 //! The program, over any reader and two writers.
 ghost use Rattle.std.specs.Prelude.{◌≡◌, ◌≢◌, ◌≤◌, ◌⊎◌, ℕ, List, map, None, string_bytes};
-ghost use Rattle.std.specs.Prelude.{Result, IfOk, IfErr, IfSome, OnOk};
+ghost use Rattle.std.specs.Prelude.{Result, IfOk, IfErr, IfSome, OnErr, OnOk};
 ghost use Rattle.std.specs.Str.{IsUtf8};
 ghost use Rattle.std.specs.IoError.{error_kind};
-ghost use Rattle.std.specs.Io.KnownBytes.{Appends};
-ghost use Rattle.markdown_inline.specs.ParserLeft.{no_options};
-ghost use Rattle.markdown_render.specs.Rendering.{IsRenderingOf};
+ghost use Rattle.std.specs.Io.KnownBytes.{Appends, IsAtEnd};
+ghost use Rattle.markdown_base.specs.EnabledOptions.{no_options};
+ghost use Rattle.markdown_render.specs.Rendering.{IsRenderingOf, IsTooDeepOf};
 ghost use Rattle.markdown_render.specs.Words.{turned_on};
-ghost use Rattle.markdown_render.specs.Outcome.{status_of, Leaves};
+ghost use Rattle.markdown_render.specs.Outcome.{status_of, AppendsKnownPrefix, Leaves};
 ghost use Rattle.markdown_render.specs.declared.run.Failure.{Failure};
 
 use crate::rendering::render;
 use crate::words::options_of;
 use markdown_base::options::Options;
-use markdown_spans::blocks::Fault;
-use markdown_spans::defs::DefaultBrokenLinkCallback;
+use markdown_blocks::Fault;
+use markdown_defs::DefaultBrokenLinkCallback;
 use std::alloc::Global;
 use std::io::{self, ErrorKind, Read, Write};
 
@@ -68,11 +68,13 @@ fn failure_of(error: io::Error, attempted: Failure) -> Failure
 }
 
 /// All of the input, as text.
-fn read_text<R: Read>(alloc: Global, input: &mut R) -> Result<String, Failure>
+pub fn read_text<R: Read>(alloc: Global, input: &mut R) -> Result<String, Failure>
     ensures text { IfOk result (λ text. IfSome (R.remaining input.old) (λ bytes. string_bytes text ≡ bytes)) }
+    ensures all_read { OnOk result (IsAtEnd (R.remaining input.new)) }
     ensures not_text { IfErr result (λ failure. failure ≡ Failure.NotText
         → IfSome (R.remaining input.old) (λ bytes. IsUtf8 bytes → ⊥)) }
-    ensures failed { IfErr result (λ failure. failure ≢ Failure.WriteFailed) }
+    ensures failed { IfErr result (λ failure. (failure ≡ Failure.NotText) ⊎ (failure ≡ Failure.ReadFailed)
+        ⊎ (failure ≡ Failure.Fault Fault.Memory)) }
 {
     let mut bytes = Vec::new(alloc);
     match input.read_to_end(&mut bytes) {
@@ -84,19 +86,46 @@ fn read_text<R: Read>(alloc: Global, input: &mut R) -> Result<String, Failure>
 /// The HTML of a text with these options, where nobody is asked.
 fn rendered(alloc: Global, text: &str, options: Options) -> Result<String, Failure>
     ensures html { IfOk result (λ html. IsRenderingOf text.now options (string_bytes html)) }
-    ensures failed { IfErr result (λ failure. (fault : Fault) × (failure ≡ Failure.Fault fault)) }
+    ensures failed { IfErr result (λ failure. (failure ≡ Failure.Fault Fault.Memory)
+        ⊎ ((failure ≡ Failure.Fault Fault.Depth) × IsTooDeepOf text.now options)) }
 {
     Ok(render(alloc, text, options, None::<DefaultBrokenLinkCallback>)?)
 }
 
-/// Writes all of it at once.
-fn print<W: Write>(out: &mut W, html: &str) -> Result<(), Failure>
-    ensures written { OnOk result (Appends (W.contents out.old) (W.contents out.new) html.now) }
+/// Writes all of it. `write_all` says nothing of what it wrote before it failed, so this is its loop.
+fn write_whole<W: Write>(out: &mut W, bytes: &[u8]) -> Result<(), Failure>
+    ensures written { OnOk result (Appends (W.contents out.old) (W.contents out.new) bytes.now) }
+    ensures cut { OnErr result (AppendsKnownPrefix (W.contents out.old) (W.contents out.new) bytes.now) }
     ensures failed { IfErr result (λ failure.
         (failure ≡ Failure.WriteFailed) ⊎ (failure ≡ Failure.Fault Fault.Memory)) }
 {
-    out.write_all(html.as_bytes())
-        .map_err(|error| failure_of(error, Failure::WriteFailed))?;
+    let mut rest = bytes;
+    // It ends where every call is interrupted, too.
+    'writing: for _ in 0..u64::MAX {
+        if rest.is_empty() {
+            return Ok(());
+        }
+        match out.write(rest) {
+            Ok(0) => return Err(Failure::WriteFailed),
+            Ok(count) => rest = &rest[count..],
+            Err(error) => {
+                if error.kind() != ErrorKind::Interrupted {
+                    return Err(failure_of(error, Failure::WriteFailed));
+                }
+            }
+        }
+    }
+    Err(Failure::WriteFailed)
+}
+
+/// Writes all of it, and what the writer holds back of it.
+pub fn print<W: Write>(out: &mut W, html: &str) -> Result<(), Failure>
+    ensures written { OnOk result (Appends (W.contents out.old) (W.contents out.new) html.now) }
+    ensures cut { OnErr result (AppendsKnownPrefix (W.contents out.old) (W.contents out.new) html.now) }
+    ensures failed { IfErr result (λ failure.
+        (failure ≡ Failure.WriteFailed) ⊎ (failure ≡ Failure.Fault Fault.Memory)) }
+{
+    write_whole(out, html.as_bytes())?;
     out.flush()
         .map_err(|error| failure_of(error, Failure::WriteFailed))
 }
@@ -105,15 +134,14 @@ fn print<W: Write>(out: &mut W, html: &str) -> Result<(), Failure>
 ///
 /// # Errors
 ///
-/// What failed first. Where writing failed, or memory was refused, nothing is said of what `out` has then; else it is
-/// as it was.
+/// What failed first. Where writing failed, a beginning of the HTML was written; where it had not begun, nothing.
 pub fn convert<R: Read, W: Write>(
     alloc: Global,
     options: Options,
     input: &mut R,
     out: &mut W,
 ) -> Result<(), Failure>
-    ensures leaves { Leaves W.contents (R.remaining input.old) options out.old out.new result }
+    ensures leaves { Leaves W.contents options (R.remaining input.old) (R.remaining input.new) out.old out.new result }
     ensures not_text { IfSome (R.remaining input.old) (λ bytes.
         (IsUtf8 bytes → ⊥) → (result ≢ Ok tt) × (out.new ≡ out.old)) }
 {
@@ -153,10 +181,12 @@ pub fn run<R: Read, W: Write, E: Write>(
     ensures words { turned_on (map string_bytes words.now) no_options ≡ None
         → (result ≡ 2) × (out.new ≡ out.old) × (input.new ≡ input.old) }
 
-    // Without one the status follows from what came of reading, rendering and writing.
+    // Without one the status follows from what came of reading, rendering and writing; and nothing was written but a
+    // beginning of the HTML, and that only where all was read.
     ensures outcome { IfSome (turned_on (map string_bytes words.now) no_options)
         (λ options. (outcome : Result (Unit {0}) Failure)
-        × (result ≡ status_of outcome) × Leaves W.contents (R.remaining input.old) options out.old out.new outcome) }
+        × (result ≡ status_of outcome)
+        × Leaves W.contents options (R.remaining input.old) (R.remaining input.new) out.old out.new outcome) }
     ensures status { IfSome (turned_on (map string_bytes words.now) no_options) (λ options. result ≤ 1) }
     ensures not_text { IfSome (turned_on (map string_bytes words.now) no_options) (λ options.
         IfSome (R.remaining input.old) (λ bytes. (IsUtf8 bytes → ⊥) → (result ≡ 1) × (out.new ≡ out.old))) }

@@ -1,9 +1,8 @@
 //! The words of the program, each of which turns an option on.
 ghost use Rattle.std.specs.Prelude.{◌≡◌, IfOk, IfErr, map, Some, None, string_bytes};
-ghost use Rattle.markdown_inline.specs.ParserLeft.{no_options};
+ghost use Rattle.markdown_base.specs.EnabledOptions.{no_options};
 ghost use Rattle.markdown_render.specs.Words.{option_of, turned_on};
 
-use bitflags::Flags;
 use markdown_base::options::Options;
 
 /// The option that a word turns on; None where the word is unknown.

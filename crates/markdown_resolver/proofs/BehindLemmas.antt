@@ -10,15 +10,15 @@ use Rattle.markdown_base.specs.declared.node.Node.{Node}
 use Rattle.markdown_base.proofs.ArenaForestLemmas.{opens}
 use Rattle.markdown_brackets.specs.ChainHeld.{times_of}
 use Rattle.markdown_brackets.specs.LeftList.{Entry, trees_onto}
-use Rattle.markdown_chains.specs.ChainRest.{joined}
-use Rattle.markdown_chains.specs.Document.{Label, Plain}
-use Rattle.markdown_chains.specs.Places.{IsPlaced, IsSameAt}
-use Rattle.markdown_chains.specs.Stages.{times_in}
-use Rattle.markdown_chains.specs.Tables.{Tables, number_of, size_for}
-use Rattle.markdown_chains.specs.Totals.{total, same}
-use Rattle.markdown_chains.proofs.FrameLemmas.{Stays, label-same, stay_throughout, framed}
-use Rattle.markdown_chains.proofs.PlaceLemmas.{times-past, named-past}
-use Rattle.markdown_chains.proofs.TablesLemmas.{named-apart, grown-nothing, grown-same, grown-longer}
+use Rattle.markdown_document.specs.ChainRest.{joined}
+use Rattle.markdown_document.specs.Document.{Label, Plain}
+use Rattle.markdown_document.specs.Places.{IsPlaced, IsSameAt}
+use Rattle.markdown_document.specs.Stages.{times_in}
+use Rattle.markdown_document.specs.Tables.{Tables, number_of, size_for}
+use Rattle.markdown_document.specs.Totals.{total, same}
+use Rattle.markdown_document.proofs.FrameLemmas.{Stays, label-same, stay_throughout, framed}
+use Rattle.markdown_document.proofs.PlaceLemmas.{times-past, named-past}
+use Rattle.markdown_document.proofs.TablesLemmas.{named-apart, grown-nothing, grown-same, grown-longer}
 use Rattle.markdown_resolver.specs.Chains.{ChangesChain}
 use Rattle.markdown_resolver.specs.Kept.{IsQuiet, IsQuietBelow}
 use Rattle.markdown_resolver.specs.PutsTrees.{PutsTrees, numbered_from, numbered_label}

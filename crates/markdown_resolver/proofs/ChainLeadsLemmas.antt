@@ -11,15 +11,15 @@ use Rattle.markdown_base.specs.Item.{is_block}
 use Rattle.markdown_base.specs.declared.item.Item.{Item}
 use Rattle.markdown_base.specs.declared.item.ItemBody.{ItemBody}
 use Rattle.markdown_base.specs.declared.node.Node.{Node}
-use Rattle.markdown_chains.specs.Document.{block_of}
-use Rattle.markdown_chains.specs.ItemRules.{StandsBefore}
-use Rattle.markdown_chains.specs.Places.{IsPlaced, label_at}
-use Rattle.markdown_chains.specs.Tables.{Tables}
-use Rattle.markdown_code.specs.ChainInArena.{LeadsThrough, HasChain}
-use Rattle.markdown_code.specs.SpanClosers.{HoldsFrom, HoldsOf, Learned}
-use Rattle.markdown_code.specs.declared.span_text.SpanKind.{SpanKind}
-use Rattle.markdown_code.proofs.LearnedElsewhereLemmas.{holds_alike, holds_from}
-use Rattle.markdown_code.proofs.LearnedLemmas as before
+use Rattle.markdown_document.specs.Document.{block_of}
+use Rattle.markdown_document.specs.ItemRules.{StandsBefore}
+use Rattle.markdown_document.specs.Places.{IsPlaced, label_at}
+use Rattle.markdown_document.specs.Tables.{Tables}
+use Rattle.markdown_spans.specs.ChainInArena.{LeadsThrough, HasChain}
+use Rattle.markdown_spans.specs.SpanClosers.{HoldsFrom, HoldsOf, Learned}
+use Rattle.markdown_spans.specs.declared.span_text.SpanKind.{SpanKind}
+use Rattle.markdown_spans.proofs.LearnedElsewhereLemmas.{holds_alike, holds_from}
+use Rattle.markdown_spans.proofs.LearnedLemmas as before
 use Rattle.markdown_resolver.specs.Chains.{CanResolve}
 use Rattle.markdown_resolver.specs.Kept.{IsQuietBelow}
 use Rattle.markdown_resolver.specs.Rewritten.{numbered_past, numbered_past_byte, begun_item}

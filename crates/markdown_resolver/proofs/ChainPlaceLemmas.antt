@@ -13,18 +13,20 @@ use Rattle.markdown_base.specs.declared.item.Item.{Item}
 use Rattle.markdown_base.specs.declared.item.ItemBody.{ItemBody}
 use Rattle.markdown_base.specs.declared.item.ItemBody.TheVariants as body
 use Rattle.markdown_base.specs.declared.node.Node.{Node}
-use Rattle.markdown_chains.specs.Above.{Above, inside, inside_all, inside_item, no_blocks, above_cursor, is_table_cell}
-use Rattle.markdown_chains.specs.Document.{block_of}
-use Rattle.markdown_chains.specs.Setting.{Setting}
-use Rattle.markdown_code.specs.BlocksAbove.{HasBlocks}
-use Rattle.markdown_code.specs.ContainerPrefix.{past_block, past_blocks, prefix_length}
-use Rattle.markdown_code.specs.Finds.{gfm_footnotes, prefix_below}
-use Rattle.markdown_code.specs.PrefixView.{length_by}
-use Rattle.markdown_code.specs.declared.prefixes.ContainerPrefix.{ContainerPrefix}
-use Rattle.markdown_code.specs.LineStart.{LineLeft}
+use Rattle.markdown_base.specs.Item.{is_table_cell}
+use Rattle.markdown_document.specs.Above.{Above, inside, inside_all, inside_item, no_blocks, above_cursor}
+use Rattle.markdown_document.specs.Document.{block_of}
+use Rattle.markdown_document.specs.Setting.{Setting}
+use Rattle.markdown_spans.specs.BlocksAbove.{HasBlocks}
+use Rattle.markdown_spans.specs.ContainerPrefix.{past_block, past_blocks, prefix_length}
+use Rattle.markdown_base.specs.EnabledOptions.{gfm_footnotes_on}
+use Rattle.markdown_spans.specs.Finds.{prefix_below}
+use Rattle.markdown_spans.specs.PrefixView.{length_by}
+use Rattle.markdown_spans.specs.declared.prefixes.ContainerPrefix.{ContainerPrefix}
+use Rattle.markdown_spans.specs.LineStart.{LineLeft}
 use Rattle.markdown_resolver.specs.ChainPlace.{IsPlaceOf}
 use Rattle.markdown_resolver.specs.Chains.{AreAbove}
-use Rattle.markdown_resolver.specs.declared.chain_place.ChainPlace.{ChainPlace}
+use Rattle.markdown_document.specs.declared.chain_place.ChainPlace.{ChainPlace}
 
 -- the bodies of the blocks among some nodes
 pub with_block : Option ItemBody → List ItemBody → List ItemBody
@@ -81,7 +83,7 @@ same_left gfm nodes (ix ∷ deeper) line = by_block (is_block (item_at nodes ix)
     by_block false e later = rw (takes_nothing gfm (item_at nodes ix).body line e) (later line)
 
 -- the container prefix that is read over all nodes of the spine is that of the blocks alone
-pub prefix_is : (prefix : ContainerPrefix) (s : Setting) → prefix.gfm_footnotes ≡ gfm_footnotes s.rules.options
+pub prefix_is : (prefix : ContainerPrefix) (s : Setting) → prefix.gfm_footnotes ≡ gfm_footnotes_on s.rules.options
     → (bytes : List ℕ) → length_by prefix bytes ≡ prefix_below s (above_cursor s.text prefix.tree.now) bytes
 unfolding length_by
 prefix_is prefix s e bytes =

@@ -15,14 +15,14 @@ use Rattle.markdown_base.specs.declared.item.ItemBody.TheVariants as body
 use Rattle.markdown_base.specs.declared.node.Node.{Node}
 use Rattle.markdown_brackets.specs.QuestionEnds.{AsksAtMost, AsksNothing, EndApart, HoldsNoOpener, StandInLine, closers_among}
 use Rattle.markdown_brackets.proofs.QuestionEndsLemmas.{asks_at_most, end_apart, stays_zero}
-use Rattle.markdown_chains.specs.Above.{Above}
-use Rattle.markdown_chains.specs.ChainRest.{end_of, open_body, start_of}
-use Rattle.markdown_chains.specs.Document.{Label, Plain, Tags, document, is_unresolved, label_of, shape_of}
-use Rattle.markdown_chains.specs.Setting.{Known, Setting}
-use Rattle.markdown_chains.specs.Tables.{Tables}
-use Rattle.markdown_chains.proofs.PlaceLemmas.{open-unresolved}
-use Rattle.markdown_code.specs.Finds.{gfm_footnotes}
-use Rattle.markdown_code.proofs.ContainerPrefixLemmas.{prefix_opens_none}
+use Rattle.markdown_document.specs.Above.{Above}
+use Rattle.markdown_document.specs.ChainRest.{end_of, open_body, start_of}
+use Rattle.markdown_document.specs.Document.{Label, Plain, Tags, document, is_unresolved, label_of, shape_of}
+use Rattle.markdown_document.specs.Setting.{Known, Setting}
+use Rattle.markdown_document.specs.Tables.{Tables}
+use Rattle.markdown_document.proofs.PlaceLemmas.{open-unresolved}
+use Rattle.markdown_base.specs.EnabledOptions.{gfm_footnotes_on}
+use Rattle.markdown_spans.proofs.ContainerPrefixLemmas.{prefix_opens_none}
 use Rattle.markdown_resolver.specs.ChainQuestions.{EachChain}
 use Rattle.markdown_resolver.specs.PassOne.{around, pass_one, read_other}
 use Rattle.markdown_resolver.specs.Resolved.{resolved}
@@ -34,7 +34,7 @@ module _ {A : Type 0} (s : Setting) (tags : Tags A) (above : Above) where
 
   -- and the prefix of a line holds no `[`
   prefix_holds_none : HoldsNoOpener (around s above).skipped
-  prefix_holds_none bytes = prefix_opens_none (gfm_footnotes s.rules.options) above.bodies bytes
+  prefix_holds_none bytes = prefix_opens_none (gfm_footnotes_on s.rules.options) above.bodies bytes
 
   pub resolved_asks : (chain : Forest (Label A)) (known : Known)
       → AsksAtMost (closers_among (roots chain)) known.limit (resolved s tags above chain known).questions

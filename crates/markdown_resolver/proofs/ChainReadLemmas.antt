@@ -12,21 +12,21 @@ use Rattle.markdown_base.specs.declared.options.Options.{Options}
 use Rattle.markdown_brackets.specs.LeftList.{Entry}
 use Rattle.markdown_brackets.specs.Openers.{Waiting}
 use Rattle.markdown_brackets.specs.declared.spent_ends.SpentEnds.{SpentEnds}
-use Rattle.markdown_chains.specs.Above.{Above, above_at, above_cursor, inside_all, inside_item, no_blocks}
-use Rattle.markdown_chains.specs.Document.{plain_tags}
-use Rattle.markdown_chains.specs.Setting.{Setting, rules_from, setting_of}
-use Rattle.markdown_chains.specs.Stages.{stage}
-use Rattle.markdown_chains.specs.Tables.{Tables, tables_of}
-use Rattle.markdown_chains.proofs.CallbackLemmas.{Asks-some}
+use Rattle.markdown_document.specs.Above.{Above, above_at, above_cursor, inside_all, inside_item, no_blocks}
+use Rattle.markdown_document.specs.Document.{plain_tags}
+use Rattle.markdown_document.specs.Setting.{Setting, rules_from, setting_of}
+use Rattle.markdown_document.specs.Stages.{stage}
+use Rattle.markdown_document.specs.Tables.{Tables, tables_of}
+use Rattle.markdown_document.proofs.CallbackLemmas.{Asks-some}
 use Rattle.markdown_resolver.specs.ChainPlace.{CanReadItem, CanReadOn, IsPlaceOf}
 use Rattle.markdown_resolver.specs.Chains.{AreAbove, CanResolve, ChangesChain, ResolvesFrom}
 use Rattle.markdown_resolver.specs.PassOne.{pass_one}
 use Rattle.markdown_resolver.specs.ReadOn.{AreSpent, ReadsOn, StopsInPassOne, StopsOn}
-use Rattle.markdown_resolver.specs.declared.chain_place.ChainPlace.{ChainPlace}
+use Rattle.markdown_document.specs.declared.chain_place.ChainPlace.{ChainPlace}
 use Rattle.markdown_resolver.proofs.ReadOnLemmas.{reads_on_all, reads_on_none, reads_on_twice, stops_later, stops_pass_one}
 use Rattle.markdown_resolver.proofs.StandsToLemmas.{above_changed, above_rest, stands_rest}
-use Rattle.markdown_spans.specs.Allocations.{Allocated}
-use Rattle.markdown_spans.specs.Footnotes.{footnote_at}
+use Rattle.markdown_defs.specs.Allocations.{Allocated}
+use Rattle.markdown_defs.specs.Footnotes.{footnote_at}
 
 -- the setting of a chain stays where its text, the options, the definitions, the names of its footnotes, and whether there is
 -- somebody to ask stay

@@ -17,7 +17,7 @@ use Rattle.markdown_base.specs.declared.options.Options.{Options}
 use Rattle.markdown_brackets.specs.BracketDecision.{Around, Becomes, Closing, Progress, decided}
 use Rattle.markdown_brackets.specs.Decides.{Decides, EachOpener, StandsBefore}
 use Rattle.markdown_brackets.specs.ClosingBracket.{put}
-use Rattle.markdown_brackets.specs.DecisionView.{IsBecome, around_at}
+use Rattle.markdown_brackets.specs.DecisionView.{GoesOnBehind, IsBecome, around_at}
 use Rattle.markdown_brackets.specs.Finish.{LeftRises, SplitsAs}
 use Rattle.markdown_brackets.specs.LeftList.{Entry, brackets_of, wikilinks_of}
 use Rattle.markdown_brackets.specs.Openers.{Waiting}
@@ -27,14 +27,15 @@ use Rattle.markdown_brackets.specs.WikilinkNodes.{CanFindWikilink}
 use Rattle.markdown_brackets.specs.declared.chain_openers.ChainOpeners.{ChainOpeners}
 use Rattle.markdown_brackets.specs.declared.closing_bracket.ClosedBracket.{ClosedBracket}
 use Rattle.markdown_brackets.specs.declared.spent_ends.SpentEnds.{SpentEnds}
-use Rattle.markdown_brackets.specs.declared.written.BracketPlace.{BracketPlace}
-use Rattle.markdown_chains.specs.Above.{Above, above_cursor}
-use Rattle.markdown_chains.specs.ChainRest.{end_of}
-use Rattle.markdown_chains.specs.Setting.{Rules, rules_from, setting_of, uses_of}
-use Rattle.markdown_chains.specs.Tables.{Tables, tables_of}
-use Rattle.markdown_code.specs.Finds.{gfm_footnotes, prefix_below}
-use Rattle.markdown_code.specs.PrefixView.{length_by}
-use Rattle.markdown_code.specs.declared.prefixes.ContainerPrefix.{ContainerPrefix}
+use Rattle.markdown_document.specs.declared.chain_place.ChainPlace.{ChainPlace}
+use Rattle.markdown_document.specs.Above.{Above, above_cursor}
+use Rattle.markdown_document.specs.ChainRest.{end_of}
+use Rattle.markdown_document.specs.Setting.{Rules, rules_from, setting_of, uses_of}
+use Rattle.markdown_document.specs.Tables.{Tables, tables_of}
+use Rattle.markdown_base.specs.EnabledOptions.{gfm_footnotes_on}
+use Rattle.markdown_spans.specs.Finds.{prefix_below}
+use Rattle.markdown_spans.specs.PrefixView.{length_by}
+use Rattle.markdown_spans.specs.declared.prefixes.ContainerPrefix.{ContainerPrefix}
 use Rattle.markdown_resolver.specs.ChainPlace.{CanReadOn, IsPlaceOf}
 use Rattle.markdown_resolver.specs.Chains.{CanResolve}
 use Rattle.markdown_resolver.specs.Closes.{ClosesAt, PutsClosed, closing_at}
@@ -42,7 +43,6 @@ use Rattle.markdown_resolver.specs.PassOne.{around}
 use Rattle.markdown_resolver.specs.ReadOn.{IsOpener, ReadsOn, StandsTo}
 use Rattle.markdown_resolver.specs.ReadsBracket.{CanReadNode, DecidesClosing, ReadsBracket, StopsAtNode, WasReadTo}
 use Rattle.markdown_resolver.specs.ReadsBracket.{setting_by, stage_by}
-use Rattle.markdown_resolver.specs.declared.chain_place.ChainPlace.{ChainPlace}
 use Rattle.markdown_resolver.specs.declared.resolver.Resolver.{Resolver}
 use Rattle.markdown_resolver.proofs.ChainPlaceLemmas.{prefix_is}
 use Rattle.markdown_resolver.proofs.CloserOnLemmas.{reads_on_closer, stops_at_closer}
@@ -53,40 +53,33 @@ use Rattle.markdown_resolver.proofs.LeftRisesLemmas.{left_rises, stands_before}
 use Rattle.markdown_resolver.proofs.LeftTreesLemmas.{each_bracket, each_wikilink}
 use Rattle.markdown_resolver.proofs.StandsToLemmas.{stands_rest}
 use Rattle.markdown_resolver.proofs.WaitingOpenerLemmas.{StandsOpen, can_find, can_try, each_follows, each_open}
-use Rattle.markdown_spans.specs.Allocations.{Allocated}
-use Rattle.markdown_spans.specs.declared.defs.footnotes.FootnoteDefs.{FootnoteDefs}
+use Rattle.markdown_defs.specs.Allocations.{Allocated}
+use Rattle.markdown_defs.specs.declared.footnotes.FootnoteDefs.{FootnoteDefs}
 
--- the place of a chain, as its brackets ask about it, and the prefix of its lines
-pub record AsksAbout (place : ChainPlace) (bracket : BracketPlace) (prefix : ContainerPrefix) (tree : Arena Item) (options : Options) : Type
-    0 where
-  pub text : bracket.text.now ≡ place.text.now
-  pub block_end : bracket.block_end ≡ place.block_end
-  pub in_table : bracket.in_table ≡ place.in_table
-  pub options_are : bracket.options ≡ options
+-- a prefix is that of the lines of a chain at a place
+pub record IsPrefixOf (place : ChainPlace) (prefix : ContainerPrefix) (tree : Arena Item) : Type 0 where
   pub here : prefix.tree.now ≡ tree
-  pub gfm : prefix.gfm_footnotes ≡ place.gfm_footnotes
+  pub gfm : prefix.gfm_footnotes ≡ gfm_footnotes_on place.options
 
 -- brackets are decided by the rules of pass one
-pub around_is : (place : ChainPlace) (bracket : BracketPlace) (prefix : ContainerPrefix) (tree : Arena Item) (source : List ℕ)
-    (options : Options) (held : Allocated) (asks : Bool)
-    → place.text.now ≡ source → place.gfm_footnotes ≡ gfm_footnotes options → IsPlaceOf place tree
-    → AsksAbout place bracket prefix tree options
-    → around_at bracket (λ rest. Some (length_by prefix rest)) (above_cursor source tree).bodies held.refdefs held.footdefs asks
+pub around_is : (place : ChainPlace) (prefix : ContainerPrefix) (tree : Arena Item) (source : List ℕ) (options : Options)
+    (held : Allocated) (asks : Bool)
+    → place.text.now ≡ source → place.options ≡ options → IsPlaceOf place tree → IsPrefixOf place prefix tree
+    → around_at place (length_by prefix) (above_cursor source tree).bodies held.refdefs held.footdefs asks
     ≡ around (setting_of source (rules_from options held asks)) (above_cursor source tree)
-around_is place bracket prefix tree source options held asks same gfm stands about =
+around_is place prefix tree source options held asks text options_are stands is =
     let s = setting_of source (rules_from options held asks) in
     let above = above_cursor source tree in
     let by : (bytes : List ℕ) → length_by prefix bytes ≡ prefix_below s above bytes = λ bytes.
-    prefix_is prefix s (about.gfm ∙ gfm) bytes ∙ ap (λ (t : Arena Item). prefix_below s (above_cursor source t) bytes) about.here in
-    let rule : (λ rest. Some (length_by prefix rest)) ≡ (λ rest. Some (prefix_below s above rest)) =
-    fun_ext (λ bytes. ap (λ (n : ℕ). Some n) (by bytes)) in
-    let text : bracket.text.now ≡ source = about.text ∙ same in
-    let block_end : bracket.block_end ≡ above.block_end = about.block_end ∙ stands.block_end
-    ∙ ap (λ (t : List ℕ). (above_cursor t tree).block_end) same in
-    let in_table : bracket.in_table ≡ above.in_table = about.in_table ∙ stands.in_table
-    ∙ ap (λ (t : List ℕ). (above_cursor t tree).in_table) same in
-    rw (text, block_end, in_table, about.options_are)
-    (ap (λ (skipped : List ℕ → Option ℕ). let w : Around = record { setting = s; above = above; skipped = skipped } in w) rule)
+    prefix_is prefix s (is.gfm ∙ ap gfm_footnotes_on options_are) bytes
+    ∙ ap (λ (t : Arena Item). prefix_below s (above_cursor source t) bytes) is.here in
+    let rule : length_by prefix ≡ prefix_below s above = fun_ext by in
+    let block_end : place.block_end ≡ above.block_end = stands.block_end
+    ∙ ap (λ (t : List ℕ). (above_cursor t tree).block_end) text in
+    let in_table : place.in_table ≡ above.in_table = stands.in_table
+    ∙ ap (λ (t : List ℕ). (above_cursor t tree).in_table) text in
+    rw (text, block_end, in_table, options_are)
+    (ap (λ (skipped : List ℕ → ℕ). let w : Around = record { setting = s; above = above; skipped = skipped } in w) rule)
 
 -- a `]` has a byte
 some_byte : (source : List ℕ) (tables : Tables) (nodes : List (Node Item)) (ix : ℕ) (could_be : Bool)
@@ -108,28 +101,24 @@ module _ {place : ChainPlace} {tree : Arena Item} {held : Allocated} {brackets w
   here_ready = stands_rest place.text.now (tables_of held) tree.nodes first (Some ix) left can.so_far
 
   -- each opener that a stack holds may be tried, and a wikilink looked for
-  pub tries_each : (bracket : BracketPlace) → bracket.text.now ≡ place.text.now → bracket.block_end ≡ place.block_end
-      → EachOpener (CanTry tree.nodes bracket ix) brackets
-  tries_each bracket text block_end =
-      let source = bracket.text.now in
-      let stands : StandsTo source (tables_of held) tree.nodes first (Some ix) left = rw text can.so_far in
-      let ready = stands_rest source (tables_of held) tree.nodes first (Some ix) left stands in
+  pub tries_each : EachOpener (CanTry tree.nodes place ix) brackets
+  tries_each =
+      let source = place.text.now in
       let each = each_bracket (StandsOpen source (tables_of held) tree.nodes ix) left (each_open source (tables_of held) tree.nodes first ix
-      left stands) in
-      subst (λ (w : List Waiting). EachOpener (CanTry tree.nodes bracket ix) w) (sym can.openers.brackets_are)
-      (each_follows (StandsOpen source (tables_of held) tree.nodes ix) (CanTry tree.nodes bracket ix) _
-      (λ n o. can_try (tables_of held) tree.nodes bracket ix n ready (some_byte source (tables_of held) tree.nodes ix could_be ready is)
-      (rw (text, block_end) can.stands.boundary) o) each)
+      left can.so_far) in
+      subst (λ (w : List Waiting). EachOpener (CanTry tree.nodes place ix) w) (sym can.openers.brackets_are)
+      (each_follows (StandsOpen source (tables_of held) tree.nodes ix) (CanTry tree.nodes place ix) _
+      (λ n o. can_try (tables_of held) tree.nodes place ix n here_ready
+      (some_byte source (tables_of held) tree.nodes ix could_be here_ready is) can.stands.boundary o) each)
 
-  pub finds_each : (source : List ℕ) → source ≡ place.text.now → EachOpener (λ n. CanFindWikilink tree.nodes source n ix) wikilinks
-  finds_each source text =
-      let stands : StandsTo source (tables_of held) tree.nodes first (Some ix) left = rw text can.so_far in
-      let ready = stands_rest source (tables_of held) tree.nodes first (Some ix) left stands in
+  pub finds_each : EachOpener (λ n. CanFindWikilink tree.nodes place.text.now n ix) wikilinks
+  finds_each =
+      let source = place.text.now in
       let each = each_wikilink (StandsOpen source (tables_of held) tree.nodes ix) left (each_open source (tables_of held) tree.nodes first
-      ix left stands) in
+      ix left can.so_far) in
       subst (λ (w : List Waiting). EachOpener (λ n. CanFindWikilink tree.nodes source n ix) w) (sym can.openers.wikilinks_are)
       (each_follows (StandsOpen source (tables_of held) tree.nodes ix) (λ n. CanFindWikilink tree.nodes source n ix) _
-      (λ n o. can_find source (tables_of held) tree.nodes ix n ready o) each)
+      (λ n o. can_find source (tables_of held) tree.nodes ix n here_ready o) each)
 
 -- it was decided what becomes of a `]`: the left list that is left stands where the first did, its numbers rise, and that may
 -- be put there
@@ -193,35 +182,36 @@ may_close step source rules above tables nodes first ix left could_be limit limi
     }
 
 -- the decision, as the rules of pass one have it, unless memory was refused
-pub decides_here : {C E : Type 0} (step : C → Question → Option Answer → C → Type 0) (place : ChainPlace) (bracket : BracketPlace)
+pub decides_here : {C E : Type 0} (step : C → Question → Option Answer → C → Type 0) (place : ChainPlace)
     (prefix : ContainerPrefix) (tree : Arena Item) (options : Options) (inside held held' : Allocated) (limit limit' : ℕ)
     (spent spent' : SpentEnds) (callback callback' : Option C) (openers openers' : ChainOpeners) (ix : ℕ) (could_be : Bool)
-    (r : Result ClosedBracket E) → inside ≡ held → place.gfm_footnotes ≡ gfm_footnotes options
-    → AsksAbout place bracket prefix tree options → (item_at tree.nodes ix).body ≡ body.MaybeLinkClose could_be
-    → IfOk r (λ found. (bodies : List ItemBody) (left : List (Entry ℕ)) (c : Closing ℕ) → StandsBefore tree.nodes ix left c
+    (r : Result ClosedBracket E) → inside ≡ held → place.options ≡ options
+    → IsPrefixOf place prefix tree → (item_at tree.nodes ix).body ≡ body.MaybeLinkClose could_be
+    → IfOk r (λ found. (bodies : List ItemBody) (skipped : List ℕ → ℕ) (left : List (Entry ℕ)) (c : Closing ℕ)
+    → GoesOnBehind (λ rest. Some (length_by prefix rest)) skipped → StandsBefore tree.nodes ix left c
     → c.could_be_reference ≡ (could_be && not (is_spent spent (end_of c.label)))
     → openers.brackets ≡ brackets_of left → openers.wikilinks ≡ wikilinks_of left
-    → Decides step (around_at bracket (λ rest. Some (length_by prefix rest)) bodies inside.refdefs inside.footdefs (is_some callback)) c
+    → Decides step (around_at place skipped bodies inside.refdefs inside.footdefs (is_some callback)) c
     left limit limit' (uses_of inside.footdefs) (uses_of held'.footdefs) spent spent' callback callback' openers'.brackets
     openers'.wikilinks found)
     → IfOk r (λ found. DecidesClosing step place place.text.now options tree ix could_be held held' limit limit' spent spent' callback
     callback' openers openers' found)
-decides_here step place bracket prefix tree options inside held held' limit limit' spent spent' callback callback' openers openers' ix
-    could_be (Ok found) view gfm about is decides = record {
+decides_here step place prefix tree options inside held held' limit limit' spent spent' callback callback' openers openers' ix
+    could_be (Ok found) view options_are prefix_is_its is decides = record {
       decides = λ first left can.
           let source = place.text.now in
           let c = closing_at source (tables_of held) tree.nodes spent could_be ix in
           let before = stands_before source (tables_of held) tree.nodes first ix left c could_be can.so_far refl refl is in
-          let d = decides (above_cursor source tree).bodies left c before refl can.openers.brackets_are can.openers.wikilinks_are in
-          let viewed = subst (λ (h : Allocated). Decides step (around_at bracket (λ rest. Some (length_by prefix rest))
+          let d = decides (above_cursor source tree).bodies (length_by prefix) left c (λ rest. refl) before refl can.openers.brackets_are can.openers.wikilinks_are in
+          let viewed = subst (λ (h : Allocated). Decides step (around_at place (length_by prefix)
           (above_cursor source tree).bodies h.refdefs h.footdefs (is_some callback)) c left limit limit' (uses_of h.footdefs)
           (uses_of held'.footdefs) spent spent' callback callback' openers'.brackets openers'.wikilinks found) view d in
           subst (λ (w : Around). Decides step w c left limit limit' (uses_of held.footdefs) (uses_of held'.footdefs) spent spent' callback
           callback' openers'.brackets openers'.wikilinks found)
-          (around_is place bracket prefix tree source options held (is_some callback) refl gfm can.stands about) viewed;
+          (around_is place prefix tree source options held (is_some callback) refl options_are can.stands prefix_is_its) viewed;
     }
-decides_here step place bracket prefix tree options inside held held' limit limit' spent spent' callback callback' openers openers' ix
-    could_be (Err fault) view gfm about is decides = tt
+decides_here step place prefix tree options inside held held' limit limit' spent spent' callback callback' openers openers' ix
+    could_be (Err fault) view options_are prefix_is_its is decides = tt
 
 -- a resolver has decided what a `]` becomes
 module _ {C : Type 0} (step : C → Question → Option Answer → C → Type 0) (place : ChainPlace) (tree : Arena Item) (old : Resolver C)

@@ -19,11 +19,11 @@ use Rattle.markdown_brackets.specs.LeftList.{Entry, Split, before_footnote}
 use Rattle.markdown_brackets.specs.QuietItems.{all_done}
 use Rattle.markdown_brackets.specs.declared.closing_bracket.ClosedBracket.TheVariants.{Footnote}
 use Rattle.markdown_brackets.specs.declared.openers.Opener.{Opener}
-use Rattle.markdown_chains.specs.ChainRest.{start_of, end_of}
-use Rattle.markdown_chains.specs.Document.{Label, Plain, label_of, leaf, made}
-use Rattle.markdown_chains.specs.Tables.{Named, Tables, number_of, size_for, some_alignments, some_link, some_text, tables_of}
-use Rattle.markdown_chains.specs.Tables.{text_at}
-use Rattle.markdown_chains.specs.Totals.{times_named}
+use Rattle.markdown_document.specs.ChainRest.{start_of, end_of}
+use Rattle.markdown_document.specs.Document.{Label, Plain, label_of, leaf, made}
+use Rattle.markdown_document.specs.Tables.{Named, Tables, number_of, size_for, some_alignments, some_link, some_text, tables_of}
+use Rattle.markdown_document.specs.Tables.{text_at}
+use Rattle.markdown_document.specs.Totals.{times_named}
 use Rattle.markdown_resolver.specs.ClosedOver.{CanClose, CanPutMark, CanPutOver, PutsOver, after_mark, in_place_of}
 use Rattle.markdown_resolver.specs.Closes.{ClosesAt, PutsClosed}
 use Rattle.markdown_resolver.specs.Rewritten.{CanPut}
@@ -31,7 +31,7 @@ use Rattle.markdown_resolver.proofs.CloseLemmas.{OpenerAt, can_close, opener_at,
 use Rattle.markdown_resolver.proofs.CodeSpanLemmas.{PutsText, same_below, text_put}
 use Rattle.markdown_resolver.proofs.SplitLemmas.{inside_numbers, opens_numbered}
 use Rattle.markdown_resolver.proofs.StandsToLemmas.{footnote_stands}
-use Rattle.markdown_spans.specs.Allocations.{Allocated, with_cow}
+use Rattle.markdown_defs.specs.Allocations.{Allocated, with_cow}
 
 -- what becomes a footnote reference
 pub record BecomesFootnote (becomes : Becomes ℕ) (opener : Opener) (name : List ℕ) : Type 0 where

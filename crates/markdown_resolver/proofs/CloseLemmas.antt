@@ -17,13 +17,13 @@ use Rattle.markdown_brackets.specs.ClosingBracket.{put}
 use Rattle.markdown_brackets.specs.Finish.{IsSplit}
 use Rattle.markdown_brackets.specs.LeftList.{Entry, done, waits, Split, brackets_of, inside, trees_onto, wikilinks_of}
 use Rattle.markdown_brackets.specs.QuietItems.{all_done}
-use Rattle.markdown_chains.specs.ChainRest.{end_of, past, past_byte}
-use Rattle.markdown_chains.specs.Document.{Label, Plain, is_unresolved, shape_of}
-use Rattle.markdown_chains.specs.Places.{label_at, trees_from}
-use Rattle.markdown_chains.specs.Stages.{items_from}
-use Rattle.markdown_chains.specs.Tables.{Tables}
-use Rattle.markdown_chains.proofs.PlaceLemmas.{shape-open}
-use Rattle.markdown_code.proofs.ChainWalkLemmas.{chain_at}
+use Rattle.markdown_document.specs.ChainRest.{end_of, past, past_byte}
+use Rattle.markdown_document.specs.Document.{Label, Plain, is_unresolved, shape_of}
+use Rattle.markdown_document.specs.Places.{label_at, trees_from}
+use Rattle.markdown_document.specs.Stages.{items_from}
+use Rattle.markdown_document.specs.Tables.{Tables}
+use Rattle.markdown_document.proofs.PlaceLemmas.{shape-open}
+use Rattle.markdown_spans.proofs.ChainWalkLemmas.{chain_at}
 use Rattle.markdown_resolver.specs.Chains.{CanResolve}
 use Rattle.markdown_resolver.specs.ClosedOver.{CanClose, Enclosing, PutsOver, first_trees, trees_past}
 use Rattle.markdown_resolver.specs.Closes.{CanGoOn, ClosesAt, IsNotCut, NoneOpenAround, PutsClosed}

@@ -18,12 +18,12 @@ use Rattle.markdown_brackets.specs.LookupView.{target_view}
 use Rattle.markdown_brackets.specs.declared.closing_bracket.ClosedBracket.TheVariants.{Link}
 use Rattle.markdown_brackets.specs.declared.look_up.Target.{Target}
 use Rattle.markdown_brackets.specs.declared.openers.Opener.{Opener}
-use Rattle.markdown_chains.specs.ChainRest.{start_of, end_of}
-use Rattle.markdown_chains.specs.Document.{Label, Plain, enclosed, label_of}
-use Rattle.markdown_chains.specs.Origins.{IsLinkFrom, Origin, destination_origin, made, origin_of}
-use Rattle.markdown_chains.specs.Tables.{Named, Tables, link_at, link_view, number_of, size_for, some_alignments, some_link, some_text}
-use Rattle.markdown_chains.specs.Tables.{tables_of}
-use Rattle.markdown_chains.specs.Totals.{times_named}
+use Rattle.markdown_document.specs.ChainRest.{start_of, end_of}
+use Rattle.markdown_document.specs.Document.{Label, Plain, enclosed, label_of}
+use Rattle.markdown_document.specs.Origins.{IsLinkFrom, Origin, destination_origin, made, origin_of}
+use Rattle.markdown_document.specs.Tables.{Named, Tables, link_at, link_view, number_of, size_for, some_alignments, some_link, some_text}
+use Rattle.markdown_document.specs.Tables.{tables_of}
+use Rattle.markdown_document.specs.Totals.{times_named}
 use Rattle.markdown_resolver.specs.ClosedOver.{CanClose, CanPutOver, PutsOver, over_inside}
 use Rattle.markdown_resolver.specs.Closes.{ClosesAt, PutsClosed}
 use Rattle.markdown_resolver.specs.PutsTrees.{numbered_label, without_numbers}
@@ -33,7 +33,7 @@ use Rattle.markdown_resolver.proofs.CodeSpanLemmas.{same_below}
 use Rattle.markdown_resolver.proofs.MarkupItemLemmas.{PutsLink, link_put}
 use Rattle.markdown_resolver.proofs.SplitLemmas.{inside_numbers, opens_numbered}
 use Rattle.markdown_resolver.proofs.StandsToLemmas.{link_stands}
-use Rattle.markdown_spans.specs.Allocations.{Allocated, LinkParts, with_link}
+use Rattle.markdown_defs.specs.Allocations.{Allocated, LinkParts, with_link}
 
 -- what becomes a link or an image
 pub record BecomesLink (becomes : Becomes ℕ) (opener : Opener) (view : LinkView) (end next : ℕ) : Type 0 where

@@ -13,11 +13,11 @@ use Rattle.markdown_brackets.specs.DecisionView.{IsBecome}
 use Rattle.markdown_brackets.specs.LeftList.{Entry, brackets_of, wikilinks_of}
 use Rattle.markdown_brackets.specs.QuietItems.{all_done}
 use Rattle.markdown_brackets.specs.declared.closing_bracket.ClosedBracket.TheVariants.{Text}
-use Rattle.markdown_chains.specs.ChainRest.{past}
-use Rattle.markdown_chains.specs.Document.{Label, Plain, Shape, as_text, block_of, shape_of, unresolved}
-use Rattle.markdown_chains.specs.Places.{label_at, trees_from}
-use Rattle.markdown_chains.specs.Tables.{Tables}
-use Rattle.markdown_chains.specs.Waiting.{is_quiet}
+use Rattle.markdown_document.specs.ChainRest.{past}
+use Rattle.markdown_document.specs.Document.{Label, Plain, Shape, as_text, block_of, shape_of, unresolved}
+use Rattle.markdown_document.specs.Places.{label_at, trees_from}
+use Rattle.markdown_document.specs.Tables.{Tables}
+use Rattle.markdown_document.specs.Waiting.{is_quiet}
 use Rattle.markdown_resolver.specs.Closes.{ClosesAt, PutsClosed}
 use Rattle.markdown_resolver.specs.Kept.{IsQuiet}
 use Rattle.markdown_resolver.specs.PutsTrees.{PutsTrees, without_numbers}

@@ -23,12 +23,12 @@ use Rattle.markdown_brackets.specs.declared.closing_bracket.ClosedBracket.TheVar
 use Rattle.markdown_brackets.specs.declared.openers.Opener.{Opener}
 use Rattle.markdown_brackets.specs.declared.wikilink_nodes.ShownNodes.{ShownNodes}
 use Rattle.markdown_brackets.specs.declared.wikilink_nodes.ShownNodes.TheVariants.{From, Over}
-use Rattle.markdown_chains.specs.ChainRest.{begun_at, cut_shape, end_of, past_byte, start_of}
-use Rattle.markdown_chains.specs.Document.{Label, Plain, Shape, backslash_break, enclosed, label_of, leaf, plain, unresolved}
-use Rattle.markdown_chains.specs.Origins.{IsLinkFrom, Origin, StandsIn, origin_of, sliced}
-use Rattle.markdown_chains.specs.Tables.{Tables, link_view, tables_of}
-use Rattle.markdown_chains.specs.Waiting.{is_quiet}
-use Rattle.markdown_spans.specs.Allocations.{Allocated, LinkParts, with_link}
+use Rattle.markdown_document.specs.ChainRest.{begun_at, cut_shape, end_of, past_byte, start_of}
+use Rattle.markdown_document.specs.Document.{Label, Plain, Shape, backslash_break, enclosed, label_of, leaf, plain, unresolved}
+use Rattle.markdown_document.specs.Origins.{IsLinkFrom, Origin, StandsIn, origin_of, sliced}
+use Rattle.markdown_document.specs.Tables.{Tables, link_view, tables_of}
+use Rattle.markdown_document.specs.Waiting.{is_quiet}
+use Rattle.markdown_defs.specs.Allocations.{Allocated, LinkParts, with_link}
 use Rattle.markdown_resolver.specs.ClosedOver.{CanClose, CanPutOver, CanShow, PutsOver, first_trees, over_shown, over_text, trees_past}
 use Rattle.markdown_resolver.specs.Closes.{ClosesAt, FirstLies, NoneOpenAround, PutsClosed}
 use Rattle.markdown_resolver.specs.Kept.{IsQuiet}

@@ -18,13 +18,13 @@ use Rattle.markdown_brackets.specs.ReadChain.{closing}
 use Rattle.markdown_brackets.specs.declared.closing_bracket.ClosedBracket.{ClosedBracket}
 use Rattle.markdown_brackets.specs.declared.spent_ends.SpentEnds.{SpentEnds}
 use Rattle.markdown_brackets.proofs.BracketTagLemmas.{closing_retag}
-use Rattle.markdown_chains.specs.Above.{Above}
-use Rattle.markdown_chains.specs.ChainRest.{end_of, open_body, past}
-use Rattle.markdown_chains.specs.Document.{Plain, plain_tags, shape_of}
-use Rattle.markdown_chains.specs.Places.{label_at, trees_from}
-use Rattle.markdown_chains.specs.Setting.{Setting}
-use Rattle.markdown_chains.specs.Stages.{Stage, chain_at, known_at}
-use Rattle.markdown_chains.proofs.PlaceLemmas.{shape-open}
+use Rattle.markdown_document.specs.Above.{Above}
+use Rattle.markdown_document.specs.ChainRest.{end_of, open_body, past}
+use Rattle.markdown_document.specs.Document.{Plain, plain_tags, shape_of}
+use Rattle.markdown_document.specs.Places.{label_at, trees_from}
+use Rattle.markdown_document.specs.Setting.{Setting}
+use Rattle.markdown_document.specs.Stages.{Stage, chain_at, known_at}
+use Rattle.markdown_document.proofs.PlaceLemmas.{shape-open}
 use Rattle.markdown_resolver.specs.Closes.{PutsClosed, closing_at}
 use Rattle.markdown_resolver.specs.PassOne.{around}
 use Rattle.markdown_resolver.specs.ReadOn.{AreSpent, ReadsOn, StandsTo, StopsOn, all_read, at_left, left_without_numbers}

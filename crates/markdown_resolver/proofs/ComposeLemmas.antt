@@ -14,17 +14,17 @@ use Rattle.markdown_base.specs.declared.item.Item.{Item}
 use Rattle.markdown_base.specs.declared.item.ItemBody.{ItemBody}
 use Rattle.markdown_base.specs.declared.node.Node.{Node}
 use Rattle.markdown_base.proofs.ArenaForestLemmas.{opens}
-use Rattle.markdown_chains.specs.Document.{label_of}
-use Rattle.markdown_chains.specs.ItemRules.{StandsBefore}
-use Rattle.markdown_chains.specs.Places.{HasSlices, IsSameAt, IsPlaced, label_at, trees_from}
-use Rattle.markdown_chains.specs.Stages.{times_in, named_in, weight_in}
-use Rattle.markdown_chains.specs.Tables.{Tables, Named, number_of, size_for, NamesEntries, IsNoShorter, HasGrown}
-use Rattle.markdown_chains.specs.Totals.{total, same, naming, times_named, weight_at}
-use Rattle.markdown_chains.proofs.FoundLemmas.{found}
-use Rattle.markdown_chains.proofs.FrameLemmas.{Stays, label-same, stay_throughout, Framed, framed, slices-same}
-use Rattle.markdown_chains.proofs.PlaceLemmas.{times-past, named-past}
-use Rattle.markdown_chains.proofs.TablesLemmas.{same-refl, same-apart, named-once, named-apart, same_entry-trans, grown-same, grown-longer}
-use Rattle.markdown_chains.proofs.TablesLemmas.{grown-nothing, grown-twice, longer-trans, entries-longer}
+use Rattle.markdown_document.specs.Document.{label_of}
+use Rattle.markdown_document.specs.ItemRules.{StandsBefore}
+use Rattle.markdown_document.specs.Places.{HasSlices, IsSameAt, IsPlaced, label_at, trees_from}
+use Rattle.markdown_document.specs.Stages.{times_in, named_in, weight_in}
+use Rattle.markdown_document.specs.Tables.{Tables, Named, number_of, size_for, NamesEntries, IsNoShorter, HasGrown}
+use Rattle.markdown_document.specs.Totals.{total, same, naming, times_named, weight_at}
+use Rattle.markdown_document.proofs.FoundLemmas.{found}
+use Rattle.markdown_document.proofs.FrameLemmas.{Stays, label-same, stay_throughout, Framed, framed, slices-same}
+use Rattle.markdown_document.proofs.PlaceLemmas.{times-past, named-past}
+use Rattle.markdown_document.proofs.TablesLemmas.{same-refl, same-apart, named-once, named-apart, same_entry-trans, grown-same, grown-longer}
+use Rattle.markdown_document.proofs.TablesLemmas.{grown-nothing, grown-twice, longer-trans, entries-longer}
 use Rattle.markdown_resolver.specs.Chains.{CanResolve, ChangesChain}
 
 -- a node that stayed, and stayed again

@@ -12,15 +12,16 @@ use Rattle.markdown_brackets.specs.BracketDecision.{after_look_up, decided, deci
 use Rattle.markdown_brackets.specs.BracketDecision.{inline_link, link_label, look_up_tried, no_link, one_decided, opener_tried, past_second}
 use Rattle.markdown_brackets.specs.BracketDecision.{question_at, spent_by, target_tried, to_be, tried, wikilink_in, wikilink_opener}
 use Rattle.markdown_brackets.specs.BracketDecision.{wikilink_or_one, wikilink_tried, written}
-use Rattle.markdown_brackets.specs.BracketOptions.{footnote_style, wikilinks_on}
+use Rattle.markdown_base.specs.EnabledOptions.{wikilinks_on}
+use Rattle.markdown_brackets.specs.BracketOptions.{footnote_style}
 use Rattle.markdown_brackets.specs.FootnoteUse.{is_reference}
 use Rattle.markdown_brackets.specs.LeftList.{Entry, Split, bracket_taken, inside, is_live, nearest, opens_bracket, opens_wikilink}
 use Rattle.markdown_brackets.specs.LeftList.{wikilink_taken, without_bracket, without_wikilink}
 use Rattle.markdown_brackets.specs.Lookup.{LookedUp, look_up}
 use Rattle.markdown_brackets.specs.Reference.{is_closer}
-use Rattle.markdown_chains.specs.ChainRest.{end_of, open_body, start_of}
-use Rattle.markdown_chains.specs.Document.{Label}
-use Rattle.markdown_chains.specs.Tables.{Tables}
+use Rattle.markdown_document.specs.ChainRest.{end_of, open_body, start_of}
+use Rattle.markdown_document.specs.Document.{Label}
+use Rattle.markdown_document.specs.Tables.{Tables}
 use Rattle.markdown_resolver.specs.ReadOn.{StandsTo}
 use Rattle.markdown_resolver.proofs.StandsToLemmas.{taken_stands}
 

@@ -12,9 +12,9 @@ use Rattle.markdown_base.specs.declared.item.Item.{Item}
 use Rattle.markdown_base.specs.declared.item.ItemBody.{ItemBody}
 use Rattle.markdown_base.specs.declared.item.ItemBody.TheVariants as body
 use Rattle.markdown_base.specs.declared.node.Node.{Node}
-use Rattle.markdown_chains.specs.ChainRest.{open_body}
-use Rattle.markdown_chains.specs.Document.{Plain, document, label_of, shape_of}
-use Rattle.markdown_chains.specs.Tables.{Tables}
+use Rattle.markdown_document.specs.ChainRest.{open_body}
+use Rattle.markdown_document.specs.Document.{Plain, document, label_of, shape_of}
+use Rattle.markdown_document.specs.Tables.{Tables}
 use Rattle.markdown_resolver.specs.Laws.{RunsStandWhole, by_place}
 
 -- a label is a run's character where its item is one

@@ -15,13 +15,13 @@ use Rattle.markdown_base.specs.declared.item.Item.{Item}
 use Rattle.markdown_base.specs.declared.node.Node.{Node}
 use Rattle.markdown_base.proofs.ArenaForestLemmas.{opens, Opened, forest_at-none}
 use Rattle.markdown_base.proofs.ArenaLemmas.{length-changed_at}
-use Rattle.markdown_chains.specs.Document.{label_of}
-use Rattle.markdown_chains.specs.Places.{IsSameAt, IsPlaced, label_at, trees_from}
-use Rattle.markdown_chains.specs.Tables.{Tables, Named}
-use Rattle.markdown_chains.specs.Totals.{total, same, naming, times_named, weight_at, weight_if}
-use Rattle.markdown_chains.proofs.FoundLemmas.{found}
-use Rattle.markdown_chains.proofs.PlaceLemmas.{times-past}
-use Rattle.markdown_chains.proofs.TablesLemmas.{same-refl, grown-nothing}
+use Rattle.markdown_document.specs.Document.{label_of}
+use Rattle.markdown_document.specs.Places.{IsSameAt, IsPlaced, label_at, trees_from}
+use Rattle.markdown_document.specs.Tables.{Tables, Named}
+use Rattle.markdown_document.specs.Totals.{total, same, naming, times_named, weight_at, weight_if}
+use Rattle.markdown_document.proofs.FoundLemmas.{found}
+use Rattle.markdown_document.proofs.PlaceLemmas.{times-past}
+use Rattle.markdown_document.proofs.TablesLemmas.{same-refl, grown-nothing}
 use Rattle.markdown_resolver.specs.ClosedOver.{first_trees, trees_past, last_inside, CanClose, IsEnclosed}
 use Rattle.markdown_resolver.proofs.ChainOrderLemmas.{StandsPast, rest_past}
 use Rattle.markdown_resolver.proofs.ComposeLemmas.{same_trans, Moves}

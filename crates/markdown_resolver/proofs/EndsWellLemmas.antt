@@ -19,12 +19,13 @@ use Rattle.markdown_base.specs.declared.tag.LinkType.TheVariants as kind
 use Rattle.markdown_brackets.specs.BracketDecision.{Around, Becomes, a_footnote, a_text, Closing, Decision, Progress, Wikilink, Written}
 use Rattle.markdown_brackets.specs.BracketDecision.{after_look_up, block_text, closer_ends_at, decided}
 use Rattle.markdown_brackets.specs.BracketDecision.{decided_before, first_item, footnote_label, footnote_tried, footnote_used, form_of}
-use Rattle.markdown_brackets.specs.BracketDecision.{inline_link, label_of_opener, link_label, look_up_tried}
+use Rattle.markdown_brackets.specs.BracketDecision.{inline_link, label_of_opener, lines, link_label, look_up_tried}
 use Rattle.markdown_brackets.specs.BracketDecision.{no_link, one_decided, opener_tried, own_written, past_second, question_at}
 use Rattle.markdown_brackets.specs.BracketDecision.{reference_written, second_item, spent_by, start_of_first_past, tail_or}
 use Rattle.markdown_brackets.specs.BracketDecision.{target_tried, to_be, tried, wikilink_in, wikilink_opener, wikilink_or_one}
 use Rattle.markdown_brackets.specs.BracketDecision.{wikilink_tried, written}
-use Rattle.markdown_brackets.specs.BracketOptions.{footnote_style, wikilinks_on}
+use Rattle.markdown_base.specs.EnabledOptions.{wikilinks_on}
+use Rattle.markdown_brackets.specs.BracketOptions.{footnote_style}
 use Rattle.markdown_brackets.specs.FootnoteUse.{is_reference}
 use Rattle.markdown_brackets.specs.LeftList.{Entry, Split, bracket_taken, inside, is_live, nearest, opens_bracket, opens_wikilink}
 use Rattle.markdown_brackets.specs.LeftList.{trees_onto, wikilink_taken, without_bracket}
@@ -34,12 +35,12 @@ use Rattle.markdown_brackets.specs.Reference.{FoundLabel, Form, collapsed, form_
 use Rattle.markdown_brackets.specs.Reference.{reference, shortcut, stands_at}
 use Rattle.markdown_brackets.specs.declared.footnote.FootnoteStyle.{FootnoteStyle}
 use Rattle.markdown_brackets.proofs.OpenerHeldLemmas.{trees_stay}
-use Rattle.markdown_chains.specs.ChainRest.{end_of, open_body, start_of}
-use Rattle.markdown_chains.specs.Document.{Label}
-use Rattle.markdown_chains.specs.Origins.{StandsIn, destination_origin, made}
-use Rattle.markdown_chains.specs.Tables.{Tables}
-use Rattle.markdown_spans.specs.Definitions as definitions
-use Rattle.markdown_spans.specs.Definitions.{Labelled}
+use Rattle.markdown_document.specs.ChainRest.{end_of, open_body, start_of}
+use Rattle.markdown_document.specs.Document.{Label}
+use Rattle.markdown_document.specs.Origins.{StandsIn, destination_origin, made}
+use Rattle.markdown_document.specs.Tables.{Tables}
+use Rattle.markdown_defs.specs.Definitions as definitions
+use Rattle.markdown_defs.specs.Definitions.{Labelled}
 use Rattle.markdown_resolver.specs.Closes.{CanGoOn, EndsWell, ShowsWell}
 use Rattle.markdown_resolver.specs.PutsTrees.{numbered_from, numbered_label}
 use Rattle.markdown_resolver.specs.ReadOn.{StandsTo}
@@ -77,7 +78,7 @@ collapsed_stands style skipped in_table text p next after = by (stands_at p is_o
 -- the bytes at which the chain after a `]` may go on
 pub record MayGoOn (source : List ℕ) (w : Around) (c : Closing ℕ) : Type 0 where
   pub here : CanGoOn source c (end_of c.label)
-  pub closed : (t : LinkTail) → link_tail w.skipped (start_of_first_past c.rest) (block_text w) (end_of c.label) ≡ Some t
+  pub closed : (t : LinkTail) → link_tail (lines w) (start_of_first_past c.rest) (block_text w) (end_of c.label) ≡ Some t
       → CanGoOn source c t.ends
   pub labelled : (i : ℕ) → closer_ends_at i c.rest ≡ true → CanGoOn source c i
   pub emptied : form_of w c ≡ collapsed → CanGoOn source c (end_of c.label + 2)
@@ -173,7 +174,7 @@ module _ (source : List ℕ) (w : Around) (c : Closing ℕ) (may : MayGoOn sourc
       (may.emptied e, may.here.between, omega arith, omega arith) refl
   reference_well could_be own shortcut e = own_if could_be kind.Shortcut (end_of c.label) own (ends_so (end_of c.label) may.here) refl
 
-  tail_well : (other : Written) (found : Option LinkTail) → link_tail w.skipped (start_of_first_past c.rest) (block_text w) (end_of c.label)
+  tail_well : (other : Written) (found : Option LinkTail) → link_tail (lines w) (start_of_first_past c.rest) (block_text w) (end_of c.label)
       ≡ found
       → WrittenWell source c other → WrittenWell source c (tail_or other found)
   unfolding WrittenWell
@@ -184,7 +185,7 @@ module _ (source : List ℕ) (w : Around) (c : Closing ℕ) (may : MayGoOn sourc
   written_well o =
       tail_well (reference_written c.could_be_reference (end_of c.label) (λ i. closer_ends_at i c.rest) (label_of_opener w c o)
       (form_of w c))
-      (link_tail w.skipped (start_of_first_past c.rest) (block_text w) (end_of c.label)) refl
+      (link_tail (lines w) (start_of_first_past c.rest) (block_text w) (end_of c.label)) refl
       (reference_well c.could_be_reference (label_of_opener w c o) (form_of w c) refl)
 
   footnote_well : (o : Split ℕ) (name : List ℕ) (p : Progress ℕ) → EndsWell source c (footnote_tried w o name p).becomes
@@ -279,7 +280,7 @@ may_go_on : (source : List ℕ) (tables : Tables) (nodes : List (Node Item)) (w 
 may_go_on source tables nodes w c f k starts text utf8 = record {
   here = goes_on_here source tables nodes c f k;
   closed = λ t e.
-      let closes = tail_closes w.skipped (start_of_first_past c.rest) (block_text w) (end_of c.label) t e in
+      let closes = tail_closes (lines w) (start_of_first_past c.rest) (block_text w) (end_of c.label) t e in
       let size = length-take w.above.block_end w.setting.text in
       let whole = ap length text in
       let inside_text : t.ends ≤ length source = omega (arith, closes.within, size, whole) in
@@ -291,7 +292,7 @@ may_go_on source tables nodes w c f k starts text utf8 = record {
   labelled = λ i h. goes_on_there source tables nodes c f k i
       (ends_there source tables nodes i f (subst (λ (rest : Forest (Label ℕ)). closer_ends_at i rest ≡ true) k.rest_is h));
   emptied = λ e.
-      let stands = collapsed_stands (footnote_style w.setting.rules.options) w.skipped w.above.in_table (block_text w) (end_of c.label)
+      let stands = collapsed_stands (footnote_style w.setting.rules.options) (lines w) w.above.in_table (block_text w) (end_of c.label)
       (first_item c.rest) (second_item c.rest) e in
       let closes = subst (λ (rest : Forest (Label ℕ)). stands_at (end_of c.label + 1) is_closer (second_item rest) ≡ true) k.rest_is stands
       in

@@ -13,13 +13,13 @@ use Rattle.markdown_base.specs.Item.{is_open}
 use Rattle.markdown_base.specs.declared.item.Item.{Item}
 use Rattle.markdown_base.specs.declared.node.Node.{Node}
 use Rattle.markdown_base.proofs.ArenaForestLemmas.{opens, Opened, forest_at-none}
-use Rattle.markdown_chains.specs.Places.{IsSameAt, IsPlaced, label_at, trees_from}
-use Rattle.markdown_chains.specs.Stages.{times_in, named_in, weight_in}
-use Rattle.markdown_chains.specs.Tables.{Tables, Named}
-use Rattle.markdown_chains.specs.Totals.{total, same, naming, times_named, weight_at, weight_if}
-use Rattle.markdown_chains.proofs.FoundLemmas.{found}
-use Rattle.markdown_chains.proofs.FrameLemmas.{Framed, framed, stay_throughout}
-use Rattle.markdown_chains.proofs.TablesLemmas.{same-refl, same_entry-refl, grown-longer, grown-nothing}
+use Rattle.markdown_document.specs.Places.{IsSameAt, IsPlaced, label_at, trees_from}
+use Rattle.markdown_document.specs.Stages.{times_in, named_in, weight_in}
+use Rattle.markdown_document.specs.Tables.{Tables, Named}
+use Rattle.markdown_document.specs.Totals.{total, same, naming, times_named, weight_at, weight_if}
+use Rattle.markdown_document.proofs.FoundLemmas.{found}
+use Rattle.markdown_document.proofs.FrameLemmas.{Framed, framed, stay_throughout}
+use Rattle.markdown_document.proofs.TablesLemmas.{same-refl, same_entry-refl, grown-longer, grown-nothing}
 use Rattle.markdown_resolver.specs.ClosedOver.{first_trees, trees_past, last_inside, CanClose, IsEnclosed}
 use Rattle.markdown_resolver.specs.Rewritten.{first_past}
 use Rattle.markdown_resolver.proofs.ChainOrderLemmas.{AllPast, StandsPast, rest_past}

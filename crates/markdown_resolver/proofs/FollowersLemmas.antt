@@ -14,12 +14,12 @@ use Rattle.markdown_base.specs.Item.{is_block}
 use Rattle.markdown_base.specs.declared.item.Item.{Item}
 use Rattle.markdown_base.specs.declared.node.Node.{Node}
 use Rattle.markdown_base.proofs.ArenaForestLemmas.{opens}
-use Rattle.markdown_chains.specs.ItemRules.{StandsBefore}
-use Rattle.markdown_chains.specs.Places.{IsPlaced, label_at, trees_from}
-use Rattle.markdown_chains.specs.Stages.{items_from}
-use Rattle.markdown_chains.specs.Tables.{Tables}
-use Rattle.markdown_code.specs.ChainInArena.{LeadsThrough}
-use Rattle.markdown_code.proofs.LearnedElsewhereLemmas.{one_chain}
+use Rattle.markdown_document.specs.ItemRules.{StandsBefore}
+use Rattle.markdown_document.specs.Places.{IsPlaced, label_at, trees_from}
+use Rattle.markdown_document.specs.Stages.{items_from}
+use Rattle.markdown_document.specs.Tables.{Tables}
+use Rattle.markdown_spans.specs.ChainInArena.{LeadsThrough}
+use Rattle.markdown_spans.proofs.LearnedElsewhereLemmas.{one_chain}
 use Rattle.markdown_resolver.specs.Chains.{CanResolve}
 use Rattle.markdown_resolver.specs.Kept.{IsQuietBelow}
 use Rattle.markdown_resolver.specs.Rewritten.{first_past, numbered_past_byte, begun_item}

@@ -20,11 +20,11 @@ use Rattle.markdown_base.specs.declared.item.ItemBody.TheVariants as body
 use Rattle.markdown_base.specs.declared.node.Node.{Node}
 use Rattle.markdown_brackets.specs.BracketDecision.{Closing, closer_ends_at, second_item}
 use Rattle.markdown_brackets.specs.Reference.{is_closer, stands_at}
-use Rattle.markdown_chains.specs.ChainRest.{end_of, open_body}
-use Rattle.markdown_chains.specs.Document.{Shape, backslash_break, enclosed, is_unresolved, leaf, plain, shape_of, unresolved}
-use Rattle.markdown_chains.specs.Places.{IsPlaced}
-use Rattle.markdown_chains.specs.Tables.{Tables}
-use Rattle.markdown_chains.proofs.PlaceLemmas.{open-unresolved, shape-open}
+use Rattle.markdown_document.specs.ChainRest.{end_of, open_body}
+use Rattle.markdown_document.specs.Document.{Shape, backslash_break, enclosed, is_unresolved, leaf, plain, shape_of, unresolved}
+use Rattle.markdown_document.specs.Places.{IsPlaced}
+use Rattle.markdown_document.specs.Tables.{Tables}
+use Rattle.markdown_document.proofs.PlaceLemmas.{open-unresolved, shape-open}
 use Rattle.markdown_resolver.specs.Closes.{CanGoOn, IsNotCut, NoneOpenAround}
 use Rattle.markdown_resolver.specs.PutsTrees.{numbered_label}
 use Rattle.markdown_resolver.specs.Rewritten.{first_past}

@@ -11,15 +11,15 @@ use Rattle.markdown_brackets.specs.LeftList.{Entry, done, brackets_of, wikilinks
 use Rattle.markdown_brackets.specs.Openers.{Waiting}
 use Rattle.markdown_brackets.specs.QuietItems.{all_done}
 use Rattle.markdown_brackets.specs.declared.spent_ends.SpentEnds.{SpentEnds}
-use Rattle.markdown_chains.specs.Above.{Above}
-use Rattle.markdown_chains.specs.ChainRest.{open_body, past}
-use Rattle.markdown_chains.specs.Document.{Label, Plain, shape_of}
-use Rattle.markdown_chains.specs.Places.{label_at, trees_from}
-use Rattle.markdown_chains.specs.Setting.{Known, Setting}
-use Rattle.markdown_chains.specs.Stages.{Stage, chain_at, known_at}
-use Rattle.markdown_chains.specs.Tables.{Tables}
-use Rattle.markdown_chains.proofs.PlaceLemmas.{shape-open}
-use Rattle.markdown_code.specs.Finds.{Passed}
+use Rattle.markdown_document.specs.Above.{Above}
+use Rattle.markdown_document.specs.ChainRest.{open_body, past}
+use Rattle.markdown_document.specs.Document.{Label, Plain, shape_of}
+use Rattle.markdown_document.specs.Places.{label_at, trees_from}
+use Rattle.markdown_document.specs.Setting.{Known, Setting}
+use Rattle.markdown_document.specs.Stages.{Stage, chain_at, known_at}
+use Rattle.markdown_document.specs.Tables.{Tables}
+use Rattle.markdown_document.proofs.PlaceLemmas.{shape-open}
+use Rattle.markdown_spans.specs.Finds.{Passed}
 use Rattle.markdown_delims.proofs.PairingLemmas.{closed_shape}
 use Rattle.markdown_resolver.specs.PutsTrees.{without_numbers}
 use Rattle.markdown_resolver.specs.ReadOn.{AreHeld, PutsBehind, ReadsOn, StandsTo, all_read, at_left, left_without_numbers}

@@ -4,10 +4,10 @@ use Rattle.markdown_base.specs.Forest.{Forest}
 use Rattle.markdown_base.specs.Questions.{Answers}
 use Rattle.markdown_brackets.specs.BracketDecision.{Progress}
 use Rattle.markdown_brackets.specs.ReadChain.{begun}
-use Rattle.markdown_chains.specs.Above.{Above}
-use Rattle.markdown_chains.specs.Document.{Tags, Label}
-use Rattle.markdown_chains.specs.Labels.{weight, retagged}
-use Rattle.markdown_chains.specs.Setting.{Setting, Known}
+use Rattle.markdown_document.specs.Above.{Above}
+use Rattle.markdown_document.specs.Document.{Tags, Label}
+use Rattle.markdown_document.specs.Labels.{weight, retagged}
+use Rattle.markdown_document.specs.Setting.{Setting, Known}
 use Rattle.markdown_delims.proofs.LawLemmas.{tag-law}
 use Rattle.markdown_delims.proofs.WeightLawLemmas.{weight-law}
 use Rattle.markdown_resolver.specs.Laws.{Follows, with_answers}

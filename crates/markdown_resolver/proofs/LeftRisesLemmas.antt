@@ -15,11 +15,11 @@ use Rattle.markdown_brackets.specs.ChainHeld.{Holds, numbers_of}
 use Rattle.markdown_brackets.specs.Decides.{StandsBefore}
 use Rattle.markdown_brackets.specs.Finish.{AreBehind, AreRising, LeftRises}
 use Rattle.markdown_brackets.specs.LeftList.{Entry, trees_onto}
-use Rattle.markdown_chains.specs.ChainRest.{joined}
-use Rattle.markdown_chains.specs.Document.{Label}
-use Rattle.markdown_chains.specs.Places.{IsPlaced, label_at}
-use Rattle.markdown_chains.specs.Tables.{Tables}
-use Rattle.markdown_chains.specs.Totals.{same, total}
+use Rattle.markdown_document.specs.ChainRest.{joined}
+use Rattle.markdown_document.specs.Document.{Label}
+use Rattle.markdown_document.specs.Places.{IsPlaced, label_at}
+use Rattle.markdown_document.specs.Tables.{Tables}
+use Rattle.markdown_document.specs.Totals.{same, total}
 use Rattle.markdown_resolver.specs.Kept.{IsQuietBelow}
 use Rattle.markdown_resolver.specs.PutsTrees.{numbered_from, numbered_label}
 use Rattle.markdown_resolver.specs.ReadOn.{StandsTo}

@@ -10,11 +10,11 @@ use Rattle.markdown_brackets.specs.LeftList.{on_marks, second_folded, trees_onto
 use Rattle.markdown_brackets.specs.Openers.{Waiting}
 use Rattle.markdown_brackets.specs.QuietItems.{all_done}
 use Rattle.markdown_brackets.proofs.OpenerHeldLemmas.{onto_joined}
-use Rattle.markdown_chains.specs.ChainRest.{joined}
-use Rattle.markdown_chains.specs.Document.{Label}
-use Rattle.markdown_chains.specs.Labels.{retagged}
-use Rattle.markdown_chains.specs.Totals.{total, same}
-use Rattle.markdown_chains.proofs.TablesLemmas.{same-refl}
+use Rattle.markdown_document.specs.ChainRest.{joined}
+use Rattle.markdown_document.specs.Document.{Label}
+use Rattle.markdown_document.specs.Labels.{retagged}
+use Rattle.markdown_document.specs.Totals.{total, same}
+use Rattle.markdown_document.proofs.TablesLemmas.{same-refl}
 use Rattle.markdown_resolver.specs.Kept.{IsQuiet, IsQuietBelow}
 use Rattle.markdown_resolver.specs.ReadOn.{EachWaits}
 

@@ -20,13 +20,13 @@ use Rattle.markdown_base.specs.declared.item.Item.{Item}
 use Rattle.markdown_base.specs.declared.item.ItemBody.{ItemBody}
 use Rattle.markdown_base.specs.declared.node.Node.{Node}
 use Rattle.markdown_base.proofs.ArenaForestLemmas.{opens}
-use Rattle.markdown_chains.specs.Origins.{StandsIn}
-use Rattle.markdown_chains.specs.Places.{IsPlaced}
-use Rattle.markdown_chains.specs.Tables.{Tables}
-use Rattle.markdown_code.specs.AfterLess.{Markup, autolink, html, declared_end, html_at, markup_at, unbroken}
-use Rattle.markdown_code.specs.Autolink.{begins_scheme, closed_uri, uri_length, uri_autolink}
-use Rattle.markdown_code.specs.Finds.{end_of_markup}
-use Rattle.markdown_code.proofs.SliceLemmas.{stands_between}
+use Rattle.markdown_document.specs.Origins.{StandsIn}
+use Rattle.markdown_document.specs.Places.{IsPlaced}
+use Rattle.markdown_document.specs.Tables.{Tables}
+use Rattle.markdown_spans.specs.AfterLess.{Markup, autolink, html, declared_end, html_at, markup_at, unbroken}
+use Rattle.markdown_spans.specs.Autolink.{begins_scheme, closed_uri, uri_length, uri_autolink}
+use Rattle.markdown_spans.specs.Finds.{end_of_markup}
+use Rattle.markdown_spans.proofs.SliceLemmas.{stands_between}
 use Rattle.markdown_raw_html.specs.HtmlTag.{html_tag}
 use Rattle.markdown_raw_html.specs.LinePrefix.{prefix_after}
 use Rattle.markdown_raw_html.specs.RawHtml.{cdata_section, comment, declaration, end_from, processing_instruction}

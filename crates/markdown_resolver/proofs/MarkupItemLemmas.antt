@@ -19,21 +19,21 @@ use Rattle.markdown_base.specs.declared.index.LinkIndex.{LinkIndex}
 use Rattle.markdown_base.specs.declared.item.Item.{Item}
 use Rattle.markdown_base.specs.declared.node.Node.{Node}
 use Rattle.markdown_base.proofs.ArenaForestLemmas.{opens}
-use Rattle.markdown_chains.specs.ChainRest.{joined, past}
-use Rattle.markdown_chains.specs.Document.{Plain}
-use Rattle.markdown_chains.specs.Origins.{IsLinkFrom, StandsIn, origin_of, sliced}
-use Rattle.markdown_chains.specs.Places.{HasSliceLink, IsPlaced, label_at, trees_from}
-use Rattle.markdown_chains.specs.Setting.{Rules, setting_of}
-use Rattle.markdown_chains.specs.Tables.{HasGrown, Named, Tables, link_at, link_origin_at, link_view, number_of, size_for, some_alignments}
-use Rattle.markdown_chains.specs.Tables.{some_link, some_text, tables_of}
-use Rattle.markdown_chains.specs.Totals.{times_named}
-use Rattle.markdown_code.specs.AfterLess.{Markup, autolink, html, markup_at}
-use Rattle.markdown_code.specs.Finds.{address, markup_trees}
+use Rattle.markdown_document.specs.ChainRest.{joined, past}
+use Rattle.markdown_document.specs.Document.{Plain}
+use Rattle.markdown_document.specs.Origins.{IsLinkFrom, StandsIn, origin_of, sliced}
+use Rattle.markdown_document.specs.Places.{HasSliceLink, IsPlaced, label_at, trees_from}
+use Rattle.markdown_document.specs.Setting.{Rules, setting_of}
+use Rattle.markdown_document.specs.Tables.{HasGrown, Named, Tables, link_at, link_origin_at, link_view, number_of, size_for, some_alignments}
+use Rattle.markdown_document.specs.Tables.{some_link, some_text, tables_of}
+use Rattle.markdown_document.specs.Totals.{times_named}
+use Rattle.markdown_spans.specs.AfterLess.{Markup, autolink, html, markup_at}
+use Rattle.markdown_spans.specs.Finds.{address, markup_trees}
 use Rattle.markdown_raw_html.specs.HtmlTag.{html_tag}
 use Rattle.markdown_raw_html.specs.TagSource.{tag_at, tag_lengths, tag_of}
 use Rattle.markdown_raw_html.proofs.RawHtmlLemmas.{EndsWith}
 use Rattle.markdown_raw_html.proofs.TagSourceLemmas.{Closes-html_tag}
-use Rattle.markdown_spans.specs.Allocations.{Allocated, LinkParts, with_link}
+use Rattle.markdown_defs.specs.Allocations.{Allocated, LinkParts, with_link}
 use Rattle.markdown_resolver.specs.Chains.{CanResolve}
 use Rattle.markdown_resolver.specs.MarkupItems.{IsAddress, address_to, item_to, standing_for}
 use Rattle.markdown_resolver.specs.Rewritten.{CanPut, CanPutParent, Puts, Standing, one, parent, replaced}

@@ -15,27 +15,28 @@ use Rattle.markdown_base.specs.declared.item.Item.{Item}
 use Rattle.markdown_base.specs.declared.item.ItemBody.TheVariants as body
 use Rattle.markdown_base.specs.declared.node.Node.{Node}
 use Rattle.markdown_base.proofs.ArenaForestLemmas.{opens}
-use Rattle.markdown_chains.specs.Above.{Above, above_cursor}
-use Rattle.markdown_chains.specs.ChainRest.{next_starts_at, past}
-use Rattle.markdown_chains.specs.Document.{plain_tags}
-use Rattle.markdown_chains.specs.Origins.{StandsIn}
-use Rattle.markdown_chains.specs.Places.{IsPlaced, label_at, trees_from}
-use Rattle.markdown_chains.specs.Setting.{Rules, Setting, setting_of}
-use Rattle.markdown_chains.specs.Tables.{Tables, tables_of}
-use Rattle.markdown_code.specs.AfterLess.{Markup, autolink, html, markup_at}
-use Rattle.markdown_code.specs.Finds.{Find, Passed, end_of_markup, gfm_footnotes, markup, markup_found, markup_or_nothing, nothing, passed}
-use Rattle.markdown_code.specs.Finds.{prefix_below}
-use Rattle.markdown_code.specs.PrefixView.{length_by}
-use Rattle.markdown_code.specs.declared.prefixes.ContainerPrefix.{ContainerPrefix}
-use Rattle.markdown_code.proofs.AfterLessLemmas.{closed_boundary}
-use Rattle.markdown_code.proofs.SliceLemmas.{stands_within}
-use Rattle.markdown_spans.specs.Allocations.{Allocated}
+use Rattle.markdown_document.specs.Above.{Above, above_cursor}
+use Rattle.markdown_document.specs.ChainRest.{next_starts_at, past}
+use Rattle.markdown_document.specs.Document.{plain_tags}
+use Rattle.markdown_document.specs.Origins.{StandsIn}
+use Rattle.markdown_document.specs.Places.{IsPlaced, label_at, trees_from}
+use Rattle.markdown_document.specs.Setting.{Rules, Setting, setting_of}
+use Rattle.markdown_document.specs.Tables.{Tables, tables_of}
+use Rattle.markdown_spans.specs.AfterLess.{Markup, autolink, html, markup_at}
+use Rattle.markdown_base.specs.EnabledOptions.{gfm_footnotes_on}
+use Rattle.markdown_spans.specs.Finds.{Find, Passed, end_of_markup, markup, markup_found, markup_or_nothing, nothing, passed}
+use Rattle.markdown_spans.specs.Finds.{prefix_below}
+use Rattle.markdown_spans.specs.PrefixView.{length_by}
+use Rattle.markdown_spans.specs.declared.prefixes.ContainerPrefix.{ContainerPrefix}
+use Rattle.markdown_spans.proofs.AfterLessLemmas.{closed_boundary}
+use Rattle.markdown_spans.proofs.SliceLemmas.{stands_within}
+use Rattle.markdown_defs.specs.Allocations.{Allocated}
 use Rattle.markdown_resolver.specs.ChainPlace.{CanReadItem, IsPlaceOf}
 use Rattle.markdown_resolver.specs.Chains.{CanResolve}
 use Rattle.markdown_resolver.specs.MarkupItems.{HasAddress, IsMarkupAt, standing_for}
 use Rattle.markdown_resolver.specs.Rewritten.{Puts, settled, text_unless}
 use Rattle.markdown_resolver.specs.ReadsItem.{ReadsItem}
-use Rattle.markdown_resolver.specs.declared.chain_place.ChainPlace.{ChainPlace}
+use Rattle.markdown_document.specs.declared.chain_place.ChainPlace.{ChainPlace}
 use Rattle.markdown_resolver.proofs.ChainPlaceLemmas.{prefix_is}
 use Rattle.markdown_resolver.proofs.MarkupEndLemmas.{MarkupEnds, found_at, markup_ends}
 use Rattle.markdown_resolver.proofs.MarkupItemLemmas.{address_lies, boundary_before, closed_in, lies_at, lies_to, none_past_end}
@@ -86,7 +87,7 @@ next_starts source tables nodes i ix ready =
 -- what was scanned over all nodes gone into is what is found below the blocks
 pub scanned_is : (place : ChainPlace) (prefix : ContainerPrefix) (tree : Arena Item) (rules : Rules) (start at : ℕ) (found : Option Markup)
     → prefix.tree.now ≡ tree
-    → prefix.gfm_footnotes ≡ place.gfm_footnotes → gfm_footnotes rules.options ≡ place.gfm_footnotes → IsPlaceOf place tree
+    → prefix.gfm_footnotes ≡ gfm_footnotes_on place.options → gfm_footnotes_on rules.options ≡ gfm_footnotes_on place.options → IsPlaceOf place tree
     → found ≡ markup_at (λ rest. Some (length_by prefix rest)) (take place.block_end place.text.now) start at
     → markup_at (λ bytes. Some (prefix_below (setting_of place.text.now rules) (above_cursor place.text.now tree) bytes))
     (take (above_cursor place.text.now tree).block_end place.text.now) start at ≡ found
@@ -108,7 +109,7 @@ pub record IsScanned (place : ChainPlace) (tree : Arena Item) (held : Allocated)
   pub inside : (item_at tree.nodes ix).end ≤ place.block_end
   pub follows : option_map_or (λ n. (item_at tree.nodes n).start == (item_at tree.nodes ix).end) (sibling_of tree.nodes ix) false ≡ true
   pub here : prefix.tree.now ≡ tree
-  pub gfm : prefix.gfm_footnotes ≡ place.gfm_footnotes
+  pub gfm : prefix.gfm_footnotes ≡ gfm_footnotes_on place.options
   pub utf8 : IsUtf8 (take place.block_end place.text.now)
   pub value : found ≡ markup_at (λ rest. Some (length_by prefix rest)) (take place.block_end place.text.now) (item_at tree.nodes ix).start
       (item_at tree.nodes ix).end
@@ -123,7 +124,7 @@ pub is_scanned : (place : ChainPlace) (tree : Arena Item) (held : Allocated) (ix
     → CanReadItem place tree held ix → (item_at tree.nodes ix).body ≡ body.MaybeHtml → item ≡ item_at tree.nodes ix
     → item.end ≤ place.block_end
     → next ≡ sibling_of tree.nodes ix → true ≡ option_map_or (λ n. (item_at tree.nodes n).start == item.end) next false
-    → prefix.tree.now ≡ tree → prefix.gfm_footnotes ≡ place.gfm_footnotes → text ≡ slice_range place.text.now 0 place.block_end
+    → prefix.tree.now ≡ tree → prefix.gfm_footnotes ≡ gfm_footnotes_on place.options → text ≡ slice_range place.text.now 0 place.block_end
     → IsUtf8 text
     → found ≡ markup_at (λ rest. Some (length_by prefix rest)) text item.start item.end → IsScanned place tree held ix prefix found
 is_scanned place tree held ix prefix found item next text can opener same inside after follows here gfm cut utf8 value =
@@ -152,7 +153,7 @@ found_by place tree held ix rules =
 -- it is what was scanned
 pub scan_finds : (place : ChainPlace) (tree : Arena Item) (held : Allocated) (ix : ℕ) (prefix : ContainerPrefix) (found : Option Markup)
     (rules : Rules) → IsScanned place tree held ix prefix found
-    → gfm_footnotes rules.options ≡ place.gfm_footnotes → found_by place tree held ix rules ≡ markup_or_nothing found
+    → gfm_footnotes_on rules.options ≡ gfm_footnotes_on place.options → found_by place tree held ix rules ≡ markup_or_nothing found
 scan_finds place tree held ix prefix found rules is gfm =
     let s = setting_of place.text.now rules in
     let item = item_at tree.nodes ix in
@@ -258,7 +259,7 @@ reads_text place tree held ix rules next new can opener none p =
 -- and where markup is found as the trees that stand for it
 pub reads_found : (place : ChainPlace) (tree : Arena Item) (held : Allocated) (ix : ℕ) (prefix : ContainerPrefix) (m : Markup)
     (rules : Rules) (next : Option ℕ) (new : List (Node Item)) (tables' : Tables)
-    → IsScanned place tree held ix prefix (Some m) → gfm_footnotes rules.options ≡ place.gfm_footnotes
+    → IsScanned place tree held ix prefix (Some m) → gfm_footnotes_on rules.options ≡ gfm_footnotes_on place.options
     → Puts place.text.now ix (standing_for place.text.now rules m) (Some (end_of_markup m)) next tree.nodes new (tables_of held) tables'
     → ReadsItem (setting_of place.text.now rules) (above_cursor place.text.now tree) ix next tree.nodes new (tables_of held) tables'
 reads_found place tree held ix prefix m rules next new tables' is gfm p =

@@ -15,22 +15,22 @@ use Rattle.markdown_base.specs.declared.item.Item.{Item}
 use Rattle.markdown_base.specs.declared.item.ItemBody.{ItemBody}
 use Rattle.markdown_base.specs.declared.item.ItemBody.TheVariants as body
 use Rattle.markdown_base.specs.declared.node.Node.{Node}
-use Rattle.markdown_chains.specs.Origins.{Origin, origin_at}
-use Rattle.markdown_chains.specs.Above.{Above}
-use Rattle.markdown_chains.specs.ChainRest.{as_item, end_of, open_body}
-use Rattle.markdown_chains.specs.Document.{Plain}
-use Rattle.markdown_chains.specs.Places.{IsPlaced, label_at, trees_from}
-use Rattle.markdown_chains.specs.Setting.{Setting}
-use Rattle.markdown_chains.specs.Tables.{Named, Tables, number_of, size_for, some_alignments, some_link, some_text, text_at}
-use Rattle.markdown_chains.specs.Totals.{times_named}
-use Rattle.markdown_code.specs.ChainInArena.{LeadsThrough}
-use Rattle.markdown_code.specs.Closers.{Dollar, MathClose, can_close, can_open, closed_by, context_of, display_close, dollar_next}
-use Rattle.markdown_code.specs.Closers.{first_dollar, inline_close, is_dollar, is_dollar_of, math_close, math_close_from, searched_for_math}
-use Rattle.markdown_code.specs.Finds.{find_by, math_found, math_text_start, text_between, origin_between}
-use Rattle.markdown_code.specs.MathOpening.{dollar_at}
-use Rattle.markdown_code.specs.SpanClosers.{ClosesMath, found_math, item_in}
-use Rattle.markdown_code.specs.declared.span_closers.FoundMath.{FoundMath}
-use Rattle.markdown_code.specs.declared.span_text.SpanKind.TheVariants.{Math}
+use Rattle.markdown_document.specs.Origins.{Origin, origin_at}
+use Rattle.markdown_document.specs.Above.{Above}
+use Rattle.markdown_document.specs.ChainRest.{as_item, end_of, open_body}
+use Rattle.markdown_document.specs.Document.{Plain}
+use Rattle.markdown_document.specs.Places.{IsPlaced, label_at, trees_from}
+use Rattle.markdown_document.specs.Setting.{Setting}
+use Rattle.markdown_document.specs.Tables.{Named, Tables, number_of, size_for, some_alignments, some_link, some_text, text_at}
+use Rattle.markdown_document.specs.Totals.{times_named}
+use Rattle.markdown_spans.specs.ChainInArena.{LeadsThrough}
+use Rattle.markdown_spans.specs.Closers.{Dollar, MathClose, can_close, can_open, closed_by, context_of, display_close, dollar_next}
+use Rattle.markdown_spans.specs.Closers.{first_dollar, inline_close, is_dollar, is_dollar_of, math_close, math_close_from, searched_for_math}
+use Rattle.markdown_spans.specs.Finds.{find_by, math_found, math_text_start, text_between, origin_between}
+use Rattle.markdown_spans.specs.MathOpening.{dollar_at}
+use Rattle.markdown_spans.specs.SpanClosers.{ClosesMath, found_math, item_in}
+use Rattle.markdown_spans.specs.declared.span_closers.FoundMath.{FoundMath}
+use Rattle.markdown_spans.specs.declared.span_text.SpanKind.TheVariants.{Math}
 use Rattle.markdown_resolver.specs.Chains.{CanResolve}
 use Rattle.markdown_resolver.specs.Rewritten.{CanPut, IsFoundAt, one, settled}
 use Rattle.markdown_resolver.specs.StoredText.{CanCut, StoresText}

@@ -5,7 +5,7 @@ use Rattle.markdown_base.specs.BlockTree.{item_at}
 use Rattle.markdown_base.specs.declared.item.Item.{Item}
 use Rattle.markdown_base.specs.declared.node.Node.{Node}
 use Rattle.markdown_base.proofs.ArenaLemmas.{length-changed_at}
-use Rattle.markdown_chains.specs.Places.{IsSameAt}
+use Rattle.markdown_document.specs.Places.{IsSameAt}
 use Rattle.markdown_resolver.specs.Settling.{IsWritten}
 
 -- the others stay

@@ -6,24 +6,24 @@ use Rattle.markdown_base.specs.BlockTree.{item_at}
 use Rattle.markdown_base.specs.Questions.{Question, Answer}
 use Rattle.markdown_base.specs.declared.item.Item.{Item}
 use Rattle.markdown_brackets.specs.LeftList.{Entry}
-use Rattle.markdown_chains.specs.Above.{above_cursor}
-use Rattle.markdown_chains.specs.Setting.{uses_of}
-use Rattle.markdown_chains.specs.Stages.{Stage, items_from}
-use Rattle.markdown_chains.specs.Tables.{tables_of}
-use Rattle.markdown_code.specs.SpanClosers.{HoldsFrom, Learned, has_failed}
-use Rattle.markdown_code.specs.declared.span_text.SpanKind.{SpanKind}
+use Rattle.markdown_document.specs.Above.{above_cursor}
+use Rattle.markdown_document.specs.Setting.{uses_of}
+use Rattle.markdown_document.specs.Stages.{Stage, items_from}
+use Rattle.markdown_document.specs.Tables.{tables_of}
+use Rattle.markdown_spans.specs.SpanClosers.{HoldsFrom, Learned, has_failed}
+use Rattle.markdown_spans.specs.declared.span_text.SpanKind.{SpanKind}
 use Rattle.markdown_resolver.specs.BracketKinds.{kind_of}
 use Rattle.markdown_resolver.specs.ReadOn.{ReadsOn, StandsTo}
 use Rattle.markdown_resolver.specs.ReadsBracket.{CanReadNode, ChangesForBracket, ChangesForNode, ReadsBracket, ReadsNode}
 use Rattle.markdown_resolver.specs.ReadsBracket.{WasReadTo, setting_by, stage_by}
 use Rattle.markdown_resolver.specs.ReadsItem.{LooksAt, ReadsItem}
-use Rattle.markdown_resolver.specs.declared.chain_place.ChainPlace.{ChainPlace}
+use Rattle.markdown_document.specs.declared.chain_place.ChainPlace.{ChainPlace}
 use Rattle.markdown_resolver.specs.declared.resolver.Resolver.{Resolver}
 use Rattle.markdown_resolver.proofs.ChainLeadsLemmas.{chain_leads, holds_next}
 use Rattle.markdown_resolver.proofs.ItemOnLemmas.{reads_on_item}
 use Rattle.markdown_resolver.proofs.OpenerReadLemmas.{other_kind, ready_here}
 use Rattle.markdown_resolver.proofs.ReadingLemmas.{looks_at_none}
-use Rattle.markdown_spans.specs.Footnotes.{footnote_at}
+use Rattle.markdown_defs.specs.Footnotes.{footnote_at}
 
 module _ {C : Type 0} {step : C → Question → Option Answer → C → Type 0} {place : ChainPlace} {ix : ℕ} {next : Option ℕ}
     {tree tree' : Arena Item} {old new : Resolver C} (can : CanReadNode place tree old ix) where

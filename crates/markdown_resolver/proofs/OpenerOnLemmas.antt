@@ -19,7 +19,7 @@ use Rattle.markdown_base.specs.declared.item.Item.{Item}
 use Rattle.markdown_base.specs.declared.item.ItemBody.{ItemBody}
 use Rattle.markdown_base.specs.declared.node.Node.{Node}
 use Rattle.markdown_brackets.specs.BracketDecision.{is_next}
-use Rattle.markdown_brackets.specs.BracketOptions.{wikilinks_on}
+use Rattle.markdown_base.specs.EnabledOptions.{wikilinks_on}
 use Rattle.markdown_brackets.specs.LeftList.{Entry, Mark, gone, held_as, live, trees_onto, waits, wikilinks_of}
 use Rattle.markdown_brackets.specs.Openers as waiting
 use Rattle.markdown_brackets.specs.Openers.{Waiting}
@@ -27,16 +27,16 @@ use Rattle.markdown_brackets.specs.Reference.{is_opener}
 use Rattle.markdown_brackets.specs.QuietItems.{all_done}
 use Rattle.markdown_brackets.specs.declared.spent_ends.SpentEnds.{SpentEnds}
 use Rattle.markdown_base.proofs.ArenaForestLemmas.{forest_at-none}
-use Rattle.markdown_chains.specs.Above.{Above}
-use Rattle.markdown_chains.specs.ChainRest.{joined, open_body}
-use Rattle.markdown_chains.specs.Document.{Label, Part, Plain, Shape, as_text, is_unresolved, plain_tags, shape_of, text_over, unresolved}
-use Rattle.markdown_chains.specs.Labels.{retag}
-use Rattle.markdown_chains.specs.Places.{label_at, trees_from}
-use Rattle.markdown_chains.specs.Setting.{Known, Setting}
-use Rattle.markdown_chains.specs.Stages.{Stage, chain_at, known_at}
-use Rattle.markdown_chains.specs.Tables.{Tables}
-use Rattle.markdown_chains.specs.Waiting.{is_quiet}
-use Rattle.markdown_chains.proofs.PlaceLemmas.{shape-open}
+use Rattle.markdown_document.specs.Above.{Above}
+use Rattle.markdown_document.specs.ChainRest.{joined, open_body}
+use Rattle.markdown_document.specs.Document.{Label, Part, Plain, Shape, as_text, is_unresolved, plain_tags, shape_of, text_over, unresolved}
+use Rattle.markdown_document.specs.Labels.{retag}
+use Rattle.markdown_document.specs.Places.{label_at, trees_from}
+use Rattle.markdown_document.specs.Setting.{Known, Setting}
+use Rattle.markdown_document.specs.Stages.{Stage, chain_at, known_at}
+use Rattle.markdown_document.specs.Tables.{Tables}
+use Rattle.markdown_document.specs.Waiting.{is_quiet}
+use Rattle.markdown_document.proofs.PlaceLemmas.{shape-open}
 use Rattle.markdown_delims.proofs.PairingLemmas.{closed_shape}
 use Rattle.markdown_resolver.specs.Chains.{CanResolve, ChangesChain}
 use Rattle.markdown_resolver.specs.Kept.{IsQuiet, IsQuietBelow}

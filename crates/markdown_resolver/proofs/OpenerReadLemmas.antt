@@ -8,14 +8,14 @@ use Rattle.markdown_base.specs.BlockTree.{item_at}
 use Rattle.markdown_base.specs.Questions.{Question, Answer}
 use Rattle.markdown_base.specs.declared.item.Item.{Item}
 use Rattle.markdown_base.specs.declared.item.ItemBody.{ItemBody}
-use Rattle.markdown_brackets.specs.BracketOptions.{wikilinks_on}
+use Rattle.markdown_base.specs.EnabledOptions.{wikilinks_on}
 use Rattle.markdown_brackets.specs.LeftList.{Entry}
 use Rattle.markdown_brackets.specs.Openers as waiting
 use Rattle.markdown_brackets.specs.Openers.{Waiting}
 use Rattle.markdown_brackets.specs.Reference.{is_opener}
 use Rattle.markdown_brackets.specs.declared.chain_openers.ChainOpeners.{ChainOpeners}
-use Rattle.markdown_chains.specs.Above.{above_cursor}
-use Rattle.markdown_chains.specs.Tables.{Tables, tables_of}
+use Rattle.markdown_document.specs.Above.{above_cursor}
+use Rattle.markdown_document.specs.Tables.{Tables, tables_of}
 use Rattle.markdown_resolver.specs.BracketKinds.{kind_of}
 use Rattle.markdown_resolver.specs.ChainPlace.{CanReadOn}
 use Rattle.markdown_resolver.specs.Chains.{CanResolve}
@@ -24,13 +24,13 @@ use Rattle.markdown_resolver.specs.ReadsBracket.{CanReadNode, ReadsBracket, sett
 use Rattle.markdown_resolver.specs.Rewritten.{Puts, settled}
 use Rattle.markdown_resolver.specs.declared.bracket_kind.BracketKind.{BracketKind}
 use Rattle.markdown_resolver.specs.declared.bracket_kind.BracketKind.TheVariants.{Opener, Closer}
-use Rattle.markdown_resolver.specs.declared.chain_place.ChainPlace.{ChainPlace}
+use Rattle.markdown_document.specs.declared.chain_place.ChainPlace.{ChainPlace}
 use Rattle.markdown_resolver.specs.declared.resolver.Resolver.{Resolver}
 use Rattle.markdown_resolver.proofs.OpenerOnLemmas.{reads_on_opener}
 use Rattle.markdown_resolver.proofs.PassOneLemmas.{NoBracket, opener_body}
 use Rattle.markdown_resolver.proofs.ReadsItemLemmas.{holds_put}
 use Rattle.markdown_resolver.proofs.StandsToLemmas.{stands_rest}
-use Rattle.markdown_spans.specs.Allocations.{Allocated}
+use Rattle.markdown_defs.specs.Allocations.{Allocated}
 
 -- which bracket an item is
 opener_same : (a b : Bool) → ◌≡◌ {A = Option BracketKind} (Some (Opener a)) (Some (Opener b)) → a ≡ b

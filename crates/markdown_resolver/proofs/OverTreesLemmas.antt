@@ -4,10 +4,10 @@ use Rattle.std.proofs.Common.{◌≡◌, ℕ, suc, List, length, Option, Some, a
 use Rattle.markdown_base.specs.Forest.{Forest, node, roots}
 use Rattle.markdown_base.specs.declared.item.Item.{Item}
 use Rattle.markdown_base.specs.declared.node.Node.{Node}
-use Rattle.markdown_chains.specs.ChainRest.{joined, past}
-use Rattle.markdown_chains.specs.Document.{Plain}
-use Rattle.markdown_chains.specs.Places.{trees_from}
-use Rattle.markdown_chains.specs.Tables.{Tables}
+use Rattle.markdown_document.specs.ChainRest.{joined, past}
+use Rattle.markdown_document.specs.Document.{Plain}
+use Rattle.markdown_document.specs.Places.{trees_from}
+use Rattle.markdown_document.specs.Tables.{Tables}
 use Rattle.markdown_resolver.specs.Chains.{CanResolve}
 use Rattle.markdown_resolver.specs.ClosedOver.{Enclosing, PutsOver, closed_over, first_trees, trees_past}
 use Rattle.markdown_resolver.specs.Kept.{IsQuiet}

@@ -14,17 +14,17 @@ use Rattle.markdown_base.specs.declared.item.Item.{Item}
 use Rattle.markdown_base.specs.declared.item.ItemBody.{ItemBody}
 use Rattle.markdown_base.specs.declared.item.ItemBody.TheVariants as body
 use Rattle.markdown_base.specs.declared.node.Node.{Node}
-use Rattle.markdown_chains.specs.Above.{Above}
-use Rattle.markdown_chains.specs.Document.{plain_tags, Plain, Shape, leaf, enclosed, plain, backslash_break, unresolved, is_unresolved}
-use Rattle.markdown_chains.specs.Document.{shape_of, block_of}
-use Rattle.markdown_chains.specs.ItemRules.{StandsBefore}
-use Rattle.markdown_chains.specs.Labels.{counts_delimiter, counts_shape, delimiters_in}
-use Rattle.markdown_chains.specs.Places.{IsPlaced, label_at, trees_from}
-use Rattle.markdown_chains.specs.Setting.{Setting}
-use Rattle.markdown_chains.specs.Stages.{Stage, chain_at, known_at}
-use Rattle.markdown_chains.specs.Tables.{Tables}
-use Rattle.markdown_chains.specs.Waiting.{waits_for_pairing, is_quiet}
-use Rattle.markdown_chains.proofs.PlaceLemmas.{shape-open}
+use Rattle.markdown_document.specs.Above.{Above}
+use Rattle.markdown_document.specs.Document.{plain_tags, Plain, Shape, leaf, enclosed, plain, backslash_break, unresolved, is_unresolved}
+use Rattle.markdown_document.specs.Document.{shape_of, block_of}
+use Rattle.markdown_document.specs.ItemRules.{StandsBefore}
+use Rattle.markdown_document.specs.Labels.{counts_delimiter, counts_shape, delimiters_in}
+use Rattle.markdown_document.specs.Places.{IsPlaced, label_at, trees_from}
+use Rattle.markdown_document.specs.Setting.{Setting}
+use Rattle.markdown_document.specs.Stages.{Stage, chain_at, known_at}
+use Rattle.markdown_document.specs.Tables.{Tables}
+use Rattle.markdown_document.specs.Waiting.{waits_for_pairing, is_quiet}
+use Rattle.markdown_document.proofs.PlaceLemmas.{shape-open}
 use Rattle.markdown_delims.specs.ChainForest.{RisesFrom}
 use Rattle.markdown_delims.specs.PairedChain.{WaitsForPairing, HasNoBlock, CanPair, PairsChain}
 use Rattle.markdown_delims.specs.RunReading.{StandsWhole, IsWhole, counts_one, delimiters_of}

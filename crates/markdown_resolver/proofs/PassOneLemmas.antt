@@ -21,16 +21,16 @@ use Rattle.markdown_brackets.proofs.BracketTagLemmas.{onto_retag, read_chain_ret
 use Rattle.markdown_brackets.proofs.BracketWeightLemmas.{no_heavier}
 use Rattle.markdown_brackets.proofs.ChainBeginsLemmas.{begins_law, begins_onto}
 use Rattle.markdown_brackets.proofs.QuietItemsLemmas.{all_done_trees, quiet_items_law}
-use Rattle.markdown_chains.specs.Above.{Above}
-use Rattle.markdown_chains.specs.ChainRest.{begun_at, end_of, open_body, past, past_byte}
-use Rattle.markdown_chains.specs.Document.{Tags, Shape, leaf, enclosed, plain, backslash_break, unresolved, Label, Plain, plain_tags}
-use Rattle.markdown_chains.specs.Document.{is_unresolved}
-use Rattle.markdown_chains.specs.Labels.{Begins, GivesFirst, is_plain, weight, retagged}
-use Rattle.markdown_chains.specs.Setting.{Setting, Known}
-use Rattle.markdown_chains.specs.Waiting.{is_quiet, waits_for_pairing}
-use Rattle.markdown_code.specs.Finds.{Passed, find, passed, read_tree, read_unless}
-use Rattle.markdown_code.proofs.FindsLemmas.{begins_trees, read_weight}
-use Rattle.markdown_code.proofs.FindsTagLemmas.{read_retag}
+use Rattle.markdown_document.specs.Above.{Above}
+use Rattle.markdown_document.specs.ChainRest.{begun_at, end_of, open_body, past, past_byte}
+use Rattle.markdown_document.specs.Document.{Tags, Shape, leaf, enclosed, plain, backslash_break, unresolved, Label, Plain, plain_tags}
+use Rattle.markdown_document.specs.Document.{is_unresolved}
+use Rattle.markdown_document.specs.Labels.{Begins, GivesFirst, is_plain, weight, retagged}
+use Rattle.markdown_document.specs.Setting.{Setting, Known}
+use Rattle.markdown_document.specs.Waiting.{is_quiet, waits_for_pairing}
+use Rattle.markdown_spans.specs.Finds.{Passed, find, passed, read_tree, read_unless}
+use Rattle.markdown_spans.proofs.FindsLemmas.{begins_trees, read_weight}
+use Rattle.markdown_spans.proofs.FindsTagLemmas.{read_retag}
 use Rattle.markdown_resolver.specs.Kept.{IsQuiet}
 use Rattle.markdown_resolver.specs.Laws.{Follows}
 use Rattle.markdown_resolver.specs.PassOne.{Outcome, around, outcome, pass_one, put_passed, read_on, read_other}

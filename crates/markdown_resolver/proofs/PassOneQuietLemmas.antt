@@ -9,13 +9,13 @@ use Rattle.markdown_brackets.specs.LeftList.{Entry, done, trees_onto}
 use Rattle.markdown_brackets.specs.QuietItems.{all_done}
 use Rattle.markdown_brackets.specs.ReadChain.{begun}
 use Rattle.markdown_brackets.proofs.KeptLabelsLemmas.{EachBelow, KeepsLabels, each_left}
-use Rattle.markdown_chains.specs.Above.{Above}
-use Rattle.markdown_chains.specs.ChainRest.{cut_shape, start_of}
-use Rattle.markdown_chains.specs.Document.{Tags, Shape, leaf, enclosed, plain, backslash_break, unresolved, Label, is_unresolved}
-use Rattle.markdown_chains.specs.Setting.{Setting, Known}
-use Rattle.markdown_chains.specs.Waiting.{is_quiet}
-use Rattle.markdown_code.specs.Finds.{read_tree}
-use Rattle.markdown_code.proofs.FindsLemmas.{IsQuietLabel, read_quiet}
+use Rattle.markdown_document.specs.Above.{Above}
+use Rattle.markdown_document.specs.ChainRest.{cut_shape, start_of}
+use Rattle.markdown_document.specs.Document.{Tags, Shape, leaf, enclosed, plain, backslash_break, unresolved, Label, is_unresolved}
+use Rattle.markdown_document.specs.Setting.{Setting, Known}
+use Rattle.markdown_document.specs.Waiting.{is_quiet}
+use Rattle.markdown_spans.specs.Finds.{read_tree}
+use Rattle.markdown_spans.proofs.FindsLemmas.{IsQuietLabel, read_quiet}
 use Rattle.markdown_resolver.specs.Kept.{IsQuiet, IsQuietBelow}
 use Rattle.markdown_resolver.specs.PassOne.{around, pass_one, read_on, read_other}
 

@@ -19,15 +19,15 @@ use Rattle.markdown_base.specs.declared.node.Node.{Node}
 use Rattle.markdown_base.proofs.ArenaForestLemmas.{opens, forest_at-none}
 use Rattle.markdown_base.proofs.ArenaLemmas.{length-changed_at}
 use Rattle.markdown_base.specs.Event.{code}
-use Rattle.markdown_chains.specs.Origins.{Origin, made, origin_at, sliced}
-use Rattle.markdown_chains.specs.ChainRest.{begun_at, end_of, cut_shape, past_byte}
-use Rattle.markdown_chains.specs.Document.{Label, Plain, block_of, label_of, shape_of, leaf, math}
-use Rattle.markdown_chains.specs.ItemRules.{StandsBefore, KeepsItemRules}
-use Rattle.markdown_chains.specs.Places.{IsPlaced, label_at, trees_from}
-use Rattle.markdown_chains.specs.Stages.{items_from}
-use Rattle.markdown_chains.specs.Tables.{Tables, text_at}
-use Rattle.markdown_chains.proofs.ItemRulesLemmas.{keeps-closed}
-use Rattle.markdown_chains.proofs.TablesLemmas.{grown-nothing}
+use Rattle.markdown_document.specs.Origins.{Origin, made, origin_at, sliced}
+use Rattle.markdown_document.specs.ChainRest.{begun_at, end_of, cut_shape, past_byte}
+use Rattle.markdown_document.specs.Document.{Label, Plain, block_of, label_of, shape_of, leaf, math}
+use Rattle.markdown_document.specs.ItemRules.{StandsBefore, KeepsItemRules}
+use Rattle.markdown_document.specs.Places.{IsPlaced, label_at, trees_from}
+use Rattle.markdown_document.specs.Stages.{items_from}
+use Rattle.markdown_document.specs.Tables.{Tables, text_at}
+use Rattle.markdown_document.proofs.ItemRulesLemmas.{keeps-closed}
+use Rattle.markdown_document.proofs.TablesLemmas.{grown-nothing}
 use Rattle.markdown_resolver.specs.Rewritten.{begun_item, first_past}
 use Rattle.markdown_resolver.specs.Settling.{begun_from}
 use Rattle.markdown_resolver.proofs.NodeChangeLemmas.{changed_other, changed_here}

@@ -13,17 +13,17 @@ use Rattle.markdown_base.specs.declared.item.Item.{Item}
 use Rattle.markdown_base.specs.declared.node.Node.{Node}
 use Rattle.markdown_base.proofs.ArenaForestLemmas.{opens, forest_at-none}
 use Rattle.markdown_base.proofs.ArenaLemmas.{length-changed_at}
-use Rattle.markdown_chains.specs.ChainRest.{joined, past_byte}
-use Rattle.markdown_chains.specs.Document.{Plain, label_of}
-use Rattle.markdown_chains.specs.Places.{HasSlices, IsSameAt, IsPlaced, label_at, trees_from}
-use Rattle.markdown_chains.specs.Stages.{times_in}
-use Rattle.markdown_chains.specs.Tables.{Tables, Named, number_of, size_for, NamesEntries, HasGrown}
-use Rattle.markdown_chains.specs.Totals.{same, times_named}
-use Rattle.markdown_chains.proofs.FoundLemmas.{found}
-use Rattle.markdown_chains.proofs.FrameLemmas.{Stays, label-same}
-use Rattle.markdown_chains.proofs.ItemRulesLemmas.{keeps-closed}
-use Rattle.markdown_chains.proofs.PlaceLemmas.{times-past, slices-none}
-use Rattle.markdown_chains.proofs.TablesLemmas.{same-apart, grown-longer, entries-longer}
+use Rattle.markdown_document.specs.ChainRest.{joined, past_byte}
+use Rattle.markdown_document.specs.Document.{Plain, label_of}
+use Rattle.markdown_document.specs.Places.{HasSlices, IsSameAt, IsPlaced, label_at, trees_from}
+use Rattle.markdown_document.specs.Stages.{times_in}
+use Rattle.markdown_document.specs.Tables.{Tables, Named, number_of, size_for, NamesEntries, HasGrown}
+use Rattle.markdown_document.specs.Totals.{same, times_named}
+use Rattle.markdown_document.proofs.FoundLemmas.{found}
+use Rattle.markdown_document.proofs.FrameLemmas.{Stays, label-same}
+use Rattle.markdown_document.proofs.ItemRulesLemmas.{keeps-closed}
+use Rattle.markdown_document.proofs.PlaceLemmas.{times-past, slices-none}
+use Rattle.markdown_document.proofs.TablesLemmas.{same-apart, grown-longer, entries-longer}
 use Rattle.markdown_resolver.specs.Chains.{CanResolve}
 use Rattle.markdown_resolver.specs.Rewritten.{Standing, Rewrites, replaced, first_past, one, parent, IsFoundAt, CanPut, CanPutParent, Puts}
 use Rattle.markdown_resolver.specs.Settling.{IsWritten, begun_from}

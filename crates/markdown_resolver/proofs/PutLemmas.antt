@@ -17,17 +17,17 @@ use Rattle.markdown_base.specs.declared.item.ItemBody.TheVariants as body
 use Rattle.markdown_base.specs.declared.node.Node.{Node}
 use Rattle.markdown_base.proofs.ArenaForestLemmas.{opens}
 use Rattle.markdown_base.proofs.ArenaLemmas.{length-changed_at}
-use Rattle.markdown_chains.specs.ChainRest.{begun_at, end_of, joined, past, past_byte}
-use Rattle.markdown_chains.specs.Document.{Plain, label_of}
-use Rattle.markdown_chains.specs.ItemRules.{StandsBefore}
-use Rattle.markdown_chains.specs.Places.{IsSameAt, IsPlaced, label_at, trees_from}
-use Rattle.markdown_chains.specs.Stages.{items_from, times_in, weight_in}
-use Rattle.markdown_chains.specs.Tables.{Tables}
-use Rattle.markdown_chains.specs.Totals.{total, same, weight_at}
-use Rattle.markdown_chains.proofs.AboveLemmas.{open-no-block}
-use Rattle.markdown_chains.proofs.PlaceLemmas.{times-past, some_weight}
-use Rattle.markdown_chains.proofs.TablesLemmas.{same-refl}
-use Rattle.markdown_code.specs.ChainInArena.{LeadsThrough}
+use Rattle.markdown_document.specs.ChainRest.{begun_at, end_of, joined, past, past_byte}
+use Rattle.markdown_document.specs.Document.{Plain, label_of}
+use Rattle.markdown_document.specs.ItemRules.{StandsBefore}
+use Rattle.markdown_document.specs.Places.{IsSameAt, IsPlaced, label_at, trees_from}
+use Rattle.markdown_document.specs.Stages.{items_from, times_in, weight_in}
+use Rattle.markdown_document.specs.Tables.{Tables}
+use Rattle.markdown_document.specs.Totals.{total, same, weight_at}
+use Rattle.markdown_document.proofs.AboveLemmas.{open-no-block}
+use Rattle.markdown_document.proofs.PlaceLemmas.{times-past, some_weight}
+use Rattle.markdown_document.proofs.TablesLemmas.{same-refl}
+use Rattle.markdown_spans.specs.ChainInArena.{LeadsThrough}
 use Rattle.markdown_resolver.specs.Chains.{CanResolve}
 use Rattle.markdown_resolver.specs.Kept.{IsQuietBelow}
 use Rattle.markdown_resolver.specs.Rewritten.{RunsGoOn, Rewrites, Standing, replaced, first_past, begun_item, LeavesRest}

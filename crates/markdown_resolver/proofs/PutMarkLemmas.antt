@@ -11,16 +11,16 @@ use Rattle.markdown_base.specs.Item.{is_open}
 use Rattle.markdown_base.specs.declared.item.Item.{Item}
 use Rattle.markdown_base.specs.declared.node.Node.{Node}
 use Rattle.markdown_base.proofs.ArenaForestLemmas.{opens, Opened, forest_at-none}
-use Rattle.markdown_chains.specs.ChainRest.{past_byte}
-use Rattle.markdown_chains.specs.Document.{Plain, label_of}
-use Rattle.markdown_chains.specs.ItemRules.{StandsBefore}
-use Rattle.markdown_chains.specs.Places.{IsSameAt, IsPlaced, trees_from}
-use Rattle.markdown_chains.specs.Stages.{weight_in}
-use Rattle.markdown_chains.specs.Tables.{Tables, HasGrown}
-use Rattle.markdown_chains.specs.Totals.{total, same, weight_at}
-use Rattle.markdown_chains.proofs.PlaceLemmas.{slices-none, some_weight}
-use Rattle.markdown_chains.proofs.TablesLemmas.{same-refl, grown-nothing}
-use Rattle.markdown_code.specs.ChainInArena.{LeadsThrough}
+use Rattle.markdown_document.specs.ChainRest.{past_byte}
+use Rattle.markdown_document.specs.Document.{Plain, label_of}
+use Rattle.markdown_document.specs.ItemRules.{StandsBefore}
+use Rattle.markdown_document.specs.Places.{IsSameAt, IsPlaced, trees_from}
+use Rattle.markdown_document.specs.Stages.{weight_in}
+use Rattle.markdown_document.specs.Tables.{Tables, HasGrown}
+use Rattle.markdown_document.specs.Totals.{total, same, weight_at}
+use Rattle.markdown_document.proofs.PlaceLemmas.{slices-none, some_weight}
+use Rattle.markdown_document.proofs.TablesLemmas.{same-refl, grown-nothing}
+use Rattle.markdown_spans.specs.ChainInArena.{LeadsThrough}
 use Rattle.markdown_resolver.specs.Chains.{CanResolve}
 use Rattle.markdown_resolver.specs.ClosedOver.{trees_past, closed_over, after_mark, CanClose, CanPutMark, PutsOver}
 use Rattle.markdown_resolver.specs.Rewritten.{Rewrites, LeavesRest, first_past, numbered_past_byte}

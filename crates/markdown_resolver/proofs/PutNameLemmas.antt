@@ -12,15 +12,15 @@ use Rattle.markdown_base.specs.declared.item.Item.{Item}
 use Rattle.markdown_base.specs.declared.node.Node.{Node}
 use Rattle.markdown_base.proofs.ArenaForestLemmas.{opens}
 use Rattle.markdown_base.proofs.ArenaLemmas.{length-changed_at}
-use Rattle.markdown_chains.specs.Document.{label_of}
-use Rattle.markdown_chains.specs.Places.{IsSameAt, IsPlaced, label_at, trees_from}
-use Rattle.markdown_chains.specs.Stages.{times_in}
-use Rattle.markdown_chains.specs.Tables.{Tables, HasGrown, Named}
-use Rattle.markdown_chains.specs.Totals.{total, same, times_named, weight_at}
-use Rattle.markdown_chains.proofs.FoundLemmas.{found}
-use Rattle.markdown_chains.proofs.ItemRulesLemmas.{keeps-closed}
-use Rattle.markdown_chains.proofs.PlaceLemmas.{times-past, slices-none, some_weight}
-use Rattle.markdown_chains.proofs.TablesLemmas.{same-refl}
+use Rattle.markdown_document.specs.Document.{label_of}
+use Rattle.markdown_document.specs.Places.{IsSameAt, IsPlaced, label_at, trees_from}
+use Rattle.markdown_document.specs.Stages.{times_in}
+use Rattle.markdown_document.specs.Tables.{Tables, HasGrown, Named}
+use Rattle.markdown_document.specs.Totals.{total, same, times_named, weight_at}
+use Rattle.markdown_document.proofs.FoundLemmas.{found}
+use Rattle.markdown_document.proofs.ItemRulesLemmas.{keeps-closed}
+use Rattle.markdown_document.proofs.PlaceLemmas.{times-past, slices-none, some_weight}
+use Rattle.markdown_document.proofs.TablesLemmas.{same-refl}
 use Rattle.markdown_resolver.specs.ClosedOver.{first_trees, trees_past, over_text, CanClose, CanPutOver, PutsOver}
 use Rattle.markdown_resolver.specs.Rewritten.{CanPut, first_past}
 use Rattle.markdown_resolver.specs.Settling.{IsWritten, begun_from}

@@ -13,17 +13,17 @@ use Rattle.markdown_base.specs.declared.item.Item.{Item}
 use Rattle.markdown_base.specs.declared.item.ItemBody.{ItemBody}
 use Rattle.markdown_base.specs.declared.node.Node.{Node}
 use Rattle.markdown_base.proofs.ArenaForestLemmas.{opens, forest_at-none}
-use Rattle.markdown_chains.proofs.PlaceLemmas.{slices-none}
-use Rattle.markdown_chains.specs.ChainRest.{past_byte}
-use Rattle.markdown_chains.specs.Document.{Plain, label_of}
-use Rattle.markdown_chains.specs.ItemRules.{StandsBefore}
-use Rattle.markdown_chains.specs.Places.{IsPlaced, label_at, trees_from}
-use Rattle.markdown_chains.specs.Stages.{times_in}
-use Rattle.markdown_chains.specs.Tables.{Tables, Named, some_text, some_link, some_alignments, NamesEntries, HasGrown}
-use Rattle.markdown_chains.specs.Totals.{same_as, times_named}
-use Rattle.markdown_chains.proofs.FrameLemmas.{label-same}
-use Rattle.markdown_chains.proofs.TablesLemmas.{same-refl, grown-nothing, grown-longer}
-use Rattle.markdown_code.specs.ChainInArena.{LeadsThrough}
+use Rattle.markdown_document.proofs.PlaceLemmas.{slices-none}
+use Rattle.markdown_document.specs.ChainRest.{past_byte}
+use Rattle.markdown_document.specs.Document.{Plain, label_of}
+use Rattle.markdown_document.specs.ItemRules.{StandsBefore}
+use Rattle.markdown_document.specs.Places.{IsPlaced, label_at, trees_from}
+use Rattle.markdown_document.specs.Stages.{times_in}
+use Rattle.markdown_document.specs.Tables.{Tables, Named, some_text, some_link, some_alignments, NamesEntries, HasGrown}
+use Rattle.markdown_document.specs.Totals.{same_as, times_named}
+use Rattle.markdown_document.proofs.FrameLemmas.{label-same}
+use Rattle.markdown_document.proofs.TablesLemmas.{same-refl, grown-nothing, grown-longer}
+use Rattle.markdown_spans.specs.ChainInArena.{LeadsThrough}
 use Rattle.markdown_resolver.specs.Chains.{CanResolve}
 use Rattle.markdown_resolver.specs.Rewritten.{Rewrites, Puts, replaced, first_past, pair, IsFoundAt, CanPutPair, numbered_past_byte}
 use Rattle.markdown_resolver.specs.Settling.{IsWritten, begun_from}

@@ -8,16 +8,16 @@ use Rattle.markdown_base.specs.Item.{is_open}
 use Rattle.markdown_base.specs.declared.item.Item.{Item}
 use Rattle.markdown_base.specs.declared.node.Node.{Node}
 use Rattle.markdown_base.proofs.ArenaForestLemmas.{opens, Opened, forest_at-none}
-use Rattle.markdown_chains.specs.ChainRest.{past_byte}
-use Rattle.markdown_chains.specs.Document.{Plain}
-use Rattle.markdown_chains.specs.Places.{IsSameAt, IsPlaced, label_at, trees_from}
-use Rattle.markdown_chains.specs.Stages.{weight_in}
-use Rattle.markdown_chains.specs.Tables.{Tables, HasGrown}
-use Rattle.markdown_chains.specs.Totals.{total, same, weight_at}
-use Rattle.markdown_chains.proofs.FoundLemmas.{found}
-use Rattle.markdown_chains.proofs.PlaceLemmas.{some_weight}
-use Rattle.markdown_chains.proofs.TablesLemmas.{same-refl}
-use Rattle.markdown_code.specs.ChainInArena.{LeadsThrough}
+use Rattle.markdown_document.specs.ChainRest.{past_byte}
+use Rattle.markdown_document.specs.Document.{Plain}
+use Rattle.markdown_document.specs.Places.{IsSameAt, IsPlaced, label_at, trees_from}
+use Rattle.markdown_document.specs.Stages.{weight_in}
+use Rattle.markdown_document.specs.Tables.{Tables, HasGrown}
+use Rattle.markdown_document.specs.Totals.{total, same, weight_at}
+use Rattle.markdown_document.proofs.FoundLemmas.{found}
+use Rattle.markdown_document.proofs.PlaceLemmas.{some_weight}
+use Rattle.markdown_document.proofs.TablesLemmas.{same-refl}
+use Rattle.markdown_spans.specs.ChainInArena.{LeadsThrough}
 use Rattle.markdown_resolver.specs.ClosedOver.{trees_past, closed_over, in_place_of, CanClose, CanPutOver, PutsOver}
 use Rattle.markdown_resolver.specs.Rewritten.{Rewrites, LeavesRest, first_past, numbered_past_byte}
 use Rattle.markdown_resolver.specs.Settling.{IsWritten, begun_from}

@@ -13,15 +13,15 @@ use Rattle.markdown_base.specs.declared.item.Item.{Item}
 use Rattle.markdown_base.specs.declared.node.Node.{Node}
 use Rattle.markdown_base.proofs.ArenaForestLemmas.{opens, forest_at-none}
 use Rattle.markdown_base.proofs.ArenaLemmas.{length-changed_at}
-use Rattle.markdown_chains.specs.ChainRest.{begun_at, past_byte}
-use Rattle.markdown_chains.specs.Document.{Plain}
-use Rattle.markdown_chains.specs.Places.{IsSameAt, IsPlaced, label_at, trees_from}
-use Rattle.markdown_chains.specs.Stages.{times_in, named_in}
-use Rattle.markdown_chains.specs.Tables.{Tables, HasGrown, Named, number_of, size_for}
-use Rattle.markdown_chains.specs.Totals.{total, same, naming}
-use Rattle.markdown_chains.proofs.FrameLemmas.{Framed, framed, stay_throughout}
-use Rattle.markdown_chains.proofs.PlaceLemmas.{times-past, named-past}
-use Rattle.markdown_chains.proofs.TablesLemmas.{same-refl, same_entry-refl, grown-longer, grown-nothing}
+use Rattle.markdown_document.specs.ChainRest.{begun_at, past_byte}
+use Rattle.markdown_document.specs.Document.{Plain}
+use Rattle.markdown_document.specs.Places.{IsSameAt, IsPlaced, label_at, trees_from}
+use Rattle.markdown_document.specs.Stages.{times_in, named_in}
+use Rattle.markdown_document.specs.Tables.{Tables, HasGrown, Named, number_of, size_for}
+use Rattle.markdown_document.specs.Totals.{total, same, naming}
+use Rattle.markdown_document.proofs.FrameLemmas.{Framed, framed, stay_throughout}
+use Rattle.markdown_document.proofs.PlaceLemmas.{times-past, named-past}
+use Rattle.markdown_document.proofs.TablesLemmas.{same-refl, same_entry-refl, grown-longer, grown-nothing}
 use Rattle.markdown_resolver.specs.ClosedOver.{first_trees, trees_past, last_inside, over_shown, CanClose, CanPutOver, CanShow, PutsOver}
 use Rattle.markdown_resolver.specs.ClosedOver.{IsEnclosed}
 use Rattle.markdown_resolver.specs.Rewritten.{begun_item, first_past}

@@ -7,12 +7,12 @@ use Rattle.markdown_base.specs.Forest.{Forest, nil, node, relabelled, roots}
 use Rattle.markdown_base.specs.declared.item.Item.{Item}
 use Rattle.markdown_base.specs.declared.node.Node.{Node}
 use Rattle.markdown_base.proofs.ArenaForestLemmas.{Spells-same}
-use Rattle.markdown_chains.specs.ChainRest.{joined, past}
-use Rattle.markdown_chains.specs.Document.{Label, Plain}
-use Rattle.markdown_chains.specs.Labels.{retag}
-use Rattle.markdown_chains.specs.Places.{label_at, trees_from}
-use Rattle.markdown_chains.specs.Tables.{Tables}
-use Rattle.markdown_chains.specs.Waiting.{is_quiet}
+use Rattle.markdown_document.specs.ChainRest.{joined, past}
+use Rattle.markdown_document.specs.Document.{Label, Plain}
+use Rattle.markdown_document.specs.Labels.{retag}
+use Rattle.markdown_document.specs.Places.{label_at, trees_from}
+use Rattle.markdown_document.specs.Tables.{Tables}
+use Rattle.markdown_document.specs.Waiting.{is_quiet}
 use Rattle.markdown_resolver.specs.Chains.{CanResolve, ChangesChain}
 use Rattle.markdown_resolver.specs.ClosedOver.{first_trees, trees_past}
 use Rattle.markdown_resolver.specs.Kept.{IsQuiet, IsQuietBelow}

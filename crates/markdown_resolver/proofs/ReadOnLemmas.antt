@@ -16,14 +16,14 @@ use Rattle.markdown_brackets.specs.ReadChain.{among, begun, read_chain}
 use Rattle.markdown_brackets.specs.SpentEnds.{is_spent}
 use Rattle.markdown_brackets.specs.declared.spent_ends.SpentEnds.{SpentEnds}
 use Rattle.markdown_brackets.proofs.BracketTagLemmas.{onto_retag}
-use Rattle.markdown_chains.specs.Above.{Above}
-use Rattle.markdown_chains.specs.Document.{Plain, plain_tags}
-use Rattle.markdown_chains.specs.Labels.{retag}
-use Rattle.markdown_chains.specs.Places.{trees_from}
-use Rattle.markdown_chains.specs.Setting.{Setting}
-use Rattle.markdown_chains.specs.Stages.{Stage, chain_at, known_at}
-use Rattle.markdown_chains.specs.Tables.{Tables}
-use Rattle.markdown_chains.proofs.CallbackLemmas.{Asks-append}
+use Rattle.markdown_document.specs.Above.{Above}
+use Rattle.markdown_document.specs.Document.{Plain, plain_tags}
+use Rattle.markdown_document.specs.Labels.{retag}
+use Rattle.markdown_document.specs.Places.{trees_from}
+use Rattle.markdown_document.specs.Setting.{Setting}
+use Rattle.markdown_document.specs.Stages.{Stage, chain_at, known_at}
+use Rattle.markdown_document.specs.Tables.{Tables}
+use Rattle.markdown_document.proofs.CallbackLemmas.{Asks-append}
 use Rattle.markdown_resolver.specs.Chains.{CanResolve, ChangesChain, ResolvesFrom}
 use Rattle.markdown_resolver.specs.PassOne.{Outcome, outcome, pass_one}
 use Rattle.markdown_resolver.specs.PutsTrees.{numbered_from, numbered_label, without_numbers}

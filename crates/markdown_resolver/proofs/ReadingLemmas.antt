@@ -13,25 +13,26 @@ use Rattle.markdown_base.specs.declared.item.ItemBody.{ItemBody}
 use Rattle.markdown_base.specs.declared.item.ItemBody.TheVariants as body
 use Rattle.markdown_base.specs.declared.node.Node.{Node}
 use Rattle.markdown_base.proofs.ArenaForestLemmas.{opens, forest_at-none}
-use Rattle.markdown_chains.specs.Above.{Above, above_cursor}
-use Rattle.markdown_chains.specs.ChainRest.{open_body}
-use Rattle.markdown_chains.specs.Counts.{risen}
-use Rattle.markdown_chains.specs.Document.{Plain, plain_tags, Shape, leaf, enclosed, plain, backslash_break, unresolved, is_unresolved}
-use Rattle.markdown_chains.specs.Document.{shape_of}
-use Rattle.markdown_chains.specs.Places.{IsPlaced, label_at, trees_from}
-use Rattle.markdown_chains.specs.Setting.{Rules, Setting, setting_of}
-use Rattle.markdown_chains.specs.Stages.{items_from}
-use Rattle.markdown_chains.specs.Tables.{Tables}
-use Rattle.markdown_chains.specs.Waiting.{is_quiet}
-use Rattle.markdown_chains.proofs.PlaceLemmas.{shape-open}
-use Rattle.markdown_code.specs.Finds.{nothing, Passed, find, find_by, gfm_footnotes, read_tree}
-use Rattle.markdown_code.specs.SpanClosers.{HoldsFrom, Learned}
-use Rattle.markdown_code.specs.declared.span_text.SpanKind.{SpanKind}
+use Rattle.markdown_document.specs.Above.{Above, above_cursor}
+use Rattle.markdown_document.specs.ChainRest.{open_body}
+use Rattle.markdown_document.specs.Counts.{risen}
+use Rattle.markdown_document.specs.Document.{Plain, plain_tags, Shape, leaf, enclosed, plain, backslash_break, unresolved, is_unresolved}
+use Rattle.markdown_document.specs.Document.{shape_of}
+use Rattle.markdown_document.specs.Places.{IsPlaced, label_at, trees_from}
+use Rattle.markdown_document.specs.Setting.{Rules, Setting, setting_of}
+use Rattle.markdown_document.specs.Stages.{items_from}
+use Rattle.markdown_document.specs.Tables.{Tables}
+use Rattle.markdown_document.specs.Waiting.{is_quiet}
+use Rattle.markdown_document.proofs.PlaceLemmas.{shape-open}
+use Rattle.markdown_base.specs.EnabledOptions.{gfm_footnotes_on}
+use Rattle.markdown_spans.specs.Finds.{nothing, Passed, find, find_by, read_tree}
+use Rattle.markdown_spans.specs.SpanClosers.{HoldsFrom, Learned}
+use Rattle.markdown_spans.specs.declared.span_text.SpanKind.{SpanKind}
 use Rattle.markdown_delims.proofs.PairingLemmas.{closed_shape}
 use Rattle.markdown_resolver.specs.Chains.{CanResolve}
 use Rattle.markdown_resolver.specs.Rewritten.{Puts, settled}
 use Rattle.markdown_resolver.specs.ReadsItem.{LooksAt, ReadsItem}
-use Rattle.markdown_resolver.specs.declared.chain_place.ChainPlace.{ChainPlace}
+use Rattle.markdown_document.specs.declared.chain_place.ChainPlace.{ChainPlace}
 use Rattle.markdown_resolver.proofs.ChainLeadsLemmas.{chain_leads, holds_next}
 use Rattle.markdown_resolver.proofs.ReadsItemLemmas.{reads_item}
 
@@ -193,8 +194,8 @@ reads_alone (Err fault) s above ix old new tables tables' ready reads = record {
 -- so it is by the rules of a setting, where it is so by any rules with its footnotes
 pub reads_by_rules : {E : Type 0} (r : Result (Option ℕ) E) (place : ChainPlace) (source : List ℕ) (rules : Rules) (tree : Arena Item)
     (ix : ℕ) (new : List (Node Item)) (tables tables' : Tables) → CanResolve place.text.now tables tree.nodes (Some ix)
-    → place.text.now ≡ source → place.gfm_footnotes ≡ gfm_footnotes rules.options
-    → IfOk r (λ next. (rules : Rules) → gfm_footnotes rules.options ≡ place.gfm_footnotes
+    → place.text.now ≡ source → gfm_footnotes_on place.options ≡ gfm_footnotes_on rules.options
+    → IfOk r (λ next. (rules : Rules) → gfm_footnotes_on rules.options ≡ gfm_footnotes_on place.options
     → ReadsItem (setting_of place.text.now rules) (above_cursor place.text.now tree) ix next tree.nodes new tables tables')
     → ReadsAlone r (setting_of source rules) (above_cursor source tree) ix tree.nodes new tables tables'
 reads_by_rules r place source rules tree ix new tables tables' ready same gfm reads =

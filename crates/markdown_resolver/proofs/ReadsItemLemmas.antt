@@ -8,20 +8,20 @@ use Rattle.markdown_base.specs.Item.{is_open}
 use Rattle.markdown_base.specs.declared.item.Item.{Item}
 use Rattle.markdown_base.specs.declared.item.ItemBody.{ItemBody}
 use Rattle.markdown_base.specs.declared.node.Node.{Node}
-use Rattle.markdown_chains.specs.Above.{Above}
-use Rattle.markdown_chains.specs.ChainRest.{open_body, past}
-use Rattle.markdown_chains.specs.Document.{Plain, plain_tags, unresolved}
-use Rattle.markdown_chains.specs.Places.{trees_from, label_at}
-use Rattle.markdown_chains.specs.Setting.{Setting}
-use Rattle.markdown_chains.specs.Tables.{Tables}
-use Rattle.markdown_chains.specs.Waiting.{is_quiet, waits_for_pairing}
-use Rattle.markdown_chains.proofs.PlaceLemmas.{shape-open}
-use Rattle.markdown_code.specs.AfterLess.{Markup, autolink, html}
-use Rattle.markdown_code.specs.Finds.{Find, SpanText, code_span, code_trees, find, find_by, is_escaped, markup, markup_trees, math_span}
-use Rattle.markdown_code.specs.Finds.{nothing, passed, read_tree, read_unless, trees_for}
-use Rattle.markdown_code.specs.SpanClosers.{HoldsFrom, Learned}
-use Rattle.markdown_code.specs.declared.span_text.SpanKind.{SpanKind}
-use Rattle.markdown_code.proofs.ChainWalkLemmas.{chain_at}
+use Rattle.markdown_document.specs.Above.{Above}
+use Rattle.markdown_document.specs.ChainRest.{open_body, past}
+use Rattle.markdown_document.specs.Document.{Plain, plain_tags, unresolved}
+use Rattle.markdown_document.specs.Places.{trees_from, label_at}
+use Rattle.markdown_document.specs.Setting.{Setting}
+use Rattle.markdown_document.specs.Tables.{Tables}
+use Rattle.markdown_document.specs.Waiting.{is_quiet, waits_for_pairing}
+use Rattle.markdown_document.proofs.PlaceLemmas.{shape-open}
+use Rattle.markdown_spans.specs.AfterLess.{Markup, autolink, html}
+use Rattle.markdown_spans.specs.Finds.{Find, SpanText, code_span, code_trees, find, find_by, is_escaped, markup, markup_trees, math_span}
+use Rattle.markdown_spans.specs.Finds.{nothing, passed, read_tree, read_unless, trees_for}
+use Rattle.markdown_spans.specs.SpanClosers.{HoldsFrom, Learned}
+use Rattle.markdown_spans.specs.declared.span_text.SpanKind.{SpanKind}
+use Rattle.markdown_spans.proofs.ChainWalkLemmas.{chain_at}
 use Rattle.markdown_resolver.specs.Chains.{CanResolve}
 use Rattle.markdown_resolver.specs.Kept.{IsQuiet, IsQuietBelow}
 use Rattle.markdown_resolver.specs.PutsTrees.{PutsTrees}

@@ -12,13 +12,13 @@ use Rattle.markdown_brackets.specs.BracketDecision.{decided}
 use Rattle.markdown_brackets.specs.ClosingBracket.{closed}
 use Rattle.markdown_brackets.specs.ReadChain.{read_chain}
 use Rattle.markdown_raw_html.specs.HtmlTag.{all, both, either, nonempty, often, often_past, one, optional}
-use Rattle.markdown_chains.specs.Above.{Above}
-use Rattle.markdown_chains.specs.Document.{sliced, Shape, leaf, enclosed, Plain, part_of, plain_tags, text_over}
-use Rattle.markdown_chains.specs.Setting.{Setting, Known, setting_of}
-use Rattle.markdown_chains.specs.Tables.{no_tables}
-use Rattle.markdown_code.specs.AfterLess.{markup_at}
-use Rattle.markdown_code.specs.CodeText.{replaced_past, is_sliced}
-use Rattle.markdown_code.specs.Finds.{address, read_tree}
+use Rattle.markdown_document.specs.Above.{Above}
+use Rattle.markdown_document.specs.Document.{sliced, Shape, leaf, enclosed, Plain, part_of, plain_tags, text_over}
+use Rattle.markdown_document.specs.Setting.{Setting, Known, setting_of}
+use Rattle.markdown_document.specs.Tables.{no_tables}
+use Rattle.markdown_spans.specs.AfterLess.{markup_at}
+use Rattle.markdown_spans.specs.CodeText.{replaced_past, is_sliced}
+use Rattle.markdown_spans.specs.Finds.{address, read_tree}
 use Rattle.markdown_delims.specs.Pairing.{closed_by, reads_from, runs_paired, paired}
 use Rattle.markdown_delims.specs.Quotes.{with_quotes}
 use Rattle.markdown_resolver.specs.Laws.{RunsStandWhole}

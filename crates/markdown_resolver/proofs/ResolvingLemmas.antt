@@ -2,11 +2,11 @@
 -- law of pairing.
 use Rattle.std.proofs.Common.{◌≡◌, true, false, [], refl, sym, ap, ◌∙◌}
 use Rattle.markdown_base.specs.Forest.{Forest, nil, node, Each}
-use Rattle.markdown_chains.specs.Above.{Above}
-use Rattle.markdown_chains.specs.Document.{Tags, Label, is_unresolved}
-use Rattle.markdown_chains.specs.Labels.{Begins}
-use Rattle.markdown_chains.specs.Setting.{Setting, Known}
-use Rattle.markdown_code.proofs.FindsLemmas.{IsQuietLabel}
+use Rattle.markdown_document.specs.Above.{Above}
+use Rattle.markdown_document.specs.Document.{Tags, Label, is_unresolved}
+use Rattle.markdown_document.specs.Labels.{Begins}
+use Rattle.markdown_document.specs.Setting.{Setting, Known}
+use Rattle.markdown_spans.proofs.FindsLemmas.{IsQuietLabel}
 use Rattle.markdown_delims.specs.Pairing.{paired}
 use Rattle.markdown_delims.specs.PairingLaws.{NothingOpen, below_trees}
 use Rattle.markdown_delims.proofs.BeginLawLemmas.{begins-law}

@@ -16,18 +16,18 @@ use Rattle.markdown_base.specs.declared.item.ItemBody.{ItemBody}
 use Rattle.markdown_base.specs.declared.node.Node.{Node}
 use Rattle.markdown_base.proofs.ArenaForestLemmas.{opens, forest_at-none}
 use Rattle.markdown_base.proofs.ArenaLemmas.{length-changed_at}
-use Rattle.markdown_chains.specs.ChainRest.{joined}
-use Rattle.markdown_chains.specs.Document.{Plain, Shape, leaf, enclosed, plain, backslash_break, unresolved, is_unresolved, shape_of}
-use Rattle.markdown_chains.specs.Document.{label_of}
-use Rattle.markdown_chains.specs.ItemRules.{StandsBefore, KeepsItemRules}
-use Rattle.markdown_chains.specs.Places.{HasSlices, IsPlaced, trees_from}
-use Rattle.markdown_chains.specs.Tables.{Tables, Named, some_text, some_link, some_alignments, NamesEntries}
-use Rattle.markdown_chains.specs.Totals.{same, times_named, weight_if}
-use Rattle.markdown_chains.specs.Waiting.{waits_for_pairing, is_quiet}
-use Rattle.markdown_chains.proofs.AboveLemmas.{block-open, open-no-block}
-use Rattle.markdown_chains.proofs.ItemRulesLemmas.{keeps-closed}
-use Rattle.markdown_chains.proofs.PlaceLemmas.{shape-open, some_weight}
-use Rattle.markdown_chains.proofs.TablesLemmas.{grown-nothing}
+use Rattle.markdown_document.specs.ChainRest.{joined}
+use Rattle.markdown_document.specs.Document.{Plain, Shape, leaf, enclosed, plain, backslash_break, unresolved, is_unresolved, shape_of}
+use Rattle.markdown_document.specs.Document.{label_of}
+use Rattle.markdown_document.specs.ItemRules.{StandsBefore, KeepsItemRules}
+use Rattle.markdown_document.specs.Places.{HasSlices, IsPlaced, trees_from}
+use Rattle.markdown_document.specs.Tables.{Tables, Named, some_text, some_link, some_alignments, NamesEntries}
+use Rattle.markdown_document.specs.Totals.{same, times_named, weight_if}
+use Rattle.markdown_document.specs.Waiting.{waits_for_pairing, is_quiet}
+use Rattle.markdown_document.proofs.AboveLemmas.{block-open, open-no-block}
+use Rattle.markdown_document.proofs.ItemRulesLemmas.{keeps-closed}
+use Rattle.markdown_document.proofs.PlaceLemmas.{shape-open, some_weight}
+use Rattle.markdown_document.proofs.TablesLemmas.{grown-nothing}
 use Rattle.markdown_delims.proofs.PairingLemmas.{closed_shape}
 use Rattle.markdown_resolver.specs.Chains.{CanResolve}
 use Rattle.markdown_resolver.specs.Rewritten.{Puts, Rewrites, replaced, text_unless, settled}

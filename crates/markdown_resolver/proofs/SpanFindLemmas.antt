@@ -9,15 +9,15 @@ use Rattle.markdown_base.specs.declared.item.Item.{Item}
 use Rattle.markdown_base.specs.declared.item.ItemBody.{ItemBody}
 use Rattle.markdown_base.specs.declared.item.ItemBody.TheVariants as body
 use Rattle.markdown_base.specs.declared.node.Node.{Node}
-use Rattle.markdown_chains.specs.ChainRest.{as_item, open_body}
-use Rattle.markdown_chains.specs.Document.{Shape, leaf, enclosed, plain, backslash_break, unresolved, is_unresolved, shape_of}
-use Rattle.markdown_chains.specs.Places.{label_at}
-use Rattle.markdown_chains.specs.Tables.{Tables}
-use Rattle.markdown_chains.proofs.PlaceLemmas.{shape-open}
-use Rattle.markdown_code.specs.Closers.{Dollar, MathClose, can_close, can_open, closed_by, closing_count, code_close, code_closer}
-use Rattle.markdown_code.specs.Closers.{context_of, display_close, dollar_next, first_dollar, inline_close, is_code_of, is_dollar}
-use Rattle.markdown_code.specs.Closers.{is_dollar_of, math_close, math_close_from, searched_for_math}
-use Rattle.markdown_code.specs.SpanClosers.{item_in}
+use Rattle.markdown_document.specs.ChainRest.{as_item, open_body}
+use Rattle.markdown_document.specs.Document.{Shape, leaf, enclosed, plain, backslash_break, unresolved, is_unresolved, shape_of}
+use Rattle.markdown_document.specs.Places.{label_at}
+use Rattle.markdown_document.specs.Tables.{Tables}
+use Rattle.markdown_document.proofs.PlaceLemmas.{shape-open}
+use Rattle.markdown_spans.specs.Closers.{Dollar, MathClose, can_close, can_open, closed_by, closing_count, code_close, code_closer}
+use Rattle.markdown_spans.specs.Closers.{context_of, display_close, dollar_next, first_dollar, inline_close, is_code_of, is_dollar}
+use Rattle.markdown_spans.specs.Closers.{is_dollar_of, math_close, math_close_from, searched_for_math}
+use Rattle.markdown_spans.specs.SpanClosers.{item_in}
 use Rattle.markdown_delims.proofs.PairingLemmas.{closed_shape}
 
 -- searches see two items alike

@@ -9,14 +9,14 @@ use Rattle.markdown_base.specs.declared.item.Item.{Item}
 use Rattle.markdown_base.specs.declared.item.ItemBody.{ItemBody}
 use Rattle.markdown_base.specs.declared.item.ItemBody.TheVariants as body
 use Rattle.markdown_base.specs.declared.node.Node.{Node}
-use Rattle.markdown_chains.specs.Stages.{items_from}
-use Rattle.markdown_chains.specs.Tables.{Tables}
-use Rattle.markdown_code.specs.Closers.{Dollar, can_open, closing_count, code_close, context_of, first_dollar, looked_for_code}
-use Rattle.markdown_code.specs.Closers.{looked_for_code_close, looked_for_math_from, math_close_from, opens_code, searched_for_math}
-use Rattle.markdown_code.specs.SpanClosers.{ClosesCode, ClosesMath, Learned, LooksForCode, LooksForMath, RisesBy, failed_by_now, has_failed}
-use Rattle.markdown_code.specs.SpanClosers.{item_in, unless_failed}
-use Rattle.markdown_code.specs.declared.span_closers.FoundMath.{FoundMath}
-use Rattle.markdown_code.proofs.VisitLemmas.{code_visit_law, math_visit_law}
+use Rattle.markdown_document.specs.Stages.{items_from}
+use Rattle.markdown_document.specs.Tables.{Tables}
+use Rattle.markdown_spans.specs.Closers.{Dollar, can_open, closing_count, code_close, context_of, first_dollar, looked_for_code}
+use Rattle.markdown_spans.specs.Closers.{looked_for_code_close, looked_for_math_from, math_close_from, opens_code, searched_for_math}
+use Rattle.markdown_spans.specs.SpanClosers.{ClosesCode, ClosesMath, Learned, LooksForCode, LooksForMath, RisesBy, failed_by_now, has_failed}
+use Rattle.markdown_spans.specs.SpanClosers.{item_in, unless_failed}
+use Rattle.markdown_spans.specs.declared.span_closers.FoundMath.{FoundMath}
+use Rattle.markdown_spans.proofs.VisitLemmas.{code_visit_law, math_visit_law}
 use Rattle.markdown_resolver.specs.Chains.{CanResolve}
 use Rattle.markdown_resolver.specs.Rewritten.{Puts, Standing, numbered_past}
 use Rattle.markdown_resolver.specs.ReadsItem.{LooksAt}

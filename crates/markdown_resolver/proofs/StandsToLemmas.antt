@@ -15,11 +15,11 @@ use Rattle.markdown_brackets.specs.LeftList.{Mark, Entry, done, waits, Split, on
 use Rattle.markdown_brackets.specs.LeftList.{before_footnote, disabled_mark, without_bracket, without_wikilink, change_nearest, trees_onto}
 use Rattle.markdown_brackets.specs.Openers.{Waiting}
 use Rattle.markdown_brackets.proofs.OpenerHeldLemmas.{trees_stay}
-use Rattle.markdown_chains.specs.ChainRest.{joined}
-use Rattle.markdown_chains.specs.Document.{Label}
-use Rattle.markdown_chains.specs.Places.{IsPlaced, label_at, trees_from}
-use Rattle.markdown_chains.specs.Tables.{Tables}
-use Rattle.markdown_chains.specs.Totals.{same}
+use Rattle.markdown_document.specs.ChainRest.{joined}
+use Rattle.markdown_document.specs.Document.{Label}
+use Rattle.markdown_document.specs.Places.{IsPlaced, label_at, trees_from}
+use Rattle.markdown_document.specs.Tables.{Tables}
+use Rattle.markdown_document.specs.Totals.{same}
 use Rattle.markdown_resolver.specs.Chains.{AreAbove, CanResolve, ChangesChain}
 use Rattle.markdown_resolver.specs.Kept.{IsQuiet, IsQuietBelow}
 use Rattle.markdown_resolver.specs.PutsTrees.{numbered_from, numbered_label, without_numbers}

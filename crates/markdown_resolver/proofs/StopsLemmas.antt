@@ -7,10 +7,10 @@ use Rattle.markdown_brackets.specs.BracketDecision.{Progress}
 use Rattle.markdown_brackets.specs.LeftList.{Entry}
 use Rattle.markdown_brackets.specs.declared.spent_ends.SpentEnds.{SpentEnds}
 use Rattle.markdown_brackets.proofs.ChainAsksLemmas.{AsksMore, asks_nothing, read_asks}
-use Rattle.markdown_chains.specs.Above.{Above}
-use Rattle.markdown_chains.specs.Document.{Plain, plain_tags}
-use Rattle.markdown_chains.specs.Setting.{Setting}
-use Rattle.markdown_chains.specs.Stages.{Stage, chain_at}
+use Rattle.markdown_document.specs.Above.{Above}
+use Rattle.markdown_document.specs.Document.{Plain, plain_tags}
+use Rattle.markdown_document.specs.Setting.{Setting}
+use Rattle.markdown_document.specs.Stages.{Stage, chain_at}
 use Rattle.markdown_resolver.specs.PassOne.{around, read_other}
 use Rattle.markdown_resolver.specs.ReadOn.{StopsOn, all_read, at_left}
 

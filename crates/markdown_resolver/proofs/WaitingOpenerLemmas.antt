@@ -18,11 +18,11 @@ use Rattle.markdown_brackets.specs.LeftList.{Entry, Split, done, trees_onto, wai
 use Rattle.markdown_brackets.specs.Openers.{Waiting}
 use Rattle.markdown_brackets.specs.StandsAt.{CanTry}
 use Rattle.markdown_brackets.specs.WikilinkNodes.{CanFindWikilink, unless_is}
-use Rattle.markdown_brackets.specs.declared.written.BracketPlace.{BracketPlace}
-use Rattle.markdown_chains.specs.ChainRest.{joined}
-use Rattle.markdown_chains.specs.Document.{Label}
-use Rattle.markdown_chains.specs.Places.{IsPlaced}
-use Rattle.markdown_chains.specs.Tables.{Tables}
+use Rattle.markdown_document.specs.declared.chain_place.ChainPlace.{ChainPlace}
+use Rattle.markdown_document.specs.ChainRest.{joined}
+use Rattle.markdown_document.specs.Document.{Label}
+use Rattle.markdown_document.specs.Places.{IsPlaced}
+use Rattle.markdown_document.specs.Tables.{Tables}
 use Rattle.markdown_resolver.specs.Chains.{CanResolve}
 use Rattle.markdown_brackets.specs.Finish.{IsSplit}
 use Rattle.markdown_resolver.specs.PutsTrees.{numbered_from, numbered_label}
@@ -120,7 +120,7 @@ start_between source tables nodes (node ix below after) n s h e = by (nat_lt n (
     by false found later = later found
 
 -- it may be tried
-pub can_try : (tables : Tables) (nodes : List (Node Item)) (place : BracketPlace) (closer n : ℕ)
+pub can_try : (tables : Tables) (nodes : List (Node Item)) (place : ChainPlace) (closer n : ℕ)
     → CanResolve place.text.now tables nodes (Some closer) → 0 < (item_at nodes closer).end
     → IsCharBoundary place.text.now place.block_end → StandsOpen place.text.now tables nodes closer n → CanTry nodes place closer n
 can_try tables nodes place closer n closes some block o =

@@ -20,14 +20,14 @@ use Rattle.markdown_brackets.specs.QuietItems.{all_done}
 use Rattle.markdown_brackets.specs.ReadChain.{begun, closing, opened, read, read_as, read_chain, read_past}
 use Rattle.markdown_brackets.proofs.ClosingBracketLemmas.{Cases, in_each_case, some_of}
 use Rattle.markdown_brackets.proofs.NoLinkLemmas.{wikilink_keeps}
-use Rattle.markdown_chains.specs.Above.{Above}
-use Rattle.markdown_chains.specs.ChainRest.{begun_at, cut_shape, end_of, joined, open_body, past, past_byte, start_of}
-use Rattle.markdown_chains.specs.Document.{Tags, Shape, leaf, enclosed, plain, backslash_break, unresolved, Label, as_text, is_unresolved}
-use Rattle.markdown_chains.specs.Labels.{Begins}
-use Rattle.markdown_chains.specs.Setting.{Setting, Known}
-use Rattle.markdown_chains.specs.Waiting.{is_quiet, waits_for_pairing}
-use Rattle.markdown_code.specs.Finds.{end_of_find, find, read_tree, read_unless, trees_for}
-use Rattle.markdown_code.proofs.FindsLemmas.{AllClosed, begins_trees, closed_trees}
+use Rattle.markdown_document.specs.Above.{Above}
+use Rattle.markdown_document.specs.ChainRest.{begun_at, cut_shape, end_of, joined, open_body, past, past_byte, start_of}
+use Rattle.markdown_document.specs.Document.{Tags, Shape, leaf, enclosed, plain, backslash_break, unresolved, Label, as_text, is_unresolved}
+use Rattle.markdown_document.specs.Labels.{Begins}
+use Rattle.markdown_document.specs.Setting.{Setting, Known}
+use Rattle.markdown_document.specs.Waiting.{is_quiet, waits_for_pairing}
+use Rattle.markdown_spans.specs.Finds.{end_of_find, find, read_tree, read_unless, trees_for}
+use Rattle.markdown_spans.proofs.FindsLemmas.{AllClosed, begins_trees, closed_trees}
 use Rattle.markdown_resolver.specs.Laws.{RunsStandWhole, by_place}
 use Rattle.markdown_resolver.specs.PassOne.{around, pass_one, put_passed, read_on, read_other}
 

@@ -25,14 +25,15 @@ use Rattle.markdown_brackets.specs.LeftList.{Mark, Entry, Split, inside, nearest
 use Rattle.markdown_brackets.specs.Wikilink.{Shows, WikilinkBody, cut_at, has_pothole, named, shown_from, shows_from, shows_name}
 use Rattle.markdown_brackets.specs.Wikilink.{shows_nothing, wikilink_body}
 use Rattle.markdown_brackets.proofs.OpenerHeldLemmas.{splits_at}
-use Rattle.markdown_chains.specs.ChainRest.{begun_at, end_of, joined, past_byte, start_of}
-use Rattle.markdown_chains.specs.Document.{Label, is_unresolved}
-use Rattle.markdown_chains.specs.Origins.{StandsIn}
-use Rattle.markdown_chains.specs.Places.{IsPlaced}
-use Rattle.markdown_chains.specs.Tables.{Tables}
-use Rattle.markdown_chains.specs.Waiting.{is_quiet, waits_for_pairing}
-use Rattle.markdown_chains.proofs.PlaceLemmas.{open-unresolved, shape-open}
-use Rattle.markdown_code.proofs.SliceLemmas.{stands_between, stands_within}
+use Rattle.markdown_brackets.proofs.WikilinkPipeLemmas.{some_in_block}
+use Rattle.markdown_document.specs.ChainRest.{begun_at, end_of, joined, past_byte, start_of}
+use Rattle.markdown_document.specs.Document.{Label, is_unresolved}
+use Rattle.markdown_document.specs.Origins.{StandsIn}
+use Rattle.markdown_document.specs.Places.{IsPlaced}
+use Rattle.markdown_document.specs.Tables.{Tables}
+use Rattle.markdown_document.specs.Waiting.{is_quiet, waits_for_pairing}
+use Rattle.markdown_document.proofs.PlaceLemmas.{open-unresolved, shape-open}
+use Rattle.markdown_spans.proofs.SliceLemmas.{stands_between, stands_within}
 use Rattle.markdown_resolver.specs.Closes.{FirstLies, IsNotCut, NoneOpenAround, ShowsWell}
 use Rattle.markdown_resolver.specs.Kept.{IsQuiet}
 use Rattle.markdown_resolver.specs.PutsTrees.{numbered_label}
@@ -206,8 +207,10 @@ pipe_between text start size utf8 = by (nat_lt n (length part)) refl
         IsCharBoundary-after_ascii text (start + n) utf8 there low
     by false e = tt
 
-body_cut : (text : List ℕ) (start end : ℕ) → IsUtf8 text → IfSome (wikilink_body text start end) (λ b. IsCut text start end b.shows)
-body_cut text start end utf8 = by (nat_lt start end) refl _ (pipe_between text start (end - start) utf8)
+body_cut : (text : List ℕ) (block_end start end : ℕ) → IsUtf8 text
+    → IfSome (wikilink_body text block_end start end) (λ b. IsCut text start end b.shows)
+body_cut text block_end start end utf8 = by (nat_lt start end) refl _
+    (some_in_block text block_end start (end - start) (λ pipe. IsCharBoundary text pipe.0) (pipe_between text start (end - start) utf8))
   where
     by : (order : Bool) → nat_lt start end ≡ order → (found : Option (ℕ × List ℕ)) → IfSome found (λ pipe. IsCharBoundary text pipe.0)
         → IfSome (if order then cut_at text start end found else None) (λ b. IsCut text start end b.shows)
@@ -238,8 +241,8 @@ wikilink_lies : (w : Around) (f : Forest (Label ℕ)) (end : ℕ) → IsUtf8 w.s
     → IsCharBoundary w.setting.text end
     → IfSome (wikilink_in w f end) (λ v. FirstLies w.setting.text v.children)
 wikilink_lies w nil end utf8 all ends = tt
-wikilink_lies w (node first below after) end utf8 all ends = by (wikilink_body w.setting.text (start_of first) end)
-    (body_cut w.setting.text (start_of first) end utf8)
+wikilink_lies w (node first below after) end utf8 all ends = by (wikilink_body w.setting.text w.above.block_end (start_of first) end)
+    (body_cut w.setting.text w.above.block_end (start_of first) end utf8)
   where
     by : (found : Option WikilinkBody) → IfSome found (λ b. IsCut w.setting.text (start_of first) end b.shows)
         → IfSome (option_and_then (wikilink_by w first (node first below after) end) found) (λ v. FirstLies w.setting.text v.children)
@@ -283,8 +286,9 @@ cut_stands text start end None h = named_stands text (slice_range text start end
     (stands_between text start end (slice_range text start end) refl)
 cut_stands text start end (Some pipe) h = named_stands text pipe.1 (shown_from pipe.0 end) h
 
-body_stands : (text : List ℕ) (start end : ℕ) → IfSome (wikilink_body text start end) (λ b. StandsIn text b.name)
-body_stands text start end = by (nat_lt start end) _ (pipe_stands text start end)
+body_stands : (text : List ℕ) (block_end start end : ℕ) → IfSome (wikilink_body text block_end start end) (λ b. StandsIn text b.name)
+body_stands text block_end start end = by (nat_lt start end) _
+    (some_in_block text block_end start (end - start) (λ pipe. StandsIn text pipe.1) (pipe_stands text start end))
   where
     by : (order : Bool) (found : Option (ℕ × List ℕ)) → IfSome found (λ pipe. StandsIn text pipe.1)
         → IfSome (if order then cut_at text start end found else None) (λ b. StandsIn text b.name)
@@ -293,8 +297,8 @@ body_stands text start end = by (nat_lt start end) _ (pipe_stands text start end
 
 name_stands : (w : Around) (f : Forest (Label ℕ)) (end : ℕ) → IfSome (wikilink_in w f end) (λ v. StandsIn w.setting.text v.name)
 name_stands w nil end = tt
-name_stands w (node first below after) end = by (wikilink_body w.setting.text (start_of first) end)
-    (body_stands w.setting.text (start_of first) end)
+name_stands w (node first below after) end = by (wikilink_body w.setting.text w.above.block_end (start_of first) end)
+    (body_stands w.setting.text w.above.block_end (start_of first) end)
   where
     made : (b : WikilinkBody) (children : Option (Forest (Label ℕ))) → StandsIn w.setting.text b.name
         → IfSome {T = Wikilink ℕ} (option_map (λ children. record { name = b.name; has_pothole = has_pothole b.shows; children = children })

@@ -9,14 +9,14 @@ use Rattle.markdown_base.specs.Questions.{Question, Answer, Answers}
 use Rattle.markdown_base.specs.declared.item.Item.{Item}
 use Rattle.markdown_base.specs.declared.node.Node.{Node}
 use Rattle.markdown_base.proofs.ForestLemmas.{roots-relabelled}
-use Rattle.markdown_chains.specs.Above.{Above}
-use Rattle.markdown_chains.specs.Counts.{ChainCounts, RisesAtLeast, RisesAtMost, risen, WorkRises}
-use Rattle.markdown_chains.specs.Document.{plain_tags}
-use Rattle.markdown_chains.specs.Places.{label_at, trees_from}
-use Rattle.markdown_chains.specs.Setting.{Setting}
-use Rattle.markdown_chains.specs.Stages.{Stage, chain_at, items_from, known_at}
-use Rattle.markdown_chains.specs.Tables.{Tables}
-use Rattle.markdown_chains.specs.declared.work.Work.{Work}
+use Rattle.markdown_document.specs.Above.{Above}
+use Rattle.markdown_document.specs.Counts.{ChainCounts, RisesAtLeast, RisesAtMost, risen, WorkRises, comparisons_per_delimiter}
+use Rattle.markdown_document.specs.Document.{plain_tags}
+use Rattle.markdown_document.specs.Places.{label_at, trees_from}
+use Rattle.markdown_document.specs.Setting.{Setting}
+use Rattle.markdown_document.specs.Stages.{Stage, chain_at, items_from, known_at}
+use Rattle.markdown_document.specs.Tables.{Tables}
+use Rattle.markdown_document.specs.declared.work.Work.{Work}
 use Rattle.markdown_delims.specs.PairedChain.{ExaminesAtMost}
 use Rattle.markdown_delims.specs.RunReading.{delimiters_of}
 use Rattle.markdown_delims.specs.PairingFinds.{finds_in}
@@ -63,7 +63,7 @@ same_rise most most' old new new' e e' r = record { more = r.more; within = omeg
 
 work_rises : (n : ChainCounts) (old new : Work) → AreCounts old → 0 < n.items → new.items ≡ min (old.items + n.items) (2 ^ 128 - 1)
     → new.delimiters ≡ min (old.delimiters + n.delimiters) (2 ^ 128 - 1)
-    → ExaminesAtMost (10 * n.delimiters) old.examined new.examined → RisesAtLeast n.found old.examined new.examined
+    → ExaminesAtMost (comparisons_per_delimiter * n.delimiters) old.examined new.examined → RisesAtLeast n.found old.examined new.examined
     → RisesAtMost n.items old.code_visits new.code_visits → RisesAtMost n.items old.math_visits new.math_visits → WorkRises n old new
 work_rises n old new fits some items delimiters examined found code math = record {
   items = items ∙ risen_some n.items old.items some;
@@ -90,10 +90,10 @@ pub record ReadCounts (items : ℕ) (old new : Work) : Type 0 where
 -- and what pairing makes of them, of so many delimiter characters, where so many searches find
 pub record PairCounts (delimiters found : ℕ) (old new : Work) : Type 0 where
   pub counted : new ≡ record old { delimiters = min (old.delimiters + delimiters) (2 ^ 128 - 1); examined = new.examined }
-  pub compared : ExaminesAtMost (10 * delimiters) old.examined new.examined
+  pub compared : ExaminesAtMost (comparisons_per_delimiter * delimiters) old.examined new.examined
   pub finds : RisesAtLeast found old.examined new.examined
 
-examined_by : (d d' old old' new : ℕ) → d ≡ d' → old ≡ old' → ExaminesAtMost (10 * d) old new → ExaminesAtMost (10 * d') old' new
+examined_by : (d d' old old' new : ℕ) → d ≡ d' → old ≡ old' → ExaminesAtMost (comparisons_per_delimiter * d) old new → ExaminesAtMost (comparisons_per_delimiter * d') old' new
 examined_by d d' old old' new e e' h = record {
   examined = h.examined;
   within = omega (arith, e, h.within);

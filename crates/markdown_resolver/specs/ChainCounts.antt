@@ -1,11 +1,11 @@
 -- What resolving a chain counts.
 use Rattle.std.specs.Prelude.{length}
 use Rattle.markdown_base.specs.Forest.{Forest, roots}
-use Rattle.markdown_chains.specs.Above.{Above}
-use Rattle.markdown_chains.specs.Counts.{ChainCounts}
-use Rattle.markdown_chains.specs.Document.{Tags, Label}
-use Rattle.markdown_chains.specs.Labels.{delimiters_in}
-use Rattle.markdown_chains.specs.Setting.{Setting, Known}
+use Rattle.markdown_document.specs.Above.{Above}
+use Rattle.markdown_document.specs.Counts.{ChainCounts}
+use Rattle.markdown_document.specs.Document.{Tags, Label}
+use Rattle.markdown_document.specs.Labels.{delimiters_in}
+use Rattle.markdown_document.specs.Setting.{Setting, Known}
 use Rattle.markdown_delims.specs.PairingFinds.{finds_in}
 use Rattle.markdown_resolver.specs.PassOne.{pass_one}
 

@@ -5,12 +5,12 @@ use Rattle.markdown_base.specs.Arena.{Arena}
 use Rattle.markdown_base.specs.declared.item.Item.{Item}
 use Rattle.markdown_brackets.specs.LeftList.{Entry}
 use Rattle.markdown_brackets.specs.Openers.{Waiting}
-use Rattle.markdown_chains.specs.Above.{above_cursor}
-use Rattle.markdown_chains.specs.Tables.{tables_of}
+use Rattle.markdown_document.specs.Above.{above_cursor}
+use Rattle.markdown_document.specs.Tables.{tables_of}
 use Rattle.markdown_resolver.specs.Chains.{AreAbove, CanResolve}
 use Rattle.markdown_resolver.specs.ReadOn.{AreHeld, StandsTo}
-use Rattle.markdown_resolver.specs.declared.chain_place.ChainPlace.{ChainPlace}
-use Rattle.markdown_spans.specs.Allocations.{Allocated}
+use Rattle.markdown_document.specs.declared.chain_place.ChainPlace.{ChainPlace}
+use Rattle.markdown_defs.specs.Allocations.{Allocated}
 
 -- it is that of the chain at the cursor of a tree
 pub record IsPlaceOf (place : ChainPlace) (tree : Arena Item) : Type 0 where

@@ -6,26 +6,26 @@ use Rattle.markdown_base.specs.ArenaWalk.{Reaches}
 use Rattle.std.specs.Option.{option_map}
 use Rattle.markdown_base.specs.BlockTree.{Numbered, numbered, item_at}
 use Rattle.markdown_base.specs.Item.{LiesIn}
-use Rattle.markdown_chains.specs.ItemRules.{StandsBefore}
+use Rattle.markdown_document.specs.ItemRules.{StandsBefore}
 use Rattle.markdown_base.specs.Forest.{Forest}
 use Rattle.markdown_base.specs.Questions.{Question, Answer, Answers}
 use Rattle.markdown_base.specs.declared.item.Item.{Item}
 use Rattle.markdown_base.specs.declared.node.Node.{Node}
-use Rattle.markdown_spans.specs.Allocations.{Allocated}
-use Rattle.markdown_spans.specs.Callback.{Asks}
-use Rattle.markdown_spans.specs.Footnotes.{footnote_at}
+use Rattle.markdown_defs.specs.Allocations.{Allocated}
+use Rattle.markdown_defs.specs.Callback.{Asks}
+use Rattle.markdown_defs.specs.Footnotes.{footnote_at}
 use Rattle.markdown_resolver.specs.Kept.{IsQuietBelow}
 use Rattle.markdown_resolver.specs.PassOne.{Outcome}
 use Rattle.markdown_resolver.specs.Resolved.{resolved}
-use Rattle.markdown_chains.specs.Above.{Above, above_cursor}
-use Rattle.markdown_chains.specs.Counts.{WorkRises}
-use Rattle.markdown_chains.specs.declared.work.Work.{Work}
+use Rattle.markdown_document.specs.Above.{Above, above_cursor}
+use Rattle.markdown_document.specs.Counts.{WorkRises}
+use Rattle.markdown_document.specs.declared.work.Work.{Work}
 use Rattle.markdown_resolver.specs.ChainCounts.{chain_counts}
-use Rattle.markdown_chains.specs.Setting.{Setting, Known}
-use Rattle.markdown_chains.specs.Places.{IsPlaced, trees_from, IsSameAt}
-use Rattle.markdown_chains.specs.Document.{plain_tags, Plain}
-use Rattle.markdown_chains.specs.Stages.{Stage, chain_at, known_at, named_in, stage, times_in, weight_in}
-use Rattle.markdown_chains.specs.Tables.{Tables, Named, number_of, size_for, HasGrown}
+use Rattle.markdown_document.specs.Setting.{Setting, Known}
+use Rattle.markdown_document.specs.Places.{IsPlaced, trees_from, IsSameAt}
+use Rattle.markdown_document.specs.Document.{plain_tags, Plain}
+use Rattle.markdown_document.specs.Stages.{Stage, chain_at, known_at, named_in, stage, times_in, weight_in}
+use Rattle.markdown_document.specs.Tables.{Tables, Named, number_of, size_for, HasGrown}
 
 -- the chain from the link l on was changed where it stands, and the tables with it
 pub record ChangesChain (source : List ℕ) (l : Option ℕ) (old new : List (Node Item)) (tables tables' : Tables) : Type 0

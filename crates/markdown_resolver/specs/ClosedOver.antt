@@ -9,12 +9,12 @@ use Rattle.markdown_base.specs.Item.{is_open}
 use Rattle.markdown_base.specs.WellFormed.{run_character}
 use Rattle.markdown_base.specs.declared.item.Item.{Item}
 use Rattle.markdown_base.specs.declared.node.Node.{Node}
-use Rattle.markdown_chains.specs.ChainRest.{joined, past, past_byte}
-use Rattle.markdown_chains.specs.Document.{Plain, label_of}
-use Rattle.markdown_chains.specs.Places.{IsSameAt}
-use Rattle.markdown_chains.specs.Tables.{Tables, Named}
-use Rattle.markdown_chains.specs.Totals.{times_named}
-use Rattle.markdown_code.specs.ChainInArena.{LeadsThrough}
+use Rattle.markdown_document.specs.ChainRest.{joined, past, past_byte}
+use Rattle.markdown_document.specs.Document.{Plain, label_of}
+use Rattle.markdown_document.specs.Places.{IsSameAt}
+use Rattle.markdown_document.specs.Tables.{Tables, Named}
+use Rattle.markdown_document.specs.Totals.{times_named}
+use Rattle.markdown_spans.specs.ChainInArena.{LeadsThrough}
 use Rattle.markdown_resolver.specs.Chains.{CanResolve}
 use Rattle.markdown_resolver.specs.Rewritten.{Rewrites, LeavesRest, CanPut, first_past, numbered_past_byte}
 

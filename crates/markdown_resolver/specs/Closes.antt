@@ -14,14 +14,14 @@ use Rattle.markdown_brackets.specs.Finish.{SplitsAs}
 use Rattle.markdown_brackets.specs.LeftList.{Entry, brackets_of, inside, wikilinks_of}
 use Rattle.markdown_brackets.specs.SpentEnds.{is_spent}
 use Rattle.markdown_brackets.specs.declared.spent_ends.SpentEnds.{SpentEnds}
-use Rattle.markdown_chains.specs.ChainRest.{end_of, past, past_byte, start_of}
-use Rattle.markdown_chains.specs.Document.{Label, is_unresolved}
-use Rattle.markdown_chains.specs.Origins.{StandsIn, destination_origin, made}
-use Rattle.markdown_chains.specs.Places.{trees_from}
-use Rattle.markdown_chains.specs.Stages.{items_from}
-use Rattle.markdown_chains.specs.Tables.{Tables}
-use Rattle.markdown_code.specs.SpanClosers.{HoldsFrom, Learned}
-use Rattle.markdown_code.specs.declared.span_text.SpanKind.{SpanKind}
+use Rattle.markdown_document.specs.ChainRest.{end_of, past, past_byte, start_of}
+use Rattle.markdown_document.specs.Document.{Label, is_unresolved}
+use Rattle.markdown_document.specs.Origins.{StandsIn, destination_origin, made}
+use Rattle.markdown_document.specs.Places.{trees_from}
+use Rattle.markdown_document.specs.Stages.{items_from}
+use Rattle.markdown_document.specs.Tables.{Tables}
+use Rattle.markdown_spans.specs.SpanClosers.{HoldsFrom, Learned}
+use Rattle.markdown_spans.specs.declared.span_text.SpanKind.{SpanKind}
 use Rattle.markdown_resolver.specs.Chains.{ChangesChain}
 use Rattle.markdown_resolver.specs.PutsTrees.{numbered_from, numbered_label}
 use Rattle.markdown_resolver.specs.ReadOn.{StandsTo, left_without_numbers}

@@ -1,8 +1,8 @@
 -- What resolving a chain keeps, and what it leaves.
 use Rattle.std.specs.Prelude.{◌≡◌, ⊤, true, false, is_some}
 use Rattle.markdown_base.specs.Forest.{Forest, nil, node}
-use Rattle.markdown_chains.specs.Document.{Label, is_unresolved}
-use Rattle.markdown_chains.specs.Waiting.{is_quiet}
+use Rattle.markdown_document.specs.Document.{Label, is_unresolved}
+use Rattle.markdown_document.specs.Waiting.{is_quiet}
 
 -- nothing but what waits for pairing is open in it, and no block stands in it, at every depth
 abbrev pub IsQuiet : {A : Type 0} → Forest (Label A) → Type 0

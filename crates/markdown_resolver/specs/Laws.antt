@@ -9,12 +9,12 @@ use Rattle.markdown_base.specs.WellFormed.{IsWellFormed, RunsAreWhole}
 use Rattle.markdown_base.specs.declared.block_parts.BlockParts.{BlockParts}
 use Rattle.markdown_base.specs.declared.item.Item.{Item}
 use Rattle.markdown_base.specs.declared.node.Node.{Node}
-use Rattle.markdown_chains.specs.Above.{Above}
-use Rattle.markdown_chains.specs.ChainRest.{start_of, as_item}
-use Rattle.markdown_chains.specs.Document.{Tags, Label, document, is_unresolved}
-use Rattle.markdown_chains.specs.Setting.{Setting, Known}
-use Rattle.markdown_chains.specs.Labels.{Begins, weight, retagged}
-use Rattle.markdown_chains.specs.Tables.{Tables}
+use Rattle.markdown_document.specs.Above.{Above}
+use Rattle.markdown_document.specs.ChainRest.{start_of, as_item}
+use Rattle.markdown_document.specs.Document.{Tags, Label, document, is_unresolved}
+use Rattle.markdown_document.specs.Setting.{Setting, Known}
+use Rattle.markdown_document.specs.Labels.{Begins, weight, retagged}
+use Rattle.markdown_document.specs.Tables.{Tables}
 use Rattle.markdown_delims.specs.Pairing.{paired}
 use Rattle.markdown_resolver.specs.Kept.{IsQuiet, IsQuietBelow, IsSettled}
 use Rattle.markdown_resolver.specs.PassOne.{Outcome, pass_one}

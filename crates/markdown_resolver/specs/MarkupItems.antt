@@ -6,11 +6,11 @@ use Rattle.markdown_base.specs.declared.item.Item.{Item}
 use Rattle.markdown_base.specs.declared.item.ItemBody.{ItemBody}
 use Rattle.markdown_base.specs.declared.item.ItemBody.TheVariants as body
 use Rattle.markdown_base.specs.declared.node.Node.{Node}
-use Rattle.markdown_chains.specs.Origins.{StandsIn}
-use Rattle.markdown_chains.specs.Setting.{Rules, setting_of}
-use Rattle.markdown_chains.specs.Tables.{Tables}
-use Rattle.markdown_code.specs.AfterLess.{Markup, autolink, html}
-use Rattle.markdown_code.specs.Finds.{end_of_markup, markup_trees}
+use Rattle.markdown_document.specs.Origins.{StandsIn}
+use Rattle.markdown_document.specs.Setting.{Rules, setting_of}
+use Rattle.markdown_document.specs.Tables.{Tables}
+use Rattle.markdown_spans.specs.AfterLess.{Markup, autolink, html}
+use Rattle.markdown_spans.specs.Finds.{end_of_markup, markup_trees}
 use Rattle.markdown_resolver.specs.Rewritten.{IsFoundAt, Standing}
 
 -- from where a node's item starts up to a byte

@@ -1,21 +1,21 @@
 -- Pass one over a chain: its items are read from left to right, each once. Code, math, autolinks and raw HTML are
 -- found, an opener of them at which nothing is found is a Text, and brackets become links, images, footnote references
 -- and wikilinks.
-use Rattle.std.specs.Prelude.{List, Some}
+use Rattle.std.specs.Prelude.{List}
 use Rattle.markdown_base.specs.Forest.{Forest, nil}
 use Rattle.markdown_base.specs.Questions.{Question}
 use Rattle.markdown_brackets.specs.BracketDecision.{Around, Progress}
 use Rattle.markdown_brackets.specs.LeftList.{trees_onto}
 use Rattle.markdown_brackets.specs.QuietItems.{all_done}
 use Rattle.markdown_brackets.specs.ReadChain.{Reader, begun, read_chain}
-use Rattle.markdown_chains.specs.Above.{Above}
-use Rattle.markdown_chains.specs.Document.{Tags, Label}
-use Rattle.markdown_chains.specs.Setting.{Setting, Known}
-use Rattle.markdown_code.specs.Finds.{Passed, prefix_below, read_tree}
+use Rattle.markdown_document.specs.Above.{Above}
+use Rattle.markdown_document.specs.Document.{Tags, Label}
+use Rattle.markdown_document.specs.Setting.{Setting, Known}
+use Rattle.markdown_spans.specs.Finds.{Passed, prefix_below, read_tree}
 
 -- brackets are read below the blocks that are open above: a line goes on behind their prefix
 abbrev pub around : Setting → Above → Around
-around s above = record { setting = s; above = above; skipped = λ bytes. Some (prefix_below s above bytes) }
+around s above = record { setting = s; above = above; skipped = prefix_below s above }
 
 -- trees that stand for an item are put onto the left list
 abbrev pub put_passed : {A : Type 0} → Passed A → Progress A → Progress A

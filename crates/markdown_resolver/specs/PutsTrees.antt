@@ -5,11 +5,11 @@ use Rattle.markdown_base.specs.BlockTree.{item_at}
 use Rattle.markdown_base.specs.Forest.{Forest, relabelled}
 use Rattle.markdown_base.specs.declared.item.Item.{Item}
 use Rattle.markdown_base.specs.declared.node.Node.{Node}
-use Rattle.markdown_chains.specs.ChainRest.{joined}
-use Rattle.markdown_chains.specs.Document.{Label, Plain, part_of}
-use Rattle.markdown_chains.specs.Labels.{retagged}
-use Rattle.markdown_chains.specs.Places.{trees_from}
-use Rattle.markdown_chains.specs.Tables.{Tables}
+use Rattle.markdown_document.specs.ChainRest.{joined}
+use Rattle.markdown_document.specs.Document.{Label, Plain, part_of}
+use Rattle.markdown_document.specs.Labels.{retagged}
+use Rattle.markdown_document.specs.Places.{trees_from}
+use Rattle.markdown_document.specs.Tables.{Tables}
 use Rattle.markdown_resolver.specs.Chains.{CanResolve, ChangesChain}
 use Rattle.markdown_resolver.specs.Kept.{IsQuiet}
 use Rattle.markdown_resolver.specs.Rewritten.{RunsGoOn}

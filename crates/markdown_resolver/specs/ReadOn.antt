@@ -17,17 +17,17 @@ use Rattle.markdown_brackets.specs.QuietItems.{all_done}
 use Rattle.markdown_brackets.specs.ReadChain.{among}
 use Rattle.markdown_brackets.specs.SpentEnds.{is_spent}
 use Rattle.markdown_brackets.specs.declared.spent_ends.SpentEnds.{SpentEnds}
-use Rattle.markdown_chains.specs.Above.{Above}
-use Rattle.markdown_chains.specs.Document.{Label, Plain, plain_tags}
-use Rattle.markdown_chains.specs.Places.{trees_from}
-use Rattle.markdown_chains.specs.Setting.{Setting}
-use Rattle.markdown_chains.specs.Stages.{Stage, chain_at, known_at}
-use Rattle.markdown_chains.specs.Tables.{Tables}
+use Rattle.markdown_document.specs.Above.{Above}
+use Rattle.markdown_document.specs.Document.{Label, Plain, plain_tags}
+use Rattle.markdown_document.specs.Places.{trees_from}
+use Rattle.markdown_document.specs.Setting.{Setting}
+use Rattle.markdown_document.specs.Stages.{Stage, chain_at, known_at}
+use Rattle.markdown_document.specs.Tables.{Tables}
 use Rattle.markdown_resolver.specs.Chains.{CanResolve, ChangesChain}
 use Rattle.markdown_resolver.specs.Kept.{IsQuiet}
 use Rattle.markdown_resolver.specs.PassOne.{pass_one, read_on}
 use Rattle.markdown_resolver.specs.PutsTrees.{numbered_from, without_numbers}
-use Rattle.markdown_spans.specs.Callback.{Asks}
+use Rattle.markdown_defs.specs.Callback.{Asks}
 
 -- a left list without the numbers
 abbrev pub left_without_numbers : List (Entry ℕ) → List (Entry (Unit {0}))

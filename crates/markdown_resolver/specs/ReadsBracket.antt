@@ -9,22 +9,21 @@ use Rattle.markdown_brackets.specs.LeftList.{Entry}
 use Rattle.markdown_brackets.specs.declared.chain_openers.ChainOpeners.{ChainOpeners}
 use Rattle.markdown_brackets.specs.declared.closing_bracket.ClosedBracket.{ClosedBracket}
 use Rattle.markdown_brackets.specs.declared.spent_ends.SpentEnds.{SpentEnds}
-use Rattle.markdown_chains.specs.Above.{above_cursor}
-use Rattle.markdown_chains.specs.Setting.{Setting, rules_from, setting_of, uses_of}
-use Rattle.markdown_chains.specs.Stages.{Stage, items_from, stage}
-use Rattle.markdown_chains.specs.Tables.{tables_of}
-use Rattle.markdown_code.specs.Finds.{gfm_footnotes}
-use Rattle.markdown_code.specs.SpanClosers.{HoldsFrom, Learned, has_failed}
-use Rattle.markdown_code.specs.declared.span_text.SpanKind.{SpanKind}
+use Rattle.markdown_document.specs.Above.{above_cursor}
+use Rattle.markdown_document.specs.Setting.{Setting, rules_from, setting_of, uses_of}
+use Rattle.markdown_document.specs.Stages.{Stage, items_from, stage}
+use Rattle.markdown_document.specs.Tables.{tables_of}
+use Rattle.markdown_spans.specs.SpanClosers.{HoldsFrom, Learned, has_failed}
+use Rattle.markdown_spans.specs.declared.span_text.SpanKind.{SpanKind}
 use Rattle.markdown_resolver.specs.ChainPlace.{CanReadOn}
 use Rattle.markdown_resolver.specs.Closes.{closing_at}
 use Rattle.markdown_resolver.specs.PassOne.{around}
 use Rattle.markdown_resolver.specs.ReadOn.{ReadsOn, StopsOn}
 use Rattle.markdown_resolver.specs.ReadsItem.{LooksAt}
-use Rattle.markdown_resolver.specs.declared.chain_place.ChainPlace.{ChainPlace}
+use Rattle.markdown_document.specs.declared.chain_place.ChainPlace.{ChainPlace}
 use Rattle.markdown_resolver.specs.declared.resolver.Resolver.{Resolver}
-use Rattle.markdown_spans.specs.Allocations.{Allocated}
-use Rattle.markdown_spans.specs.Footnotes.{footnote_at}
+use Rattle.markdown_defs.specs.Allocations.{Allocated}
+use Rattle.markdown_defs.specs.Footnotes.{footnote_at}
 
 -- the setting that a resolver goes by
 abbrev pub setting_by : {C : Type 0} → Resolver C → Setting
@@ -46,7 +45,7 @@ pub record CanReadNode {C : Type 0} (place : ChainPlace) (tree : Arena Item) (r 
   pub left : List (Entry ℕ)
   pub was_read : WasReadTo place tree r first ix left
   pub text : place.text.now ≡ r.text.now
-  pub footnotes : place.gfm_footnotes ≡ gfm_footnotes r.options
+  pub options : place.options ≡ r.options
 
 -- it was decided what the `]` of a node becomes: behind any left list that stands there, that is what pass one decides
 pub record DecidesClosing {C : Type 0} (step : C → Question → Option Answer → C → Type 0) (place : ChainPlace)

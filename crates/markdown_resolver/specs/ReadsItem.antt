@@ -3,15 +3,15 @@ use Rattle.std.specs.Prelude.{◌≡◌, ℕ, ◌+◌, ◌≤◌, ◌-◌, ◌^�
 use Rattle.markdown_base.specs.Arena.{child_of, sibling_of}
 use Rattle.markdown_base.specs.declared.item.Item.{Item}
 use Rattle.markdown_base.specs.declared.node.Node.{Node}
-use Rattle.markdown_chains.specs.Above.{Above}
-use Rattle.markdown_chains.specs.ChainRest.{past}
-use Rattle.markdown_chains.specs.Document.{plain_tags}
-use Rattle.markdown_chains.specs.Places.{label_at, trees_from}
-use Rattle.markdown_chains.specs.Setting.{Setting}
-use Rattle.markdown_chains.specs.Tables.{Tables}
-use Rattle.markdown_code.specs.Finds.{Passed, read_tree}
-use Rattle.markdown_code.specs.SpanClosers.{HoldsFrom, Learned}
-use Rattle.markdown_code.specs.declared.span_text.SpanKind.{SpanKind}
+use Rattle.markdown_document.specs.Above.{Above}
+use Rattle.markdown_document.specs.ChainRest.{past}
+use Rattle.markdown_document.specs.Document.{plain_tags}
+use Rattle.markdown_document.specs.Places.{label_at, trees_from}
+use Rattle.markdown_document.specs.Setting.{Setting}
+use Rattle.markdown_document.specs.Tables.{Tables}
+use Rattle.markdown_spans.specs.Finds.{Passed, read_tree}
+use Rattle.markdown_spans.specs.SpanClosers.{HoldsFrom, Learned}
+use Rattle.markdown_spans.specs.declared.span_text.SpanKind.{SpanKind}
 use Rattle.markdown_resolver.specs.PutsTrees.{PutsTrees}
 use Rattle.markdown_resolver.specs.Rewritten.{LeavesRest}
 

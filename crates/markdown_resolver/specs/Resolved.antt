@@ -1,9 +1,9 @@
 -- What a chain is resolved to: pass one reads it, and then it is paired.
 use Rattle.std.specs.Prelude.{Bool, true, false}
 use Rattle.markdown_base.specs.Forest.{Forest, nil, node}
-use Rattle.markdown_chains.specs.Above.{Above}
-use Rattle.markdown_chains.specs.Document.{Tags, Label, is_unresolved}
-use Rattle.markdown_chains.specs.Setting.{Setting, Known}
+use Rattle.markdown_document.specs.Above.{Above}
+use Rattle.markdown_document.specs.Document.{Tags, Label, is_unresolved}
+use Rattle.markdown_document.specs.Setting.{Setting, Known}
 use Rattle.markdown_delims.specs.Pairing.{paired}
 use Rattle.markdown_resolver.specs.PassOne.{Outcome, pass_one}
 

@@ -10,14 +10,14 @@ use Rattle.markdown_base.specs.Item.{LiesIn, is_block, is_open}
 use Rattle.markdown_base.specs.WellFormed.{RunsAreWhole, run_character}
 use Rattle.markdown_base.specs.declared.item.Item.{Item}
 use Rattle.markdown_base.specs.declared.node.Node.{Node}
-use Rattle.markdown_chains.specs.ChainRest.{joined, past}
-use Rattle.markdown_chains.specs.Document.{Plain, as_text, label_of}
-use Rattle.markdown_chains.specs.Places.{HasSlices, IsSameAt, trees_from}
-use Rattle.markdown_chains.specs.Stages.{items_from, times_in, weight_in}
-use Rattle.markdown_chains.specs.Tables.{Tables, Named, NamesEntries, number_of, size_for}
-use Rattle.markdown_chains.specs.Totals.{times_named}
-use Rattle.markdown_chains.specs.Waiting.{is_quiet}
-use Rattle.markdown_code.specs.ChainInArena.{LeadsThrough}
+use Rattle.markdown_document.specs.ChainRest.{joined, past}
+use Rattle.markdown_document.specs.Document.{Plain, as_text, label_of}
+use Rattle.markdown_document.specs.Places.{HasSlices, IsSameAt, trees_from}
+use Rattle.markdown_document.specs.Stages.{items_from, times_in, weight_in}
+use Rattle.markdown_document.specs.Tables.{Tables, Named, NamesEntries, number_of, size_for}
+use Rattle.markdown_document.specs.Totals.{times_named}
+use Rattle.markdown_document.specs.Waiting.{is_quiet}
+use Rattle.markdown_spans.specs.ChainInArena.{LeadsThrough}
 use Rattle.markdown_resolver.specs.Chains.{CanResolve, ChangesChain}
 
 -- a run that goes on at a link still does

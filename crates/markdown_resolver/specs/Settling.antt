@@ -8,8 +8,8 @@ use Rattle.markdown_base.specs.Item.{is_open}
 use Rattle.markdown_base.specs.declared.item.Item.{Item}
 use Rattle.markdown_base.specs.declared.item.ItemBody.{ItemBody}
 use Rattle.markdown_base.specs.declared.node.Node.{Node}
-use Rattle.markdown_chains.specs.Places.{IsSameAt}
-use Rattle.markdown_chains.specs.Waiting.{waits_for_pairing}
+use Rattle.markdown_document.specs.Places.{IsSameAt}
+use Rattle.markdown_document.specs.Waiting.{waits_for_pairing}
 use Rattle.markdown_resolver.specs.Rewritten.{begun_item}
 
 -- it is a Text: it is open, and does not wait for pairing

@@ -2,8 +2,8 @@
 use Rattle.std.specs.Prelude.{◌≡◌, ℕ, ◌<◌, ◌≤◌, List, length}
 use Rattle.std.specs.Str.{IsCharBoundary}
 use Rattle.markdown_base.specs.declared.index.CowIndex.{CowIndex}
-use Rattle.markdown_chains.specs.Origins.{IsSlicedOf, Origin, origin_at}
-use Rattle.markdown_chains.specs.Tables.{Tables, HasGrown, text_at}
+use Rattle.markdown_document.specs.Origins.{IsSlicedOf, Origin, origin_at}
+use Rattle.markdown_document.specs.Tables.{Tables, HasGrown, text_at}
 
 -- the bytes from one to another may be cut out of a text
 pub record CanCut (source : List ℕ) (start end : ℕ) : Type 0 where

@@ -10,22 +10,20 @@ ghost use Rattle.markdown_base.specs.declared.fault.Fault.{Fault};
 ghost use Rattle.markdown_base.specs.declared.item.ItemBody.TheVariants as body;
 ghost use Rattle.markdown_brackets.specs.declared.closing_bracket.ClosedBracket.TheVariants.{Wikilinked};
 ghost use Rattle.markdown_brackets.specs.BracketDecision.{Around, Becomes, Closing, a_footnote, a_link};
-ghost use Rattle.markdown_brackets.specs.BracketOptions.{wikilinks_on};
+ghost use Rattle.markdown_base.specs.EnabledOptions.{wikilinks_on};
 ghost use Rattle.markdown_brackets.specs.DecisionView.{IsBecome, opener_of};
 ghost use Rattle.markdown_brackets.specs.LeftList.{Entry, Split, inside};
 ghost use Rattle.markdown_brackets.specs.LookupView.{target_view};
 ghost use Rattle.markdown_brackets.specs.Openers as waiting;
 ghost use Rattle.markdown_brackets.specs.Reference.{is_opener};
-ghost use Rattle.markdown_chains.specs.Tables.{Tables, tables_of};
-ghost use Rattle.markdown_code.specs.Finds.{gfm_footnotes};
+ghost use Rattle.markdown_document.specs.Tables.{Tables, tables_of};
 ghost use Rattle.markdown_resolver.specs.ChainPlace.{CanReadOn};
 ghost use Rattle.markdown_resolver.specs.Chains.{CanResolve};
 ghost use Rattle.markdown_resolver.specs.Closes.{ClosesAt, PutsClosed};
 ghost use Rattle.markdown_resolver.specs.ReadsBracket.{DecidesClosing};
 ghost use Rattle.markdown_resolver.specs.Rewritten.{Puts, settled};
-ghost use Rattle.markdown_spans.specs.Footnotes.{footnote_at};
+ghost use Rattle.markdown_defs.specs.Footnotes.{footnote_at};
 
-use crate::chain_place::ChainPlace;
 use crate::found::settle;
 use crate::links::{
     last_before, put_footnote, put_image_footnote, put_link, put_wikilink_name, put_wikilink_shown,
@@ -44,25 +42,11 @@ use markdown_brackets::look_up::Target;
 use markdown_brackets::openers::Opener;
 use markdown_brackets::spent_ends::SpentEnds;
 use markdown_brackets::wikilink_nodes::ShownNodes;
-use markdown_brackets::written::{BracketPlace, wikilinks_on};
-use markdown_code::prefixes::ContainerPrefix;
-use markdown_spans::defs::{Allocations, BrokenLinkCallback};
+use markdown_brackets::written::wikilinks_on;
+use markdown_defs::{Allocations, BrokenLinkCallback};
+use markdown_document::chain_place::ChainPlace;
+use markdown_spans::prefixes::ContainerPrefix;
 use std::alloc::Global;
-
-/// The place of a chain, as its brackets ask about it.
-pub(crate) fn bracket_place<'a>(place: &ChainPlace<'a>, options: Options) -> BracketPlace<'a>
-    ensures text { result.text.now ≡ place.now.text.now }
-    ensures block_end { result.block_end ≡ place.now.block_end }
-    ensures in_table { result.in_table ≡ place.now.in_table }
-    ensures options { result.options ≡ options }
-{
-    BracketPlace {
-        text: place.text,
-        block_end: place.block_end,
-        in_table: place.in_table,
-        options,
-    }
-}
 
 /// Whether a link leads to an opener.
 fn leads_to_opener(tree: &Tree<Item>, link: Option<usize>) -> bool
@@ -328,7 +312,7 @@ pub(crate) fn decide_closing<'a, F: BrokenLinkCallback<'a>>(
     requires can_ask { IfSome callback.old F.can_ask }
     requires ready { (first : ℕ) × (left : List (Entry ℕ))
         × CanReadOn place.now tree.now tables.old openers.old.brackets openers.old.wikilinks first ix left }
-    requires footnotes { place.now.gfm_footnotes ≡ gfm_footnotes options }
+    requires options { place.now.options ≡ options }
     requires closes { (item_at tree.now.nodes ix).body ≡ body.MaybeLinkClose could_be }
     ensures decides { IfOk result (λ found. DecidesClosing F.answers place.now place.now.text.now options tree.now ix
         could_be tables.old tables.new limit.old limit.new spent.old spent.new callback.old callback.new
@@ -347,8 +331,8 @@ pub(crate) fn decide_closing<'a, F: BrokenLinkCallback<'a>>(
         tree,
         ix,
         could_be,
-        &bracket_place(place, options),
-        &ContainerPrefix::new(tree, place.gfm_footnotes),
+        place,
+        &ContainerPrefix::new(tree, place.gfm_footnotes()),
         openers,
         spent,
         &tables.refdefs,

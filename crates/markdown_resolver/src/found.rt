@@ -5,7 +5,7 @@ ghost use Rattle.markdown_base.specs.Arena.{sibling_of};
 ghost use Rattle.markdown_base.specs.ArenaForest.{Spells, forest_at, links_of};
 ghost use Rattle.markdown_base.specs.BlockTree.{item_at};
 ghost use Rattle.markdown_base.specs.Forest.{roots};
-ghost use Rattle.markdown_chains.specs.Tables.{HasGrown, Tables};
+ghost use Rattle.markdown_document.specs.Tables.{HasGrown, Tables};
 ghost use Rattle.markdown_resolver.specs.Chains.{CanResolve};
 ghost use Rattle.markdown_resolver.specs.Rewritten.{CanPut, CanPutPair, CanPutParent, IsFoundAt, Puts, first_past};
 ghost use Rattle.markdown_resolver.specs.Rewritten.{settled, one, pair, parent};

@@ -2,8 +2,8 @@
 //! ends at a byte or before leaves the chain, and what is left begins there at the earliest.
 ghost use Rattle.std.specs.Prelude.{◌≡◌, ◌<◌, ◌∷◌, ◌++◌, [], ℕ, List, length, Some, None};
 ghost use Rattle.markdown_base.specs.BlockTree.{item_at};
-ghost use Rattle.markdown_chains.specs.Tables.{HasGrown, Named, Tables};
-ghost use Rattle.markdown_chains.specs.Totals.{times_named};
+ghost use Rattle.markdown_document.specs.Tables.{HasGrown, Named, Tables};
+ghost use Rattle.markdown_document.specs.Totals.{times_named};
 ghost use Rattle.markdown_resolver.specs.ClosedOver.{CanClose, CanPutMark, CanPutOver, CanShow, IsEnclosed, PutsOver};
 ghost use Rattle.markdown_resolver.specs.ClosedOver.{after_mark, in_place_of, last_inside, over_inside, over_shown};
 ghost use Rattle.markdown_resolver.specs.ClosedOver.{over_text};

@@ -3,28 +3,29 @@ ghost use Rattle.std.specs.Prelude.{◌≡◌, ◌==◌, ◌<◌, ℕ, List, Som
 ghost use Rattle.std.specs.Option.{option_map_or};
 ghost use Rattle.markdown_base.specs.BlockTree.{item_at};
 ghost use Rattle.markdown_base.specs.declared.item.ItemBody.TheVariants as body;
-ghost use Rattle.markdown_chains.specs.Above.{above_cursor};
-ghost use Rattle.markdown_chains.specs.Setting.{Rules, setting_of};
-ghost use Rattle.markdown_chains.specs.Tables.{HasGrown, Tables, tables_of};
-ghost use Rattle.markdown_code.specs.AfterLess.{autolink};
-ghost use Rattle.markdown_code.specs.Finds.{end_of_markup, gfm_footnotes};
-ghost use Rattle.markdown_code.specs.MarkupView.{markup_of};
+ghost use Rattle.markdown_document.specs.Above.{above_cursor};
+ghost use Rattle.markdown_document.specs.Setting.{Rules, setting_of};
+ghost use Rattle.markdown_document.specs.Tables.{HasGrown, Tables, tables_of};
+ghost use Rattle.markdown_spans.specs.AfterLess.{autolink};
+ghost use Rattle.markdown_base.specs.EnabledOptions.{gfm_footnotes_on};
+ghost use Rattle.markdown_spans.specs.Finds.{end_of_markup};
+ghost use Rattle.markdown_spans.specs.MarkupView.{markup_of};
 ghost use Rattle.markdown_resolver.specs.ChainPlace.{CanReadItem};
 ghost use Rattle.markdown_resolver.specs.MarkupItems.{IsMarkupAt, item_to, standing_for};
 ghost use Rattle.markdown_resolver.specs.Rewritten.{CanPut, IsFoundAt, Puts, one};
 ghost use Rattle.markdown_resolver.specs.ReadsItem.{ReadsItem};
 
-use crate::chain_place::ChainPlace;
 use crate::found::{put_found, put_parent, settle};
 use markdown_base::cow_str::CowStr;
 use markdown_base::fault::Fault;
 use markdown_base::item::{Item, ItemBody};
 use markdown_base::tag::LinkType;
 use markdown_base::tree::Tree;
-use markdown_code::after_less::{MarkupFound, scan_after_less};
-use markdown_code::prefixes::ContainerPrefix;
+use markdown_defs::Allocations;
+use markdown_document::chain_place::ChainPlace;
 use markdown_raw_html::raw_html::RawHtmlScanner;
-use markdown_spans::defs::Allocations;
+use markdown_spans::after_less::{MarkupFound, scan_after_less};
+use markdown_spans::prefixes::ContainerPrefix;
 use std::alloc::Global;
 
 /// Reads a `<`: an absolute-URI autolink (CommonMark 6.5) or raw HTML (6.6), if one stands there and the next item
@@ -41,7 +42,7 @@ pub(crate) fn read_markup<'a>(
     requires chain { CanReadItem place.now tree.old tables.old ix }
     requires opener { (item_at tree.old.nodes ix).body ≡ body.MaybeHtml }
     requires scanner { scanner.old.text.now ≡ take place.now.block_end place.now.text.now }
-    ensures reads { IfOk result (λ next. (rules : Rules) → gfm_footnotes rules.options ≡ place.now.gfm_footnotes
+    ensures reads { IfOk result (λ next. (rules : Rules) → gfm_footnotes_on rules.options ≡ gfm_footnotes_on place.now.options
         → ReadsItem (setting_of place.now.text.now rules) (above_cursor place.now.text.now tree.old) ix next
         tree.old.nodes tree.new.nodes (tables_of tables.old) (tables_of tables.new)) }
     ensures place { IfOk result (λ _. tree.new ≡ record tree.old { nodes = tree.new.nodes }) }
@@ -55,7 +56,7 @@ pub(crate) fn read_markup<'a>(
     if item.end > place.block_end || !starts_at(tree, tree.next(ix), item.end) {
         return Ok(settle(tree, ix));
     }
-    let prefix = ContainerPrefix::new(tree, place.gfm_footnotes);
+    let prefix = ContainerPrefix::new(tree, place.gfm_footnotes());
     let text = &place.text[..place.block_end];
     match scan_after_less(alloc, text, item.start, item.end, scanner, &prefix)? {
         None => Ok(settle(tree, ix)),

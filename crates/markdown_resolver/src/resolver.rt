@@ -2,7 +2,7 @@
 //! on: pass one reads it, and then it is paired.
 use crate::bracket_kind::{BracketKind, kind_of};
 use crate::brackets::{decide_closing, open_bracket, put_closed};
-use crate::chain_place::ChainPlace;
+use crate::chain_place::place_of_chain;
 use crate::found::settle;
 use crate::markup::read_markup;
 use crate::spans::{read_code, read_math};
@@ -13,12 +13,13 @@ use markdown_base::tree::Tree;
 use markdown_brackets::chain_openers::ChainOpeners;
 use markdown_brackets::finish::finish_bracket;
 use markdown_brackets::spent_ends::SpentEnds;
-use markdown_chains::work::Work;
-use markdown_code::span_closers::SpanClosers;
+use markdown_defs::{Allocations, BrokenLinkCallback};
 use markdown_delims::chain::pair_chain;
 use markdown_delims::open_runs::OpenRuns;
+use markdown_document::chain_place::ChainPlace;
+use markdown_document::work::Work;
 use markdown_raw_html::raw_html::RawHtmlScanner;
-use markdown_spans::defs::{Allocations, BrokenLinkCallback};
+use markdown_spans::span_closers::SpanClosers;
 use std::alloc::Global;
 
 /// What resolving a chain goes by, and what passes from one chain to the next.
@@ -53,15 +54,14 @@ impl<'a, F: BrokenLinkCallback<'a>> Resolver<'a, F> {
     ghost use Rattle.markdown_base.specs.declared.item.ItemBody.TheVariants as body;
     ghost use Rattle.markdown_brackets.specs.SpentEnds.{is_spent};
     ghost use Rattle.markdown_base.specs.Item.{is_open};
-    ghost use Rattle.markdown_chains.specs.Above.{above_cursor};
-    ghost use Rattle.markdown_chains.specs.Counts.{RisesAtMost};
-    ghost use Rattle.markdown_chains.specs.Document.{plain_tags};
-    ghost use Rattle.markdown_chains.specs.Setting.{rules_from, setting_of};
-    ghost use Rattle.markdown_chains.specs.Stages.{items_from, stage};
-    ghost use Rattle.markdown_chains.specs.Tables.{tables_of};
-    ghost use Rattle.markdown_code.specs.Finds.{gfm_footnotes};
-    ghost use Rattle.markdown_code.specs.SpanClosers.{HoldsFrom, has_failed};
-    ghost use Rattle.markdown_code.specs.declared.span_text.SpanKind.{SpanKind};
+    ghost use Rattle.markdown_document.specs.Above.{above_cursor};
+    ghost use Rattle.markdown_document.specs.Counts.{RisesAtMost};
+    ghost use Rattle.markdown_document.specs.Document.{plain_tags};
+    ghost use Rattle.markdown_document.specs.Setting.{rules_from, setting_of};
+    ghost use Rattle.markdown_document.specs.Stages.{items_from, stage};
+    ghost use Rattle.markdown_document.specs.Tables.{tables_of};
+    ghost use Rattle.markdown_spans.specs.SpanClosers.{HoldsFrom, has_failed};
+    ghost use Rattle.markdown_spans.specs.declared.span_text.SpanKind.{SpanKind};
     ghost use Rattle.markdown_resolver.specs.BracketKinds.{kind_of};
     ghost use Rattle.markdown_resolver.specs.ChainPlace.{CanReadItem};
     ghost use Rattle.markdown_resolver.specs.Chains.{CanResolve, AreAbove, ResolvesChain, ResolvesFrom, StopsIn};
@@ -70,7 +70,7 @@ impl<'a, F: BrokenLinkCallback<'a>> Resolver<'a, F> {
     ghost use Rattle.markdown_resolver.specs.ReadsBracket.{CanReadNode, ChangesForBracket, ChangesForNode};
     ghost use Rattle.markdown_resolver.specs.ReadsBracket.{ReadsBracket, ReadsNode, StopsAtNode, setting_by, stage_by};
     ghost use Rattle.markdown_resolver.specs.ReadsItem.{LooksAt, ReadsItem};
-    ghost use Rattle.markdown_spans.specs.Footnotes.{footnote_at};
+    ghost use Rattle.markdown_defs.specs.Footnotes.{footnote_at};
 
     /// Reads the item of a node of a chain, which is no bracket: the link at which the chain goes on. The scanner is
     /// one of the text up to the block's end.
@@ -83,7 +83,7 @@ impl<'a, F: BrokenLinkCallback<'a>> Resolver<'a, F> {
     ) -> Result<Option<usize>, Fault>
         requires chain { CanReadItem place.now tree.old self.old.tables ix }
         requires text { place.now.text.now ≡ self.old.text.now }
-        requires footnotes { place.now.gfm_footnotes ≡ gfm_footnotes self.old.options }
+        requires options { place.now.options ≡ self.old.options }
         requires scanner { scanner.old.text.now ≡ take place.now.block_end place.now.text.now }
         requires code_learned { HoldsFrom SpanKind.Code self.old.code_closers tree.old.nodes (Some ix) }
         requires math_learned { HoldsFrom SpanKind.Math self.old.math_closers tree.old.nodes (Some ix) }
@@ -334,7 +334,7 @@ impl<'a, F: BrokenLinkCallback<'a>> Resolver<'a, F> {
         let _code_visits = self.work.code_visits;
         let _math_visits = self.work.math_visits;
         self.begin_chain(tree, first);
-        let place = ChainPlace::of_chain(tree, self.text, self.options);
+        let place = place_of_chain(tree, self.text, self.options);
         let mut scanner = RawHtmlScanner::new(self.text[..place.block_end].as_bytes());
         let mut at = Some(first);
         'chain: while let Some(ix) = at {

@@ -1,6 +1,6 @@
 //! Items at which nothing is found are settled.
 ghost use Rattle.std.specs.Prelude.{◌≡◌, ◌<◌, length};
-ghost use Rattle.markdown_chains.specs.Waiting.{waits_for_pairing};
+ghost use Rattle.markdown_document.specs.Waiting.{waits_for_pairing};
 ghost use Rattle.markdown_resolver.specs.Settling.{becomes_text, settled_at};
 
 use markdown_base::item::{Item, ItemBody};

@@ -5,35 +5,36 @@ ghost use Rattle.markdown_base.specs.Arena.{sibling_of};
 ghost use Rattle.markdown_base.specs.BlockTree.{item_at};
 ghost use Rattle.markdown_base.specs.CowText.{text_of};
 ghost use Rattle.markdown_base.specs.declared.item.ItemBody.TheVariants as body;
-ghost use Rattle.markdown_chains.specs.Above.{above_cursor};
-ghost use Rattle.markdown_chains.specs.Origins.{IsSlicedOf, origin_of};
-ghost use Rattle.markdown_chains.specs.Setting.{Rules, setting_of};
-ghost use Rattle.markdown_chains.specs.Stages.{items_from};
-ghost use Rattle.markdown_chains.specs.Tables.{Tables, tables_of, text_at};
-ghost use Rattle.markdown_code.specs.BlocksAbove.{HasBlocks};
-ghost use Rattle.markdown_code.specs.ChainInArena.{HasChain};
-ghost use Rattle.markdown_code.specs.Closers.{is_dollar};
-ghost use Rattle.markdown_code.specs.CodeText.{span_origin};
-ghost use Rattle.markdown_code.specs.Finds.{gfm_footnotes, is_escaped, text_between};
-ghost use Rattle.markdown_code.specs.MathOpening.{dollar_at};
-ghost use Rattle.markdown_code.specs.SpanClosers.{HoldsFrom, has_failed};
+ghost use Rattle.markdown_document.specs.Above.{above_cursor};
+ghost use Rattle.markdown_document.specs.Origins.{IsSlicedOf, origin_of};
+ghost use Rattle.markdown_document.specs.Setting.{Rules, setting_of};
+ghost use Rattle.markdown_document.specs.Stages.{items_from};
+ghost use Rattle.markdown_document.specs.Tables.{Tables, tables_of, text_at};
+ghost use Rattle.markdown_spans.specs.BlocksAbove.{HasBlocks};
+ghost use Rattle.markdown_spans.specs.ChainInArena.{HasChain};
+ghost use Rattle.markdown_spans.specs.Closers.{is_dollar};
+ghost use Rattle.markdown_spans.specs.CodeText.{span_origin};
+ghost use Rattle.markdown_base.specs.EnabledOptions.{gfm_footnotes_on};
+ghost use Rattle.markdown_spans.specs.Finds.{is_escaped, text_between};
+ghost use Rattle.markdown_spans.specs.MathOpening.{dollar_at};
+ghost use Rattle.markdown_spans.specs.SpanClosers.{HoldsFrom, has_failed};
 ghost use Rattle.markdown_resolver.specs.ChainPlace.{CanReadItem, IsPlaceOf};
 ghost use Rattle.markdown_resolver.specs.PutCode.{CanPutCode, code_standing};
 ghost use Rattle.markdown_resolver.specs.Rewritten.{Puts};
 ghost use Rattle.markdown_resolver.specs.StoredText.{CanCut, StoresText};
 ghost use Rattle.markdown_resolver.specs.ReadsItem.{LooksAt, ReadsItem};
 
-use crate::chain_place::ChainPlace;
 use crate::found::{put_found, put_pair, settle};
 use markdown_base::cow_str::CowStr;
 use markdown_base::fault::Fault;
 use markdown_base::index::CowIndex;
 use markdown_base::item::{Item, ItemBody};
 use markdown_base::tree::Tree;
-use markdown_code::prefixes::ContainerPrefix;
-use markdown_code::span_closers::SpanClosers;
-use markdown_code::span_text::{SpanKind, span_text};
-use markdown_spans::defs::Allocations;
+use markdown_defs::Allocations;
+use markdown_document::chain_place::ChainPlace;
+use markdown_spans::prefixes::ContainerPrefix;
+use markdown_spans::span_closers::SpanClosers;
+use markdown_spans::span_text::{SpanKind, span_text};
 use std::alloc::Global;
 
 /// The text of a span that stands from a byte to another.
@@ -48,7 +49,7 @@ fn text_between<'a>(
     requires place { IsPlaceOf place.now tree.now }
     requires above { HasBlocks tree.now }
     requires cut { CanCut place.now.text.now start end }
-    ensures value { IfOk result (λ made. (rules : Rules) → gfm_footnotes rules.options ≡ place.now.gfm_footnotes
+    ensures value { IfOk result (λ made. (rules : Rules) → gfm_footnotes_on rules.options ≡ gfm_footnotes_on place.now.options
         → text_of made ≡ text_between (setting_of place.now.text.now rules) (above_cursor place.now.text.now tree.now)
         kind start end) }
     ensures origin { IfOk result (λ span. origin_of span
@@ -56,7 +57,7 @@ fn text_between<'a>(
     ensures slice { IfOk result (λ span. IsSlicedOf place.now.text.now (origin_of span) (text_of span)) }
     ensures refused { IfErr result (λ fault. fault ≡ Fault.Memory) }
 {
-    let prefix = ContainerPrefix::new(tree, place.gfm_footnotes);
+    let prefix = ContainerPrefix::new(tree, place.gfm_footnotes());
     Ok(span_text(
         alloc,
         &place.text[start..end],
@@ -81,7 +82,7 @@ fn store_text<'a>(
     requires cut { CanCut place.now.text.now start end }
     ensures stored { IfOk result (λ cow. StoresText place.now.text.now (tables_of tables.old) (tables_of tables.new) cow
         (span_origin (above_cursor place.now.text.now tree.now).in_table (slice_range place.now.text.now start end))) }
-    ensures text { IfOk result (λ cow. (rules : Rules) → gfm_footnotes rules.options ≡ place.now.gfm_footnotes
+    ensures text { IfOk result (λ cow. (rules : Rules) → gfm_footnotes_on rules.options ≡ gfm_footnotes_on place.now.options
         → text_at tables.new.cows cow.0 ≡ text_between (setting_of place.now.text.now rules)
         (above_cursor place.now.text.now tree.now) kind start end) }
 
@@ -181,7 +182,7 @@ pub(crate) fn read_code<'a>(
     requires opener { (count : ℕ) × (escaped : Bool)
         × ((item_at tree.old.nodes ix).body ≡ body.MaybeCode count escaped) }
     requires learned { HoldsFrom SpanKind.Code closers.old tree.old.nodes (Some ix) }
-    ensures reads { IfOk result (λ next. (rules : Rules) → gfm_footnotes rules.options ≡ place.now.gfm_footnotes
+    ensures reads { IfOk result (λ next. (rules : Rules) → gfm_footnotes_on rules.options ≡ gfm_footnotes_on place.now.options
         → ReadsItem (setting_of place.now.text.now rules) (above_cursor place.now.text.now tree.old) ix next
         tree.old.nodes tree.new.nodes (tables_of tables.old) (tables_of tables.new)) }
     ensures learned { IfOk result (λ next. HoldsFrom SpanKind.Code closers.new tree.new.nodes next) }
@@ -223,7 +224,7 @@ pub(crate) fn read_math<'a>(
     requires chain { CanReadItem place.now tree.old tables.old ix }
     requires opener { is_dollar (item_at tree.old.nodes ix).body ≡ true }
     requires learned { HoldsFrom SpanKind.Math closers.old tree.old.nodes (Some ix) }
-    ensures reads { IfOk result (λ next. (rules : Rules) → gfm_footnotes rules.options ≡ place.now.gfm_footnotes
+    ensures reads { IfOk result (λ next. (rules : Rules) → gfm_footnotes_on rules.options ≡ gfm_footnotes_on place.now.options
         → ReadsItem (setting_of place.now.text.now rules) (above_cursor place.now.text.now tree.old) ix next
         tree.old.nodes tree.new.nodes (tables_of tables.old) (tables_of tables.new)) }
     ensures learned { IfOk result (λ next. HoldsFrom SpanKind.Math closers.new tree.new.nodes next) }

@@ -7,7 +7,8 @@ use Rattle.std.proofs.lemmas.Str.{encode_ascii, inside_one, length-encode, len_u
 use Rattle.std.proofs.lemmas.Option.{same_Some}
 use Rattle.std.proofs.lemmas.Bool.Decides.{nat_tests, leb_tells}
 use Rattle.markdown_scan.specs.AsciiKinds.{is_white_space}
-use Rattle.markdown_scan.specs.Backslash.{backslash, is_bare}
+use Rattle.markdown_base.specs.Bytes.{backslash}
+use Rattle.markdown_scan.specs.Backslash.{is_bare}
 use Rattle.markdown_scan.specs.Label.{label_bytes, body, put_before, shown, with_shown, collapse_whitespace, gap}
 use Rattle.markdown_scan.specs.LinePrefix.{prefix_after}
 use Rattle.markdown_scan.specs.LabelScan.{character_shown, found_in}

@@ -7,8 +7,8 @@ use Rattle.std.proofs.lemmas.List.Sums.{sum_by-append}
 use Rattle.std.proofs.lemmas.List.Folds.{list_any-append}
 use Rattle.std.proofs.lemmas.Bool.{cond_both}
 use Rattle.std.proofs.lemmas.Bool.Decides.{nat_tests}
-use Rattle.markdown_scan.specs.AsciiKinds.{pipe}
-use Rattle.markdown_scan.specs.Backslash.{backslash, begins_pipe, escapes_pipe, is_bare}
+use Rattle.markdown_base.specs.Bytes.{pipe, backslash}
+use Rattle.markdown_scan.specs.Backslash.{begins_pipe, escapes_pipe, is_bare}
 use Rattle.markdown_scan.specs.Label.{LabelByte, kept, refused, label_bytes, body, put_before, shown, with_shown, begins_character}
 use Rattle.markdown_scan.specs.Label.{is_not_white_space}
 use Rattle.markdown_scan.specs.LinePrefix.{prefix_after}

@@ -15,7 +15,8 @@ use Rattle.markdown_scan.specs.Entity.{character_of, digits_of, entity, number_o
 use Rattle.markdown_scan.proofs.BeginsWithLemmas.{begins_with-reads}
 use Rattle.std.proofs.lemmas.List.{get_or-drop}
 use Rattle.markdown_scan.specs.AsciiKinds.{is_control_or_space}
-use Rattle.markdown_scan.specs.Backslash.{backslash, is_bare}
+use Rattle.markdown_base.specs.Bytes.{backslash}
+use Rattle.markdown_scan.specs.Backslash.{is_bare}
 use Rattle.markdown_scan.specs.Destination.{bare_destination, bare_length, end_of_bare, is_past_bare, is_too_deep, open_after}
 use Rattle.markdown_scan.specs.Label.{LabelByte, body, dropped, fits_label, kept, label_body, label_bytes, put_before, refused, shown}
 use Rattle.markdown_scan.specs.Label.{with_shown}

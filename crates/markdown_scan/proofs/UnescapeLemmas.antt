@@ -9,8 +9,7 @@ use Rattle.std.proofs.lemmas.Str.{length-encode, len_utf8_bounds, len_utf8_ascii
 use Rattle.std.specs.Char.{digit_value, len_utf8, is_ascii_punctuation}
 use Rattle.std.specs.Option.{option_or, option_map_or}
 use Rattle.markdown_scan.specs.Entity.{character_of, digits_of, entity, is_no_scalar, number_of, numeric_reference}
-use Rattle.markdown_scan.specs.AsciiKinds.{pipe}
-use Rattle.markdown_scan.specs.Backslash.{backslash}
+use Rattle.markdown_base.specs.Bytes.{pipe, backslash}
 use Rattle.markdown_scan.specs.Beginnings.{begins_with}
 use Rattle.markdown_scan.specs.Unescape.{escape, reference, unescaped, unescaped_past}
 use Rattle.markdown_scan.proofs.BeginsWithLemmas.{begins_with-fits, begins_with-reads}

@@ -3,15 +3,12 @@
 -- ASCII, and the line tabulation.
 use Rattle.std.specs.Prelude.{ℕ, Bool, ◌==◌, ◌||◌, ◌&&◌, nat_le}
 use Rattle.std.specs.Char.{is_ascii_control}
-
--- a pipe
-abbrev pub pipe : ℕ
-pipe = 124
+use Rattle.markdown_base.specs.Bytes.{carriage_return, space, tab}
 
 -- an ASCII control character or a space
 abbrev pub is_control_or_space : ℕ → Bool
-is_control_or_space b = is_ascii_control b || (b == 32)
+is_control_or_space b = is_ascii_control b || (b == space)
 
 -- white space: a space, tab, line feed, line tabulation, form feed or carriage return
 abbrev pub is_white_space : ℕ → Bool
-is_white_space b = (b == 32) || (nat_le 9 b && nat_le b 13)
+is_white_space b = (b == space) || (nat_le tab b && nat_le b carriage_return)

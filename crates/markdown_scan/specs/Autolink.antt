@@ -3,12 +3,13 @@ use Rattle.std.specs.Prelude.{ℕ, ◌+◌, ◌==◌, Bool, not, ◌&&◌, ◌||
 use Rattle.std.specs.Prelude.{slice_index, Option, Some, None, if◌then◌else◌}
 use Rattle.std.specs.Option.{option_map}
 use Rattle.std.specs.Char.{is_ascii_alphanumeric}
+use Rattle.markdown_base.specs.Bytes.{colon, full_stop, greater_than, hyphen, less_than, plus_sign}
 use Rattle.markdown_scan.specs.AsciiKinds.{is_control_or_space}
 use Rattle.markdown_scan.specs.Beginnings.{begins_with_letter}
 
 -- a character of a scheme: an ASCII letter, a digit, a plus, a period or a hyphen
 abbrev pub is_scheme_byte : ℕ → Bool
-is_scheme_byte b = is_ascii_alphanumeric b || (b == 43) || (b == 46) || (b == 45)
+is_scheme_byte b = is_ascii_alphanumeric b || (b == plus_sign) || (b == full_stop) || (b == hyphen)
 
 -- how many characters of a scheme the bytes begin with
 abbrev pub scheme_length : List ℕ → ℕ
@@ -18,11 +19,11 @@ scheme_length bytes = length (take_while is_scheme_byte bytes)
 abbrev pub begins_scheme : List ℕ → Bool
 begins_scheme bytes =
     begins_with_letter bytes && nat_le 2 (scheme_length bytes) && nat_le (scheme_length bytes) 32
-    && (slice_index bytes (scheme_length bytes) == 58)
+    && (slice_index bytes (scheme_length bytes) == colon)
 
 -- a character of a URI: no ASCII control character, no space, no < and no >
 abbrev pub is_uri_byte : ℕ → Bool
-is_uri_byte b = not (is_control_or_space b) && not (b == 60) && not (b == 62)
+is_uri_byte b = not (is_control_or_space b) && not (b == less_than) && not (b == greater_than)
 
 -- how many characters of a URI the bytes begin with
 abbrev pub uri_length : List ℕ → ℕ
@@ -31,7 +32,8 @@ uri_length bytes = length (take_while is_uri_byte bytes)
 -- the length of the URI that the bytes begin with, where a > follows it
 abbrev pub closed_uri : List ℕ → Option ℕ
 closed_uri bytes =
-    if begins_scheme bytes && (slice_index bytes (uri_length bytes) == 62) then Some (uri_length bytes) else None
+    if begins_scheme bytes && (slice_index bytes (uri_length bytes) == greater_than) then Some (uri_length bytes)
+    else None
 
 -- the byte after the autolink of which the `<` stands before this byte, and its URI
 abbrev pub uri_autolink : List ℕ → ℕ → Option (ℕ × List ℕ)

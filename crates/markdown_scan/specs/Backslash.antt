@@ -1,11 +1,7 @@
 -- Backslash escapes (CommonMark 2.4), where all that matters is which brackets and backslashes count,
 -- and those of a table's pipes.
 use Rattle.std.specs.Prelude.{ℕ, Bool, false, not, ◌&&◌, ◌==◌, List, [], ◌∷◌}
-use Rattle.markdown_scan.specs.AsciiKinds.{pipe}
-
--- a backslash
-abbrev pub backslash : ℕ
-backslash = 92
+use Rattle.markdown_base.specs.Bytes.{backslash, pipe}
 
 -- the byte is this punctuation character, and no backslash escapes it
 abbrev pub is_bare : Bool → ℕ → ℕ → Bool

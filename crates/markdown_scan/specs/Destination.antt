@@ -3,34 +3,37 @@
 use Rattle.std.specs.Prelude.{ℕ, ◌+◌, ◌-◌, Bool, false, ◌&&◌, ◌||◌, ◌==◌, nat_lt, List, [], ◌∷◌, take, drop}
 use Rattle.std.specs.Prelude.{slice_index, Option, Some, None, if◌then◌else◌}
 use Rattle.std.specs.Option.{option_map}
+use Rattle.markdown_base.specs.Bytes.{backslash, carriage_return, close_parenthesis, greater_than, less_than}
+use Rattle.markdown_base.specs.Bytes.{line_feed, open_parenthesis}
 use Rattle.markdown_scan.specs.AsciiKinds.{is_control_or_space}
-use Rattle.markdown_scan.specs.Backslash.{backslash, is_bare}
-use Rattle.markdown_scan.specs.LineEnd.{line_feed, carriage_return}
+use Rattle.markdown_scan.specs.Backslash.{is_bare}
 
 -- the byte may not stand between angle brackets: another <, or a line ending
 abbrev pub is_refused : Bool → ℕ → Bool
-is_refused escaped b = is_bare escaped b 60 || (b == line_feed) || (b == carriage_return)
+is_refused escaped b = is_bare escaped b less_than || (b == line_feed) || (b == carriage_return)
 
 -- the bytes before the > that closes a destination in angle brackets
 abbrev pub angle_length : Bool → List ℕ → Option ℕ
 angle_length escaped [] = None
 angle_length escaped (b ∷ bytes) =
-    if is_bare escaped b 62 then Some 0
+    if is_bare escaped b greater_than then Some 0
     else if is_refused escaped b then None
     else option_map (λ n. 1 + n) (angle_length (is_bare escaped b backslash) bytes)
 
 -- the parentheses that are open after this byte
 abbrev pub open_after : Bool → ℕ → ℕ → ℕ
 open_after escaped b opened =
-    if is_bare escaped b 40 then opened + 1 else if is_bare escaped b 41 then opened - 1 else opened
+    if is_bare escaped b open_parenthesis then opened + 1
+    else if is_bare escaped b close_parenthesis then opened - 1
+    else opened
 
 -- a destination ends before this byte: a control character, a space, a ) that closes nothing
 abbrev pub is_past_bare : Bool → ℕ → ℕ → Bool
-is_past_bare escaped opened b = is_control_or_space b || (is_bare escaped b 41 && (opened == 0))
+is_past_bare escaped opened b = is_control_or_space b || (is_bare escaped b close_parenthesis && (opened == 0))
 
 -- a ( at which more than so many parentheses are open
 abbrev pub is_too_deep : ℕ → Bool → ℕ → ℕ → Bool
-is_too_deep max_nesting escaped opened b = is_bare escaped b 40 && nat_lt max_nesting opened
+is_too_deep max_nesting escaped opened b = is_bare escaped b open_parenthesis && nat_lt max_nesting opened
 
 -- a destination may end where no parenthesis is open
 abbrev pub end_of_bare : ℕ → Option ℕ
@@ -56,4 +59,4 @@ bare_destination max_nesting bytes = option_map (λ n. (n, take n bytes)) (bare_
 -- the length and the raw text of the destination that the bytes begin with
 abbrev pub destination : ℕ → List ℕ → Option (ℕ × List ℕ)
 destination max_nesting bytes =
-    if slice_index bytes 0 == 60 then angle_destination (drop 1 bytes) else bare_destination max_nesting bytes
+    if slice_index bytes 0 == less_than then angle_destination (drop 1 bytes) else bare_destination max_nesting bytes

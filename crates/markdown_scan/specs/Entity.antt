@@ -3,6 +3,7 @@
 use Rattle.std.specs.Prelude.{ℕ, ◌+◌, ◌*◌, Bool, ◌&&◌, ◌||◌, ◌==◌, nat_le, List, Option, Some, None, if◌then◌else◌}
 use Rattle.std.specs.Prelude.{length, drop, take_while, fold, codes}
 use Rattle.std.specs.Char.{digit_value, is_digit}
+use Rattle.markdown_base.specs.Bytes.{ampersand, double_quote, greater_than, less_than}
 use Rattle.markdown_scan.specs.Beginnings.{begins_with}
 
 -- a surrogate, or above U+10FFFF
@@ -34,10 +35,10 @@ numeric_reference start radix most bytes =
 -- the length in bytes of the reference that the bytes begin with, and its character
 abbrev pub entity : List ℕ → Option (ℕ × ℕ)
 entity bytes =
-    if begins_with (codes "&amp;") bytes then Some (5, 38)
-    else if begins_with (codes "&lt;") bytes then Some (4, 60)
-    else if begins_with (codes "&gt;") bytes then Some (4, 62)
-    else if begins_with (codes "&quot;") bytes then Some (6, 34)
+    if begins_with (codes "&amp;") bytes then Some (5, ampersand)
+    else if begins_with (codes "&lt;") bytes then Some (4, less_than)
+    else if begins_with (codes "&gt;") bytes then Some (4, greater_than)
+    else if begins_with (codes "&quot;") bytes then Some (6, double_quote)
     else if begins_with (codes "&#x") bytes || begins_with (codes "&#X") bytes
     then numeric_reference 3 16 6 bytes
     else if begins_with (codes "&#") bytes then numeric_reference 2 10 7 bytes

@@ -4,8 +4,9 @@ use Rattle.std.specs.Prelude.{ℕ, zero, suc, ◌+◌, List, [], ◌∷◌, ◌+
 use Rattle.std.specs.Prelude.{None, if◌then◌else◌, unwrap_or, is_none, nat_le, nat_lt, count_by, option_and_then}
 use Rattle.std.specs.List.{list_any}
 use Rattle.std.specs.Option.{option_map}
+use Rattle.markdown_base.specs.Bytes.{backslash, close_bracket, open_bracket, space}
 use Rattle.markdown_scan.specs.AsciiKinds.{is_white_space}
-use Rattle.markdown_scan.specs.Backslash.{backslash, escapes_pipe, is_bare}
+use Rattle.markdown_scan.specs.Backslash.{escapes_pipe, is_bare}
 use Rattle.markdown_scan.specs.LinePrefix.{prefix_after}
 
 -- a byte of the label, a byte of a line's prefix, or a line ending that may not stand there
@@ -32,8 +33,8 @@ body escaped [] = None
 body escaped (refused ∷ rest) = None
 body escaped (dropped ∷ rest) = put_before 1 [] (body escaped rest)
 body escaped (kept b ∷ rest) =
-    if is_bare escaped b 93 then Some (0, [])
-    else if is_bare escaped b 91 then None
+    if is_bare escaped b close_bracket then Some (0, [])
+    else if is_bare escaped b open_bracket then None
     else put_before 1 (b ∷ []) (body (is_bare escaped b backslash) rest)
 
 -- in a table, without each backslash directly before a pipe, whatever stands before that backslash
@@ -48,11 +49,11 @@ with_shown in_table found = option_map (λ f. (f.0, shown in_table f.1)) found
 
 -- a bracket that is not escaped
 abbrev pub is_bracket : Bool → ℕ → Bool
-is_bracket escaped b = is_bare escaped b 93 || is_bare escaped b 91
+is_bracket escaped b = is_bare escaped b close_bracket || is_bare escaped b open_bracket
 
 -- a space before a byte that is no white space, if white space stands between it and an earlier one
 abbrev pub gap : Bool → Bool → List ℕ
-gap begun waiting = if begun && waiting then 32 ∷ [] else []
+gap begun waiting = if begun && waiting then space ∷ [] else []
 
 -- each inner run of white space as one space, none at the ends; `begun` once a byte was given,
 -- `waiting` after white space

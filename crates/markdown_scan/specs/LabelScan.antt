@@ -2,7 +2,8 @@
 use Rattle.std.specs.Prelude.{◌≡◌, ◌≢◌, IfSome, ℕ, ◌+◌, List, [], ◌∷◌, ◌++◌, take, Bool, ◌&&◌, ◌||◌, Option, Some, None}
 use Rattle.std.specs.Prelude.{if◌then◌else◌, nat_le, count_by, option_and_then, encode_utf8, String, string_bytes}
 use Rattle.std.specs.List.{list_any}
-use Rattle.markdown_scan.specs.Backslash.{backslash, escapes_pipe, is_bare}
+use Rattle.markdown_base.specs.Bytes.{backslash}
+use Rattle.markdown_scan.specs.Backslash.{escapes_pipe, is_bare}
 use Rattle.markdown_scan.specs.Label.{label_bytes, body, put_before, with_shown, begins_character, is_not_white_space}
 
 -- the place of the closing bracket, where so many bytes and characters stand before what was found,

@@ -1,14 +1,7 @@
 -- Line endings (CommonMark 2.1): a line feed, a carriage return not followed by a line feed, or a
 -- carriage return and a following line feed.
 use Rattle.std.specs.Prelude.{ℕ, Bool, false, ◌==◌, List, [], ◌∷◌, Option, Some, None, if◌then◌else◌}
-
--- a line feed
-abbrev pub line_feed : ℕ
-line_feed = 10
-
--- a carriage return
-abbrev pub carriage_return : ℕ
-carriage_return = 13
+use Rattle.markdown_base.specs.Bytes.{carriage_return, line_feed}
 
 -- the bytes begin with a line feed
 abbrev pub begins_line_feed : List ℕ → Bool

@@ -2,7 +2,7 @@
 -- columns. A tab of which a column is used is taken; its other columns are owed to what is read next.
 use Rattle.std.specs.Prelude.{ℕ, ◌+◌, ◌-◌, Bool, true, ◌&&◌, ◌||◌, ◌==◌, nat_le, nat_lt, List, [], ◌∷◌, drop}
 use Rattle.std.specs.Prelude.{slice_index, if◌then◌else◌}
-use Rattle.markdown_scan.specs.LineEnd.{line_feed, carriage_return}
+use Rattle.markdown_base.specs.Bytes.{carriage_return, greater_than, line_feed, space as space_byte, tab}
 
 -- what is left of a line: the bytes that were scanned, the columns of space that a cut tab owes, and
 -- the bytes that follow, with the columns between them and the last tab stop
@@ -19,7 +19,7 @@ pub record Space : Type 0 where
 
 -- the columns of a space or a tab, and none of any other byte
 abbrev pub space_width : ℕ → ℕ → ℕ
-space_width column b = if b == 32 then 1 else if b == 9 then 4 - column else 0
+space_width column b = if b == space_byte then 1 else if b == tab then 4 - column else 0
 
 -- the column after a byte of one column
 abbrev pub next_column : ℕ → ℕ
@@ -27,7 +27,7 @@ next_column column = if column == 3 then 0 else column + 1
 
 -- the column after a space or a tab
 abbrev pub column_after : ℕ → ℕ → ℕ
-column_after column b = if b == 9 then 0 else next_column column
+column_after column b = if b == tab then 0 else next_column column
 
 -- so many columns more before that space
 abbrev pub wider : ℕ → Space → Space
@@ -81,7 +81,7 @@ is_line_over (b ∷ bytes) = (b == line_feed) || (b == carriage_return)
 
 -- a block quote marker (CommonMark 5.1) comes next: a >
 abbrev pub begins_marker : LineLeft → Bool
-begins_marker left = (left.owed == 0) && (slice_index left.bytes 0 == 62)
+begins_marker left = (left.owed == 0) && (slice_index left.bytes 0 == greater_than)
 
 -- what is left after the > that comes next
 abbrev pub past_byte : LineLeft → LineLeft

@@ -3,9 +3,10 @@ use Rattle.std.specs.Prelude.{◌+◌, ◌||◌, [], ◌∷◌, suc, zero, take,
 use Rattle.std.specs.Prelude.{List, IfSome, IsTrue}
 use Rattle.std.specs.Char.{is_ascii_punctuation}
 use Rattle.std.specs.List.{list_all}
+use Rattle.markdown_base.specs.Bytes.{ampersand, backslash, pipe, semicolon, space as space_byte}
 use Rattle.markdown_scan.specs.Autolink.{uri_autolink, is_uri_byte}
-use Rattle.markdown_scan.specs.AsciiKinds.{is_control_or_space, pipe}
-use Rattle.markdown_scan.specs.Backslash.{backslash, is_bare}
+use Rattle.markdown_scan.specs.AsciiKinds.{is_control_or_space}
+use Rattle.markdown_scan.specs.Backslash.{is_bare}
 use Rattle.markdown_scan.specs.Destination.{bare_destination}
 use Rattle.markdown_scan.specs.Beginnings.{StandsBetween}
 use Rattle.markdown_scan.specs.Entity.{entity}
@@ -20,7 +21,7 @@ AutolinkIsPlain text at = IfSome (uri_autolink text at) (λ found. IsTrue (list_
 
 -- neither a backslash nor a `&`
 abbrev pub is_plain : ℕ → Bool
-is_plain b = not (b == backslash) && not (b == 38)
+is_plain b = not (b == backslash) && not (b == ampersand)
 
 -- a text without backslashes and `&` stands for itself
 abbrev pub UnescapingLeavesPlainText : Bool → List ℕ → Type 0
@@ -44,7 +45,7 @@ WikilinkNameHoldsNoPipe text start size =
 
 -- an entity begins with `&` (38) and ends with `;` (59)
 abbrev pub EntityBeginsAndEnds : List ℕ → Type 0
-EntityBeginsAndEnds bytes = IfSome (entity bytes) (λ r. StandsBetween 38 59 bytes r.0)
+EntityBeginsAndEnds bytes = IfSome (entity bytes) (λ r. StandsBetween ampersand semicolon bytes r.0)
 
 -- neither a space nor a control character
 abbrev pub is_in_bare : ℕ → Bool
@@ -76,7 +77,7 @@ line_of bytes = record { scanned = 0; owed = 0; column = 0; bytes = bytes }
 -- so many spaces and a tab, and then these bytes
 abbrev pub spaces_and_tab : ℕ → List ℕ → List ℕ
 spaces_and_tab zero bytes = 9 ∷ bytes
-spaces_and_tab (suc spaces) bytes = 32 ∷ spaces_and_tab spaces bytes
+spaces_and_tab (suc spaces) bytes = space_byte ∷ spaces_and_tab spaces bytes
 
 -- at most three spaces and a tab are four columns, after which the next bytes stand at a tab stop
 abbrev pub TabGoesToTheNextStop : ℕ → List ℕ → Type 0

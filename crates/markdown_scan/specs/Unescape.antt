@@ -3,9 +3,8 @@ use Rattle.std.specs.Prelude.{ℕ, suc, zero, ◌-◌, Bool, ◌&&◌, ◌==◌,
 use Rattle.std.specs.Prelude.{if◌then◌else◌, encode_utf8}
 use Rattle.std.specs.Option.{option_map_or, option_or}
 use Rattle.std.specs.Char.{is_ascii_punctuation}
+use Rattle.markdown_base.specs.Bytes.{backslash, pipe}
 use Rattle.markdown_scan.specs.Entity.{entity}
-use Rattle.markdown_scan.specs.AsciiKinds.{pipe}
-use Rattle.markdown_scan.specs.Backslash.{backslash}
 use Rattle.markdown_scan.specs.Beginnings.{begins_with}
 
 -- a backslash before ASCII punctuation: two bytes, which stand for the punctuation

@@ -1,7 +1,7 @@
 -- The pipe of a wikilink, `[[name|shown text]]`: the first one cuts the name from the shown text.
 use Rattle.std.specs.Prelude.{ℕ, ◌+◌, ◌==◌, List, take, drop, Option, position}
 use Rattle.std.specs.Option.{option_map}
-use Rattle.markdown_scan.specs.AsciiKinds.{pipe}
+use Rattle.markdown_base.specs.Bytes.{pipe}
 
 -- the byte after the first pipe of the body that starts here, and the body's bytes before that pipe
 abbrev pub name_before_pipe : ℕ → List ℕ → Option (ℕ × List ℕ)

@@ -2,7 +2,7 @@
 ghost use Rattle.std.specs.Prelude.{◌≡◌, ◌==◌, ◌≤◌, ◌<◌, ◌+◌, IfSome, length, position, slice_index};
 ghost use Rattle.std.specs.Option.{option_map};
 ghost use Rattle.std.specs.Str.{IsCharBoundary};
-ghost use Rattle.markdown_scan.specs.AsciiKinds.{pipe};
+ghost use Rattle.markdown_base.specs.Bytes.{pipe};
 ghost use Rattle.markdown_scan.specs.WikilinkPipe.{wikilink_pipe};
 
 // Where the first pipe stands.

@@ -1,6 +1,6 @@
 //! Autolinks: the examples of CommonMark 6.5, and the bounds of a scheme.
-use crate::rows::gives;
 use markdown_scan::autolink::scan_uri_autolink;
+use markdown_test_helpers::rows::gives;
 use std::test::Fail;
 
 // What an autolink gives whose `<` is the first byte.

@@ -1,6 +1,6 @@
 //! Link destinations: the examples of CommonMark 6.3, and the bound on parentheses.
-use crate::rows::gives;
 use markdown_scan::destination::scan_link_destination;
+use markdown_test_helpers::rows::gives;
 use std::test::Fail;
 
 // The destination that a text begins with.

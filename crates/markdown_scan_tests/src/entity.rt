@@ -1,6 +1,6 @@
 //! Entities: the examples of CommonMark 2.5 that one reference decides, and the boundaries.
-use crate::rows::gives;
 use markdown_scan::entity::scan_entity;
+use markdown_test_helpers::rows::gives;
 use std::test::Fail;
 
 #[test]

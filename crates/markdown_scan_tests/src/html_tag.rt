@@ -1,7 +1,7 @@
 //! Tags: the examples of CommonMark 6.6 that one scan decides, and lines with prefixes.
-use crate::rows::gives;
 use markdown_raw_html::html_tag::scan_html_tag;
 use markdown_scan::line_rule::{LineRule, NoPrefix, OneLine};
+use markdown_test_helpers::rows::gives;
 use std::alloc::{AllocError, Global};
 use std::test::Fail;
 

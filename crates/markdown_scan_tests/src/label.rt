@@ -1,8 +1,8 @@
 //! Link labels: the examples of CommonMark 6.3, and the bound on their characters.
-use crate::rows::gives;
 use markdown_base::cow_str::CowStr;
 use markdown_scan::label::scan_link_label;
 use markdown_scan::line_rule::{NoPrefix, OneLine};
+use markdown_test_helpers::rows::gives;
 use std::alloc::{AllocError, Global};
 use std::test::Fail;
 

@@ -16,8 +16,6 @@ mod line_start;
 #[cfg(test)]
 mod raw_html;
 #[cfg(test)]
-mod rows;
-#[cfg(test)]
 mod unescape;
 #[cfg(test)]
 mod wikilink_pipe;

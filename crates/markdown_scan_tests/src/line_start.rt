@@ -1,7 +1,7 @@
 //! Line endings, and white space by columns: the examples of CommonMark 2.2, and the bounds.
-use crate::rows::gives;
 use markdown_scan::line_end::scan_line_ending;
 use markdown_scan::line_start::LineStart;
+use markdown_test_helpers::rows::gives;
 use std::test::Fail;
 
 #[test]

@@ -1,7 +1,7 @@
 //! Comments, CDATA sections, declarations and processing instructions: the examples of CommonMark
 //! 6.6 that one scan decides, each from its `<` on, with the length of what it begins with.
-use crate::rows::gives;
 use markdown_raw_html::raw_html::RawHtmlScanner;
+use markdown_test_helpers::rows::gives;
 use std::test::Fail;
 
 #[derive(Clone, Copy, Drop)]

@@ -1,7 +1,7 @@
 //! Escapes and entities: the examples of CommonMark 2.4 and 2.5 that a text alone decides.
-use crate::rows::gives;
 use markdown_base::cow_str::CowStr;
 use markdown_scan::unescape::unescape;
+use markdown_test_helpers::rows::gives;
 use std::alloc::{AllocError, Global};
 use std::test::Fail;
 

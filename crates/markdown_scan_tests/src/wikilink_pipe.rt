@@ -1,6 +1,6 @@
 //! The pipe of a wikilink.
-use crate::rows::gives;
 use markdown_scan::wikilink_pipe::scan_wikilink_pipe;
+use markdown_test_helpers::rows::gives;
 use std::test::Fail;
 
 #[test]

@@ -1,23 +1,26 @@
--- definitions and footnotes, found by case folding
-pub mod Folding
-pub mod Definitions
-pub mod LookUpLaws
-pub mod DefinitionsLeft
-pub mod DefinitionsIndex
-pub mod Footnotes
-pub mod FootnoteLending
--- what items name by number
-pub mod Allocations
--- what is asked about broken links, and what is answered
-pub mod Callback
--- a checked block result
-pub mod Blocks
--- what is tested of one node: private
-pub mod NodeRules
+-- the rules of a chain that ask nobody
+pub mod ContainerPrefix
+pub mod CodeText
+pub mod AfterLess
+pub mod Closers
+pub mod Finds
+pub mod VisitLaws
+-- of the representation
+pub mod BlocksAbove
+pub mod ChainInArena
+pub mod ChainSearch
+pub mod ChainWalk
+pub mod MathOpening
+pub mod SpanClosers
+pub mod SpanMarks
+pub mod PrefixView
+pub mod MarkupView
 -- the words of the lower crates that the clauses here are written in
-pub use Rattle.caseless.specs.Caseless
 pub use Rattle.markdown_base.specs.Arena
+pub use Rattle.markdown_base.specs.BlockTree
 pub use Rattle.markdown_base.specs.CowText
-pub use Rattle.markdown_base.specs.Coverage
-pub use Rattle.markdown_base.specs.Questions
-pub use Rattle.markdown_base.specs.WellFormed
+pub use Rattle.markdown_scan.specs.Autolink
+pub use Rattle.markdown_scan.specs.LineEnd
+pub use Rattle.markdown_scan.specs.LineStart
+pub use Rattle.markdown_raw_html.specs.RawHtml
+pub use Rattle.markdown_raw_html.specs.TagSource

@@ -1,30 +1,12 @@
-//! Laws over the definitions of this crate. No code: each contract is a statement of `specs/`.
-ghost use Rattle.markdown_spans.specs.LookUpLaws.{FindsFirstMatch, FindsNamed, MatchingKeysAgree, MatchingNamesAgree};
-ghost use Rattle.markdown_spans.specs.LookUpLaws.{TestsMatching};
+//! Laws of the definitions, each a function without code.
+ghost use Rattle.markdown_spans.specs.VisitLaws.{CodeVisitLaw, MathVisitLaw};
 
-/// A key finds the first definition whose label matches it by default caseless matching, and nothing
-/// where none does.
-pub fn a_key_finds_the_first_match()
-    ensures { FindsFirstMatch }
+/// A search for the end of a code span looks at none of the items past it.
+pub fn code_visits_end_at_the_closer()
+    ensures { CodeVisitLaw }
 {}
 
-/// Keys that match by default caseless matching find the same.
-pub fn matching_keys_agree()
-    ensures { MatchingKeysAgree }
-{}
-
-/// The test by which footnotes are counted and written is default caseless matching.
-pub fn names_are_tested_by_matching()
-    ensures { TestsMatching }
-{}
-
-/// At first a name finds a footnote where one of the names handed in matches it, and nothing where none
-/// does.
-pub fn a_name_finds_what_matches()
-    ensures { FindsNamed }
-{}
-
-/// Names that match by default caseless matching find the same footnote.
-pub fn matching_names_agree()
-    ensures { MatchingNamesAgree }
+/// A search for the end of a math span looks at none of the items past it.
+pub fn math_visits_end_at_the_closer()
+    ensures { MathVisitLaw }
 {}

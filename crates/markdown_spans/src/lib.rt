@@ -1,6 +1,10 @@
-//! The check of a block result, and what is asked where a link label is defined nowhere.
+//! The rules of a chain that ask nobody: container prefixes, code spans, math spans, and what stands after a `<`.
 #![tactic(auto)]
 
-pub mod blocks;
-pub mod defs;
+pub mod after_less;
 pub mod laws;
+mod math_opener;
+pub mod prefixes;
+pub mod span_closers;
+mod span_marks;
+pub mod span_text;

@@ -1,11 +1,11 @@
 //! Each kind of number that items hold, handed out and taken.
-use crate::builders::no_parts;
 use markdown_base::block_parts::HeadingAttributes;
 use markdown_base::cow_str::CowStr;
 use markdown_base::fault::Fault;
 use markdown_base::index::{AlignmentIndex, CowIndex, HeadingIndex, LinkIndex};
 use markdown_base::tag::{Alignment, LinkType};
-use markdown_spans::defs::Allocations;
+use markdown_defs::Allocations;
+use markdown_test_helpers::parts::no_parts;
 use std::alloc::Global;
 use std::test::Fail;
 

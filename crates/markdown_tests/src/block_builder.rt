@@ -4,13 +4,15 @@ ghost use Rattle.std.specs.Prelude.{◌≡◌, false};
 ghost use Rattle.std.specs.Str.{IsCharBoundary};
 
 use crate::block_rules::is_well_formed;
-use crate::builders::{item, text};
+use markdown_base::block_parts::BlockParts;
 use markdown_base::cow_str::CowStr;
 use markdown_base::item::{Item, ItemBody};
 use markdown_base::tag::HeadingLevel;
 use markdown_builder::builder::Builder;
 use markdown_builder::run_end;
-use std::alloc::AllocError;
+use markdown_test_helpers::rows::gives;
+use markdown_test_helpers::trees::{delimiter, text};
+use std::alloc::{AllocError, Global};
 use std::test::Fail;
 
 /// Closes so many blocks.
@@ -74,6 +76,23 @@ fn a_paragraph_becomes_a_heading(rt: HostRuntime) -> Result<(), Fail> {
     Ok(())
 }
 
+/// The definitions, footnotes and texts of parts.
+fn named(alloc: Global, parts: &BlockParts<'_>) -> Result<String, AllocError> {
+    let mut list = String::new(alloc);
+    for (label, link) in &parts.definitions {
+        let span = &link.span;
+        let row = format!(in alloc; "[{label}]: {} {}..{}; ", link.dest, span.start, span.end)?;
+        list.push_str(row.as_str())?;
+    }
+    for name in &parts.footnotes {
+        list.push_str(format!(in alloc; "[^{name}]; ")?.as_str())?;
+    }
+    for text in &parts.cows {
+        list.push_str(format!(in alloc; "{text}; ")?.as_str())?;
+    }
+    Ok(list)
+}
+
 #[test]
 fn definitions_and_footnotes_are_kept(rt: HostRuntime) -> Result<(), Fail> {
     let mut builder = Builder::new(rt.alloc(), "[a]: b\n")?;
@@ -82,20 +101,9 @@ fn definitions_and_footnotes_are_kept(rt: HostRuntime) -> Result<(), Fail> {
     builder.skip(7);
     builder.close();
     let (_tree, parts) = builder.finish();
-    assert_eq!(rt; parts.definitions.len(), 1);
-    assert_eq!(rt; parts.footnotes.len(), 1);
-    assert_eq!(rt; parts.cows.len(), 1);
-    Ok(())
-}
-
-/// A character of a delimiter run.
-fn character(start: u8, count: usize, opens: bool, closes: bool) -> Item {
-    let start = usize::from(start);
-    item(
-        start,
-        start + 1,
-        ItemBody::MaybeEmphasis(count, opens, closes),
-    )
+    let held = named(rt.alloc(), &parts);
+    drop(parts);
+    gives("parts", held?.as_str(), "[a]: b 0..6; [^n]; n; ")
 }
 
 #[test]
@@ -119,10 +127,10 @@ fn delimiter_runs_are_whole(rt: HostRuntime) -> Result<(), Fail> {
     assert!(rt; builder.open_blocks().is_empty());
     let (tree, _parts) = builder.finish();
     assert_eq!(rt; tree.len(), 6);
-    assert_eq!(rt; *tree.item(2), character(0, 2, true, false));
-    assert_eq!(rt; *tree.item(3), character(1, 1, true, false));
+    assert_eq!(rt; *tree.item(2), delimiter(0, 2, true, false));
+    assert_eq!(rt; *tree.item(3), delimiter(1, 1, true, false));
     assert_eq!(rt; *tree.item(4), text(2, 3));
-    assert_eq!(rt; *tree.item(5), character(3, 1, false, true));
+    assert_eq!(rt; *tree.item(5), delimiter(3, 1, false, true));
     assert!(rt; is_well_formed(rt.alloc(), over, tree)?);
     Ok(())
 }

@@ -1,45 +1,26 @@
 //! The block pass on small texts, and the items of a line.
-use crate::builders::text;
-use crate::rows::gives;
-use markdown_base::item::{Item, ItemBody};
+use markdown_base::item::ItemBody;
 use markdown_base::options::Options;
-use markdown_base::tree::Tree;
 use markdown_builder::builder::Builder;
 use markdown_items::items;
 use markdown_plain::{blocks, misfits};
+use markdown_test_helpers::documents::random_text;
+use markdown_test_helpers::rows::gives;
+use markdown_test_helpers::trees::{push_items, text};
 use std::alloc::{AllocError, Global};
 use std::test::Fail;
 
 /// The name of a body that the block pass makes.
-fn name_of(body: ItemBody) -> &'static str {
-    match body {
+fn name_of(alloc: Global, body: ItemBody) -> Result<String, AllocError> {
+    let name = match body {
         ItemBody::Paragraph => "Paragraph",
         ItemBody::Text { .. } => "Text",
         ItemBody::SoftBreak => "SoftBreak",
         ItemBody::HardBreak(true) => "HardBreak(true)",
         ItemBody::HardBreak(false) => "HardBreak(false)",
         _ => "another",
-    }
-}
-
-/// Lists the items of a tree in preorder, each with how deep it stands and its range.
-fn push_items(alloc: Global, list: &mut String, tree: &mut Tree<Item>) -> Result<(), AllocError> {
-    tree.reset();
-    for _ in 0..10000 {
-        if let Some(ix) = tree.cur() {
-            let item = *tree.item(ix);
-            let depth = tree.walk_spine().len();
-            let name = name_of(item.body);
-            let row = format!(in alloc; "{depth} {name} {}..{};", item.start, item.end)?;
-            list.push_str(row.as_str())?;
-            tree.push()?;
-        } else if let Some(ix) = tree.pop() {
-            tree.next_sibling(ix);
-        } else {
-            break;
-        }
-    }
-    Ok(())
+    };
+    String::from_str(alloc, name)
 }
 
 /// A text has blocks of these items.
@@ -52,7 +33,7 @@ fn has_blocks(alloc: Global, text: &str, want: &str) -> Result<(), Fail> {
 fn listed(alloc: Global, text: &str) -> Result<String, AllocError> {
     let (mut tree, parts) = blocks(alloc, text, Options::ENABLE_GFM)?;
     let mut list = String::new(alloc);
-    let done = push_items(alloc, &mut list, &mut tree);
+    let done = push_items(alloc, &mut list, &mut tree, name_of);
     drop(tree);
     drop(parts);
     done?;
@@ -147,74 +128,6 @@ fn a_line_is_one_text(rt: HostRuntime) -> Result<(), Fail> {
     assert_eq!(rt; *tree.item(2), text(6, 11));
     assert_eq!(rt; parts.cows.len(), 0);
     Ok(())
-}
-
-/// The pieces of random documents: what begins blocks, goes on with them and ends them.
-const PIECES: [&str; 48] = [
-    "\n",
-    "\n",
-    "\n",
-    "\n",
-    "\r\n",
-    "\r",
-    "\n\n",
-    " ",
-    " ",
-    "  ",
-    "    ",
-    "\t",
-    "a",
-    "b c",
-    "é",
-    "\u{a0}",
-    "> ",
-    ">",
-    "- ",
-    "+ ",
-    "* ",
-    "1. ",
-    "2) ",
-    "-",
-    "***",
-    "---",
-    "===",
-    "# ",
-    "## ",
-    "```",
-    "~~~",
-    "`",
-    "<div>",
-    "<b>",
-    "<!-- ",
-    "-->",
-    "<?",
-    "<![CDATA[",
-    "[a]: ",
-    "[^a]: ",
-    "[",
-    "]",
-    "/u",
-    "'t'",
-    "\"",
-    "\\",
-    "&amp;",
-    "*b*",
-];
-
-/// The next of numbers that come in the same order on each run.
-fn next_number(seed: &mut u64) -> u64 {
-    *seed = (*seed % 2147483648 * 1103515245 + 12345) % 2147483648;
-    *seed / 65536
-}
-
-/// A document of 24 pieces.
-fn random_text(alloc: Global, seed: &mut u64) -> Result<String, AllocError> {
-    let mut text = String::new(alloc);
-    for _ in 0..24 {
-        let number = next_number(seed) as usize % PIECES.len();
-        text.push_str(PIECES[number])?;
-    }
-    Ok(text)
 }
 
 #[test]

@@ -1,12 +1,13 @@
 //! The nine rules of a block result: trees that break one rule each, and trees that keep them all.
-use crate::builders::{Outline, item, one_of_each, text, tree_of};
-use crate::rows::gives;
 use markdown_base::index::{AlignmentIndex, CowIndex, HeadingIndex, LinkIndex};
 use markdown_base::item::{Item, ItemBody};
 use markdown_base::options::Options;
 use markdown_base::tag::HeadingLevel;
 use markdown_base::tree::Tree;
-use markdown_spans::blocks::{Blocks, Fault};
+use markdown_blocks::{Blocks, Fault};
+use markdown_test_helpers::parts::one_of_each;
+use markdown_test_helpers::rows::gives;
+use markdown_test_helpers::trees::{Outline, delimiter, item, text, tree_of};
 use std::alloc::{AllocError, Global};
 use std::test::Fail;
 
@@ -23,9 +24,8 @@ pub fn is_well_formed(alloc: Global, over: &'static str, tree: Tree<Item>) -> Re
 }
 
 /// A character of a delimiter run that can open and close.
-fn run(start: u8, count: usize) -> Item {
-    let start = usize::from(start);
-    item(start, start + 1, ItemBody::MaybeEmphasis(count, true, true))
+fn run(start: usize, count: usize) -> Item {
+    delimiter(start, count, true, true)
 }
 
 /// A row: the rule, the text, and the tree.
@@ -40,7 +40,8 @@ fn each_rule_is_tested(rt: HostRuntime) -> Result<(), Fail> {
     let fenced = item(0, 1, ItemBody::FencedCodeBlock(CowIndex(0)));
     let table = item(0, 1, ItemBody::Table(AlignmentIndex(0)));
     let rule = item(0, 1, ItemBody::Rule);
-    let rows: [Row<'_>; 19] = [
+    let letter = item(0, 1, ItemBody::Paragraph);
+    let rows: [Row<'_>; 23] = [
         ("ranges lie in", "é", &[(0, paragraph), (1, text(0, 1))]),
         ("ranges lie in", "ab", &[(0, paragraph), (1, text(2, 1))]),
         ("ranges lie in", "a", &[(0, paragraph)]),
@@ -53,6 +54,11 @@ fn each_rule_is_tested(rt: HostRuntime) -> Result<(), Fail> {
             "chains are kept: childless",
             "<a",
             &[(0, paragraph), (1, less), (2, text(1, 2))],
+        ),
+        (
+            "chains are kept: childless",
+            "<",
+            &[(0, letter), (1, less), (2, text(0, 1))],
         ),
         (
             "chains are kept: childless",
@@ -70,6 +76,7 @@ fn each_rule_is_tested(rt: HostRuntime) -> Result<(), Fail> {
             "**",
             &[(0, paragraph), (1, run(0, 1)), (1, run(1, 1))],
         ),
+        ("runs are whole", "*", &[(0, letter), (1, run(0, 2))]),
         ("runs are whole", "*a", &[(0, paragraph), (1, run(0, 2))]),
         ("runs are whole", "*a", &[(0, paragraph), (1, run(0, 0))]),
         ("runs are whole", "aa", &[(0, paragraph), (1, run(0, 1))]),
@@ -77,6 +84,16 @@ fn each_rule_is_tested(rt: HostRuntime) -> Result<(), Fail> {
             "runs are whole",
             "*_",
             &[(0, paragraph), (1, run(0, 2)), (1, run(1, 1))],
+        ),
+        (
+            "nothing is resolved",
+            "a",
+            &[(0, letter), (1, item(0, 1, ItemBody::Code(CowIndex(0))))],
+        ),
+        (
+            "markup is there",
+            "a",
+            &[(0, letter), (1, item(0, 1, ItemBody::MaybeLinkOpen))],
         ),
         (
             "parts are named",

@@ -1,12 +1,15 @@
 //! Block results: empty, large and deep ones; what comes back of one; and the blocks of a text.
 use crate::block_rules::is_well_formed;
-use crate::builders::{item, one_text, text, tree_of};
-use crate::rows::gives;
-use markdown_base::item::ItemBody;
+use markdown_base::block_parts::BlockParts;
+use markdown_base::cow_str::CowStr;
+use markdown_base::item::{Item, ItemBody};
 use markdown_base::options::Options;
 use markdown_base::tree::Tree;
-use markdown_spans::blocks::Blocks;
-use std::alloc::Global;
+use markdown_blocks::Blocks;
+use markdown_test_helpers::parts::one_text;
+use markdown_test_helpers::rows::gives;
+use markdown_test_helpers::trees::{item, nested, push_items, text, tree_of};
+use std::alloc::{AllocError, Global};
 use std::test::Fail;
 
 #[test]
@@ -20,11 +23,7 @@ fn empty_large_and_deep(rt: HostRuntime) -> Result<(), Fail> {
     }
     assert!(rt; is_well_formed(alloc, "a", wide)?);
 
-    let mut deep = Tree::new(alloc)?;
-    for _ in 0..100_000u32 {
-        deep.append(item(0, 1, ItemBody::BlockQuote(None)))?;
-        deep.push()?;
-    }
+    let deep = nested(alloc, item(0, 1, ItemBody::BlockQuote(None)), 100_000)?;
     assert!(rt; is_well_formed(alloc, "a", deep)?);
     Ok(())
 }
@@ -38,38 +37,79 @@ fn what_was_checked_comes_back(rt: HostRuntime) -> Result<(), Fail> {
     )?;
     let blocks = Blocks::checked(alloc, "a", Options::ENABLE_MATH, tree, one_text(alloc)?)?;
     let (source, options, tree, parts) = blocks.into_parts();
-    let nodes = tree.len();
-    let texts = parts.cows.len();
-    drop(tree);
-    drop(parts);
+    let held = listed(alloc, tree, parts);
     gives("source", source, "a")?;
     gives("options", options, Options::ENABLE_MATH)?;
-    gives("nodes and texts", (nodes, texts), (3, 1))
+    gives(
+        "items and texts",
+        held?.as_str(),
+        "0 Paragraph 0..1;1 Text { backslash_escaped: false } 0..1;x;",
+    )
 }
 
-/// The blocks of a text are of so many nodes, and the text and the options come back.
-fn has_nodes(alloc: Global, source: &str, count: usize) -> Result<(), Fail> {
-    let blocks = Blocks::of_text(alloc, source, Options::ENABLE_MATH)?;
-    let (text, options, tree, parts) = blocks.into_parts();
-    let nodes = tree.len();
+/// A body as it is printed.
+fn printed(alloc: Global, body: ItemBody) -> Result<String, AllocError> {
+    format!(in alloc; "{body:?}")
+}
+
+/// Appends texts, one after another.
+fn push_texts(list: &mut String, texts: &[CowStr<'_>]) -> Result<(), AllocError> {
+    for text in texts {
+        list.push_str(text.as_str())?;
+        list.push_str(";")?;
+    }
+    Ok(())
+}
+
+/// The items of a tree, and then the texts that they name.
+fn listed(alloc: Global, tree: Tree<Item>, parts: BlockParts<'_>) -> Result<String, AllocError> {
+    let mut tree = tree;
+    let mut list = String::new(alloc);
+    let items_done = push_items(alloc, &mut list, &mut tree, printed);
+    let texts_done = push_texts(&mut list, &parts.cows);
     drop(tree);
     drop(parts);
+    items_done?;
+    texts_done?;
+    Ok(list)
+}
+
+/// The blocks of a text are of these items, and the text and the options come back.
+fn has_items(alloc: Global, source: &str, items: &str) -> Result<(), Fail> {
+    let blocks = Blocks::of_text(alloc, source, Options::ENABLE_MATH)?;
+    let (text, options, tree, parts) = blocks.into_parts();
+    let held = listed(alloc, tree, parts);
     gives(source, text, source)?;
     gives(source, options, Options::ENABLE_MATH)?;
-    gives(source, nodes, count)
+    gives(source, held?.as_str(), items)
 }
 
 #[test]
 fn a_text_has_blocks_of_its_own(rt: HostRuntime) -> Result<(), Fail> {
     let rows = &[
-        ("", 1),
-        (" \t\n", 1),
-        ("hello world", 3),
-        ("a\nb", 5),
-        ("a\r\n\r\né", 5),
+        ("", ""),
+        (" \t\n", ""),
+        (
+            "hello world",
+            "0 Paragraph 0..11;1 Text { backslash_escaped: false } 0..11;",
+        ),
+        (
+            "a\nb",
+            "0 Paragraph 0..3;1 Text { backslash_escaped: false } 0..1;1 SoftBreak 1..2;\
+            1 Text { backslash_escaped: false } 2..3;",
+        ),
+        (
+            "a\r\n\r\né",
+            "0 Paragraph 0..3;1 Text { backslash_escaped: false } 0..1;\
+            0 Paragraph 5..7;1 Text { backslash_escaped: false } 5..7;",
+        ),
+        (
+            "&lt;",
+            "0 Paragraph 0..4;1 SynthesizeText(CowIndex(0)) 0..4;<;",
+        ),
     ];
-    for &(source, count) in rows {
-        has_nodes(rt.alloc(), source, count)?;
+    for &(source, items) in rows {
+        has_items(rt.alloc(), source, items)?;
     }
     Ok(())
 }

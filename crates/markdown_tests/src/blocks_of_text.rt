@@ -1,31 +1,17 @@
 //! The blocks that the block pass makes of small texts, by the sections of CommonMark.
-use crate::rows::gives;
 use markdown_base::block_parts::LinkDef;
 use markdown_base::cow_str::CowStr;
-use markdown_base::item::Item;
+use markdown_base::item::ItemBody;
 use markdown_base::options::Options;
-use markdown_base::tree::Tree;
 use markdown_plain::blocks;
+use markdown_test_helpers::rows::gives;
+use markdown_test_helpers::trees::push_items;
 use std::alloc::{AllocError, Global};
 use std::test::Fail;
 
-/// Lists the items of a tree in preorder, each with how deep it stands, its body and its range.
-fn push_items(alloc: Global, list: &mut String, tree: &mut Tree<Item>) -> Result<(), AllocError> {
-    tree.reset();
-    for _ in 0..10000 {
-        if let Some(ix) = tree.cur() {
-            let item = *tree.item(ix);
-            let depth = tree.walk_spine().len();
-            let row = format!(in alloc; "{depth} {:?} {}..{};", item.body, item.start, item.end)?;
-            list.push_str(row.as_str())?;
-            tree.push()?;
-        } else if let Some(ix) = tree.pop() {
-            tree.next_sibling(ix);
-        } else {
-            break;
-        }
-    }
-    Ok(())
+/// A body as it is printed.
+fn printed(alloc: Global, body: ItemBody) -> Result<String, AllocError> {
+    format!(in alloc; "{body:?}")
 }
 
 /// Lists a definition: its label, its destination, its title, and its range.
@@ -66,7 +52,7 @@ fn push_definitions(
 fn listed(alloc: Global, text: &str, options: Options) -> Result<String, AllocError> {
     let (mut tree, parts) = blocks(alloc, text, options)?;
     let mut list = String::new(alloc);
-    let items_done = push_items(alloc, &mut list, &mut tree);
+    let items_done = push_items(alloc, &mut list, &mut tree, printed);
     let definitions_done = push_definitions(alloc, &mut list, &parts.definitions);
     drop(tree);
     drop(parts);
@@ -302,6 +288,81 @@ fn definitions(rt: HostRuntime) -> Result<(), Fail> {
     )
 }
 
+/// An item that ends with a definition ends with its last line, as a block quote does.
+#[test]
+fn definitions_at_the_end_of_items(rt: HostRuntime) -> Result<(), Fail> {
+    compare(
+        rt.alloc(),
+        &[
+            ("[a]: b\n", "[a]: <b> \"\" 0..6;"),
+            (
+                "+ [a]:a\n",
+                "0 List(true, 43, 0) 0..8;1 ListItem(2) 0..8;[a]: <a> \"\" 2..7;",
+            ),
+            (
+                "+ [a]:a",
+                "0 List(true, 43, 0) 0..7;1 ListItem(2) 0..7;[a]: <a> \"\" 2..7;",
+            ),
+            (
+                "+ [a]: b  ",
+                "0 List(true, 43, 0) 0..10;1 ListItem(2) 0..10;[a]: <b> \"\" 2..8;",
+            ),
+            (
+                "+ [a]:\n  /u\n  't'  \n",
+                "0 List(true, 43, 0) 0..20;1 ListItem(2) 0..20;[a]: </u> \"t\" 2..17;",
+            ),
+            (
+                "+ [a]:\n  /u\n  't'",
+                "0 List(true, 43, 0) 0..17;1 ListItem(2) 0..17;[a]: </u> \"t\" 2..17;",
+            ),
+            (
+                "- [a]: b\n  [c]: d\r\n- e\n",
+                "0 List(true, 45, 0) 0..23;1 ListItem(2) 0..19;1 ListItem(2) 19..23;2 TightParagraph 21..23;3 T 21..22;\
+                [a]: <b> \"\" 2..8;[c]: <d> \"\" 11..17;",
+            ),
+            (
+                "- - [a]: b\n",
+                "0 List(true, 45, 0) 0..11;1 ListItem(2) 0..11;2 List(true, 45, 0) 2..11;3 ListItem(2) 2..11;\
+                [a]: <b> \"\" 4..10;",
+            ),
+            (
+                "> - [a]: b\n",
+                "0 BlockQuote(None) 0..11;1 List(true, 45, 0) 2..11;2 ListItem(2) 2..11;[a]: <b> \"\" 4..10;",
+            ),
+            (
+                "> - [a]: b",
+                "0 BlockQuote(None) 0..10;1 List(true, 45, 0) 2..10;2 ListItem(2) 2..10;[a]: <b> \"\" 4..10;",
+            ),
+            (
+                "> - [a]:\n>   b\n",
+                "0 BlockQuote(None) 0..15;1 List(true, 45, 0) 2..15;2 ListItem(2) 2..15;[a]: <b> \"\" 4..14;",
+            ),
+            (
+                "- > [a]: b\n",
+                "0 List(true, 45, 0) 0..11;1 ListItem(2) 0..11;2 BlockQuote(None) 2..11;[a]: <b> \"\" 4..10;",
+            ),
+            (
+                "- > [a]: b",
+                "0 List(true, 45, 0) 0..10;1 ListItem(2) 0..10;2 BlockQuote(None) 2..10;[a]: <b> \"\" 4..10;",
+            ),
+            (
+                "> - [a]: b\n> c\n",
+                "0 BlockQuote(None) 0..15;1 List(true, 45, 0) 2..15;2 ListItem(2) 2..15;3 TightParagraph 13..15;4 T 13..14;\
+                [a]: <b> \"\" 4..10;",
+            ),
+            (
+                "- [a]: b\n\n  c\n",
+                "0 List(false, 45, 0) 0..14;1 ListItem(2) 0..14;2 Paragraph 12..14;3 T 12..13;[a]: <b> \"\" 2..8;",
+            ),
+            (
+                "- [a]: b\n\n- c\n",
+                "0 List(false, 45, 0) 0..14;1 ListItem(2) 0..9;1 ListItem(2) 10..14;2 Paragraph 12..14;3 T 12..13;\
+                [a]: <b> \"\" 2..8;",
+            ),
+        ],
+    )
+}
+
 #[test]
 fn quotes(rt: HostRuntime) -> Result<(), Fail> {
     compare(
@@ -428,6 +489,11 @@ fn footnotes(rt: HostRuntime) -> Result<(), Fail> {
             Options::ENABLE_FOOTNOTES,
             "[^a]: b\n\n    c\n",
             "0 FootnoteDefinition(CowIndex(0)) 0..15;1 Paragraph 6..8;2 T 6..7;1 Paragraph 13..15;2 T 13..14;",
+        ),
+        (
+            Options::ENABLE_FOOTNOTES,
+            "[^x]: [a]: b\n",
+            "0 FootnoteDefinition(CowIndex(0)) 0..13;[a]: <b> \"\" 6..12;",
         ),
         (
             Options::ENABLE_OLD_FOOTNOTES,

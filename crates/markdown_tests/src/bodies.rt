@@ -1,5 +1,4 @@
 //! Tags with their ends, the kinds of item bodies, and the bits of the options.
-use crate::rows::gives;
 use bitflags::Flags;
 use markdown_base::cow_str::CowStr;
 use markdown_base::fault::Fault;
@@ -10,6 +9,7 @@ use markdown_base::tag::{
     Alignment, BlockQuoteKind, CodeBlockKind, HeadingLevel, LinkType, MetadataBlockKind, Tag,
     TagEnd,
 };
+use markdown_test_helpers::rows::gives;
 use std::alloc::AllocError;
 use std::test::Fail;
 

@@ -2,9 +2,6 @@
 //! footnotes, wikilinks, and the openers that wait.
 ghost use Rattle.std.specs.Prelude.{◌≡◌, ◌+◌, ◌%◌, IfSome};
 
-use crate::builders::{item, no_parts, text};
-use crate::rows::gives;
-use markdown_base::block_parts::LinkDef;
 use markdown_base::cow_str::CowStr;
 use markdown_base::fault::Fault;
 use markdown_base::item::{Item, ItemBody};
@@ -17,8 +14,11 @@ use markdown_brackets::look_up::look_up_label;
 use markdown_brackets::openers::Opener;
 use markdown_brackets::reference::{Form, scan_form};
 use markdown_brackets::wikilink::{Shown, scan_wikilink_body};
+use markdown_defs::{Allocations, BrokenLinkCallback, Closure, DefaultBrokenLinkCallback};
 use markdown_scan::line_rule::NoPrefix;
-use markdown_spans::defs::{Allocations, BrokenLinkCallback, Closure, DefaultBrokenLinkCallback};
+use markdown_test_helpers::parts::{defining, no_parts};
+use markdown_test_helpers::rows::gives;
+use markdown_test_helpers::trees::{item, text};
 use std::alloc::{AllocError, Global};
 use std::test::Fail;
 
@@ -180,14 +180,7 @@ fn look_up<'a, F: BrokenLinkCallback<'a>>(
 
 #[test]
 fn look_ups_ask_while_the_limit_lasts(rt: HostRuntime) -> Result<(), Fail> {
-    let mut parts = no_parts(rt.alloc());
-    let definition = LinkDef {
-        dest: CowStr::Borrowed("/u"),
-        title: None,
-        span: 0..0,
-    };
-    parts.definitions.push((CowStr::Borrowed("A"), definition))?;
-    let held = Allocations::new(rt.alloc(), parts)?;
+    let held = Allocations::new(rt.alloc(), defining(rt.alloc(), &[("A", "/u")])?)?;
     let mut asked = 0u8;
     let mut callback = Some(Closure::new(
         |link| -> Option<(CowStr, CowStr)>
@@ -255,7 +248,7 @@ fn shown_by(source: &str, end: usize, name: &str) -> Option<(Shown, bool)> {
     if !source.is_char_boundary(2) || !source.is_char_boundary(end) {
         return None;
     }
-    let body = scan_wikilink_body(source, 2, end)?;
+    let body = scan_wikilink_body(source, source.len(), 2, end)?;
     Some((body.shown, body.name == name))
 }
 

@@ -3,7 +3,7 @@ ghost use Rattle.std.specs.Prelude.{◌≡◌, ◌+◌, ◌%◌};
 
 use markdown_base::cow_str::CowStr;
 use markdown_base::tag::LinkType;
-use markdown_spans::defs::{
+use markdown_defs::{
     BoxedCallback, BrokenLink, BrokenLinkCallback, Closure, DefaultBrokenLinkCallback,
 };
 use std::ops::Range;

@@ -1,11 +1,11 @@
 //! Texts of code and math spans, and what stands after a `<`, in a paragraph directly under the document.
-use crate::rows::gives;
 use markdown_base::cow_str::CowStr;
 use markdown_base::tree::Tree;
-use markdown_code::after_less::{MarkupFound, scan_after_less};
-use markdown_code::prefixes::ContainerPrefix;
-use markdown_code::span_text::{SpanKind, span_text};
 use markdown_raw_html::raw_html::RawHtmlScanner;
+use markdown_spans::after_less::{MarkupFound, scan_after_less};
+use markdown_spans::prefixes::ContainerPrefix;
+use markdown_spans::span_text::{SpanKind, span_text};
+use markdown_test_helpers::rows::gives;
 use std::alloc::{AllocError, Global};
 use std::test::Fail;
 

@@ -1,5 +1,5 @@
-//! Tests of what no clause says of block results and what stands below them: a module for each topic, and the builders
-//! of trees. They stand apart from the libraries, so that no library is proved a second time with its tests.
+//! Tests of what no clause says of block results and what stands below them: a module for each topic. They stand apart
+//! from the libraries, so that no library is proved a second time with its tests.
 #![tactic(auto)]
 
 #[cfg(test)]
@@ -18,7 +18,6 @@ mod blocks_of_text;
 mod bodies;
 #[cfg(test)]
 mod brackets;
-pub mod builders;
 #[cfg(test)]
 mod callbacks;
 #[cfg(test)]
@@ -27,8 +26,6 @@ mod code;
 mod line_items;
 #[cfg(test)]
 mod look_ups;
-pub mod notes;
-pub mod rows;
 #[cfg(test)]
 mod texts;
 #[cfg(test)]

@@ -3,12 +3,12 @@ ghost use Rattle.std.specs.Prelude.{◌≡◌, ◌≤◌, false, length, IfOk};
 ghost use Rattle.std.specs.Str.{IsCharBoundary};
 
 use crate::block_rules::is_well_formed;
-use crate::rows::gives;
 use markdown_base::item::{Item, ItemBody};
 use markdown_base::options::Options;
 use markdown_base::tree::Tree;
 use markdown_builder::builder::Builder;
 use markdown_items::items;
+use markdown_test_helpers::rows::gives;
 use std::alloc::{AllocError, Global};
 use std::test::Fail;
 

@@ -1,31 +1,11 @@
 //! Definitions and footnotes looked up by the folding of their names, and uses of footnotes.
-use crate::builders::no_parts;
-use crate::rows::gives;
-use markdown_base::block_parts::{BlockParts, LinkDef};
 use markdown_base::cow_str::CowStr;
 use markdown_base::fault::Fault;
-use markdown_spans::defs::{Absence, Allocations, FootnoteDef};
-use std::alloc::{AllocError, Global};
+use markdown_defs::{Absence, Allocations, FootnoteDef};
+use markdown_test_helpers::parts::{defining, no_parts};
+use markdown_test_helpers::rows::gives;
+use std::alloc::Global;
 use std::test::Fail;
-
-/// Parts with definitions, each a label and a destination.
-fn defining<'a>(
-    alloc: Global,
-    definitions: &[(&'a str, &'a str)],
-) -> Result<BlockParts<'a>, AllocError> {
-    let mut held = Vec::new(alloc);
-    for (label, dest) in definitions {
-        let definition = LinkDef {
-            dest: CowStr::from(*dest),
-            title: None,
-            span: 0..0,
-        };
-        held.push((CowStr::from(*label), definition))?;
-    }
-    let mut parts = no_parts(alloc);
-    parts.definitions = held;
-    Ok(parts)
-}
 
 /// Whether a key finds this destination among definitions, or None where it should find nothing.
 fn finds(

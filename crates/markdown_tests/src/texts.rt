@@ -1,11 +1,11 @@
 //! Texts in their three forms, and what holds texts: equality, copies, definitions.
-use crate::rows::gives;
 use markdown_base::block_parts::LinkDef;
 use markdown_base::cow_str::CowStr;
 use markdown_base::event::Event;
 use markdown_base::fault::Fault;
 use markdown_base::inline_str::InlineStr;
 use markdown_base::tag::{HeadingLevel, LinkType, Tag, TagEnd};
+use markdown_test_helpers::rows::gives;
 use std::alloc::{AllocError, Global};
 use std::convert::AsStr;
 use std::hash::{DefaultHasher, Hash, Hasher};

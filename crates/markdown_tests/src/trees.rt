@@ -1,7 +1,7 @@
 //! A tree made, walked and written by its calls.
-use crate::builders::{append_block, item};
 use markdown_base::item::{Item, ItemBody};
 use markdown_base::tree::Tree;
+use markdown_test_helpers::trees::{append_block, item};
 use std::alloc::{AllocError, Global};
 use std::test::Fail;
 

@@ -1,6 +1,6 @@
 -- What was read comes to what was looked up, or counted.
 use Rattle.std.proofs.Common.{is_some, subst}
-use Rattle.markdown_chains.specs.Setting.{uses_of}
+use Rattle.markdown_document.specs.Setting.{uses_of}
 use Rattle.markdown_brackets.specs.WrittenView.{IsRead}
 use Rattle.markdown_brackets.proofs.ComesToLemmas.{comes_read_nothing, comes_read_inline, comes_read_label, comes_read_footnote}
 use Rattle.markdown_brackets.proofs.WrittenLemmas.{ok_map, ok_with}

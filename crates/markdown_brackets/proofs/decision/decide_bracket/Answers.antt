@@ -2,8 +2,8 @@
 use Rattle.std.proofs.Common.{◌≡◌, ◌&&◌, not, is_some, sym, ◌∙◌, ap, subst}
 use Rattle.markdown_base.specs.BlockTree.{item_at, no_item}
 use Rattle.markdown_base.specs.declared.item.Item.{Item}
-use Rattle.markdown_chains.specs.ChainRest.{end_of}
-use Rattle.markdown_chains.specs.Setting.{uses_of}
+use Rattle.markdown_document.specs.ChainRest.{end_of}
+use Rattle.markdown_document.specs.Setting.{uses_of}
 use Rattle.markdown_brackets.specs.Decides.{TakesWikilink}
 use Rattle.markdown_brackets.specs.DecisionView.{around_at}
 use Rattle.markdown_brackets.specs.LeftList.{nearest, opens_bracket}
@@ -15,26 +15,26 @@ use Rattle.markdown_brackets.proofs.WrittenLemmas.{ok_map}
 use Rattle.markdown_brackets.proofs.decision.decide_bracket.Goals as goal
 
 pub returns-in-Some-clause-decides : goal.returns-in-Some-clause-decides
-returns-in-Some-clause-decides g c bodies left cl s could brackets wikilinks =
-    let w = around_at c.args.place.now (g.R.LineRule.skipped c.args.rule.now) bodies c.args.definitions.now c.args.footnotes.now
+returns-in-Some-clause-decides g c bodies skipped left cl goes s could brackets wikilinks =
+    let w = around_at c.args.place.now skipped bodies c.args.definitions.now c.args.footnotes.now
     (is_some c.args.callback.now) in
     decides_wikilink g.F.BrokenLinkCallback.answers w cl left c.args.limit.now (uses_of c.args.footnotes.now) c.args.spent.now
     c.args.callback.now
     c.take_nearest-bracket.result c.args.openers.now.brackets c.take_nearest-bracket.new.self c.take_wikilink.new.wikilinks brackets
     c.take_nearest-bracket.ensures c.in-Some.found
     (subst (λ r. TakesWikilink w cl left c.take_wikilink.new.wikilinks r) c.in-Some.is
-    (c.take_wikilink.ensures (g.R.LineRule.skipped c.args.rule.now) bodies c.args.definitions.now c.args.footnotes.now
+    (c.take_wikilink.ensures skipped bodies c.args.definitions.now c.args.footnotes.now
     (is_some c.args.callback.now) left cl s wikilinks))
 
 pub returns-clause-decides : goal.returns-clause-decides
 returns-clause-decides g c =
     let nodes = c.args.tree.now.nodes in
     ok_map c.try_opener.result _ _ c.try_opener.ensures.tries
-    (λ found tries bodies left cl s could brackets wikilinks.
-    let w = around_at c.args.place.now (g.R.LineRule.skipped c.args.rule.now) bodies c.args.definitions.now c.args.footnotes.now
+    (λ found tries bodies skipped left cl goes s could brackets wikilinks.
+    let w = around_at c.args.place.now skipped bodies c.args.definitions.now c.args.footnotes.now
     (is_some c.args.callback.now) in
     let t = subst (λ r. TakesWikilink w cl left c.take_wikilink.new.wikilinks r) c.in_default.is
-    (c.take_wikilink.ensures (g.R.LineRule.skipped c.args.rule.now) bodies c.args.definitions.now c.args.footnotes.now
+    (c.take_wikilink.ensures skipped bodies c.args.definitions.now c.args.footnotes.now
     (is_some c.args.callback.now) left cl s wikilinks) in
     let ends : c.item.result.now.end ≡ end_of cl.label =
     ap (λ (i : Item). i.end) (c.item.ensures no_item)
@@ -46,7 +46,7 @@ returns-clause-decides g c =
     c.args.callback.now
     c.take_nearest-bracket.result c.args.openers.now.brackets c.take_nearest-bracket.new.self c.take_wikilink.new.wikilinks brackets
     c.take_nearest-bracket.ensures found _ _ _ _ t
-    (tries bodies cl (nearest opens_bracket t.left_then)
+    (tries bodies skipped cl (nearest opens_bracket t.left_then) goes
     (tries_nearest g.F.BrokenLinkCallback.answers w cl left c.args.limit.now (uses_of c.args.footnotes.now) c.args.spent.now
     c.args.callback.now
     c.take_nearest-bracket.result c.args.openers.now.brackets c.take_nearest-bracket.new.self c.take_wikilink.new.wikilinks brackets

@@ -41,4 +41,4 @@ returns c skipped bodies definitions footnotes asks left cl s h =
     (sym c.wikilinks_on.ensures ∙ c.if-not-wikilinks_on.false)
     c.take_nearest-taken.result c.args.wikilinks.now c.take_nearest-taken.new.self h c.take_nearest-taken.ensures c.try_wikilink.result
     (λ o t. subst (λ (i : Item). FindsWikilink w i.end cl o c.try_wikilink.result) (c.item-second.ensures no_item)
-    (c.try_wikilink.ensures w cl o refl t))
+    (c.try_wikilink.ensures w cl o refl refl t))

@@ -1,25 +1,22 @@
 -- The nodes between an opener and its `]` are the trees between them.
-use Rattle.std.proofs.Common.{sym, subst}
-use Rattle.markdown_brackets.specs.StandsAt.{IsWikilinkAt, TriesWikilink}
-use Rattle.markdown_brackets.specs.WikilinkNodes.{wikilink_nodes}
+use Rattle.std.proofs.Common.{subst}
+use Rattle.markdown_brackets.specs.StandsAt.{TriesWikilink}
 use Rattle.markdown_brackets.proofs.WikilinkFoundLemmas.{finds_dead, finds_live, finds_none}
 use Rattle.markdown_brackets.proofs.decision.try_wikilink.Goals as goal
 
 pub returns-in_default : goal.returns-in_default
-returns-in_default c w cl o text t =
+returns-in_default c w cl o text block t =
     finds_none c.args.tree.now.nodes w c.args.end c.args.closer cl o
     (subst (λ taken. TriesWikilink c.args.tree.now.nodes c.args.closer taken cl o) c.in_default.is t)
 
 pub returns-then-not-is_live : goal.returns-then-not-is_live
-returns-then-not-is_live c w cl o text t =
+returns-then-not-is_live c w cl o text block t =
     finds_dead c.args.tree.now.nodes w c.args.end c.args.closer c.in-Some.opener c.in-Some.is_live cl o c.if-not-is_live.true
     (subst (λ taken. TriesWikilink c.args.tree.now.nodes c.args.closer taken cl o) c.in-Some.is t)
 
 pub returns : goal.returns
-returns c w cl o text t =
+returns c w cl o text block t =
     finds_live c.args.tree.now.nodes w c.args.end c.args.closer c.in-Some.opener c.in-Some.is_live cl o c.find_wikilink.result
     c.if-not-is_live.false
-    (subst (λ source. IsWikilinkAt c.in-Some.opener c.args.end (wikilink_nodes c.args.tree.now.nodes source c.in-Some.opener.node
-    c.args.closer) c.find_wikilink.result)
-    (sym text) c.find_wikilink.ensures)
+    (rw (text, block) c.find_wikilink.ensures)
     (subst (λ taken. TriesWikilink c.args.tree.now.nodes c.args.closer taken cl o) c.in-Some.is t)

@@ -1,11 +1,13 @@
 -- The tail is that of the block's text, by the items ahead; past its end there is none.
 use Rattle.std.proofs.Common.{◌≡◌, ◌<◌, ◌≤◌, Some, None, length, take, sym, ◌∙◌, subst}
 use Rattle.std.specs.Str.{IsCharBoundary}
-use Rattle.markdown_base.specs.Arena.{sibling_of}
 use Rattle.markdown_base.specs.BlockTree.{item_at, no_item}
 use Rattle.markdown_base.specs.declared.item.Item.{Item}
+use Rattle.markdown_brackets.specs.BracketDecision as decision
 use Rattle.markdown_brackets.specs.ChainAhead.{starts_from}
-use Rattle.markdown_brackets.proofs.WrittenLemmas.{boundary_within, no_tail, read_tail, read_other, tail_at, taken_past, whole_range}
+use Rattle.markdown_brackets.specs.WrittenView.{IsRead}
+use Rattle.markdown_brackets.specs.declared.written.Written.TheVariants.{Nothing}
+use Rattle.markdown_brackets.proofs.WrittenLemmas.{boundary_within, nothing_past_block, read_tail, read_other, tail_at, whole_range}
 use Rattle.markdown_brackets.proofs.WrittenLemmas.{within_taken}
 use Rattle.markdown_brackets.proofs.written.read_written.Goals as goal
 
@@ -15,11 +17,8 @@ returns-then-end-place g c =
     let nodes = c.args.tree.now.nodes in
     let past : place.block_end < (item_at nodes c.args.closer).end =
     subst (λ (i : Item). place.block_end < i.end) (c.item.ensures no_item) c.if-end-place.true in
-    read_other place.in_table _ _ c.read_reference.result
-    (no_tail place.in_table (g.R.LineRule.skipped c.args.rule.now) (starts_from nodes (sibling_of nodes c.args.closer))
-    (take place.block_end place.text.now) (item_at nodes c.args.closer).end
-    (taken_past place.text.now place.block_end (item_at nodes c.args.closer).end past))
-    c.read_reference.ensures
+    subst (λ (x : decision.Written). IsRead place.in_table x Nothing)
+    (sym (nothing_past_block nodes place (g.R.LineRule.skipped c.args.rule.now) c.args.closer c.args.could_be c.args.start past)) tt
 
 pub scan_link_tail-requires-clause-at : goal.scan_link_tail-requires-clause-at
 scan_link_tail-requires-clause-at g c =
@@ -52,8 +51,8 @@ pub returns-in-None : goal.returns-in-None
 returns-in-None g c =
     let place = c.args.place.now in
     let text = c.range-text.ensures.value ∙ whole_range place.text.now place.block_end in
-    read_other place.in_table _ _ c.read_reference-in-None.result
+    read_other place.in_table _ _ c.read_reference.result
     (tail_at place.in_table (g.R.LineRule.skipped c.args.rule.now) c.args.tree.now.nodes c.next.result _ c.range-text.result.now _
     c.item.result.now _
     c.in_ok-tail.field-0 None c.next.ensures.value text (c.item.ensures no_item) c.in-None.is c.in_ok-tail.ensures.value)
-    c.read_reference-in-None.ensures
+    c.read_reference.ensures

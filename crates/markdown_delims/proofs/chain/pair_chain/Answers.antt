@@ -6,7 +6,7 @@ use Rattle.markdown_base.specs.ArenaForest.{links_of, forest_at}
 use Rattle.markdown_base.specs.Forest.{Forest}
 use Rattle.markdown_base.specs.declared.item.Item.{Item}
 use Rattle.markdown_base.specs.declared.node.Node.{Node}
-use Rattle.markdown_chains.specs.Setting.{setting_of}
+use Rattle.markdown_document.specs.Setting.{setting_of}
 use Rattle.markdown_delims.specs.ChainForest.{IsChain, IsPaired, chain_of}
 use Rattle.markdown_delims.specs.Layers.{marks_of}
 use Rattle.markdown_delims.specs.EntryFinds.{finds_from}

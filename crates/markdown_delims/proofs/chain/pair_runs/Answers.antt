@@ -1,5 +1,6 @@
 -- Tree by tree.
 use Rattle.std.proofs.Common.{◌<◌, ◌+◌, ◌*◌, ◌^◌, [], arith, subst}
+use Rattle.markdown_document.specs.Counts.{comparisons_per_delimiter}
 use Rattle.markdown_delims.specs.RunReading.{delimiters_of, ReadFurther}
 use Rattle.markdown_delims.specs.ChainForest.{chain_of}
 use Rattle.markdown_delims.proofs.ChainLemmas.{whole_chain, starts_reading, reads_more, can_go_on, all_read, all_found, goes_down}
@@ -13,7 +14,7 @@ pub read_tree-requires : goal.read_tree-requires
 read_tree-requires c =
     let p = c.requires.chain in
     let a = c.trees.invariant p.forest p.chain in
-    let room : c.args.openers.now.examined + 10 * delimiters_of (chain_of c.args.tree.now.nodes p.forest) < 2 ^ 128 = p.room in
+    let room : c.args.openers.now.examined + comparisons_per_delimiter * delimiters_of (chain_of c.args.tree.now.nodes p.forest) < 2 ^ 128 = p.room in
     record {
       stands =
           can_go_on c.args.marks c.args.text.now c.args.tree.now c.args.first p.forest p.chain c.trees.tree c.args.openers.now

@@ -3,6 +3,7 @@ use Rattle.std.proofs.Common.{◌≡◌, ◌<◌, ◌+◌, ◌*◌, ◌^◌, ℕ
 use Rattle.std.specs.Prelude.{IfOk, Result}
 use Rattle.markdown_base.specs.declared.item.Item.{Item}
 use Rattle.markdown_base.specs.BlockTree.{no_item, item_at}
+use Rattle.markdown_document.specs.Counts.{comparisons_per_delimiter}
 use Rattle.markdown_delims.specs.MarkBodies.{run_of}
 use Rattle.markdown_delims.specs.Entries.{all_of_run, with_run}
 use Rattle.markdown_delims.specs.ChainStanding.{CanRead, ReadsOn}
@@ -53,7 +54,7 @@ read_run-requires-clause-room c =
     let p = c.requires.stands in
     let r = met_here c.args.marks c.args.text.now c.args.tree.now c.args.ix c.args.last c.args.openers.now.runs c.args.openers.now.potential
     c.requires.stands c.item-item.result.now c.in-Some.run' (c.item-item.ensures no_item) c.in-Some.ensures in
-    let room : c.args.openers.now.potential + 10 * delimiters_of p.rest < 2 ^ 128 = p.room in
+    let room : c.args.openers.now.potential + comparisons_per_delimiter * delimiters_of p.rest < 2 ^ 128 = p.room in
     omega (arith, r.begins.fewer)
 
 settles_as : (ix n : ℕ) (i j : Item) (s t : _) → i ≡ j → Settles ix i.start n s t → Settles ix j.start n s t

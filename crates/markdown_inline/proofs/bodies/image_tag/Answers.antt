@@ -1,7 +1,7 @@
 -- The parts of the tag are those of the link.
 use Rattle.std.proofs.Common.{sym, ap}
 use Rattle.markdown_base.specs.Event.{image}
-use Rattle.markdown_chains.specs.Tables.{tables_of}
+use Rattle.markdown_document.specs.Tables.{tables_of}
 use Rattle.markdown_inline.proofs.TakingLemmas.{leads_from, link_at-read}
 use Rattle.markdown_inline.proofs.bodies.image_tag.Goals as goal
 

@@ -3,8 +3,8 @@ use Rattle.markdown_base.specs.declared.event.Event.TheVariants as step
 use Rattle.std.proofs.Common.{[], ◌∷◌, refl}
 use Rattle.markdown_base.specs.Event.{text, code, html, inline_html, footnote_reference}
 use Rattle.markdown_base.specs.Item.{range_of}
-use Rattle.markdown_chains.specs.Origins.{origin_at}
-use Rattle.markdown_chains.specs.Document.{made}
+use Rattle.markdown_document.specs.Origins.{origin_at}
+use Rattle.markdown_document.specs.Document.{made}
 use Rattle.markdown_inline.proofs.TakingLemmas.{is_from, no_start, opens_made, opens_slice, opens_span, text_at-read}
 use Rattle.markdown_inline.proofs.TakingLemmas.{takes_text}
 use Rattle.markdown_inline.proofs.bodies.leaf_event.Goals as goal

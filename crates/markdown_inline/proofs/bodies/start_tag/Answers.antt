@@ -1,7 +1,7 @@
 -- A text, a link or alignments that a Start names are read and taken at once.
 use Rattle.std.proofs.Common.{refl, sym, ap}
-use Rattle.markdown_chains.specs.Document.{container_of, enclosed}
-use Rattle.markdown_chains.specs.Tables.{tables_of}
+use Rattle.markdown_document.specs.Document.{container_of, enclosed}
+use Rattle.markdown_document.specs.Tables.{tables_of}
 use Rattle.markdown_inline.proofs.TakingLemmas.{text_at-read, alignments_at-read, heading_named, some_container, container_shape}
 use Rattle.markdown_inline.proofs.TakingLemmas.{takes_text, takes_link, takes_alignments, takes_nothing}
 use Rattle.markdown_inline.proofs.bodies.start_tag.Goals as goal

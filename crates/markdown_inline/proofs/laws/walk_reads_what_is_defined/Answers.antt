@@ -1,5 +1,5 @@
 -- What is resolved is settled, and a settled forest reads so.
-use Rattle.markdown_chains.specs.Document.{plain_tags}
+use Rattle.markdown_document.specs.Document.{plain_tags}
 use Rattle.markdown_resolver.specs.Resolved.{resolved}
 use Rattle.markdown_resolver.proofs.ResolvingLemmas.{resolved-settled}
 use Rattle.markdown_inline.proofs.ReadingLemmas.{reading-settled}

@@ -1,7 +1,7 @@
 -- Each move is that of the shape that the item opens to.
 use Rattle.std.proofs.Common.{◌≡◌, refl, rules}
 use Rattle.markdown_base.specs.BlockTree.{no_item}
-use Rattle.markdown_chains.specs.Tables.{tables_of}
+use Rattle.markdown_document.specs.Tables.{tables_of}
 use Rattle.markdown_inline.specs.WalkSteps.{IsRefused}
 use Rattle.markdown_inline.proofs.TakingLemmas.{open-way}
 use Rattle.markdown_inline.proofs.WalkStepsLemmas.{passed_over, passed_in, passed_plain, refused_at}

@@ -15,5 +15,5 @@ returns-clause-value c =
     (front_passes is_ascii_digit c.args.bytes.now) in
     ordered_is c.args.bytes.now c.split_at.result.0.now c.split_at.result.1.now c.digit_count-count.result
     c.in-Some.character.now c.number_of.result counted front c.split_at.ensures.back c.in-Some.ensures.value
-    (omega arith) (omega arith) (sym c.is_delimiter.ensures ∙ c.if-not-is_delimiter.false)
+    (omega arith) (omega arith) (sym c.ends_number.ensures ∙ c.if-not-ends_number.false)
     (c.number_of.ensures (omega (arith, c.split_at.ensures.front_len)) digits)

@@ -1,7 +1,7 @@
 -- What the words read so far turn on: with the words left they turn on what all of them do.
 use Rattle.std.proofs.Common.{◌≡◌, map, string_bytes}
 use Rattle.std.proofs.Math.ListN.{drop}
-use Rattle.markdown_inline.specs.ParserLeft.{no_options}
+use Rattle.markdown_base.specs.EnabledOptions.{no_options}
 use Rattle.markdown_render.specs.Words.{turned_on}
 use Rattle.markdown_render.proofs.words.options_of.Given as goal
 

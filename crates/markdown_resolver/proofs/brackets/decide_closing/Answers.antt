@@ -1,8 +1,8 @@
 -- What a `]` becomes is decided, by the rules of pass one.
-use Rattle.std.proofs.Common.{Some, refl}
-use Rattle.markdown_chains.specs.Tables.{tables_of}
+use Rattle.std.proofs.Common.{Some, refl, ◌∙◌}
+use Rattle.markdown_document.specs.Tables.{tables_of}
 use Rattle.markdown_resolver.proofs.ChainPlaceLemmas.{has_blocks}
-use Rattle.markdown_resolver.proofs.CloseBracketLemmas.{AsksAbout, decides_here, finds_each, tries_each}
+use Rattle.markdown_resolver.proofs.CloseBracketLemmas.{IsPrefixOf, decides_here, finds_each, tries_each}
 use Rattle.markdown_resolver.proofs.OpenerReadLemmas.{ready_here}
 use Rattle.markdown_resolver.proofs.ReadingLemmas.{node_within}
 use Rattle.markdown_resolver.proofs.brackets.decide_closing.Goals as goal
@@ -17,10 +17,9 @@ decide_bracket-requires g c κs =
       (
         node_within c.args.place.now.text.now (tables_of c.args.tables.now) c.args.tree.now.nodes c.args.ix (ready_here can),
         (
-          tries_each can c.args.could_be c.requires.closes c.bracket_place.result c.bracket_place.ensures.text
-              c.bracket_place.ensures.block_end,
+          tries_each can c.args.could_be c.requires.closes,
           (
-            finds_each can c.args.could_be c.requires.closes c.bracket_place.result.text.now c.bracket_place.ensures.text,
+            finds_each can c.args.could_be c.requires.closes,
             c.requires.can_ask,
           ),
         ),
@@ -30,15 +29,10 @@ decide_bracket-requires g c κs =
 pub returns-clause-decides : goal.returns-clause-decides
 returns-clause-decides g c =
     let now = c.decide_bracket.new in
-    let about : AsksAbout c.args.place.now c.bracket_place.result c.new.result c.args.tree.now c.args.options = record {
-      text = c.bracket_place.ensures.text;
-      block_end = c.bracket_place.ensures.block_end;
-      in_table = c.bracket_place.ensures.in_table;
-      options_are = c.bracket_place.ensures.options;
+    let prefix : IsPrefixOf c.args.place.now c.new.result c.args.tree.now = record {
       here = c.new.ensures.tree;
-      gfm = c.new.ensures.footnotes;
+      gfm = c.new.ensures.footnotes ∙ c.gfm_footnotes.ensures;
     } in
-    decides_here g.F.BrokenLinkCallback.answers c.args.place.now c.bracket_place.result c.new.result c.args.tree.now c.args.options _
-    c.args.tables.now _ c.args.limit.now now.limit c.args.spent.now now.spent c.args.callback.now now.callback c.args.openers.now
-    now.openers c.args.ix c.args.could_be c.decide_bracket.result c.tables.view_is c.requires.footnotes about c.requires.closes
+    decides_here g.F.BrokenLinkCallback.answers c.args.place.now c.new.result c.args.tree.now c.args.options _ c.args.tables.now _ c.args.limit.now now.limit c.args.spent.now now.spent c.args.callback.now now.callback c.args.openers.now
+    now.openers c.args.ix c.args.could_be c.decide_bracket.result c.tables.view_is c.requires.options prefix c.requires.closes
     c.decide_bracket.ensures.decides

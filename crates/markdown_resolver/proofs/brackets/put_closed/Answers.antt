@@ -3,7 +3,7 @@ use Rattle.std.proofs.Common.{ℕ, Some, sym, subst}
 use Rattle.markdown_brackets.specs.BracketDecision.{Becomes}
 use Rattle.markdown_brackets.specs.DecisionView.{IsBecome}
 use Rattle.markdown_brackets.specs.declared.closing_bracket.ClosedBracket.{ClosedBracket}
-use Rattle.markdown_chains.specs.Tables.{tables_of}
+use Rattle.markdown_document.specs.Tables.{tables_of}
 use Rattle.markdown_resolver.specs.Closes.{ClosesAt, PutsClosed}
 use Rattle.markdown_resolver.proofs.CloseFootnoteLemmas.{becomes_footnote}
 use Rattle.markdown_resolver.proofs.CloseLinkLemmas.{becomes_link}

@@ -1,7 +1,7 @@
 -- The name is the last entry of its table, and its item is put into the node of its opener, or of its closer.
 use Rattle.std.proofs.Common.{arith}
 use Rattle.markdown_base.specs.BlockTree.{no_item}
-use Rattle.markdown_chains.specs.Tables.{tables_of}
+use Rattle.markdown_document.specs.Tables.{tables_of}
 use Rattle.markdown_resolver.proofs.CloseFootnoteLemmas.{image_reference_closed, may_refer, reference_closed}
 use Rattle.markdown_resolver.proofs.CloseLemmas.{opener_at}
 use Rattle.markdown_resolver.proofs.SplitLemmas.{inside_numbers}

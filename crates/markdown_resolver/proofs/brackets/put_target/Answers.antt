@@ -1,7 +1,7 @@
 -- The link is the last entry of its table, and its item is put into the node of its opener.
 use Rattle.std.proofs.Common.{refl}
 use Rattle.markdown_base.specs.BlockTree.{no_item}
-use Rattle.markdown_chains.specs.Tables.{tables_of}
+use Rattle.markdown_document.specs.Tables.{tables_of}
 use Rattle.markdown_resolver.proofs.CloseLemmas.{can_close, opener_at}
 use Rattle.markdown_resolver.proofs.CloseLinkLemmas.{link_closed, may_link}
 use Rattle.markdown_resolver.proofs.SplitLemmas.{inside_numbers}

@@ -3,9 +3,9 @@ use Rattle.std.proofs.Common.{◌-◌, Some, false, refl, sym, subst}
 use Rattle.markdown_base.specs.BlockTree.{no_item}
 use Rattle.markdown_base.specs.declared.item.Item.{Item}
 use Rattle.markdown_base.specs.declared.item.ItemBody.TheVariants as body
-use Rattle.markdown_chains.specs.Tables.{tables_of}
-use Rattle.markdown_code.specs.AfterLess.{autolink}
-use Rattle.markdown_code.specs.Finds.{address}
+use Rattle.markdown_document.specs.Tables.{tables_of}
+use Rattle.markdown_spans.specs.AfterLess.{autolink}
+use Rattle.markdown_spans.specs.Finds.{address}
 use Rattle.markdown_resolver.specs.MarkupItems.{address_to, item_to}
 use Rattle.markdown_resolver.specs.Rewritten.{CanPutParent, Puts, parent}
 use Rattle.markdown_resolver.proofs.MarkupItemLemmas.{PutsLink, address_from, autolink_trees, can_put_autolink, link_put, puts_standing}

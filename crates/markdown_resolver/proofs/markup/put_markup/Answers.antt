@@ -4,13 +4,13 @@ use Rattle.std.specs.Prelude.{string_bytes}
 use Rattle.markdown_base.specs.declared.item.Item.{Item}
 use Rattle.markdown_base.specs.declared.item.ItemBody.TheVariants as body
 use Rattle.markdown_base.specs.declared.node.Node.{Node}
-use Rattle.markdown_chains.specs.Setting.{Rules}
-use Rattle.markdown_chains.specs.Tables.{Tables, tables_of}
-use Rattle.markdown_chains.proofs.TablesLemmas.{grown-nothing}
-use Rattle.markdown_code.specs.AfterLess.{html}
-use Rattle.markdown_code.specs.Finds.{end_of_markup}
-use Rattle.markdown_code.specs.MarkupView.{markup_of}
-use Rattle.markdown_code.specs.declared.after_less.MarkupFound.{MarkupFound}
+use Rattle.markdown_document.specs.Setting.{Rules}
+use Rattle.markdown_document.specs.Tables.{Tables, tables_of}
+use Rattle.markdown_document.proofs.TablesLemmas.{grown-nothing}
+use Rattle.markdown_spans.specs.AfterLess.{html}
+use Rattle.markdown_spans.specs.Finds.{end_of_markup}
+use Rattle.markdown_spans.specs.MarkupView.{markup_of}
+use Rattle.markdown_spans.specs.declared.after_less.MarkupFound.{MarkupFound}
 use Rattle.markdown_resolver.specs.MarkupItems.{IsMarkupAt, item_to, standing_for}
 use Rattle.markdown_resolver.specs.Rewritten.{Puts, one}
 use Rattle.markdown_resolver.proofs.CodeSpanLemmas.{PutsText, text_put}

@@ -4,8 +4,8 @@ use Rattle.std.specs.Str.{IsCharBoundary}
 use Rattle.std.specs.Option.{option_map}
 use Rattle.markdown_base.specs.BlockTree.{no_item}
 use Rattle.markdown_base.specs.declared.item.Item.{Item}
-use Rattle.markdown_chains.specs.Tables.{tables_of}
-use Rattle.markdown_code.specs.MarkupView.{markup_of}
+use Rattle.markdown_document.specs.Tables.{tables_of}
+use Rattle.markdown_spans.specs.MarkupView.{markup_of}
 use Rattle.markdown_resolver.proofs.ChainPlaceLemmas.{has_blocks}
 use Rattle.markdown_resolver.proofs.MarkupItemLemmas.{boundary_before, lies_at}
 use Rattle.markdown_resolver.proofs.MarkupLemmas.{if_ok, is_scanned, markup_stands, none_follows, none_past_block, reads_found, reads_text}
@@ -66,7 +66,7 @@ put_markup-requires c =
     let scanned = is_scanned place tree held c.args.ix prefix (Some (markup_of c.in-Some.found)) c.item-item.result.now c.next.result
     c.range-text.result.now c.requires.chain c.requires.opener
     (c.item-item.ensures no_item) c.if-item-place.false c.next.ensures.value c.if-not-starts_at.ensures c.new-prefix.ensures.tree
-    c.new-prefix.ensures.footnotes c.range-text.ensures.value c.range-text.utf8 value in
+    (c.new-prefix.ensures.footnotes ∙ c.gfm_footnotes.ensures) c.range-text.ensures.value c.range-text.utf8 value in
     (place.text.now, markup_stands place tree held c.args.ix prefix (markup_of c.in-Some.found) scanned)
 
 pub returns-in-None-clause-reads : goal.returns-in-None-clause-reads
@@ -79,7 +79,7 @@ returns-in-None-clause-reads c = λ rules gfm.
     let scanned = is_scanned place tree held c.args.ix prefix None c.item-item.result.now c.next.result c.range-text.result.now
     c.requires.chain c.requires.opener
     (c.item-item.ensures no_item) c.if-item-place.false c.next.ensures.value c.if-not-starts_at.ensures c.new-prefix.ensures.tree
-    c.new-prefix.ensures.footnotes c.range-text.ensures.value c.range-text.utf8 value in
+    (c.new-prefix.ensures.footnotes ∙ c.gfm_footnotes.ensures) c.range-text.ensures.value c.range-text.utf8 value in
     reads_text place tree held c.args.ix rules c.settle-in-None.result c.settle-in-None.new.tree.nodes c.requires.chain c.requires.opener
     (scan_finds place tree held c.args.ix prefix None rules scanned gfm) (c.settle-in-None.ensures.puts place.text.now (tables_of held)
     c.requires.chain.ready)
@@ -95,7 +95,7 @@ returns-in-Some-clause-reads c =
     let scanned = is_scanned place tree held c.args.ix prefix (Some m) c.item-item.result.now c.next.result c.range-text.result.now
     c.requires.chain c.requires.opener
     (c.item-item.ensures no_item) c.if-item-place.false c.next.ensures.value c.if-not-starts_at.ensures c.new-prefix.ensures.tree
-    c.new-prefix.ensures.footnotes c.range-text.ensures.value c.range-text.utf8 value in
+    (c.new-prefix.ensures.footnotes ∙ c.gfm_footnotes.ensures) c.range-text.ensures.value c.range-text.utf8 value in
     if_ok c.put_markup.result _ _ (λ next puts. λ rules gfm.
     reads_found place tree held c.args.ix prefix m rules next c.put_markup.new.tree.nodes (tables_of c.put_markup.new.tables) scanned gfm
     (puts place.text.now rules (markup_stands place tree held c.args.ix prefix m scanned))) c.put_markup.ensures.puts

@@ -1,5 +1,5 @@
 -- Where the text of a math span starts: the nodes that are read are there.
-use Rattle.markdown_code.proofs.ChainWalkLemmas.{chain_at}
+use Rattle.markdown_spans.proofs.ChainWalkLemmas.{chain_at}
 use Rattle.markdown_resolver.proofs.spans.math_text_start.Goals as goal
 
 pub next-requires : goal.next-requires

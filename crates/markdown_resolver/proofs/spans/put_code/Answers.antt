@@ -4,8 +4,8 @@ use Rattle.markdown_base.specs.BlockTree.{item_at, no_item}
 use Rattle.markdown_base.specs.declared.item.Item.{Item}
 use Rattle.markdown_base.specs.declared.item.ItemBody.{ItemBody}
 use Rattle.markdown_base.specs.declared.node.Node.{Node}
-use Rattle.markdown_chains.specs.Tables.{Tables}
-use Rattle.markdown_code.specs.Finds.{is_escaped}
+use Rattle.markdown_document.specs.Tables.{Tables}
+use Rattle.markdown_spans.specs.Finds.{is_escaped}
 use Rattle.markdown_resolver.specs.PutCode.{CanPutCode, CanPutSpan, first_backtick, span_past_backtick}
 use Rattle.markdown_resolver.specs.Rewritten.{CanPutPair}
 use Rattle.markdown_resolver.proofs.spans.put_code.Goals as goal

@@ -2,13 +2,13 @@
 use Rattle.std.proofs.Common.{◌≡◌, Some, None, ap, ◌∙◌, subst}
 use Rattle.markdown_base.specs.BlockTree.{item_at, no_item}
 use Rattle.markdown_base.specs.declared.item.Item.{Item}
-use Rattle.markdown_chains.specs.Origins.{origin_at}
-use Rattle.markdown_chains.specs.Above.{above_cursor}
-use Rattle.markdown_chains.specs.Setting.{Setting, setting_of}
-use Rattle.markdown_chains.specs.Tables.{tables_of, text_at}
-use Rattle.markdown_code.specs.Finds.{text_between, origin_between}
-use Rattle.markdown_code.specs.SpanClosers.{ClosesMath}
-use Rattle.markdown_code.specs.declared.span_text.SpanKind.TheVariants.{Math}
+use Rattle.markdown_document.specs.Origins.{origin_at}
+use Rattle.markdown_document.specs.Above.{above_cursor}
+use Rattle.markdown_document.specs.Setting.{Setting, setting_of}
+use Rattle.markdown_document.specs.Tables.{tables_of, text_at}
+use Rattle.markdown_spans.specs.Finds.{text_between, origin_between}
+use Rattle.markdown_spans.specs.SpanClosers.{ClosesMath}
+use Rattle.markdown_spans.specs.declared.span_text.SpanKind.TheVariants.{Math}
 use Rattle.markdown_resolver.specs.Rewritten.{Puts, one}
 use Rattle.markdown_resolver.proofs.ChainLeadsLemmas.{chain_leads}
 use Rattle.markdown_resolver.proofs.ChainPlaceLemmas.{has_blocks}

@@ -1,8 +1,9 @@
 -- A text that is put in is found there, as it was made.
 use Rattle.std.proofs.Common.{◌≡◌}
-use Rattle.markdown_chains.specs.Above.{above_cursor}
-use Rattle.markdown_chains.specs.Setting.{Rules, setting_of}
-use Rattle.markdown_code.specs.Finds.{gfm_footnotes, text_between}
+use Rattle.markdown_document.specs.Above.{above_cursor}
+use Rattle.markdown_document.specs.Setting.{Rules, setting_of}
+use Rattle.markdown_base.specs.EnabledOptions.{gfm_footnotes_on}
+use Rattle.markdown_spans.specs.Finds.{text_between}
 use Rattle.markdown_resolver.proofs.CodeSpanLemmas.{cow_stored, cow_text}
 use Rattle.markdown_resolver.proofs.spans.store_text.Goals as goal
 
@@ -16,7 +17,7 @@ pub returns-clause-text : goal.returns-clause-text
 returns-clause-text c =
     let place = c.args.place.now in
     cow_text c.args.tables.now c.allocate_cow.new.self c.in_ok-text_between.field-0 c.allocate_cow.result
-    (λ (rules : Rules). gfm_footnotes rules.options ≡ place.gfm_footnotes)
+    (λ (rules : Rules). gfm_footnotes_on rules.options ≡ gfm_footnotes_on place.options)
     (λ (rules : Rules). text_between (setting_of place.text.now rules) (above_cursor place.text.now c.args.tree.now) c.args.kind
     c.args.start c.args.end)
     c.in_ok-text_between.ensures.value c.allocate_cow.ensures.number c.allocate_cow.ensures.put

@@ -4,12 +4,12 @@ use Rattle.std.proofs.Math.Path.{fun_ext}
 use Rattle.markdown_base.specs.Arena.{Arena}
 use Rattle.markdown_base.specs.declared.item.Item.{Item}
 use Rattle.markdown_base.specs.CowText.{text_of}
-use Rattle.markdown_code.proofs.SliceLemmas.{sliced_within}
-use Rattle.markdown_chains.specs.Origins.{IsSlicedOf, origin_of}
-use Rattle.markdown_chains.specs.Above.{above_cursor}
-use Rattle.markdown_chains.specs.Setting.{Setting, setting_of}
-use Rattle.markdown_code.specs.CodeText.{span_text, span_origin}
-use Rattle.markdown_code.specs.Finds.{prefix_below}
+use Rattle.markdown_spans.proofs.SliceLemmas.{sliced_within}
+use Rattle.markdown_document.specs.Origins.{IsSlicedOf, origin_of}
+use Rattle.markdown_document.specs.Above.{above_cursor}
+use Rattle.markdown_document.specs.Setting.{Setting, setting_of}
+use Rattle.markdown_spans.specs.CodeText.{span_text, span_origin}
+use Rattle.markdown_spans.specs.Finds.{prefix_below}
 use Rattle.markdown_resolver.proofs.ChainPlaceLemmas.{prefix_is}
 use Rattle.markdown_resolver.proofs.spans.text_between.Goals as goal
 
@@ -20,7 +20,7 @@ returns-clause-value c = λ rules gfm.
     let prefix = c.new-prefix.result in
     let table = c.args.place.now.in_table in
     let bytes = c.range.result.now in
-    let same = fun_ext (prefix_is prefix s (c.new-prefix.ensures.footnotes ∙ sym gfm))
+    let same = fun_ext (prefix_is prefix s (c.new-prefix.ensures.footnotes ∙ c.gfm_footnotes.ensures ∙ sym gfm))
     ∙ ap (λ (tree : Arena Item). prefix_below s (above_cursor s.text tree)) c.new-prefix.ensures.tree in
     c.in_ok-span_text.ensures.value
     ∙ ap (λ (p : List ℕ → ℕ). span_text c.args.kind table p bytes) same

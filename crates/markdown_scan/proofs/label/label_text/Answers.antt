@@ -1,6 +1,7 @@
 use Rattle.std.proofs.Common.{sym, ◌∙◌, ap, false, take}
 use Rattle.std.specs.Option.{option_map}
-use Rattle.markdown_scan.specs.Backslash.{backslash, is_bare}
+use Rattle.markdown_base.specs.Bytes.{backslash}
+use Rattle.markdown_scan.specs.Backslash.{is_bare}
 use Rattle.markdown_scan.specs.Label.{collapse_whitespace}
 use Rattle.markdown_scan.specs.LabelScan.{character_shown, found_in}
 use Rattle.markdown_scan.specs.LabelText.{completed}

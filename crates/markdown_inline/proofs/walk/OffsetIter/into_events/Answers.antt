@@ -7,4 +7,4 @@ returns-clause-all g c = rw c.into_callback-callback.ensures c.in_ok-rest.ensure
 
 pub returns-clause-whole : goal.returns-clause-whole
 returns-clause-whole g c =
-    whole_run g.F.BrokenLinkCallback.answers c.args.self.inner c.in_ok-rest.field-0.items _ c.in_ok-rest.ensures.all
+    whole_run g.F.BrokenLinkCallback.answers c.args.self.inner c.in_ok-rest.field-0.items _ (returns-clause-all g c)

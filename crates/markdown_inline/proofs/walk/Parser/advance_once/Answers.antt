@@ -1,5 +1,5 @@
 -- Each step of the tree is one of the parser; before a chain the resolver is called.
-use Rattle.markdown_chains.specs.Tables.{tables_of}
+use Rattle.markdown_document.specs.Tables.{tables_of}
 use Rattle.std.proofs.Common.{refl}
 use Rattle.markdown_inline.specs.ParserLeft.{parser_setting}
 use Rattle.markdown_inline.proofs.ParserLemmas.{before_chain, above_chain, stands_chain, moved_give, moved_past, moved_skip}

@@ -1,7 +1,7 @@
 -- The bound is that of a walk that stands in the tree.
 use Rattle.std.proofs.Common.{ℕ, ◌≤◌, Option, Some, None, IfSome, arith}
 use Rattle.std.specs.Prelude.{SomeIff}
-use Rattle.markdown_chains.specs.Tables.{tables_of}
+use Rattle.markdown_document.specs.Tables.{tables_of}
 use Rattle.markdown_inline.proofs.WalkTotalsLemmas.{steps_of-few}
 use Rattle.markdown_inline.proofs.walk.Parser.most_left.Goals as goal
 

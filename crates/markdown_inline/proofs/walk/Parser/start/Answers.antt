@@ -1,7 +1,7 @@
 -- The Start is that of the item; where it is refused the walk is over.
 use Rattle.std.proofs.Common.{refl, ap}
-use Rattle.markdown_spans.specs.Allocations.{Allocated}
-use Rattle.markdown_chains.specs.Tables.{tables_of}
+use Rattle.markdown_defs.specs.Allocations.{Allocated}
+use Rattle.markdown_document.specs.Tables.{tables_of}
 use Rattle.markdown_inline.proofs.ParserLemmas.{over_ended}
 use Rattle.markdown_inline.proofs.TakingLemmas.{opens_start}
 use Rattle.markdown_inline.proofs.WalkStepsLemmas.{stands_ended, stopped}

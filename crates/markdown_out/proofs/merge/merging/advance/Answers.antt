@@ -1,8 +1,9 @@
-use Rattle.std.proofs.Common.{◌≡◌, ◌∷◌, [], sym, ap, subst, ◌∙◌, arith}
+use Rattle.std.proofs.Common.{◌≡◌, ◌<◌, ◌+◌, ◌*◌, ◌∷◌, [], sym, ap, subst, ◌∙◌, arith}
+use Rattle.std.specs.Iterator.{size}
 use Rattle.std.specs.Option.{option_map}
 use Rattle.markdown_out.specs.MergeNext.{item_view}
 use Rattle.markdown_out.specs.HeldItems.{held_items}
-use Rattle.markdown_out.specs.TakenAnswers.{given_answers}
+use Rattle.markdown_out.specs.TakenAnswers.{again_count, given_answers, given_count, held_count}
 use Rattle.markdown_out.specs.AdvanceSteps.{IsMerged}
 use Rattle.markdown_out.proofs.MergeNextLemmas.{merged-more, can_merge-after, fewer-after}
 use Rattle.markdown_out.proofs.merge.merging.advance.Goals as goal
@@ -43,3 +44,37 @@ reading-preserved g c =
             c.next.result can c.next.ensures.steps c.next.ensures.goes,
       );
     }
+
+pub reading-smaller : goal.reading-smaller
+reading-smaller g c =
+    let steps = g.I.Iterator.next_gives in
+    let rest = g.I.Iterator.remaining in
+    let takes = c.in_ok-step.ensures.takes in
+    let again : again_count c.in_ok-step.step ≡ 1 = ap again_count c.in-Again.is in
+    let fewer = fewer-after steps c.next.result c.reading.invariant.can_merge c.next.ensures.steps c.next.ensures.goes in
+    let smaller : 2 * size (rest c.next.new.self) + held_count c.in_ok-step.next < 2 * size (rest c.reading.iter) + held_count c.reading.held
+    = omega (arith, again, takes.needs, takes.holds, takes.counts, c.parted-answer.ensures.count, fewer) in
+    smaller
+
+pub returns-in-Give-clause-again : goal.returns-in-Give-clause-again
+returns-in-Give-clause-again g c =
+    can_merge-after g.I.Iterator.next_gives c.next.result c.reading.invariant.can_merge c.next.ensures.steps c.next.ensures.goes
+
+pub returns-in_err-step-clause-again : goal.returns-in_err-step-clause-again
+returns-in_err-step-clause-again g c =
+    can_merge-after g.I.Iterator.next_gives c.next.result c.reading.invariant.can_merge c.next.ensures.steps c.next.ensures.goes
+
+pub returns-in-Give-clause-less : goal.returns-in-Give-clause-less
+returns-in-Give-clause-less g c =
+    let steps = g.I.Iterator.next_gives in
+    let takes = c.in_ok-step.ensures.takes in
+    let given = ap given_count c.in-Give.is in
+    omega (
+      arith,
+      given,
+      takes.counts,
+      c.rebuilt.ensures.count,
+      c.parted-answer.ensures.count,
+      c.reading.invariant.fewer,
+      fewer-after steps c.next.result c.reading.invariant.can_merge c.next.ensures.steps c.next.ensures.goes,
+    )

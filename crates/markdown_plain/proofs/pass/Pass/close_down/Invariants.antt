@@ -18,5 +18,8 @@ invariant-blocks-2 l = record {
     lines = l.self.lines;
     looseness = l.self.looseness;
   };
-  looseness : l.self.looseness ≡ record l.fn.self.looseness { lists = l.self.looseness.lists };
+  looseness : l.self.looseness ≡ record l.fn.self.looseness {
+    lists = l.self.looseness.lists;
+    item_is_empty = l.self.looseness.item_is_empty;
+  };
 }

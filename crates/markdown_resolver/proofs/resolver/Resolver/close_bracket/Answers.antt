@@ -2,19 +2,19 @@
 use Rattle.std.proofs.Common.{Some, ap, ◌∙◌, refl, subst}
 use Rattle.std.specs.Prelude.{is_some}
 use Rattle.std.specs.Str.{IsUtf8}
-use Rattle.markdown_chains.specs.Above.{above_cursor}
+use Rattle.markdown_document.specs.Above.{above_cursor}
 use Rattle.markdown_resolver.specs.ReadsBracket.{setting_by, stage_by}
 use Rattle.markdown_resolver.proofs.CloseBracketLemmas.{may_put, reads_closed, stops_decided}
 use Rattle.markdown_resolver.proofs.OpenerReadLemmas.{if_err}
 use Rattle.markdown_resolver.proofs.StopsLemmas.{stops_here}
 use Rattle.markdown_resolver.proofs.resolver.Resolver.close_bracket.Goals as goal
-use Rattle.markdown_spans.specs.Allocations.{Allocated}
-use Rattle.markdown_spans.specs.Footnotes.{footnote_at}
+use Rattle.markdown_defs.specs.Allocations.{Allocated}
+use Rattle.markdown_defs.specs.Footnotes.{footnote_at}
 
 pub decide_closing-requires : goal.decide_closing-requires
 decide_closing-requires g c κs =
     let ready = c.requires.ready in
-    ((refl, tt), (c.requires.can_ask, ((ready.first, ready.left, ready.was_read), (ready.footnotes, c.requires.closes))))
+    ((refl, tt), (c.requires.can_ask, ((ready.first, ready.left, ready.was_read), (ready.options, c.requires.closes))))
 
 pub returns-in_err-found-clause-stops : goal.returns-in_err-found-clause-stops
 returns-in_err-found-clause-stops g c =

@@ -1,8 +1,8 @@
 -- One item of the chain after another is counted.
 use Rattle.std.proofs.Common.{ℕ, refl, ap, ◌∙◌, arith}
-use Rattle.markdown_chains.specs.Stages.{items_from}
-use Rattle.markdown_chains.specs.Tables.{tables_of}
-use Rattle.markdown_chains.specs.declared.work.Work.{Work}
+use Rattle.markdown_document.specs.Stages.{items_from}
+use Rattle.markdown_document.specs.Tables.{tables_of}
+use Rattle.markdown_document.specs.declared.work.Work.{Work}
 use Rattle.markdown_resolver.specs.declared.resolver.Resolver.{Resolver}
 use Rattle.markdown_resolver.proofs.ReadingLemmas.{node_within, ready_next, items_next, items_some, items_none, counted_more, counted_all}
 use Rattle.markdown_resolver.proofs.resolver.Resolver.count_items.Goals as goal

@@ -1,7 +1,7 @@
 -- Some items were counted, and the others follow.
 use Rattle.std.specs.Prelude.{◌≡◌, Some}
-use Rattle.markdown_chains.specs.Stages.{items_from}
-use Rattle.markdown_chains.specs.Tables.{tables_of}
+use Rattle.markdown_document.specs.Stages.{items_from}
+use Rattle.markdown_document.specs.Tables.{tables_of}
 use Rattle.markdown_resolver.specs.Chains.{CanResolve}
 use Rattle.markdown_resolver.proofs.ReadingLemmas.{Counted}
 use Rattle.markdown_resolver.proofs.resolver.Resolver.count_items.Given as goal

@@ -1,10 +1,10 @@
 -- One item of the chain after another is read.
 use Rattle.std.proofs.Common.{◌≡◌, ℕ, false, Option, Some, take, sym, ap, ◌∙◌, refl, subst, arith}
 use Rattle.std.specs.Prelude.{is_some}
-use Rattle.markdown_chains.specs.Setting.{rules_from, setting_of}
-use Rattle.markdown_chains.specs.Stages.{items_from}
-use Rattle.markdown_code.specs.SpanClosers.{HoldsFrom, has_failed}
-use Rattle.markdown_code.specs.declared.span_text.SpanKind.{SpanKind}
+use Rattle.markdown_document.specs.Setting.{rules_from, setting_of}
+use Rattle.markdown_document.specs.Stages.{items_from}
+use Rattle.markdown_spans.specs.SpanClosers.{HoldsFrom, has_failed}
+use Rattle.markdown_spans.specs.declared.span_text.SpanKind.{SpanKind}
 use Rattle.markdown_resolver.specs.declared.resolver.Resolver.{Resolver}
 use Rattle.markdown_resolver.proofs.ChainReadLemmas.{can_read_on, same_setting, still_asks, up_to_all}
 use Rattle.markdown_resolver.proofs.ChainReadLemmas.{up_to_more, up_to_none, up_to_stops}
@@ -12,13 +12,13 @@ use Rattle.markdown_resolver.proofs.OpenerReadLemmas.{if_err}
 use Rattle.markdown_resolver.proofs.ReadingLemmas.{looked_more, looked_none, up_to}
 use Rattle.markdown_resolver.proofs.resolver.Resolver.read_chain.Goals as goal
 
-pub of_chain-place-requires : goal.of_chain-place-requires
-of_chain-place-requires g c = (Some c.args.first, rw c.begin_chain.ensures.kept c.requires.above)
+pub place_of_chain-place-requires : goal.place_of_chain-place-requires
+place_of_chain-place-requires g c = (Some c.args.first, rw c.begin_chain.ensures.kept c.requires.above)
 
 pub chain-init : goal.chain-init
 chain-init g c =
     let s = c.args.self.now in
-    let place = c.of_chain-place.result in
+    let place = c.place_of_chain-place.result in
     let all = items_from c.args.tree.now.nodes (Some c.args.first) in
     let b = c.begin_chain.new.self in
     rw c.begin_chain.ensures.kept (record {
@@ -28,7 +28,7 @@ chain-init g c =
       can_ask = c.requires.can_ask;
       scanner =
           c.new-scanner.ensures ∙ c.as_bytes.ensures.value ∙ c.range.ensures.value
-          ∙ up_to c.begin_chain.new.self.text.now place.block_end ∙ ap (take place.block_end) (sym c.of_chain-place.ensures.text);
+          ∙ up_to c.begin_chain.new.self.text.now place.block_end ∙ ap (take place.block_end) (sym c.place_of_chain-place.ensures.text);
       code_learned = λ low chain leads. tt;
       math_learned = λ low chain leads. tt;
       code_looks = looked_none false s.work.code_visits all;
@@ -40,9 +40,9 @@ chain-init g c =
 pub read_item-requires : goal.read_item-requires
 read_item-requires g c κs =
     let i = c.chain.invariant in
-    let text : c.of_chain-place.result.text.now ≡ c.args.self.now.text.now = c.of_chain-place.ensures.text
+    let text : c.place_of_chain-place.result.text.now ≡ c.args.self.now.text.now = c.place_of_chain-place.ensures.text
     ∙ ap (λ (r : Resolver g.row.F.Denot). r.text.now) c.begin_chain.ensures.kept in
-    let can = can_read_on i.reads c.requires.above c.of_chain-place.result c.in-Some.ix c.in-Some.is text c.of_chain-place.ensures.place in
+    let can = can_read_on i.reads c.requires.above c.place_of_chain-place.result c.in-Some.ix c.in-Some.is text c.place_of_chain-place.ensures.place in
     let options : c.begin_chain.new.self.options ≡ c.chain.self.options = ap (λ (r : Resolver g.row.F.Denot). r.options)
     c.begin_chain.ensures.kept ∙ sym (ap (λ (r : Resolver g.row.F.Denot). r.options) i.kept) in (
       (refl, tt),
@@ -54,7 +54,7 @@ read_item-requires g c κs =
             left = i.reads.reads.left_then;
             was_read = can;
             text = text ∙ sym (ap (λ (r : Resolver g.row.F.Denot). r.text.now) i.kept);
-            footnotes = rw (← options) c.of_chain-place.ensures.footnotes;
+            options = c.place_of_chain-place.ensures.options ∙ options;
           },
           (
             i.scanner,
@@ -72,9 +72,9 @@ returns-in_err-at-clause-stops g c =
     let s = c.args.self.now in
     let i = c.chain.invariant in
     let at = c.chain.self in
-    let text : c.of_chain-place.result.text.now ≡ s.text.now = c.of_chain-place.ensures.text
+    let text : c.place_of_chain-place.result.text.now ≡ s.text.now = c.place_of_chain-place.ensures.text
     ∙ ap (λ (r : Resolver g.row.F.Denot). r.text.now) c.begin_chain.ensures.kept in
-    let can = can_read_on i.reads c.requires.above c.of_chain-place.result c.in-Some.ix c.in-Some.is text c.of_chain-place.ensures.place in
+    let can = can_read_on i.reads c.requires.above c.place_of_chain-place.result c.in-Some.ix c.in-Some.is text c.place_of_chain-place.ensures.place in
     let same = same_setting s.text.now at.text.now s.options at.options s.tables at.tables (is_some s.callback) (is_some at.callback)
     (ap (λ (r : Resolver g.row.F.Denot). r.text.now) i.kept) (ap (λ (r : Resolver g.row.F.Denot). r.options) i.kept)
     (ap (λ (r : Resolver g.row.F.Denot). r.tables.refdefs) i.kept)
@@ -94,9 +94,9 @@ chain-preserved g c =
     let next = c.in_ok-at.at in
     let reads = c.in_ok-at.ensures.reads in
     let kept = c.read_item.ensures.kept.kept in
-    let text : c.of_chain-place.result.text.now ≡ s.text.now = c.of_chain-place.ensures.text
+    let text : c.place_of_chain-place.result.text.now ≡ s.text.now = c.place_of_chain-place.ensures.text
     ∙ ap (λ (r : Resolver g.row.F.Denot). r.text.now) c.begin_chain.ensures.kept in
-    let can = can_read_on i.reads c.requires.above c.of_chain-place.result ix c.in-Some.is text c.of_chain-place.ensures.place in
+    let can = can_read_on i.reads c.requires.above c.place_of_chain-place.result ix c.in-Some.is text c.place_of_chain-place.ensures.place in
     let same = same_setting s.text.now at.text.now s.options at.options s.tables at.tables (is_some s.callback) (is_some at.callback)
     (ap (λ (r : Resolver g.row.F.Denot). r.text.now) i.kept) (ap (λ (r : Resolver g.row.F.Denot). r.options) i.kept)
     (ap (λ (r : Resolver g.row.F.Denot). r.tables.refdefs) i.kept)

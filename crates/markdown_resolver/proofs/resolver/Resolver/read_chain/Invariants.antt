@@ -1,13 +1,13 @@
 -- What was read so far of a chain, and what is so of the rest.
 use Rattle.std.specs.Prelude.{◌≡◌, ℕ, ◌+◌, ◌-◌, ◌^◌, List, min, IfSome, Some, is_some, take}
-use Rattle.markdown_chains.specs.Setting.{rules_from, setting_of}
-use Rattle.markdown_chains.specs.Stages.{items_from}
-use Rattle.markdown_code.specs.SpanClosers.{HoldsFrom, has_failed}
-use Rattle.markdown_code.specs.declared.span_text.SpanKind.{SpanKind}
+use Rattle.markdown_document.specs.Setting.{rules_from, setting_of}
+use Rattle.markdown_document.specs.Stages.{items_from}
+use Rattle.markdown_spans.specs.SpanClosers.{HoldsFrom, has_failed}
+use Rattle.markdown_spans.specs.declared.span_text.SpanKind.{SpanKind}
 use Rattle.markdown_resolver.proofs.ChainReadLemmas.{ReadsUpTo}
 use Rattle.markdown_resolver.proofs.ReadingLemmas.{LookedUpTo}
 use Rattle.markdown_resolver.proofs.resolver.Resolver.read_chain.Given as goal
-use Rattle.markdown_spans.specs.Footnotes.{footnote_at}
+use Rattle.markdown_defs.specs.Footnotes.{footnote_at}
 
 abbrev pub invariant-chain : goal.invariant-chain
 invariant-chain g l = record {

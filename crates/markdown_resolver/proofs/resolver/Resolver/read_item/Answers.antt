@@ -4,8 +4,8 @@ use Rattle.std.proofs.lemmas.Result.{IfOk-weaker}
 use Rattle.std.specs.Prelude.{IfSome}
 use Rattle.markdown_base.specs.BlockTree.{item_at, no_item}
 use Rattle.markdown_base.specs.declared.item.Item.{Item}
-use Rattle.markdown_chains.specs.Above.{above_cursor}
-use Rattle.markdown_chains.specs.Tables.{tables_of}
+use Rattle.markdown_document.specs.Above.{above_cursor}
+use Rattle.markdown_document.specs.Tables.{tables_of}
 use Rattle.markdown_resolver.specs.BracketKinds.{kind_of}
 use Rattle.markdown_resolver.specs.ReadsBracket.{setting_by, stage_by}
 use Rattle.markdown_resolver.specs.declared.resolver.Resolver.{Resolver}
@@ -43,7 +43,7 @@ pub read_other-requires : goal.read_other-requires
 read_other-requires g c κs =
     let can = c.requires.ready in (
       (refl, tt),
-      (can_read_item can.was_read, (can.text, (can.footnotes, (c.requires.scanner, (c.requires.code_learned, c.requires.math_learned))))),
+      (can_read_item can.was_read, (can.text, (can.options, (c.requires.scanner, (c.requires.code_learned, c.requires.math_learned))))),
     )
 
 pub returns-in-None : goal.returns-in-None

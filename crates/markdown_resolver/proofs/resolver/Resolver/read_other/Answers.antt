@@ -2,13 +2,14 @@
 use Rattle.std.proofs.Common.{ℕ, Option, Some, refl, sym, ap, ◌∙◌, subst, arith}
 use Rattle.std.specs.Prelude.{Result, Ok, is_some}
 use Rattle.markdown_base.specs.BlockTree.{no_item}
+use Rattle.markdown_base.specs.EnabledOptions.{gfm_footnotes_on}
 use Rattle.markdown_base.specs.declared.fault.Fault.{Fault}
 use Rattle.markdown_base.specs.declared.item.Item.{Item}
-use Rattle.markdown_chains.specs.Above.{above_cursor}
-use Rattle.markdown_chains.specs.Setting.{rules_from}
-use Rattle.markdown_chains.specs.Tables.{tables_of}
-use Rattle.markdown_code.specs.SpanClosers.{has_failed}
-use Rattle.markdown_code.specs.declared.span_text.SpanKind.{SpanKind}
+use Rattle.markdown_document.specs.Above.{above_cursor}
+use Rattle.markdown_document.specs.Setting.{rules_from}
+use Rattle.markdown_document.specs.Tables.{tables_of}
+use Rattle.markdown_spans.specs.SpanClosers.{has_failed}
+use Rattle.markdown_spans.specs.declared.span_text.SpanKind.{SpanKind}
 use Rattle.markdown_resolver.specs.Chains.{CanResolve}
 use Rattle.markdown_resolver.specs.ReadsBracket.{setting_by}
 use Rattle.markdown_resolver.proofs.ReadingLemmas.{FindsNothing, finds_nothing, node_within, reads_alone, reads_by_rules, settled_reads}
@@ -31,7 +32,7 @@ returns-in-MaybeCode g c =
     let new = c.read_code.new in
     let read = reads_by_rules c.read_code.result c.args.place.now s.text.now (rules_from s.options s.tables (is_some s.callback))
     c.args.tree.now c.args.ix new.tree.nodes (tables_of s.tables) (tables_of new.tables) c.requires.chain.ready c.requires.text
-    c.requires.footnotes c.read_code.ensures.reads in
+    (ap gfm_footnotes_on c.requires.options) c.read_code.ensures.reads in
     record {
       reads = read.reads;
       code_learned = c.read_code.ensures.learned;
@@ -50,7 +51,7 @@ returns-in-MaybeMath g c =
     let new = c.read_math.new in
     let read = reads_by_rules c.read_math.result c.args.place.now s.text.now (rules_from s.options s.tables (is_some s.callback))
     c.args.tree.now c.args.ix new.tree.nodes (tables_of s.tables) (tables_of new.tables) c.requires.chain.ready c.requires.text
-    c.requires.footnotes c.read_math.ensures.reads in
+    (ap gfm_footnotes_on c.requires.options) c.read_math.ensures.reads in
     record {
       reads = read.reads;
       code_learned = read.holds SpanKind.Code s.code_closers c.requires.code_learned;
@@ -69,7 +70,7 @@ returns-in-MaybeHtml g c =
     let new = c.read_markup.new in
     let read = reads_by_rules c.read_markup.result c.args.place.now s.text.now (rules_from s.options s.tables (is_some s.callback))
     c.args.tree.now c.args.ix new.tree.nodes (tables_of s.tables) (tables_of new.tables) c.requires.chain.ready c.requires.text
-    c.requires.footnotes c.read_markup.ensures.reads in
+    (ap gfm_footnotes_on c.requires.options) c.read_markup.ensures.reads in
     record {
       reads = read.reads;
       code_learned = read.holds SpanKind.Code s.code_closers c.requires.code_learned;

@@ -1,0 +1,2 @@
+-- Lemmas that callers cite, passed on from the crates below.
+pub mod CallerLemmas

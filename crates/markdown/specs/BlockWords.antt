@@ -1,0 +1,28 @@
+-- Words of clauses on block results, trees and items, passed on so that a caller names this crate alone.
+
+-- a block result
+pub use Rattle.markdown_blocks.specs.Blocks.{block_text, block_options, block_tree, block_parts, IsOfText}
+pub use Rattle.markdown_blocks.specs.declared.blocks.Blocks.{Blocks}
+pub use Rattle.markdown_base.specs.WellFormed.{IsWellFormed, KeepsRules, AllKeepRules, PartCounts, counts_of}
+pub use Rattle.markdown_base.specs.Coverage.{Covers, is_covered, is_in_block, is_inside}
+-- a tree, as nodes by number and as a forest of items
+pub use Rattle.markdown_base.specs.Arena.{Arena, items_of, child_of, sibling_of, innermost, single, changed_at}
+pub use Rattle.markdown_base.specs.Arena.{follower, led_to, appended}
+pub use Rattle.markdown_base.specs.BlockTree.{Numbered, tree_of}
+pub use Rattle.markdown_base.specs.Forest.{Forest, nil, node, Throughout, Each, preorder, roots, first_root}
+pub use Rattle.markdown_base.specs.declared.node.Node.{Node}
+-- an item
+pub use Rattle.markdown_base.specs.Item.{is_open, is_inline, is_childless, is_resolved, is_block, is_table_cell}
+pub use Rattle.markdown_base.specs.Item.{is_tight_paragraph, is_unplaced, text_named, alignments_named}
+pub use Rattle.markdown_base.specs.Item.{attributes_named, range_of, LiesIn}
+pub use Rattle.markdown_base.specs.declared.item.Item.{Item}
+pub use Rattle.markdown_base.specs.declared.item.ItemBody.{ItemBody}
+pub use Rattle.markdown_base.specs.declared.index.CowIndex.{CowIndex}
+pub use Rattle.markdown_base.specs.declared.index.LinkIndex.{LinkIndex}
+pub use Rattle.markdown_base.specs.declared.index.AlignmentIndex.{AlignmentIndex}
+pub use Rattle.markdown_base.specs.declared.index.HeadingIndex.{HeadingIndex}
+-- the parts that items name
+pub use Rattle.markdown_base.specs.BlockParts.{DefinitionView, definition_view, HasShortTexts}
+pub use Rattle.markdown_base.specs.declared.block_parts.BlockParts.{BlockParts}
+pub use Rattle.markdown_base.specs.declared.block_parts.LinkDef.{LinkDef}
+pub use Rattle.markdown_base.specs.declared.block_parts.HeadingAttributes.{HeadingAttributes}

@@ -1,0 +1,32 @@
+-- Words of clauses on definitions, footnotes and callbacks, passed on so that a caller names this crate alone.
+
+-- matching by case folding
+unfoldable pub use Rattle.markdown_defs.specs.Folding.{case_folding}
+pub use Rattle.markdown_defs.specs.Folding.{Matches, is_match}
+-- definitions
+pub use Rattle.markdown_defs.specs.Definitions.{Labelled, look_up, add_first, HasOtherFolding, AreDistinct}
+unfoldable pub use Rattle.markdown_defs.specs.Definitions.{firsts}
+pub use Rattle.markdown_defs.specs.DefinitionsLeft.{definitions_left, with_text, values_of}
+pub use Rattle.markdown_defs.specs.declared.definitions.RefDefsIter.{RefDefsIter}
+-- footnotes
+pub use Rattle.markdown_defs.specs.Footnotes.{footnote_at, unused, unused_at, used_once_more}
+pub use Rattle.markdown_defs.specs.FootnoteLending.{LendsDefined, LendsFootnote}
+pub use Rattle.markdown_defs.specs.declared.footnotes.FootnoteDef.{FootnoteDef}
+pub use Rattle.markdown_defs.specs.declared.footnotes.FootnoteDefs.{FootnoteDefs}
+pub use Rattle.markdown_defs.specs.declared.footnotes.Absence.{Absence}
+-- laws of look-ups
+pub use Rattle.markdown_defs.specs.LookUpLaws.{FindsFirstMatch, FindsNamed, MatchingKeysAgree}
+pub use Rattle.markdown_defs.specs.LookUpLaws.{MatchingNamesAgree, TestsMatching, IsFirstMatch, NoneMatches}
+pub use Rattle.markdown_defs.specs.LookUpLaws.{IsAmongNames}
+-- what items name by number
+pub use Rattle.markdown_defs.specs.Allocations.{Allocated, LinkParts, HoldsParts}
+pub use Rattle.markdown_defs.specs.Allocations.{HasCow, HasLink, HasAlignment, HasHeading}
+pub use Rattle.markdown_defs.specs.Allocations.{with_cow, with_link, with_alignment, with_heading}
+pub use Rattle.markdown_defs.specs.Allocations.{LeavesEmptyCow, LeavesEmptyLink, LeavesEmptyAlignment}
+pub use Rattle.markdown_defs.specs.Allocations.{IsEmptyLink}
+-- what a callback is asked, and what it answers
+pub use Rattle.markdown_base.specs.Questions.{Question, Answer, Answers}
+pub use Rattle.markdown_defs.specs.Callback.{question_of, answer_of, Asks}
+pub use Rattle.markdown_defs.specs.declared.callback.BrokenLink.{BrokenLink}
+pub use Rattle.markdown_defs.specs.declared.callback.Closure.{Closure}
+pub use Rattle.markdown_defs.specs.declared.callback.DefaultBrokenLinkCallback.{DefaultBrokenLinkCallback}

@@ -1,0 +1,11 @@
+-- What is held is what the block pass made of the text.
+use Rattle.std.proofs.Common.{refl}
+use Rattle.markdown_blocks.proofs.blocks.Blocks.of_text.Goals as goal
+
+pub returns : goal.returns
+returns c = record {
+  holds_text = refl;
+  holds_options = refl;
+  well_formed = c.in_ok-tree.ensures.formed;
+  covers = c.in_ok-tree.ensures.covered;
+}

@@ -1,0 +1,32 @@
+-- What contracts see of a `Blocks`, and what it is that one is made of a text.
+use Rattle.std.specs.Prelude.{◌≡◌, ℕ, List}
+use Rattle.markdown_base.specs.declared.block_parts.BlockParts.{BlockParts}
+use Rattle.markdown_base.specs.declared.item.Item.{Item}
+use Rattle.markdown_base.specs.declared.options.Options.{Options}
+use Rattle.markdown_base.specs.Arena.{Arena}
+use Rattle.markdown_base.specs.Coverage.{Covers}
+use Rattle.markdown_base.specs.WellFormed.{IsWellFormed}
+use Rattle.markdown_blocks.specs.declared.blocks.Blocks.{Blocks}
+
+-- the text
+abbrev pub block_text : Blocks → List ℕ
+block_text b = b.text.now
+
+-- the options
+abbrev pub block_options : Blocks → Options
+block_options b = b.options
+
+-- the tree
+abbrev pub block_tree : Blocks → Arena Item
+block_tree b = b.tree
+
+-- the parts that its items name
+abbrev pub block_parts : Blocks → BlockParts
+block_parts b = b.parts
+
+-- b holds a text and options, and is a well-formed block result that covers the text
+pub record IsOfText (text : List ℕ) (options : Options) (b : Blocks) : Type 0 where
+  pub holds_text : block_text b ≡ text
+  pub holds_options : block_options b ≡ options
+  pub well_formed : IsWellFormed (block_text b) (block_tree b).nodes (block_parts b)
+  pub covers : Covers (block_text b) (block_tree b).nodes (block_parts b)

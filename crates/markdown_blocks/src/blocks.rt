@@ -1,0 +1,117 @@
+//! A block result that was checked: the text with its tree of items, and the parts that they name.
+ghost use Rattle.std.specs.Prelude.{◌≡◌, ◌≢◌, IfOk, IfErr, MatchResult};
+ghost use Rattle.markdown_base.specs.declared.fault.Fault.{Fault};
+ghost use Rattle.markdown_base.specs.OneWay.{IsWellFormed-prop};
+ghost use Rattle.markdown_base.specs.WellFormed.{IsWellFormed};
+
+use super::reach::reached_once;
+use super::rules::is_well_formed;
+use markdown_base::block_parts::BlockParts;
+use markdown_base::fault::Fault;
+use markdown_base::item::Item;
+use markdown_base::options::Options;
+use markdown_base::tree::Tree;
+use std::alloc::Global;
+use std::fmt;
+
+/// A text with its options, its tree of items and the parts that they name: a well-formed block result.
+#[derive(Drop)]
+pub struct Blocks<'a> {
+    text: &'a str,
+    options: Options,
+    tree: Tree<Item>,
+    parts: BlockParts<'a>,
+    pub ghost well_formed: { IsWellFormed text.now tree.nodes parts } by { IsWellFormed-prop
+        text.now tree.nodes parts },
+}
+
+impl<'a> Blocks<'a> {
+    ghost use Rattle.markdown_blocks.specs.Blocks.{block_text, block_options, block_tree, block_parts, IsOfText};
+
+    /// A block result that is handed in, if it is well formed; else `Fault::Blocks`. It is well formed if it
+    /// keeps nine rules:
+    ///
+    /// 1. Reached once: the tree below the root is finite, and no node is reached twice.
+    /// 2. Ranges lie in: each range lies in the text, between characters.
+    /// 3. Inline in order: of two neighbours that are both inline the first stands before the second, in the
+    ///    text and by its number.
+    /// 4. Chains are kept: inline items and thematic breaks have no children; a chain with an open item holds
+    ///    inline items only, and does not stand directly below the root.
+    /// 5. Nothing resolved: no item is what an open item becomes.
+    /// 6. Markup is there: brackets, quotes, dollars, backticks and `<` stand over their markup.
+    /// 7. Runs are whole: a delimiter run of n characters is n neighbours that touch, of consecutive numbers
+    ///    and the same flags, counted n, n - 1, .., 1; between two runs of one character stands another item.
+    /// 8. Parts are named: each number that an item names is that of a part; no text and no list of alignments
+    ///    is named twice.
+    /// 9. Blocks are settled: no root and no undecided block stands in the tree, and no tight paragraph directly
+    ///    in another.
+    ///
+    /// Time and memory are linear in the nodes, however deep they lie.
+    pub fn checked(
+        alloc: Global,
+        text: &'a str,
+        options: Options,
+        tree: Tree<Item>,
+        parts: BlockParts<'a>,
+    ) -> Result<Blocks<'a>, Fault>
+        ensures holds { IfOk result (λ b.
+            (block_text b ≡ text.now) × (block_options b ≡ options)
+            × (block_tree b ≡ tree) × (block_parts b ≡ parts.entry)) }
+        ensures rules { IfOk result (λ b.
+            IsWellFormed (block_text b) (block_tree b).nodes (block_parts b)) }
+
+        ensures refused { IfErr result (λ fault.
+            fault ≡ Fault.Blocks → IsWellFormed text.now tree.nodes parts.entry → ⊥) }
+        ensures faults { IfErr result (λ fault. fault ≢ Fault.Depth) }
+    {
+        match reached_once(alloc, &tree)? {
+            None => Err(Fault::Blocks),
+            Some(order) => {
+                if is_well_formed(alloc, text, &tree, &parts, &order)? {
+                    Ok(Blocks {
+                        text,
+                        options,
+                        tree,
+                        parts,
+                    })
+                } else {
+                    Err(Fault::Blocks)
+                }
+            }
+        }
+    }
+
+    /// Just what is held. Takes no memory.
+    pub fn into_parts(self) -> (&'a str, Options, Tree<Item>, BlockParts<'a>)
+        ensures parts { (result.0.now ≡ block_text self.entry) × (result.1 ≡ block_options self.entry)
+            × (result.2 ≡ block_tree self.entry) × (result.3 ≡ block_parts self.entry) }
+        ensures rules { IsWellFormed result.0.now result.2.nodes result.3 }
+    {
+        (self.text, self.options, self.tree, self.parts)
+    }
+
+    /// The block result of a text, which is well formed and covers the text. An error is
+    /// `Fault::Memory`; then nothing is made.
+    pub fn of_text(alloc: Global, text: &'a str, options: Options) -> Result<Blocks<'a>, Fault>
+        ensures { MatchResult result (IsOfText text.now options) (λ fault. fault ≡ Fault.Memory) }
+    {
+        // well formed by what the block pass promises, so that nothing is left to check
+        let (tree, parts) = markdown_plain::blocks(alloc, text, options)?;
+        Ok(Blocks {
+            text,
+            options,
+            tree,
+            parts,
+        })
+    }
+}
+
+/// Without the tree and its parts, which may be as long as the text.
+impl<'a> fmt::Debug for Blocks<'a> {
+    fn fmt<W: fmt::Write>(&self, f: &mut fmt::Formatter<W>) -> fmt::Result {
+        f.debug_struct("Blocks")
+            .field("text", &self.text)
+            .field("options", &self.options)
+            .finish_non_exhaustive()
+    }
+}

@@ -1,0 +1,15 @@
+//! Block results: the check of one that is handed in, and one of a text.
+#![tactic(auto)]
+
+mod blocks;
+mod chain;
+mod marks;
+mod markup;
+mod named;
+mod reach;
+mod rules;
+mod runs;
+
+pub use blocks::Blocks;
+pub use markdown_base::block_parts::BlockParts;
+pub use markdown_base::fault::Fault;

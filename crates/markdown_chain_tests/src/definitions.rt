@@ -1,0 +1,84 @@
+//! The definitions of a text, as `reference_definitions` of its parser lends them.
+use markdown_base::fault::Fault;
+use markdown_defs::RefDefs;
+use markdown_inline::walk::Parser;
+use markdown_test_helpers::rows::gives;
+use markdown_test_parsers::parsers::ask_for;
+use std::alloc::{AllocError, Global};
+use std::test::Fail;
+
+/// Of each definition the label, the destination and the span, in order.
+fn listed(alloc: Global, definitions: &RefDefs<'_>) -> Result<String, AllocError> {
+    let mut list = String::new(alloc);
+    for (label, definition) in definitions.iter() {
+        let span = &definition.span;
+        let row = format!(in alloc;
+            "[{label}] ({}) {}..{} ",
+            definition.dest, span.start, span.end
+        )?;
+        list.push_str(row.as_str())?;
+    }
+    Ok(list)
+}
+
+/// A text has these definitions.
+fn defines(alloc: Global, source: &str, wanted: &str) -> Result<(), Fail> {
+    let parser = Parser::new(alloc, source)?;
+    let list = listed(alloc, parser.reference_definitions())?;
+    drop(parser);
+    gives(source, list.as_str(), wanted)
+}
+
+#[test]
+fn the_first_of_each_label_is_listed(rt: HostRuntime) -> Result<(), Fail> {
+    for &(source, wanted) in &[
+        (
+            "[a B c]: http://example.com\n[ß]: /u\n",
+            "[a B c] (http://example.com) 0..27 [ß] (/u) 28..36 ",
+        ),
+        ("[a]: /1\n[A]: /2\n\n[a]", "[a] (/1) 0..7 "),
+        ("text", ""),
+    ] {
+        defines(rt.alloc(), source, wanted)?;
+    }
+    Ok(())
+}
+
+/// The span of what a key finds.
+fn span_of(definitions: &RefDefs<'_>, key: &str) -> Result<Option<(usize, usize)>, Fault> {
+    let found = definitions.get(key)?;
+    Ok(found.map(|definition| (definition.span.start, definition.span.end)))
+}
+
+/// A key finds a definition of a text over this span, after so many events.
+fn finds(
+    alloc: Global,
+    source: &str,
+    events: u64,
+    key: &str,
+    span: Option<(usize, usize)>,
+) -> Result<(), Fail> {
+    let mut parser = Parser::new(alloc, source)?;
+    ask_for(&mut parser, events);
+    let found = span_of(parser.reference_definitions(), key);
+    drop(parser);
+    gives(key, found?, span)
+}
+
+#[test]
+fn keys_find_definitions(rt: HostRuntime) -> Result<(), Fail> {
+    let two = "[a B c]: http://example.com\n[ß]: /u\n";
+    let three = "[a B c]: http://example.com\n[another]: https://google.com\n\ntext\n\n\
+        [final ONE]: http://wikipedia.org\n";
+    for &(source, events, key, span) in &[
+        (two, 0, "A b C", Some((0, 27))),
+        (two, 0, "SS", Some((28, 36))),
+        (two, 0, "a  b c", None),
+        (three, 0, "a b c", Some((0, 27))),
+        (three, 0, "nope", None),
+        (three, 1, "final one", Some((65, 98))),
+    ] {
+        finds(rt.alloc(), source, events, key, span)?;
+    }
+    Ok(())
+}

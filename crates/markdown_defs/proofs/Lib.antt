@@ -1,0 +1,6 @@
+-- lemmas
+pub mod DefinitionsLemmas
+pub mod FoldingLemmas
+pub mod IndexLemmas
+pub mod LookUpLawsLemmas
+pub mod PlaceLemmas

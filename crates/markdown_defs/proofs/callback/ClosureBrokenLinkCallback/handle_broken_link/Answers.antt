@@ -1,0 +1,6 @@
+-- The closure is asked what the callback is asked, and its answer is given.
+use Rattle.std.proofs.Common.{refl}
+use Rattle.markdown_defs.proofs.callback.ClosureBrokenLinkCallback.handle_broken_link.Goals as goal
+
+pub returns-clause-answered : goal.returns-clause-answered
+returns-clause-answered g c = (c.args.link, c.f.result, refl, refl, c.f.ensures)

@@ -1,0 +1,53 @@
+-- What a look-up finds, of definitions and of footnotes, said by default caseless matching alone.
+use Rattle.std.specs.Prelude.{◌≡◌, ◌↔◌, ℕ, List, [], ◌∷◌, ◌++◌, Any, IsTrue, MatchOption}
+use Rattle.markdown_base.specs.CowText.{text_of}
+use Rattle.markdown_base.specs.declared.block_parts.LinkDef.{LinkDef}
+use Rattle.markdown_base.specs.declared.cow_str.CowStr.{CowStr}
+use Rattle.markdown_defs.specs.Definitions.{Labelled, look_up}
+use Rattle.markdown_defs.specs.Folding.{Matches, is_match}
+use Rattle.markdown_defs.specs.Footnotes.{footnote_at, unused, unused_at}
+use Rattle.markdown_defs.specs.declared.footnotes.FootnoteDefs.{FootnoteDefs}
+
+-- no label matches the key
+abbrev pub NoneMatches : List ℕ → List Labelled → Type 0
+NoneMatches key [] = Unit {0}
+NoneMatches key (d ∷ definitions) = (Matches key (text_of d.0) → ⊥) × NoneMatches key definitions
+
+-- found stands in the definitions under a label that matches the key, and no label before it does
+pub record IsFirstMatch (key : List ℕ) (definitions : List Labelled) (found : LinkDef) : Type 0 where
+  pub before : List Labelled
+  pub label : CowStr
+  pub after : List Labelled
+  pub stands : definitions ≡ before ++ (label, found) ∷ after
+  pub matches : Matches key (text_of label)
+  pub first : NoneMatches key before
+
+-- a key finds the first definition whose label matches it, and nothing where none does
+abbrev pub FindsFirstMatch : Type 0
+FindsFirstMatch = (key : List ℕ) (definitions : List Labelled)
+    → MatchOption (look_up key definitions) (NoneMatches key definitions) (IsFirstMatch key definitions)
+
+-- keys that match find the same
+abbrev pub MatchingKeysAgree : Type 0
+MatchingKeysAgree = (a b : List ℕ) (definitions : List Labelled)
+    → Matches a b → look_up a definitions ≡ look_up b definitions
+
+-- the test by which footnotes are counted and written is default caseless matching
+abbrev pub TestsMatching : Type 0
+TestsMatching = (a b : List ℕ) → IsTrue (is_match a b) ↔ Matches a b
+
+-- one of these names matches
+abbrev pub IsAmongNames : List CowStr → List ℕ → Type 0
+IsAmongNames names name = Any (λ n. Matches (text_of n) name) names
+
+-- at first a name finds a footnote that was never used where one of those handed in matches it, and nothing where none
+-- does
+abbrev pub FindsNamed : Type 0
+FindsNamed = (names : List CowStr) (name : List ℕ)
+    → MatchOption (unused_at names name) (IsAmongNames names name
+    → ⊥) (λ found. (found ≡ unused) × IsAmongNames names name)
+
+-- names that match find the same footnote
+abbrev pub MatchingNamesAgree : Type 0
+MatchingNamesAgree = (a b : List ℕ) (footnotes : FootnoteDefs)
+    → Matches a b → footnote_at footnotes a ≡ footnote_at footnotes b

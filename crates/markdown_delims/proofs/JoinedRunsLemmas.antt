@@ -1,0 +1,324 @@
+-- In a chain with each character's run in its tag, each tree that is made of a run is a character of it, or joins it to a run
+-- with which it may pair: what is read keeps to it, since a closer's characters and those of an open run are each of one run.
+use Rattle.std.proofs.Common.{◌≡◌, inl, inr, ℕ, zero, suc, ◌-◌, Bool, true, false, List, [], ◌∷◌, map, Option, Some, None, refl, ap, sym}
+use Rattle.std.proofs.Common.{subst, ◌∙◌, arith}
+use Rattle.std.specs.Prelude.{⊤, IfSome, not, ◌&&◌}
+use Rattle.std.specs.List.{AllByRecursion}
+use Rattle.std.specs.declared.ops.Range.{Range}
+use Rattle.markdown_base.specs.Forest.{Forest, nil, node}
+use Rattle.markdown_document.specs.Document.{Shape, Label, is_unresolved}
+use Rattle.markdown_document.specs.Labels.{retagged}
+use Rattle.markdown_document.specs.Setting.{Setting}
+use Rattle.markdown_document.specs.Waiting.{text_if, as_closed}
+use Rattle.markdown_delims.specs.declared.run.Delimiter.{Delimiter}
+use Rattle.markdown_delims.specs.declared.run.Run.{Run}
+use Rattle.markdown_delims.specs.JoinedRuns.{HasCharacter, IsMadeOfRun, JoinedLaw, JoinsRuns}
+use Rattle.markdown_delims.specs.Layers.{marks_of, layer_of_one, layer_of_two, run_of, spanned}
+use Rattle.markdown_delims.specs.MayPair.{may_pair}
+use Rattle.markdown_delims.specs.Pairing.{Read, done, waiting, texts_before, all_done, read_trees, FoundOpener, nearest_opener, drop_read}
+use Rattle.markdown_delims.specs.Pairing.{Layers, layers, trees_done, still_waiting, last_first, opened_if, left_over, after_layers}
+use Rattle.markdown_delims.specs.Pairing.{first_texts, reads_from, runs_paired, paired}
+use Rattle.markdown_delims.specs.PairingLaws.{RunAt, further, no_run, run_at, with_runs}
+use Rattle.markdown_delims.specs.Quotes.{first_turn, quotes_after, with_quotes}
+use Rattle.markdown_delims.proofs.LawLemmas.{joins-law}
+use Rattle.markdown_delims.proofs.MissedLawLemmas.{quotes_told}
+use Rattle.markdown_delims.proofs.StepLawLemmas.{StaysTrueOf, found-if, later, reads-stay-of}
+
+abbrev MaybeRun : Type 0
+MaybeRun = Option RunAt
+
+abbrev Character : Type 0
+Character = Label MaybeRun
+
+-- what holds of the range of a character, where another thing did
+has_other : (p : RunAt) (holds other : Range ℕ → Type 0) → ((r : Range ℕ) → holds r → other r) → (chain : Forest Character)
+    → HasCharacter p holds chain → HasCharacter p other chain
+has_other p holds other i nil h = absurd h
+has_other p holds other i (node a below after) (inl h) = inl (h.0, i a.part.range h.1)
+has_other p holds other i (node a below after) (inr h) = inr (has_other p holds other i after h)
+
+-- the first tree of what is left of a chain begins a run just where its tag says so, and the run's other characters follow
+abbrev Follows : ℕ → MaybeRun → List ℕ → Forest Character → Type 0
+Follows more before source nil = ⊤
+Follows (suc more) before source (node a below after) = (a.tag ≡ before) × Follows more before source after
+Follows zero before source (node a below after) =
+    (a.tag ≡ run_at a.part.range.start (run_of source a.part)) × Follows (further a.tag) a.tag source after
+
+fresh : (before : MaybeRun) (source : List ℕ) (chain : Forest Character) → Follows 0 before source chain → Follows 0 None source chain
+fresh before source nil h = tt
+fresh before source (node a below after) h = h
+
+both : {X : Type 0} (o : Option X) (p q : X → Type 0) → IfSome o p → IfSome o q → IfSome o (λ x. p x × q x)
+both None p q h k = tt
+both (Some x) p q h k = (h, k)
+
+module _ (whole : Forest Character) where
+  -- a character of this run, as it stands in the chain
+  abbrev IsOf : RunAt → Character → Type 0
+  IsOf p x = (x.tag ≡ Some p) × HasCharacter p (λ own. own ≡ x.part.range) whole
+
+  record AreOf (run : Run) (xs : List Character) : Type 0 where
+    at : RunAt
+    same : at.run ≡ run
+    all : AllByRecursion (IsOf at) xs
+
+  abbrev IsTree : Character → Forest Character → Type 0
+  IsTree a below = IsMadeOfRun whole a.tag a.part.range below × JoinsRuns whole below
+
+  -- what was read
+  abbrev AllRead : List (Read MaybeRun) → Type 0
+  AllRead [] = ⊤
+  AllRead (done a below ∷ rs) = IsTree a below × AllRead rs
+  AllRead (waiting dropped run xs ∷ rs) = (run.can_open ≡ true) × AreOf run xs × AllRead rs
+
+  -- what is still to be read
+  abbrev AreThere : Forest Character → Type 0
+  AreThere nil = ⊤
+  AreThere (node a below after) = ((p : RunAt) → a.tag ≡ Some p → HasCharacter p (λ own. own ≡ a.part.range) whole)
+      × JoinsRuns whole below × AreThere after
+
+  -- a character that stays text, and several
+  stays_text : (p : RunAt) (x : Character) → IsOf p x → IsTree x nil
+  stays_text p x h = (subst (λ t. IsMadeOfRun whole t x.part.range nil) (sym h.0) (inl (refl, h.1)), tt)
+
+  texts_join : (p : RunAt) (xs : List Character) (chain : Forest Character) → AllByRecursion (IsOf p) xs → JoinsRuns whole chain
+      → JoinsRuns whole (texts_before xs chain)
+  texts_join p [] chain a h = h
+  texts_join p (x ∷ xs) chain a h = texts_join p xs (node x nil chain) a.1 ((stays_text p x a.0).0, tt, h)
+
+  trees_join : (rs : List (Read MaybeRun)) (chain : Forest Character) → AllRead rs → JoinsRuns whole chain
+      → JoinsRuns whole (read_trees rs chain)
+  trees_join [] chain r h = h
+  trees_join (done a below ∷ rs) chain r h = trees_join rs (node a below chain) r.1 (r.0.0, r.0.1, h)
+  trees_join (waiting dropped run xs ∷ rs) chain r h = trees_join rs (texts_before xs chain) r.2 (texts_join r.1.at xs chain r.1.all h)
+
+  done_join : (p : RunAt) (xs : List Character) (rs : List (Read MaybeRun)) → AllByRecursion (IsOf p) xs → AllRead rs
+      → AllRead (all_done xs rs)
+  done_join p [] rs a r = r
+  done_join p (x ∷ xs) rs a r = (stays_text p x a.0, done_join p xs rs a.1 r)
+
+  turned_of : (p : RunAt) (xs ys : List Character) → AllByRecursion (IsOf p) xs → AllByRecursion (IsOf p) ys
+      → AllByRecursion (IsOf p) (last_first xs ys)
+  turned_of p [] ys a b = b
+  turned_of p (x ∷ xs) ys a b = turned_of p xs (x ∷ ys) a.1 (a.0, b)
+
+  opened_join : (b : Bool) (run : Run) (xs : List Character) (rs : List (Read MaybeRun)) → run.can_open ≡ b → AreOf run xs → AllRead rs
+      → AllRead (opened_if b run xs rs)
+  opened_join true run xs rs e a r = (e, a, r)
+  opened_join false run xs rs e a r = done_join a.at xs rs a.all r
+
+  left_join : (closer : Run) (vs : List Character) (rs : List (Read MaybeRun)) → AreOf closer vs → AllRead rs
+      → AllRead (left_over closer vs rs)
+  left_join closer vs rs a r =
+      opened_join closer.can_open closer (last_first vs []) rs refl
+      (record { at = a.at; same = a.same; all = turned_of a.at vs [] a.all tt }) r
+
+  dropped_join : (d : Delimiter) (rs : List (Read MaybeRun)) → AllRead rs → AllRead (map (drop_read d) rs)
+  dropped_join d [] r = r
+  dropped_join d (done a below ∷ rs) r = (r.0, dropped_join d rs r.1)
+  dropped_join d (waiting dropped run xs ∷ rs) r = (r.0, r.1, dropped_join d rs r.2)
+
+  still_join : (run : Run) (xs : List Character) (rs : List (Read MaybeRun)) → run.can_open ≡ true → AreOf run xs → AllRead rs
+      → AllRead (still_waiting run xs rs)
+  still_join run [] rs o a r = r
+  still_join run (x ∷ xs) rs o a r = (o, a, r)
+
+  trees_read : (f : Forest Character) (rs : List (Read MaybeRun)) → JoinsRuns whole f → AllRead rs → AllRead (trees_done f rs)
+  trees_read nil rs h r = r
+  trees_read (node a below after) rs h r = trees_read after (done a below ∷ rs) h.2 ((h.0, h.1), r)
+
+  -- an opener that was found
+  abbrev FoundJoins : FoundOpener MaybeRun → Type 0
+  FoundJoins f = (f.run.can_open ≡ true) × AreOf f.run f.characters × AllRead f.before × JoinsRuns whole f.inside
+
+  nearest_found : (closer : Run) (rs : List (Read MaybeRun)) (inside : Forest Character) → AllRead rs → JoinsRuns whole inside
+      → IfSome (nearest_opener closer rs inside) FoundJoins
+  nearest_found closer [] inside r h = tt
+  nearest_found closer (done a below ∷ rs) inside r h = nearest_found closer rs (node a below inside) r.1 (r.0.0, r.0.1, h)
+  nearest_found closer (waiting dropped run xs ∷ rs) inside r h =
+      found-if FoundJoins (not dropped && may_pair run closer) (record { inside = inside; run = run; characters = xs; before = rs })
+      (nearest_opener closer rs (texts_before xs inside)) (r.0, r.1, r.2, h)
+      (nearest_found closer rs (texts_before xs inside) r.2 (texts_join r.1.at xs inside r.1.all h))
+
+  -- an opener p and a closer q that may pair
+  record MayJoin (p q : RunAt) : Type 0 where
+    can_open : p.run.can_open ≡ true
+    can_close : q.run.can_close ≡ true
+    may : may_pair p.run q.run ≡ true
+
+  module _ (s : Setting) (p q : RunAt) (m : MayJoin p q) where
+    -- a layer joins them
+    layer_joins : (shape : List ℕ → Shape) (x v : Character) (inside : Forest Character) → IsOf p x → IsOf q v
+        → IsMadeOfRun whole (spanned s.text shape x v).tag (spanned s.text shape x v).part.range inside
+    layer_joins shape x v inside h k =
+        let range : Range ℕ = (spanned s.text shape x v).part.range in
+        subst (λ t. IsMadeOfRun whole t range inside) (sym h.0) (inr (record {
+          closer = q;
+          begins = has_other p (λ own. own ≡ x.part.range) (λ own. own.start ≡ range.start) (λ r e. ap (λ (r : Range ℕ). r.start) e) whole
+              h.1;
+          ends = has_other q (λ own. own ≡ v.part.range) (λ own. own.end ≡ range.end) (λ r e. ap (λ (r : Range ℕ). r.end) e) whole k.1;
+          can_open = m.can_open;
+          can_close = m.can_close;
+          may = m.may;
+        }))
+
+    abbrev AreMade : Layers MaybeRun → Type 0
+    AreMade l = JoinsRuns whole l.whole × AllByRecursion (IsOf p) l.opening × AllByRecursion (IsOf q) l.closing
+
+    layers_join : (d : Delimiter) (xs vs : List Character) (inside : Forest Character) → AllByRecursion (IsOf p) xs
+        → AllByRecursion (IsOf q) vs → JoinsRuns whole inside → AreMade (layers s d xs vs inside)
+    layers_join d [] vs inside a b h = (h, tt, b)
+    layers_join d (x ∷ xs) [] inside a b h = (h, a, tt)
+    layers_join d (x ∷ []) (v ∷ vs) inside a b h =
+        ((layer_joins (layer_of_one (marks_of s.rules.options) d) x v inside a.0 b.0, h, tt), tt, b.1)
+    layers_join d (x ∷ y ∷ xs) (v ∷ []) inside a b h =
+        ((layer_joins (layer_of_one (marks_of s.rules.options) d) x v inside a.0 b.0, h, tt), a.1, tt)
+    layers_join d (x ∷ y ∷ xs) (v ∷ w ∷ vs) inside a b h =
+        let shape : List ℕ → Shape = layer_of_two (marks_of s.rules.options) d in
+        layers_join d xs vs (node (spanned s.text shape y w) inside nil) a.1.1 b.1.1
+        (layer_joins shape y w inside a.1.0 b.1.0, h, tt)
+
+  module _ (s : Setting) where
+    -- the characters of a closer, what was read, and what is still to be read
+    abbrev HoldsOf : List Character → List (Read MaybeRun) → Forest Character → Type 0
+    HoldsOf vs rs rest = AllRead rs × Follows 0 None s.text rest × AreThere rest
+
+    pair_joins : (closer : Run) (vs : List Character) (rest : Forest Character) (f : FoundOpener MaybeRun) → closer.can_close ≡ true
+        → AreOf closer vs → Follows 0 None s.text rest × AreThere rest → may_pair f.run closer ≡ true → FoundJoins f
+        → AreOf closer (layers s f.run.delimiter f.characters vs f.inside).closing
+        × HoldsOf (layers s f.run.delimiter f.characters vs f.inside).closing
+        (after_layers f (layers s f.run.delimiter f.characters vs f.inside)) rest
+    pair_joins closer vs rest f c a follows may g =
+        let p : RunAt = g.1.at in
+        let q : RunAt = a.at in
+        let m : MayJoin p q = record {
+          can_open = ap (λ (r : Run). r.can_open) g.1.same ∙ g.0;
+          can_close = ap (λ (r : Run). r.can_close) a.same ∙ c;
+          may = ap (λ (r : Run). may_pair r q.run) g.1.same ∙ ap (may_pair f.run) a.same ∙ may;
+        } in
+        let made : Layers MaybeRun = layers s f.run.delimiter f.characters vs f.inside in
+        let l = layers_join s p q m f.run.delimiter f.characters vs f.inside g.1.all a.all g.3 in (
+          record { at = q; same = a.same; all = l.2 },
+          (
+            trees_read made.whole (still_waiting f.run made.opening f.before) l.0
+                (still_join f.run made.opening f.before g.0 (record { at = p; same = g.1.same; all = l.1 }) g.2),
+            follows.0,
+            follows.1,
+          ),
+        )
+
+    -- the characters of a run that follow its first
+    firsts_of : (n : ℕ) (p : RunAt) (chain : Forest Character) → Follows n (Some p) s.text chain → AreThere chain
+        → AllByRecursion (IsOf p) (first_texts s.text n chain) × Follows 0 None s.text (later n chain) × AreThere (later n chain)
+    firsts_of zero p chain f h = (tt, fresh (Some p) s.text chain f, h)
+    firsts_of (suc n) p nil f h = (tt, tt, tt)
+    firsts_of (suc n) p (node a below after) f h =
+        let k = firsts_of n p after f.1 h.2 in (((f.0, h.0 p f.0), k.0), k.1, k.2)
+
+    of_length : (n : ℕ) (p : RunAt) (a : Character) (below after : Forest Character) → a.tag ≡ Some p
+        → Follows (n - 1) (Some p) s.text after → AreThere (node a below after)
+        → AllByRecursion (IsOf p) (first_texts s.text n (node a below after)) × Follows 0 None s.text (later (n - 1) after)
+        × AreThere (later (n - 1) after)
+    of_length zero p a below after e f h = firsts_of 0 p after f h.2
+    of_length (suc n) p a below after e f h =
+        let one : suc n - 1 ≡ n = omega arith in
+        let k = firsts_of n p after (subst (λ k. Follows k (Some p) s.text after) one f) h.2 in (
+          ((e, h.0 p e), k.0),
+          subst (λ k. Follows 0 None s.text (later k after)) (sym one) k.1,
+          subst (λ k. AreThere (later k after)) (sym one) k.2,
+        )
+
+    run_holds : (run : Run) (a : Character) (below after : Forest Character) (rs : List (Read MaybeRun)) → run_of s.text a.part ≡ Some run
+        → HoldsOf [] rs (node a below after)
+        → AreOf run (first_texts s.text run.length (node a below after))
+        × HoldsOf (first_texts s.text run.length (node a below after)) rs (later (run.length - 1) after)
+    run_holds run a below after rs e h =
+        let p : RunAt = record { start = a.part.range.start; run = run } in
+        let tag : a.tag ≡ Some p = h.1.0 ∙ ap (run_at a.part.range.start) e in
+        let k = of_length run.length p a below after tag (subst (λ t. Follows (further t) t s.text after) tag h.1.1) h.2 in
+        (record { at = p; same = refl; all = k.0 }, (h.0, k.1, k.2))
+
+    closed_tree : (b : Bool) (a : Character) (below : Forest Character) → a.tag ≡ None → JoinsRuns whole below
+        → IsTree (text_if b s.text a) below
+    closed_tree true a below e h = (subst (λ t. IsMadeOfRun whole t a.part.range below) (sym e) tt, h)
+    closed_tree false a below e h = (subst (λ t. IsMadeOfRun whole t a.part.range below) (sym e) tt, h)
+
+    tree_holds : (a : Character) (below after : Forest Character) (rs : List (Read MaybeRun)) → run_of s.text a.part ≡ None
+        → HoldsOf [] rs (node a below after) → HoldsOf [] (done (as_closed s.text a) below ∷ rs) after
+    tree_holds a below after rs e h =
+        let tag : a.tag ≡ None = h.1.0 ∙ ap (run_at a.part.range.start) e in (
+          (closed_tree (is_unresolved a.part.shape) a below tag h.2.1, h.0),
+          subst (λ t. Follows (further t) t s.text after) tag h.1.1,
+          h.2.2,
+        )
+
+    join_on : StaysTrueOf s AreOf HoldsOf
+    join_on = record {
+      tree = λ a below after rs e h. tree_holds a below after rs e h;
+      run = λ run a below after rs e h. run_holds run a below after rs e h;
+      dropped = λ d vs rs rest h. (dropped_join d rs h.0, h.1, h.2);
+      left = λ closer vs rs rest a h. (left_join closer vs rs a h.0, h.1, h.2);
+      found = λ closer vs rs rest c a h. pairs (nearest_opener closer rs nil) closer vs rest c a (h.1, h.2)
+          (both (nearest_opener closer rs nil) (λ f. may_pair f.run closer ≡ true) FoundJoins (joins-law closer rs nil)
+          (nearest_found closer rs nil h.0 tt));
+    }
+      where
+        pairs : (o : Option (FoundOpener MaybeRun)) (closer : Run) (vs : List Character) (rest : Forest Character) → closer.can_close ≡ true
+            → AreOf closer vs → Follows 0 None s.text rest × AreThere rest
+            → IfSome o (λ f. (may_pair f.run closer ≡ true) × FoundJoins f)
+            → IfSome o (λ f. AreOf closer (layers s f.run.delimiter f.characters vs f.inside).closing
+            × HoldsOf (layers s f.run.delimiter f.characters vs f.inside).closing
+            (after_layers f (layers s f.run.delimiter f.characters vs f.inside)) rest)
+        pairs None closer vs rest c a follows h = tt
+        pairs (Some f) closer vs rest c a follows h = pair_joins closer vs rest f c a follows h.0 h.1
+
+    -- quotes leave characters where they are
+    quotes_there : (single double : Bool) (chain : Forest Character) → AreThere chain → AreThere (quotes_after single double chain)
+    quotes_there single double nil h = tt
+    quotes_there single double (node a below after) h =
+        (h.0, h.1, quotes_there (first_turn a after single double).single (first_turn a after single double).double after h.2)
+
+    reads_join : (chain : Forest Character) → Follows 0 None s.text chain → AreThere chain → JoinsRuns whole (runs_paired s chain)
+    unfolding runs_paired
+    reads_join chain f h =
+        trees_join (reads_from s 0 chain []) nil (reads-stay-of s AreOf HoldsOf join_on 0 chain [] (tt, f, h)).0 tt
+
+-- below the trees of a chain with its runs told are none
+none_below : {A : Type 0} (whole : Forest Character) (f : Forest (Label A)) → JoinsRuns whole (retagged no_run f)
+none_below whole nil = tt
+none_below whole (node a below after) = (tt, none_below whole below, none_below whole after)
+
+-- the characters of a chain stand in another
+abbrev Stands : (whole part : Forest Character) → Type 0
+Stands whole part = (p : RunAt) (r : Range ℕ) → HasCharacter p (λ own. own ≡ r) part → HasCharacter p (λ own. own ≡ r) whole
+
+module _ {A : Type 0} (s : Setting) where
+  -- each character is told to be of its run, and stands in its own chain
+  runs_follow : (more : ℕ) (before : MaybeRun) (chain : Forest (Label A)) → Follows more before s.text (with_runs s more before chain)
+  runs_follow more before nil = tt
+  runs_follow (suc more) before (node a below after) = (refl, runs_follow more before after)
+  runs_follow zero before (node a below after) =
+      let here : MaybeRun = run_at a.part.range.start (run_of s.text a.part) in (refl, runs_follow (further here) here after)
+
+  runs_there : (whole : Forest Character) (more : ℕ) (before : MaybeRun) (chain : Forest (Label A))
+      → Stands whole (with_runs s more before chain) → AreThere whole (with_runs s more before chain)
+  runs_there whole more before nil h = tt
+  runs_there whole (suc more) before (node a below after) h = (
+    (λ p e. h p a.part.range (inl (e, refl))),
+    none_below whole below,
+    runs_there whole more before after (λ p r k. h p r (inr k)),
+  )
+  runs_there whole zero before (node a below after) h =
+      let here : MaybeRun = run_at a.part.range.start (run_of s.text a.part) in (
+        (λ p e. h p a.part.range (inl (e, refl))),
+        none_below whole below,
+        runs_there whole (further here) here after (λ p r k. h p r (inr k)),
+      )
+
+pub joined-law : {A : Type 0} → JoinedLaw A
+unfolding paired with_quotes
+joined-law {A} s chain =
+    let told : Forest Character = with_runs s 0 None chain in
+    reads_join told s (quotes_after false false told)
+    (subst (Follows 0 None s.text) (sym (quotes_told s 0 None chain false false)) (runs_follow s 0 None (quotes_after false false chain)))
+    (quotes_there told s false false told (runs_there s told 0 None chain (λ p r k. k)))

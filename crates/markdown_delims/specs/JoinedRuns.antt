@@ -1,0 +1,40 @@
+-- Each pair joins runs that may pair. As in `with_runs`, the tag of each character of a chain is its run.
+use Rattle.std.specs.Prelude.{◌≡◌, ◌⊎◌, ℕ, ⊤, true, Option, Some, None}
+use Rattle.std.specs.declared.ops.Range.{Range}
+use Rattle.markdown_base.specs.Forest.{Forest, nil, node, Throughout}
+use Rattle.markdown_document.specs.Document.{Label}
+use Rattle.markdown_document.specs.Setting.{Setting}
+use Rattle.markdown_delims.specs.MayPair.{may_pair}
+use Rattle.markdown_delims.specs.Pairing.{paired}
+use Rattle.markdown_delims.specs.PairingLaws.{RunAt, with_runs}
+
+-- a tree of a chain is a character of a run, and this holds of its range
+abbrev pub HasCharacter : RunAt → (Range ℕ → Type 0) → Forest (Label (Option RunAt)) → Type 0
+HasCharacter p holds nil = ⊥
+HasCharacter p holds (node a below after) =
+    ((a.tag ≡ Some p) × holds a.part.range) ⊎ HasCharacter p holds after
+
+-- a range goes from a character of an opener to a character of a closer, which may pair
+pub record Joins (chain : Forest (Label (Option RunAt))) (opener : RunAt) (range : Range ℕ) : Type 0 where
+  pub closer : RunAt
+  pub begins : HasCharacter opener (λ own. own.start ≡ range.start) chain
+  pub ends : HasCharacter closer (λ own. own.end ≡ range.end) chain
+  pub can_open : opener.run.can_open ≡ true
+  pub can_close : closer.run.can_close ≡ true
+  pub may : may_pair opener.run closer.run ≡ true
+
+-- a tree that is made of a run is a character that stayed text, with nothing below it, or it joins the run to another
+abbrev pub IsMadeOfRun : Forest (Label (Option RunAt)) → Option RunAt → Range ℕ
+    → (below : Forest (Label (Option RunAt))) → Type 0
+IsMadeOfRun chain None range below = ⊤
+IsMadeOfRun chain (Some p) range below =
+    ((below ≡ nil) × HasCharacter p (λ own. own ≡ range) chain) ⊎ Joins chain p range
+
+-- so it is of each tree of a forest
+abbrev pub JoinsRuns : (chain trees : Forest (Label (Option RunAt))) → Type 0
+JoinsRuns chain trees = Throughout (λ a below after. IsMadeOfRun chain a.tag a.part.range below) trees
+
+-- all trees that pairing makes of runs do so
+abbrev pub JoinedLaw : Type 0 → Type 0
+JoinedLaw A = (s : Setting) (chain : Forest (Label A)) → JoinsRuns (with_runs s 0 None chain)
+    (paired s (with_runs s 0 None chain))

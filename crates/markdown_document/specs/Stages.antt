@@ -1,0 +1,56 @@
+-- What resolving a chain reads and changes, and the chain from a link on.
+use Rattle.std.specs.Prelude.{ℕ, List, Option, length}
+use Rattle.markdown_base.specs.Arena.{Arena}
+use Rattle.markdown_base.specs.ArenaForest.{links_of, forest_at}
+use Rattle.markdown_base.specs.Forest.{Forest, roots}
+use Rattle.markdown_base.specs.Questions.{Answers}
+use Rattle.markdown_base.specs.declared.item.Item.{Item}
+use Rattle.markdown_base.specs.declared.node.Node.{Node}
+use Rattle.markdown_defs.specs.Allocations.{Allocated}
+use Rattle.markdown_document.specs.Setting.{Known, uses_of}
+use Rattle.markdown_document.specs.Places.{trees_from}
+use Rattle.markdown_document.specs.Totals.{total, same, naming, weight_at}
+use Rattle.markdown_document.specs.Document.{Plain}
+use Rattle.markdown_document.specs.Tables.{Tables, Named, tables_of}
+
+-- what resolving a chain reads and changes
+pub record Stage (C : Type 0) : Type 0 where
+  pub nodes : List (Node Item)
+  pub tables : Tables
+  pub limit : ℕ
+  pub uses : List ℕ → ℕ
+  pub callback : Option C
+
+-- what is known at a stage, where these answers are to come
+abbrev pub known_at : {C : Type 0} → Stage C → Answers → Known
+known_at stage answers = record { limit = stage.limit; answers = answers; uses = stage.uses }
+
+-- the chain from a link on, at a stage
+abbrev pub chain_at : {C : Type 0} → List ℕ → Stage C → Option ℕ → Forest Plain
+chain_at source stage l = trees_from source stage.tables stage.nodes l
+
+-- how often a number stands in the chain from a link on; how often an entry is named there; what it weighs
+abbrev pub times_in : List (Node Item) → Option ℕ → ℕ → ℕ
+times_in nodes l n = total (same n) (forest_at (links_of nodes) l)
+
+-- how often a part is named in a chain and below it
+abbrev pub named_in : List (Node Item) → Option ℕ → Named → ℕ
+named_in nodes l n = total (naming nodes n) (forest_at (links_of nodes) l)
+
+-- how heavy a chain is, with what is below it
+abbrev pub weight_in : List (Node Item) → Option ℕ → ℕ
+weight_in nodes l = total (weight_at nodes) (forest_at (links_of nodes) l)
+
+-- a tree with what its items name, where a chain is resolved
+abbrev pub stage : {C : Type 0} → Arena Item → Allocated → ℕ → Option C → Stage C
+stage tree held limit callback = record {
+  nodes = tree.nodes;
+  tables = tables_of held;
+  limit = limit;
+  uses = uses_of held.footdefs;
+  callback = callback;
+}
+
+-- how many items a chain has from a link on
+abbrev pub items_from : List (Node Item) → Option ℕ → ℕ
+items_from nodes l = length (roots (forest_at (links_of nodes) l))

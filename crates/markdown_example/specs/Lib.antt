@@ -1,1 +1,0 @@
--- No definition: the example has no contracts.

@@ -1,0 +1,53 @@
+-- What the look-ups of link labels found in a chain, in their order.
+use Rattle.std.specs.Prelude.{ℕ, Bool, true, false, List, [], ◌∷◌, ◌++◌, Option, Some, None, if◌then◌else◌, nat_le}
+use Rattle.markdown_base.specs.Event.{LinkView}
+use Rattle.markdown_base.specs.Forest.{Forest, nil, node}
+use Rattle.markdown_base.specs.declared.item.ItemBody.{ItemBody}
+use Rattle.markdown_base.specs.declared.item.ItemBody.TheVariants as body
+use Rattle.markdown_base.specs.declared.tag.LinkType.{LinkType}
+use Rattle.markdown_base.specs.declared.tag.LinkType.TheVariants as kind
+use Rattle.markdown_brackets.specs.BracketDecision.{Around, Becomes, Progress, a_link, decided}
+use Rattle.markdown_brackets.specs.ReadChain.{closing, read_past}
+use Rattle.markdown_document.specs.Above.{Above}
+use Rattle.markdown_document.specs.ChainRest.{begun_at, end_of, open_body}
+use Rattle.markdown_document.specs.Document.{Tags, Label}
+use Rattle.markdown_document.specs.Setting.{Setting}
+use Rattle.markdown_resolver.specs.PassOne.{around, read_other}
+
+-- the type of a link or an image whose label was looked up
+abbrev pub is_looked_up : LinkType → Bool
+is_looked_up kind.Reference = true
+is_looked_up kind.ReferenceUnknown = true
+is_looked_up kind.Collapsed = true
+is_looked_up kind.CollapsedUnknown = true
+is_looked_up kind.Shortcut = true
+is_looked_up kind.ShortcutUnknown = true
+is_looked_up other = false
+
+-- what a look-up found, where a `]` becomes a link or an image by one
+abbrev pub found_by : {A : Type 0} → Becomes A → List LinkView
+found_by (a_link o target end next) = if is_looked_up target.kind then target ∷ [] else []
+found_by other = []
+
+-- what it found at an item, by its body: a `]` alone looks a label up
+abbrev pub found_as : {A : Type 0} → Around → ItemBody → Label A → (rest : Forest (Label A)) → Progress A
+    → List LinkView
+found_as w (body.MaybeLinkClose could_be_reference) a rest p =
+    found_by (decided w (closing could_be_reference a rest p) p).becomes
+found_as w other a rest p = []
+
+-- after a find that ends at a byte nothing is read of an item that ends there or before
+abbrev pub found_past : {A : Type 0} → Around → Option ℕ → Label A → (rest : Forest (Label A)) → Progress A
+    → List LinkView
+found_past w None a rest p = found_as w (open_body a.part.shape) a rest p
+found_past w (Some i) a rest p =
+    if nat_le (end_of a) i then []
+    else found_as w (open_body (begun_at i a).part.shape) (begun_at i a) rest (record p { goes_on = None })
+
+-- a chain is read as pass one reads it, from a progress on
+abbrev pub look_ups_from : {A : Type 0} → Setting → Tags A → Above → Forest (Label A) → Progress A → List LinkView
+look_ups_from s tags above nil p = []
+look_ups_from s tags above (node a below rest) p =
+    found_past (around s above) p.goes_on a rest p
+    ++ look_ups_from s tags above rest
+    (read_past (around s above) (read_other s tags above) p.goes_on a below rest p)

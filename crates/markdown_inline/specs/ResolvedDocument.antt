@@ -1,0 +1,80 @@
+-- The tree of a document with its chains resolved: blocks stay, and each chain is what it is resolved to from its first
+-- open item on, with its chains of children paired. Chains are taken in preorder, and what is known after one is known
+-- to the next.
+use Rattle.std.specs.Prelude.{Bool, List, [], ◌++◌}
+use Rattle.markdown_base.specs.Event.{LinkView}
+use Rattle.markdown_base.specs.Forest.{Forest, nil, node}
+use Rattle.markdown_base.specs.Questions.{Question, Answers}
+use Rattle.markdown_blocks.specs.Blocks.{block_parts, block_text, block_tree}
+use Rattle.markdown_blocks.specs.declared.blocks.Blocks.{Blocks}
+use Rattle.markdown_brackets.specs.ReadChain.{begun}
+use Rattle.markdown_document.specs.Above.{Above, inside_label, no_blocks}
+use Rattle.markdown_document.specs.Document.{Tags, Shape, leaf, enclosed, plain, backslash_break, unresolved, Label}
+use Rattle.markdown_document.specs.Document.{document, plain_tags}
+use Rattle.markdown_document.specs.Setting.{Known, Setting, setting_of}
+use Rattle.markdown_document.specs.Tables.{tables_at_start}
+use Rattle.markdown_inline.specs.LookUps.{look_ups_from}
+use Rattle.markdown_inline.specs.ParserLeft.{known_at_start, rules_of}
+use Rattle.markdown_resolver.specs.Resolved.{all_paired, resolved}
+
+-- what becomes of a part of a document: what was asked, what look-ups found, its trees, and what is known after it
+pub record Resolution (A : Type 0) : Type 0 where
+  pub questions : List Question
+  pub found : List LinkView
+  pub trees : Forest (Label A)
+  pub known : Known
+
+-- by what is known before it
+abbrev pub Resolving : Type 0 → Type 0
+Resolving A = Known → Resolution A
+
+-- nothing
+abbrev pub no_trees : {A : Type 0} → Resolving A
+no_trees known = record { questions = []; found = []; trees = nil; known = known }
+
+-- a tree over what was made of what is below it, and before what is made of what comes after it
+abbrev pub before_others : {A : Type 0} → Label A → (inside later : Resolution A) → Resolution A
+before_others a inside later = record {
+  questions = inside.questions ++ later.questions;
+  found = inside.found ++ later.found;
+  trees = node a inside.trees later.trees;
+  known = later.known;
+}
+
+-- the same, where what comes after it goes by what is known behind what is below it
+abbrev pub tree_then : {A : Type 0} → Label A → (below after : Resolving A) → Resolving A
+tree_then a below after known = before_others a (below known) (after (below known).known)
+
+-- a tree by its shape: what is below a leaf is not read, and goes; where it is open, it begins a chain
+abbrev pub resolved_tree : {A : Type 0} → Shape → Label A → (below after chain : Resolving A) → Resolving A
+resolved_tree (leaf e origins) a below after chain known = tree_then a no_trees after known
+resolved_tree (enclosed tag) a below after chain known = tree_then a below after known
+resolved_tree plain a below after chain known = tree_then a below after known
+resolved_tree backslash_break a below after chain known = tree_then a no_trees after known
+resolved_tree (unresolved b) a below after chain known = chain known
+
+-- a chain from its first open item on
+abbrev pub resolved_chain : {A : Type 0} → Setting → Tags A → Above → Forest (Label A) → Resolving A
+resolved_chain s tags above chain known =
+    let r = resolved s tags above chain known in
+    record {
+      questions = r.questions;
+      found = look_ups_from s tags above chain (begun known);
+      trees = all_paired s r.forest;
+      known = r.known;
+    }
+
+-- the trees of a document, below the blocks that are open above them
+abbrev pub resolved_document : {A : Type 0} → Setting → Tags A → Above → Forest (Label A) → Resolving A
+resolved_document s tags above nil known = no_trees known
+resolved_document s tags above (node a below after) known =
+    resolved_tree a.part.shape a (λ known. resolved_document s tags (inside_label a above) below known)
+    (λ known. resolved_document s tags above after known)
+    (λ known. resolved_chain s tags above (node a below after) known) known
+
+-- those of a block result, for these answers, where there is somebody to ask and where not
+abbrev pub resolved_blocks : Blocks → (asks : Bool) → Answers → Resolution (Unit {0})
+resolved_blocks blocks asks answers =
+    resolved_document (setting_of (block_text blocks) (rules_of blocks asks)) plain_tags (no_blocks (block_text blocks))
+    (document (block_text blocks) (tables_at_start (block_parts blocks)) (block_tree blocks).nodes)
+    (known_at_start (block_text blocks) answers)

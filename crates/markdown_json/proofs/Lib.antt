@@ -1,0 +1,4 @@
+pub mod JsonPartsLemmas
+pub mod JsonEscapeLemmas
+pub mod JsonLinesLemmas
+pub mod JsonLawsLemmas

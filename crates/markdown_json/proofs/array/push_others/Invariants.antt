@@ -1,0 +1,9 @@
+-- The values so far stand behind the old text.
+use Rattle.std.specs.String.{string_bytes}
+use Rattle.markdown_out.proofs.ByteListsLemmas.{StandsTo}
+use Rattle.markdown_json.specs.Json.{further}
+use Rattle.markdown_json.proofs.array.push_others.Given as goal
+
+abbrev pub invariant-loop-value : goal.invariant-loop-value
+invariant-loop-value g l = StandsTo (further g.T.Value.json) (string_bytes l.s) (string_bytes l.initial.s) l.values
+    l.value-index

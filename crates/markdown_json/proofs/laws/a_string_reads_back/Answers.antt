@@ -1,0 +1,6 @@
+-- By the same of each byte.
+use Rattle.markdown_json.proofs.JsonLawsLemmas.{reads_back}
+use Rattle.markdown_json.proofs.laws.a_string_reads_back.Goals as goal
+
+pub returns : goal.returns
+returns c = reads_back

@@ -1,0 +1,9 @@
+-- The pieces so far stand behind the old text.
+use Rattle.std.specs.String.{string_bytes}
+use Rattle.markdown_out.proofs.ByteListsLemmas.{StandsTo}
+use Rattle.markdown_json.specs.JsonParts.{piece_json}
+use Rattle.markdown_json.proofs.pieces.push_pieces.Given as goal
+
+abbrev pub invariant-loop-piece : goal.invariant-loop-piece
+invariant-loop-piece l = StandsTo piece_json (string_bytes l.s) (string_bytes l.initial.s) l.pieces
+    l.piece-index

@@ -1,0 +1,7 @@
+-- The items so far are events, and their lines stand behind the old text.
+use Rattle.std.specs.String.{string_bytes}
+use Rattle.markdown_json.proofs.JsonLinesLemmas.{Wrote}
+use Rattle.markdown_json.proofs.push.push_json.Given as goal
+
+abbrev pub invariant-loop-item : goal.invariant-loop-item
+invariant-loop-item g l = Wrote (string_bytes l.initial.s) (string_bytes l.s) l.yielded

@@ -1,0 +1,195 @@
+-- Events in JSON (RFC 8259), as serde's derive writes the types of pulldown-cmark: a variant without a value is a
+-- string, one with a value an object of one member, and a record an object of its fields.
+use Rattle.std.specs.Prelude.{ℕ, ◌/◌, ◌%◌, Bool, true, false, List, [], ◌∷◌, ◌++◌, ◌==◌, codes, map}
+use Rattle.std.specs.Prelude.{if◌then◌else◌, nat_lt, Option, Some, None}
+use Rattle.std.specs.Char.{digit_char}
+use Rattle.std.specs.Fmt.{decimal}
+use Rattle.std.specs.List.{flat_map}
+use Rattle.markdown_base.specs.Bytes.{backslash, double_quote, space, tab, line_feed, form_feed}
+use Rattle.markdown_base.specs.Bytes.{carriage_return}
+use Rattle.markdown_base.specs.Event as event
+use Rattle.markdown_base.specs.Event.{EventView, TagView, HeadingView, LinkView}
+use Rattle.markdown_base.specs.declared.tag.Alignment.{Alignment}
+use Rattle.markdown_base.specs.declared.tag.Alignment.TheVariants as align
+use Rattle.markdown_base.specs.declared.tag.BlockQuoteKind.{BlockQuoteKind}
+use Rattle.markdown_base.specs.declared.tag.BlockQuoteKind.TheVariants as quote
+use Rattle.markdown_base.specs.declared.tag.HeadingLevel.{HeadingLevel}
+use Rattle.markdown_base.specs.declared.tag.HeadingLevel.TheVariants as level
+use Rattle.markdown_base.specs.declared.tag.LinkType.{LinkType}
+use Rattle.markdown_base.specs.declared.tag.LinkType.TheVariants as written
+use Rattle.markdown_base.specs.declared.tag.MetadataBlockKind.{MetadataBlockKind}
+use Rattle.markdown_base.specs.declared.tag.MetadataBlockKind.TheVariants as fence
+use Rattle.markdown_base.specs.declared.tag.TagEnd.{TagEnd}
+use Rattle.markdown_base.specs.declared.tag.TagEnd.TheVariants as closes
+use Rattle.markdown_out.specs.ByteLists.{joined}
+
+-- what stands in a string for a control: a letter behind a backslash, or four hexadecimal digits
+abbrev pub control_bytes : ℕ → List ℕ
+control_bytes b =
+    if b == 8 then codes "\\b"
+    else if b == tab then codes "\\t"
+    else if b == line_feed then codes "\\n"
+    else if b == form_feed then codes "\\f"
+    else if b == carriage_return then codes "\\r"
+    else codes "\\u00" ++ (digit_char (b / 16) ∷ digit_char (b % 16) ∷ [])
+
+-- what stands in a string for a byte
+abbrev pub string_byte : ℕ → List ℕ
+string_byte b =
+    if b == double_quote then codes "\\\""
+    else if b == backslash then codes "\\\\"
+    else if nat_lt b space then control_bytes b
+    else b ∷ []
+
+-- a text
+abbrev pub string : List ℕ → List ℕ
+string text = joined (codes "\"" ∷ flat_map string_byte text ∷ codes "\"" ∷ [])
+
+-- a variant with a value
+abbrev pub variant : List ℕ → List ℕ → List ℕ
+variant name value = joined (codes "{\"" ∷ name ∷ codes "\":" ∷ value ∷ codes "}" ∷ [])
+
+-- what may be missing
+abbrev pub optional : {A : Type 0} → (A → List ℕ) → Option A → List ℕ
+optional of_value None = codes "null"
+optional of_value (Some value) = of_value value
+
+-- a value behind a comma
+abbrev pub further : {A : Type 0} → (A → List ℕ) → A → List ℕ
+further of_value value = codes "," ++ of_value value
+
+-- a list
+abbrev pub array : {A : Type 0} → (A → List ℕ) → List A → List ℕ
+array of_value [] = codes "[]"
+array of_value (first ∷ others) =
+    joined (codes "[" ∷ of_value first ∷ flat_map (further of_value) others ∷ codes "]" ∷ [])
+
+abbrev pub boolean : Bool → List ℕ
+boolean true = codes "true"
+boolean false = codes "false"
+
+abbrev pub level_json : HeadingLevel → List ℕ
+level_json level.H1 = codes "\"H1\""
+level_json level.H2 = codes "\"H2\""
+level_json level.H3 = codes "\"H3\""
+level_json level.H4 = codes "\"H4\""
+level_json level.H5 = codes "\"H5\""
+level_json level.H6 = codes "\"H6\""
+
+abbrev pub quote_json : BlockQuoteKind → List ℕ
+quote_json quote.Note = codes "\"Note\""
+quote_json quote.Tip = codes "\"Tip\""
+quote_json quote.Important = codes "\"Important\""
+quote_json quote.Warning = codes "\"Warning\""
+quote_json quote.Caution = codes "\"Caution\""
+
+abbrev pub alignment_json : Alignment → List ℕ
+alignment_json align.None = codes "\"None\""
+alignment_json align.Left = codes "\"Left\""
+alignment_json align.Center = codes "\"Center\""
+alignment_json align.Right = codes "\"Right\""
+
+abbrev pub metadata_json : MetadataBlockKind → List ℕ
+metadata_json fence.YamlStyle = codes "\"YamlStyle\""
+metadata_json fence.PlusesStyle = codes "\"PlusesStyle\""
+
+abbrev pub link_type_json : LinkType → List ℕ
+link_type_json written.Inline = codes "\"Inline\""
+link_type_json written.Reference = codes "\"Reference\""
+link_type_json written.ReferenceUnknown = codes "\"ReferenceUnknown\""
+link_type_json written.Collapsed = codes "\"Collapsed\""
+link_type_json written.CollapsedUnknown = codes "\"CollapsedUnknown\""
+link_type_json written.Shortcut = codes "\"Shortcut\""
+link_type_json written.ShortcutUnknown = codes "\"ShortcutUnknown\""
+link_type_json written.Autolink = codes "\"Autolink\""
+link_type_json written.Email = codes "\"Email\""
+link_type_json (written.WikiLink true) = codes "{\"WikiLink\":{\"has_pothole\":true}}"
+link_type_json (written.WikiLink false) = codes "{\"WikiLink\":{\"has_pothole\":false}}"
+
+-- an attribute of a heading: its name and its value
+abbrev pub attribute_json : List ℕ × Option (List ℕ) → List ℕ
+attribute_json a =
+    joined (codes "[" ∷ string a.0 ∷ codes "," ∷ optional string a.1 ∷ codes "]" ∷ [])
+
+abbrev pub heading_json : HeadingView → List ℕ
+heading_json h = joined (codes "{\"level\":" ∷ level_json h.level
+    ∷ codes ",\"id\":" ∷ optional string h.id
+    ∷ codes ",\"classes\":" ∷ array string h.classes
+    ∷ codes ",\"attrs\":" ∷ array attribute_json h.attributes ∷ codes "}" ∷ [])
+
+abbrev pub link_json : LinkView → List ℕ
+link_json l = joined (codes "{\"link_type\":" ∷ link_type_json l.kind
+    ∷ codes ",\"dest_url\":" ∷ string l.destination
+    ∷ codes ",\"title\":" ∷ string l.title
+    ∷ codes ",\"id\":" ∷ string l.label ∷ codes "}" ∷ [])
+
+abbrev pub tag_json : TagView → List ℕ
+tag_json event.paragraph = codes "\"Paragraph\""
+tag_json (event.heading h) = variant (codes "Heading") (heading_json h)
+tag_json (event.block_quote kind) = variant (codes "BlockQuote") (optional quote_json kind)
+tag_json event.indented_code = variant (codes "CodeBlock") (codes "\"Indented\"")
+tag_json (event.fenced_code info) = variant (codes "CodeBlock") (variant (codes "Fenced") (string info))
+tag_json event.html_block = codes "\"HtmlBlock\""
+tag_json (event.list first) = variant (codes "List") (optional decimal first)
+tag_json event.list_item = codes "\"Item\""
+tag_json (event.footnote_definition name) = variant (codes "FootnoteDefinition") (string name)
+tag_json event.definition_list = codes "\"DefinitionList\""
+tag_json event.definition_list_title = codes "\"DefinitionListTitle\""
+tag_json event.definition_list_definition = codes "\"DefinitionListDefinition\""
+tag_json (event.table alignments) = variant (codes "Table") (array alignment_json alignments)
+tag_json event.table_head = codes "\"TableHead\""
+tag_json event.table_row = codes "\"TableRow\""
+tag_json event.table_cell = codes "\"TableCell\""
+tag_json event.emphasis = codes "\"Emphasis\""
+tag_json event.strong = codes "\"Strong\""
+tag_json event.strikethrough = codes "\"Strikethrough\""
+tag_json event.superscript = codes "\"Superscript\""
+tag_json event.subscript = codes "\"Subscript\""
+tag_json (event.link l) = variant (codes "Link") (link_json l)
+tag_json (event.image l) = variant (codes "Image") (link_json l)
+tag_json (event.metadata_block kind) = variant (codes "MetadataBlock") (metadata_json kind)
+
+abbrev pub tag_end_json : TagEnd → List ℕ
+tag_end_json closes.Paragraph = codes "\"Paragraph\""
+tag_end_json (closes.Heading level) = variant (codes "Heading") (level_json level)
+tag_end_json (closes.BlockQuote kind) = variant (codes "BlockQuote") (optional quote_json kind)
+tag_end_json closes.CodeBlock = codes "\"CodeBlock\""
+tag_end_json closes.HtmlBlock = codes "\"HtmlBlock\""
+tag_end_json (closes.List ordered) = variant (codes "List") (boolean ordered)
+tag_end_json closes.Item = codes "\"Item\""
+tag_end_json closes.FootnoteDefinition = codes "\"FootnoteDefinition\""
+tag_end_json closes.DefinitionList = codes "\"DefinitionList\""
+tag_end_json closes.DefinitionListTitle = codes "\"DefinitionListTitle\""
+tag_end_json closes.DefinitionListDefinition = codes "\"DefinitionListDefinition\""
+tag_end_json closes.Table = codes "\"Table\""
+tag_end_json closes.TableHead = codes "\"TableHead\""
+tag_end_json closes.TableRow = codes "\"TableRow\""
+tag_end_json closes.TableCell = codes "\"TableCell\""
+tag_end_json closes.Emphasis = codes "\"Emphasis\""
+tag_end_json closes.Strong = codes "\"Strong\""
+tag_end_json closes.Strikethrough = codes "\"Strikethrough\""
+tag_end_json closes.Superscript = codes "\"Superscript\""
+tag_end_json closes.Subscript = codes "\"Subscript\""
+tag_end_json closes.Link = codes "\"Link\""
+tag_end_json closes.Image = codes "\"Image\""
+tag_end_json (closes.MetadataBlock kind) = variant (codes "MetadataBlock") (metadata_json kind)
+
+abbrev pub event_json : EventView → List ℕ
+event_json (event.start tag) = variant (codes "Start") (tag_json tag)
+event_json (event.end tag) = variant (codes "End") (tag_end_json tag)
+event_json (event.text t) = variant (codes "Text") (string t)
+event_json (event.code t) = variant (codes "Code") (string t)
+event_json (event.inline_math t) = variant (codes "InlineMath") (string t)
+event_json (event.display_math t) = variant (codes "DisplayMath") (string t)
+event_json (event.html t) = variant (codes "Html") (string t)
+event_json (event.inline_html t) = variant (codes "InlineHtml") (string t)
+event_json (event.footnote_reference name) = variant (codes "FootnoteReference") (string name)
+event_json event.soft_break = codes "\"SoftBreak\""
+event_json event.hard_break = codes "\"HardBreak\""
+event_json event.rule = codes "\"Rule\""
+event_json (event.task_list_marker done) = variant (codes "TaskListMarker") (boolean done)
+
+-- the line of an event that stands from one byte of the source to another
+abbrev pub line_json : EventView → ℕ → ℕ → List ℕ
+line_json e start end = joined (codes "[" ∷ event_json e
+    ∷ codes ",{\"start\":" ∷ decimal start ∷ codes ",\"end\":" ∷ decimal end ∷ codes "}]\n" ∷ [])

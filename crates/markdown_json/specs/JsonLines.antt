@@ -1,0 +1,50 @@
+-- What `push_json` read of an iterator and what it left in the string: at its end, at an error among the items, and
+-- where it was refused memory itself.
+use Rattle.std.specs.Prelude.{◌≡◌, ℕ, List, [], ◌∷◌, ◌++◌, map, Ok, Err, Result, Option}
+use Rattle.std.specs.Iterator.{Yields, Drains}
+use Rattle.std.specs.List.{flat_map}
+use Rattle.std.specs.declared.ops.Range.{Range}
+use Rattle.markdown_base.specs.Event.{event_view}
+use Rattle.markdown_base.specs.declared.event.Event.{Event}
+use Rattle.markdown_base.specs.declared.fault.Fault.{Fault}
+use Rattle.markdown_out.specs.ByteLists.{AppendsPrefix}
+use Rattle.markdown_json.specs.Json.{line_json}
+
+-- an event with its range
+abbrev pub Placed : Type 0
+Placed = Event × Range ℕ
+
+-- the line of an event with its range
+abbrev pub line_of : Placed → List ℕ
+line_of placed = line_json (event_view placed.0) placed.1.start placed.1.end
+
+-- the lines of events, one after another
+abbrev pub lines_of : List Placed → List ℕ
+lines_of events = flat_map line_of events
+
+-- events, as items of an iterator
+abbrev pub items : List Placed → List (Result Placed Fault)
+items events = map (λ e. Ok e) events
+
+module _ {S : Type 0} (steps : S → Option (Result Placed Fault) → S → Type 0)
+    (it : S) (old new : List ℕ) where
+  -- these are all events up to the first None, and their lines stand behind the old text
+  pub record IsWritten : Type 0 where
+    pub events : List Placed
+    pub read : Drains steps it (items events)
+    pub stands : new ≡ old ++ lines_of events
+
+  -- the item after these events is this error, and their lines stand behind the old text
+  pub record StopsAtError (fault : Fault) : Type 0 where
+    pub events : List Placed
+    pub left : S
+    pub read : Yields steps it (items events ++ Err fault ∷ []) left
+    pub stands : new ≡ old ++ lines_of events
+
+  -- memory was refused at the last event read: the lines of those before it stand, and behind them a prefix of its own
+  pub record IsCutShort : Type 0 where
+    pub events : List Placed
+    pub last : Placed
+    pub left : S
+    pub read : Yields steps it (items (events ++ last ∷ [])) left
+    pub stands : AppendsPrefix (old ++ lines_of events) new (line_of last)

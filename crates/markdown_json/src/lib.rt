@@ -1,0 +1,17 @@
+//! Events as JSON, a line for each with its range: what `serde` writes for the types of `pulldown_cmark`.
+#![tactic(auto)]
+
+mod array;
+mod escape;
+mod events;
+mod heading;
+pub mod laws;
+mod link;
+mod pieces;
+pub mod push;
+mod tag_ends;
+mod tags;
+mod value;
+mod words;
+
+pub use push::push_json;

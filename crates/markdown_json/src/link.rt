@@ -1,0 +1,39 @@
+//! Where a link or an image leads.
+use crate::pieces::{Piece, push_pieces};
+use crate::value::Value;
+use crate::words::link_type_text;
+use markdown_base::tag::LinkType;
+use std::alloc::AllocError;
+
+/// What the Start of a link or of an image holds.
+#[derive(Clone, Copy, Drop)]
+pub(crate) struct Link<'x> {
+    pub link_type: LinkType,
+    pub dest_url: &'x str,
+    pub title: &'x str,
+    pub id: &'x str,
+}
+
+impl Value for Link<'_> {
+    ghost use Rattle.markdown_json.specs.Json.{link_json};
+    ghost use Rattle.markdown_json.specs.JsonParts.{link_of};
+
+    ghost json = { λ link. link_json (link_of link) };
+
+    fn push(&self, s: &mut String) -> Result<(), AllocError> {
+        push_pieces(
+            s,
+            &[
+                Piece::Raw("{\"link_type\":"),
+                Piece::Raw(link_type_text(self.link_type)),
+                Piece::Raw(",\"dest_url\":"),
+                Piece::Text(self.dest_url),
+                Piece::Raw(",\"title\":"),
+                Piece::Text(self.title),
+                Piece::Raw(",\"id\":"),
+                Piece::Text(self.id),
+                Piece::Raw("}"),
+            ],
+        )
+    }
+}

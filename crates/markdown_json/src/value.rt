@@ -1,0 +1,67 @@
+//! Values, each with its JSON.
+ghost use Rattle.std.specs.Prelude.{◌++◌, OnOk, OnErr};
+ghost use Rattle.markdown_out.specs.ByteLists.{Appends, AppendsPart};
+ghost use Rattle.markdown_json.specs.Json.{variant};
+
+use crate::pieces::{Piece, push_pieces, push_raw};
+use markdown_base::cow_str::CowStr;
+use std::alloc::AllocError;
+
+/// What is written as JSON.
+pub(crate) trait Value {
+    ghost use Rattle.std.specs.Prelude.{ℕ, List};
+
+    /// Its JSON.
+    ghost json: { Self → List ℕ };
+
+    /// Appends its JSON. Where memory runs out, a prefix of it was appended.
+    fn push(&self, s: &mut String) -> Result<(), AllocError>
+        ensures ok { OnOk result (Appends s.old s.new (json self.now)) }
+        ensures err { OnErr result (AppendsPart s.old s.new (json self.now)) };
+}
+
+/// Appends what stands before a value, and the value.
+pub(crate) fn push_field<T: Value>(s: &mut String, lead: &str, value: &T) -> Result<(), AllocError>
+    ensures ok { OnOk result (Appends s.old s.new (lead.now ++ T.json value.now)) }
+    ensures err { OnErr result (AppendsPart s.old s.new (lead.now ++ T.json value.now)) }
+{
+    push_raw(s, lead)?;
+    value.push(s)
+}
+
+/// Appends a variant with a value.
+pub(crate) fn push_variant<T: Value>(
+    s: &mut String,
+    name: &str,
+    value: &T,
+) -> Result<(), AllocError>
+    ensures ok { OnOk result (Appends s.old s.new (variant name.now (T.json value.now))) }
+    ensures err { OnErr result (AppendsPart s.old s.new (variant name.now (T.json value.now))) }
+{
+    push_pieces(s, &[Piece::Raw("{\""), Piece::Raw(name)])?;
+    push_field(s, "\":", value)?;
+    push_raw(s, "}")
+}
+
+impl Value for CowStr<'_> {
+    ghost use Rattle.markdown_json.specs.JsonParts.{text_json};
+
+    ghost json = { text_json };
+
+    fn push(&self, s: &mut String) -> Result<(), AllocError> {
+        push_pieces(s, &[Piece::Text(self.as_str())])
+    }
+}
+
+impl<T: Value> Value for Option<T> {
+    ghost use Rattle.markdown_json.specs.Json.{optional};
+
+    ghost json = { optional T.json };
+
+    fn push(&self, s: &mut String) -> Result<(), AllocError> {
+        match self {
+            None => push_raw(s, "null"),
+            Some(value) => value.push(s),
+        }
+    }
+}

@@ -1,0 +1,94 @@
+-- The outline of a list of events with their ranges: an entry for each heading, with its level, its text and its range.
+use Rattle.std.specs.Prelude.{ℕ, Bool, true, false, not, if◌then◌else◌, List, [], ◌∷◌, ◌++◌, codes, Option, Some, None, is_some}
+use Rattle.std.specs.List.{flat_map}
+use Rattle.std.specs.String.{string_bytes}
+use Rattle.std.specs.declared.ops.Range.{Range}
+use Rattle.markdown_base.specs.Event.{EventView, start, end, text, code, inline_math, display_math, soft_break, hard_break}
+use Rattle.markdown_base.specs.Event.{TagView, heading}
+use Rattle.markdown_base.specs.declared.tag.HeadingLevel.{HeadingLevel}
+use Rattle.markdown_base.specs.declared.tag.HeadingLevel.TheVariants as levels
+use Rattle.markdown_base.specs.declared.tag.TagEnd.{TagEnd}
+use Rattle.markdown_base.specs.declared.tag.TagEnd.TheVariants as closes
+use Rattle.markdown_outline.specs.declared.entry.Entry.{Entry}
+
+-- an event with its range
+abbrev pub Ranged : Type 0
+Ranged = EventView × Range ℕ
+
+-- an entry, with the bytes of its text
+pub record EntryView : Type 0 where
+  -- from 1 to 6
+  pub level : ℕ
+  pub text : List ℕ
+  pub range : Range ℕ
+
+-- an entry, by the bytes of its text
+abbrev pub entry_view : Entry → EntryView
+entry_view e = record { level = e.level; text = string_bytes e.text; range = e.range }
+
+-- a level as a number
+abbrev pub level_number : HeadingLevel → ℕ
+level_number levels.H1 = 1
+level_number levels.H2 = 2
+level_number levels.H3 = 3
+level_number levels.H4 = 4
+level_number levels.H5 = 5
+level_number levels.H6 = 6
+
+-- the level of a heading's tag; other tags have none
+abbrev pub tag_level : TagView → Option ℕ
+tag_level (heading h) = Some (level_number h.level)
+tag_level other = None
+
+-- the level of the heading that begins with an event
+abbrev pub opened_level : EventView → Option ℕ
+opened_level (start tag) = tag_level tag
+opened_level other = None
+
+-- a tag ends a heading, of whatever level
+abbrev pub is_heading : TagEnd → Bool
+is_heading (closes.Heading l) = true
+is_heading other = false
+
+-- an event is the End of a heading
+abbrev pub ends_heading : EventView → Bool
+ends_heading (end tag) = is_heading tag
+ends_heading other = false
+
+-- what an event adds to the text of the heading that it stands in: texts, code and math stand as they are, and a space
+-- stands for a line's end
+abbrev pub text_added : EventView → List ℕ
+text_added (text t) = t
+text_added (code t) = t
+text_added (inline_math t) = t
+text_added (display_math t) = t
+text_added soft_break = codes " "
+text_added hard_break = codes " "
+text_added other = []
+
+-- what these events add
+abbrev pub joined_text : List Ranged → List ℕ
+joined_text events = flat_map (λ (e : Ranged). text_added e.0) events
+
+-- of the events after the Start of a heading those that stand in it: up to the first End of a heading, or to the last
+abbrev pub up_to_end : List Ranged → List Ranged
+up_to_end [] = []
+up_to_end (e ∷ events) = if ends_heading e.0 then [] else e ∷ up_to_end events
+
+-- the entry that a Start over this range opens, where it is that of a heading, before these events
+abbrev pub opened_entry : Option ℕ → Range ℕ → List Ranged → List EntryView
+opened_entry None range events = []
+opened_entry (Some l) range events =
+    record { level = l; text = joined_text (up_to_end events); range = range } ∷ []
+
+-- the entries that begin among these events, of which the first stands inside a heading or outside. Outside a Start of
+-- a heading opens one; inside nothing does, up to the first End of a heading.
+abbrev pub entries_from : (inside : Bool) → List Ranged → List EntryView
+entries_from inside [] = []
+entries_from true (e ∷ events) = entries_from (not (ends_heading e.0)) events
+entries_from false (e ∷ events) =
+    opened_entry (opened_level e.0) e.1 events ++ entries_from (is_some (opened_level e.0)) events
+
+-- the entries of a list of events
+abbrev pub entries_of : List Ranged → List EntryView
+entries_of events = entries_from false events

@@ -1,0 +1,105 @@
+//! The entries of the events read so far.
+ghost use Rattle.std.specs.Prelude.{◌≡◌, ◌∷◌, [], None, List, IfOk, IfErr, IsSome, OnOk, map};
+ghost use Rattle.std.specs.Option.{option_map};
+ghost use Rattle.markdown_base.specs.Event.{event_view};
+ghost use Rattle.markdown_base.specs.declared.fault.Fault.TheVariants.{Memory};
+ghost use Rattle.markdown_outline.specs.Outline.{Ranged, entry_view, opened_level};
+ghost use Rattle.markdown_outline.specs.OutlineSoFar.{all_entries, begun, entries_view};
+
+use crate::entry::Entry;
+use crate::headings::{ends_heading, opened_level, text_added};
+use markdown_base::event::Event;
+use markdown_base::fault::Fault;
+use std::alloc::Global;
+use std::ops::Range;
+
+/// The entries of the events read so far.
+#[derive(Drop)]
+pub struct Entries {
+    /// Those whose heading has ended.
+    pub ended: Vec<Entry>,
+    /// That of the heading in which the next event stands.
+    pub open_entry: Option<Entry>,
+}
+
+/// Returns the entry that an event over a range opens, without text yet.
+fn opened_entry(alloc: Global, event: &Event<'_>, range: Range<usize>) -> Option<Entry>
+    ensures { option_map entry_view result
+        ≡ option_map (begun range) (opened_level (event_view event.now)) }
+{
+    match opened_level(event) {
+        None => None,
+        Some(level) => Some(Entry {
+            level,
+            text: String::new(alloc),
+            range,
+        }),
+    }
+}
+
+impl Entries {
+    /// Returns the entries of no events.
+    pub fn new(alloc: Global) -> Self
+        ensures { entries_view result ≡ record { ended = []; open_entry = None } }
+    {
+        Entries {
+            ended: Vec::new(alloc),
+            open_entry: None,
+        }
+    }
+
+    /// Takes in the next event, which stays. After a refusal nothing is said of the entries.
+    fn read(&mut self, alloc: Global, event: &Event<'_>, range: Range<usize>) -> Result<(), Fault>
+        ensures ok { OnOk result ((later : List Ranged)
+            → all_entries (entries_view self.old) ((event_view event.now, range) ∷ later)
+            ≡ all_entries (entries_view self.new) later) }
+        ensures refused { IfErr result (λ fault. (fault ≡ Memory) × IsSome self.old.open_entry) }
+    {
+        match self.open_entry.take() {
+            None => {
+                self.open_entry = opened_entry(alloc, event, range);
+                Ok(())
+            }
+            Some(mut entry) => {
+                if ends_heading(event) {
+                    self.ended.push(entry)?;
+                    return Ok(());
+                }
+                entry.text.push_str(text_added(event))?;
+                self.open_entry = Some(entry);
+                Ok(())
+            }
+        }
+    }
+
+    /// Takes in the next event, as `read` does, and drops it.
+    pub fn take_in(
+        &mut self,
+        alloc: Global,
+        event: Event<'_>,
+        range: Range<usize>,
+    ) -> Result<(), Fault>
+        ensures ok { OnOk result ((later : List Ranged)
+            → all_entries (entries_view self.old) ((event_view event.entry, range) ∷ later)
+            ≡ all_entries (entries_view self.new) later) }
+        ensures refused { IfErr result (λ fault. (fault ≡ Memory) × IsSome self.old.open_entry) }
+    {
+        let taken = self.read(alloc, &event, range);
+        drop(event);
+        taken
+    }
+
+    /// Returns all entries; that of a heading without an End has the text up to here.
+    pub fn finish(self) -> Result<Vec<Entry>, Fault>
+        ensures all { IfOk result (λ entries.
+            map entry_view entries.items ≡ all_entries (entries_view self) []) }
+        ensures refused { IfErr result (λ fault. (fault ≡ Memory) × IsSome self.open_entry) }
+    {
+        let Entries { ended, open_entry } = self;
+        let mut entries = ended;
+        if let Some(entry) = open_entry {
+            entries.push(entry)?;
+        }
+        Ok(entries)
+    }
+}

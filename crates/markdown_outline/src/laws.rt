@@ -1,0 +1,32 @@
+//! Laws of outlines: functions without code, whose clauses say them.
+ghost use Rattle.std.specs.Prelude.{List};
+ghost use Rattle.markdown_out.specs.MergeNext.{item_view};
+ghost use Rattle.markdown_out.specs.MergeState.{offset_state};
+ghost use Rattle.markdown_out.specs.OutLaws.{IsNewMerge, StaysEnded, merge_steps};
+ghost use Rattle.markdown_out.specs.Places.{ranged, through_ranges};
+ghost use Rattle.markdown_outline.specs.Outline.{EntryView};
+ghost use Rattle.markdown_outline.specs.OutlineLaws.{MergingKeepsOutline};
+ghost use Rattle.markdown_outline.specs.OutlineRead.{IsOutlineOfAll};
+
+use markdown_base::event::Event;
+use markdown_base::fault::Fault;
+use markdown_out::merge::TextMergeWithOffset;
+use std::ops::Range;
+
+/// The outline of merged events is that of the events.
+pub fn merging_keeps_the_outline()
+    ensures { MergingKeepsOutline }
+{}
+
+/// What `outline` gives of a merge that nothing was read for yet, over an iterator that stays ended: the outline of
+/// what the iterator gives.
+pub fn outline_of_a_merge_is_that_of_the_events<
+    'a,
+    I: Iterator<Item = Result<(Event<'a>, Range<usize>), Fault>>,
+>(merge: &TextMergeWithOffset<'a, I>)
+    ensures { StaysEnded I.next_gives (offset_state merge.now).iter → IsNewMerge (offset_state merge.now)
+        → (entries : List EntryView)
+        → IsOutlineOfAll (merge_steps through_ranges (item_view ranged) I.next_gives I.can_next I.remaining offset_state)
+        merge.now entries
+        → IsOutlineOfAll I.next_gives (offset_state merge.now).iter entries }
+{}

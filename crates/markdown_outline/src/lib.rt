@@ -1,0 +1,11 @@
+//! A table of a document's headings, over its events: for each heading its level, its text and its range.
+#![tactic(auto)]
+
+mod entries;
+mod entry;
+mod headings;
+pub mod laws;
+mod read;
+
+pub use entry::Entry;
+pub use read::outline;

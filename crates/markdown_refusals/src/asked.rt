@@ -1,0 +1,157 @@
+//! Texts to be read, each with its options and with what a callback is asked about it.
+use markdown_base::cow_str::CowStr;
+use markdown_base::fault::Fault;
+use markdown_base::options::Options;
+use markdown_base::tag::LinkType;
+use markdown_defs::{BrokenLink, BrokenLinkCallback};
+use markdown_inline::walk::Parser;
+use std::alloc::Global;
+
+/// A question: its span, its form and its label.
+#[derive(Clone, Copy, Drop)]
+pub struct Question {
+    start: usize,
+    end: usize,
+    form: LinkType,
+    label: &'static str,
+}
+
+/// A text, and the questions that are asked about it, in order.
+#[derive(Clone, Copy, Drop)]
+pub struct Source {
+    pub text: &'static str,
+    pub options: Options,
+    pub questions: &'static [Question],
+}
+
+fn plain(text: &'static str, options: Options) -> Source {
+    Source {
+        text,
+        options,
+        questions: &NONE,
+    }
+}
+
+static NONE: [Question; 0] = [];
+
+static ONE: [Question; 1] = [Question {
+    start: 23,
+    end: 35,
+    form: LinkType::Collapsed,
+    label: "my website",
+}];
+
+static THREE: [Question; 3] = [
+    Question {
+        start: 0,
+        end: 3,
+        form: LinkType::Shortcut,
+        label: "a",
+    },
+    Question {
+        start: 4,
+        end: 7,
+        form: LinkType::Collapsed,
+        label: "b",
+    },
+    Question {
+        start: 10,
+        end: 16,
+        form: LinkType::Reference,
+        label: "d",
+    },
+];
+
+/// The texts.
+pub fn sources() -> [Source; 11] {
+    [
+        plain("a  \nb\n\nc", Options::ENABLE_GFM),
+        plain("`\n `x", Options::ENABLE_GFM),
+        plain("`\nx \ny\n`x", Options::ENABLE_GFM),
+        plain("`a\r\nb`", Options::ENABLE_GFM),
+        plain("[[foo]] [[bar|baz]]", Options::ENABLE_WIKILINKS),
+        plain(
+            "Testing this![^1] out.\n\n[^1]: Footnote.",
+            Options::ENABLE_FOOTNOTES,
+        ),
+        plain("'a' \"b\"", Options::ENABLE_SMART_PUNCTUATION),
+        plain("$a$ $$b$$", Options::ENABLE_MATH),
+        plain("hello\n=====\n\n* alpha\n* beta\n", Options::ENABLE_GFM),
+        Source {
+            text: "Hello world, check out [my website][].",
+            options: Options::ENABLE_GFM,
+            questions: &ONE,
+        },
+        Source {
+            text: "[a] [b][] [c][d]",
+            options: Options::ENABLE_GFM,
+            questions: &THREE,
+        },
+    ]
+}
+
+/// A callback that answers each question without memory, and keeps whether each was the one that comes next.
+#[derive(Drop)]
+pub struct Asked {
+    questions: &'static [Question],
+    asked: usize,
+    in_order: bool,
+}
+
+impl Asked {
+    /// Whether the questions so far are a beginning of those of the text.
+    pub fn is_beginning(&self) -> bool {
+        self.in_order && self.asked <= self.questions.len()
+    }
+
+    /// Whether they are all of them.
+    pub fn is_whole(&self) -> bool {
+        self.in_order && self.asked == self.questions.len()
+    }
+}
+
+/// Whether a broken link is what a question asks about.
+fn is_about(link: &BrokenLink<'_>, question: &Question) -> bool {
+    link.span.start == question.start
+        && link.span.end == question.end
+        && link.link_type == question.form
+        && link.reference.as_str() == question.label
+}
+
+impl<'input> BrokenLinkCallback<'input> for Asked {
+    ghost can_ask = { λ _. Unit {0} };
+
+    ghost answers = { λ old question answer new. Unit {0} };
+
+    fn handle_broken_link(
+        &mut self,
+        link: BrokenLink<'input>,
+    ) -> Option<(CowStr<'input>, CowStr<'input>)> {
+        let is_next = match self.questions.get(self.asked) {
+            Some(question) => is_about(&link, question),
+            None => false,
+        };
+        drop(link);
+        self.in_order = self.in_order && is_next;
+        self.asked = self.asked.saturating_add(1);
+        Some((
+            CowStr::Borrowed("http://example.com"),
+            CowStr::Borrowed("my example website"),
+        ))
+    }
+}
+
+/// A callback that has been asked nothing yet.
+pub fn callback_for(source: Source) -> Asked {
+    Asked {
+        questions: source.questions,
+        asked: 0,
+        in_order: true,
+    }
+}
+
+/// A parser of a text with such a callback.
+pub fn parser(alloc: Global, source: Source) -> Result<Parser<'static, Asked>, Fault> {
+    let callback = Some(callback_for(source));
+    Parser::new_with_broken_link_callback(alloc, source.text, source.options, callback)
+}

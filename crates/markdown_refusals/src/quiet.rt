@@ -1,0 +1,168 @@
+//! The calls that take no memory. Each function makes what it needs, and then makes the calls if it is told
+//! to: a run that makes them takes as much memory as one that does not.
+use markdown_base::cow_str::CowStr;
+use markdown_base::fault::Fault;
+use markdown_base::options::Options;
+use markdown_base::tag::{Alignment, LinkType};
+use markdown_blocks::Blocks;
+use markdown_defs::{
+    Allocations, BrokenLink, BrokenLinkCallback, Closure, DefaultBrokenLinkCallback, RefDefs,
+};
+use markdown_inline::walk::Parser;
+use markdown_out::merge::{TextMergeStream, TextMergeWithOffset};
+use markdown_test_helpers::lists::is_nothing;
+use markdown_test_helpers::parts::{no_attributes, no_parts};
+use std::alloc::Global;
+
+const DEFINING: &str = "a\n\n[b]: /u";
+
+/// Whether the one definition of the text is listed.
+fn lists_the_definition(definitions: &RefDefs<'_>) -> bool {
+    let mut items = definitions.iter();
+    let first = match items.next() {
+        Some((label, definition)) => label == "b" && definition.dest.as_str() == "/u",
+        None => false,
+    };
+    first && is_nothing(items.next())
+}
+
+/// What a new parser is asked, with ranges and without.
+fn parsers(alloc: Global, calls: bool) -> Result<bool, Fault> {
+    let parser = Parser::new(alloc, DEFINING)?;
+    if !calls {
+        return Ok(true);
+    }
+    let first = lists_the_definition(parser.reference_definitions()) && parser.work().items == 0;
+    let iter = parser.into_offset_iter();
+    Ok(first && lists_the_definition(iter.reference_definitions()) && iter.work().items == 0)
+}
+
+/// A parser that is over.
+fn ended_parsers(alloc: Global, calls: bool) -> Result<bool, Fault> {
+    let mut parser = Parser::new(alloc, DEFINING)?;
+    for _ in 0..4 {
+        drop(parser.next());
+    }
+    if !calls {
+        return Ok(true);
+    }
+    let is_over = is_nothing(parser.next()) && is_nothing(parser.next());
+    Ok(is_over && is_nothing(parser.into_offset_iter().next()))
+}
+
+fn merges(alloc: Global, calls: bool) -> Result<bool, Fault> {
+    let first = Parser::new(alloc, "")?;
+    let second = Parser::new(alloc, "")?;
+    if calls {
+        drop(TextMergeStream::new(alloc, first));
+        drop(TextMergeWithOffset::new(alloc, second.into_offset_iter()));
+    }
+    Ok(true)
+}
+
+fn blocks(alloc: Global, calls: bool) -> Result<bool, Fault> {
+    let blocks = Blocks::of_text(alloc, DEFINING, Options::ENABLE_MATH)?;
+    if !calls {
+        return Ok(true);
+    }
+    let (text, options, tree, parts) = blocks.into_parts();
+    let definitions = parts.definitions.len();
+    drop(parts);
+    Ok(text == DEFINING && options == Options::ENABLE_MATH && tree.len() == 3 && definitions == 1)
+}
+
+/// What `take_cow` and indexing give.
+fn texts(alloc: Global, calls: bool) -> Result<bool, Fault> {
+    let mut held = Allocations::new(alloc, no_parts(alloc))?;
+    let ix = held.allocate_cow(CowStr::Borrowed("a"))?;
+    if !calls {
+        return Ok(true);
+    }
+    let is_there = held[ix].as_str() == "a";
+    let taken = held.take_cow(ix);
+    let is_same = taken.as_str() == "a";
+    drop(taken);
+    Ok(is_there && is_same && held[ix].as_str() == "")
+}
+
+/// What `take_link` and indexing give.
+fn links(alloc: Global, calls: bool) -> Result<bool, Fault> {
+    let mut held = Allocations::new(alloc, no_parts(alloc))?;
+    let ix = held.allocate_link(
+        LinkType::Inline,
+        CowStr::Borrowed("u"),
+        CowStr::Borrowed("t"),
+        CowStr::Borrowed("i"),
+    )?;
+    if !calls {
+        return Ok(true);
+    }
+    let is_there = held[ix].1.as_str() == "u";
+    let taken = held.take_link(ix);
+    let is_same = taken.0 == LinkType::Inline && taken.2.as_str() == "t";
+    drop(taken);
+    Ok(is_there && is_same && held[ix].0 == LinkType::ShortcutUnknown)
+}
+
+/// What `take_alignment` and indexing give.
+fn alignments(alloc: Global, calls: bool) -> Result<bool, Fault> {
+    let mut held = Allocations::new(alloc, no_parts(alloc))?;
+    let ix = held.allocate_alignment(vec![in alloc; Alignment::Left]?)?;
+    if !calls {
+        return Ok(true);
+    }
+    let is_there = held[ix].len() == 1;
+    let taken = held.take_alignment(ix);
+    let is_same = taken.len() == 1;
+    drop(taken);
+    Ok(is_there && is_same && held[ix].is_empty())
+}
+
+fn headings(alloc: Global, calls: bool) -> Result<bool, Fault> {
+    let mut held = Allocations::new(alloc, no_parts(alloc))?;
+    let ix = held.allocate_heading(no_attributes(alloc))?;
+    Ok(!calls || held[ix].classes.is_empty())
+}
+
+/// Whether a callback does not answer.
+fn is_silent<'input, C: BrokenLinkCallback<'input>>(callback: &mut C) -> bool
+    requires { C.can_ask callback.old }
+{
+    is_nothing(callback.handle_broken_link(BrokenLink {
+        span: 0..3,
+        link_type: LinkType::Shortcut,
+        reference: CowStr::Borrowed("a"),
+    }))
+}
+
+fn callbacks(calls: bool) -> bool {
+    if !calls {
+        return true;
+    }
+    let mut closure = Closure::new(|link: BrokenLink| -> Option<(CowStr, CowStr)> {
+        drop(link);
+        None
+    });
+    let mut none = DefaultBrokenLinkCallback;
+    is_silent(&mut closure) && is_silent(&mut none)
+}
+
+/// Whether all give what they should; memory is ample.
+fn all_give(alloc: Global, calls: bool) -> Result<bool, Fault> {
+    Ok(
+        parsers(alloc, calls)?
+            && ended_parsers(alloc, calls)?
+            && merges(alloc, calls)?
+            && blocks(alloc, calls)?
+            && texts(alloc, calls)?
+            && links(alloc, calls)?
+            && alignments(alloc, calls)?
+            && headings(alloc, calls)?
+            && callbacks(calls),
+    )
+}
+
+/// Makes what the calls need, and then the calls if it is told to. Whether all give what they should.
+pub fn gives(alloc: Global, calls: bool) -> bool {
+    all_give(alloc, calls) == Ok(true)
+}

@@ -1,0 +1,239 @@
+//! Each way to read a text, beside a full run of the same.
+use crate::asked::{Asked, Source, callback_for, parser, sources};
+use crate::tries::{Outcome, all_of, compared, is_made, walked, writes};
+use markdown_base::event::Event;
+use markdown_base::fault::Fault;
+use markdown_blocks::Blocks;
+use markdown_inline::walk::Parser;
+use markdown_out::merge::{TextMergeStream, TextMergeWithOffset};
+use markdown_render::render;
+use markdown_test_parsers::parsers::all_events;
+use std::alloc::Global;
+use std::ops::Range;
+
+type Placed = (Event<'static>, Range<usize>);
+
+/// A parser of the blocks of a text.
+fn of_blocks(alloc: Global, source: Source) -> Result<Parser<'static, Asked>, Fault> {
+    let blocks = Blocks::of_text(alloc, source.text, source.options)?;
+    Parser::from_blocks(alloc, blocks, Some(callback_for(source)))
+}
+
+/// Each maker makes a parser, or memory was refused.
+fn makes(alloc: Global, source: Source) -> bool {
+    is_made(Blocks::of_text(alloc, source.text, source.options))
+        && is_made(Parser::new(alloc, source.text))
+        && is_made(Parser::new_ext(alloc, source.text, source.options))
+        && is_made(parser(alloc, source))
+        && is_made(of_blocks(alloc, source))
+}
+
+/// The events of a text.
+fn events_of(alloc: Global, source: Source) -> Option<Vec<Event<'static>>> {
+    all_of(alloc, parser(alloc, source).ok()?)
+}
+
+/// Whether nothing is left of a walk that ended so, and its callback was asked what it should be.
+fn is_left(outcome: Outcome, left: Result<(Vec<Placed>, Option<Asked>), Fault>) -> bool {
+    match left {
+        Ok((events, callback)) => {
+            let is_empty = events.is_empty();
+            drop(events);
+            is_empty && is_asked(outcome, callback)
+        }
+        Err(fault) => fault == Fault::Memory && outcome != Outcome::Wrong,
+    }
+}
+
+/// Whether a callback was asked all that a text asks, or a beginning of it where the walk was cut short.
+fn is_asked(outcome: Outcome, callback: Option<Asked>) -> bool {
+    let Some(callback) = callback else {
+        return false;
+    };
+    match outcome {
+        Outcome::Whole => callback.is_whole(),
+        Outcome::Cut => callback.is_beginning(),
+        Outcome::Wrong => false,
+    }
+}
+
+fn walks(alloc: Global, source: Source) -> bool {
+    let Some(full) = events_of(alloc, source) else {
+        return true;
+    };
+    match parser(alloc, source) {
+        Ok(mut parser) => {
+            let outcome = walked(&mut parser, full.as_slice());
+            is_left(outcome, all_events(parser))
+        }
+        Err(fault) => fault == Fault::Memory,
+    }
+}
+
+/// The events of a text, each with its range.
+fn placed_of(alloc: Global, source: Source) -> Option<Vec<Placed>> {
+    all_of(alloc, parser(alloc, source).ok()?.into_offset_iter())
+}
+
+fn walks_with_ranges(alloc: Global, source: Source) -> bool {
+    let Some(full) = placed_of(alloc, source) else {
+        return true;
+    };
+    match parser(alloc, source) {
+        Ok(parser) => {
+            let mut iter = parser.into_offset_iter();
+            walked(&mut iter, full.as_slice()) != Outcome::Wrong
+        }
+        Err(fault) => fault == Fault::Memory,
+    }
+}
+
+/// The merged events of a text.
+fn merged_of(alloc: Global, source: Source) -> Option<Vec<Event<'static>>> {
+    all_of(
+        alloc,
+        TextMergeStream::new(alloc, parser(alloc, source).ok()?),
+    )
+}
+
+fn merges(alloc: Global, source: Source) -> bool {
+    let Some(full) = merged_of(alloc, source) else {
+        return true;
+    };
+    match parser(alloc, source) {
+        Ok(parser) => {
+            compared(TextMergeStream::new(alloc, parser), full.as_slice()) != Outcome::Wrong
+        }
+        Err(fault) => fault == Fault::Memory,
+    }
+}
+
+/// The merged events of a text, each with its range.
+fn placed_merged_of(alloc: Global, source: Source) -> Option<Vec<Placed>> {
+    let events = parser(alloc, source).ok()?.into_offset_iter();
+    all_of(alloc, TextMergeWithOffset::new(alloc, events))
+}
+
+fn merges_with_ranges(alloc: Global, source: Source) -> bool {
+    let Some(full) = placed_merged_of(alloc, source) else {
+        return true;
+    };
+    match parser(alloc, source) {
+        Ok(parser) => {
+            let merge = TextMergeWithOffset::new(alloc, parser.into_offset_iter());
+            compared(merge, full.as_slice()) != Outcome::Wrong
+        }
+        Err(fault) => fault == Fault::Memory,
+    }
+}
+
+/// Whether two lists hold the same.
+fn are_same<T: PartialEq + Drop>(given: Vec<T>, full: &[T]) -> bool {
+    given.as_slice() == full
+}
+
+/// All events at once, and the callback, or neither.
+fn collects(alloc: Global, source: Source) -> bool {
+    let Some(full) = placed_of(alloc, source) else {
+        return true;
+    };
+    let Ok(parser) = parser(alloc, source) else {
+        return true;
+    };
+    match all_events(parser) {
+        Ok((events, callback)) => {
+            are_same(events, full.as_slice()) && is_asked(Outcome::Whole, callback)
+        }
+        Err(fault) => fault == Fault::Memory,
+    }
+}
+
+/// The HTML of a text.
+fn html_of(alloc: Global, source: Source) -> Result<String, Fault> {
+    render(
+        alloc,
+        source.text,
+        source.options,
+        Some(callback_for(source)),
+    )
+}
+
+/// All of the HTML, or none.
+fn renders(alloc: Global, source: Source) -> bool {
+    let Ok(full) = html_of(alloc, source) else {
+        return true;
+    };
+    match html_of(alloc, source) {
+        Ok(html) => html.as_str() == full.as_str(),
+        Err(fault) => fault == Fault::Memory,
+    }
+}
+
+/// The old text and all of the HTML, or a beginning of it.
+fn pushes(alloc: Global, source: Source) -> bool {
+    let Ok(full) = html_of(alloc, source) else {
+        return true;
+    };
+    match parser(alloc, source) {
+        Ok(parser) => writes(alloc, parser, full.as_str()),
+        Err(fault) => fault == Fault::Memory,
+    }
+}
+
+/// A way to read a text.
+#[derive(Clone, Copy, Drop)]
+enum Way {
+    Making,
+    Walking,
+    WalkingWithRanges,
+    Merging,
+    MergingWithRanges,
+    Collecting,
+    Rendering,
+    Pushing,
+}
+
+static WAYS: [(&str, Way); 8] = [
+    ("making a parser", Way::Making),
+    ("next", Way::Walking),
+    ("next with ranges", Way::WalkingWithRanges),
+    ("next of a merge", Way::Merging),
+    ("next of a merge with ranges", Way::MergingWithRanges),
+    ("into_events", Way::Collecting),
+    ("render", Way::Rendering),
+    ("push_html", Way::Pushing),
+];
+
+/// Whether what is promised of a way to read a text stands.
+fn stands(alloc: Global, way: Way, source: Source) -> bool {
+    match way {
+        Way::Making => makes(alloc, source),
+        Way::Walking => walks(alloc, source),
+        Way::WalkingWithRanges => walks_with_ranges(alloc, source),
+        Way::Merging => merges(alloc, source),
+        Way::MergingWithRanges => merges_with_ranges(alloc, source),
+        Way::Collecting => collects(alloc, source),
+        Way::Rendering => renders(alloc, source),
+        Way::Pushing => pushes(alloc, source),
+    }
+}
+
+/// The first way of which what is promised does not stand.
+fn broken_way(alloc: Global, source: Source) -> Option<&'static str> {
+    for (name, way) in &WAYS {
+        if !stands(alloc, *way, source) {
+            return Some(*name);
+        }
+    }
+    None
+}
+
+/// The first text of which it does not stand, and the way.
+pub fn broken(alloc: Global) -> Option<(&'static str, &'static str)> {
+    for source in sources() {
+        if let Some(name) = broken_way(alloc, source) {
+            return Some((name, source.text));
+        }
+    }
+    None
+}

@@ -1,0 +1,34 @@
+//! Laws of the definitions that this crate's contracts cite: functions without code, whose clauses say them.
+ghost use Rattle.std.specs.Prelude.{◌≡◌, ◌++◌, ℕ, List};
+ghost use Rattle.markdown_base.specs.Event.{EventView};
+ghost use Rattle.markdown_base.specs.declared.fault.Fault.{Fault};
+ghost use Rattle.markdown_base.specs.declared.fault.Fault.TheVariants.{Memory};
+ghost use Rattle.markdown_base.specs.declared.options.Options.{Options};
+ghost use Rattle.markdown_inline.specs.NextGives.{NextGives, IsEventOf};
+ghost use Rattle.markdown_inline.specs.ParserLeft.{ReadsText, parser_callback};
+ghost use Rattle.markdown_out.specs.HtmlCorrect.{GoesTooDeep, IsRendered, StopsAtError};
+ghost use Rattle.markdown_out.specs.LookBacks.{IsTooDeep};
+ghost use Rattle.markdown_render.specs.ParserHtml.{IsHtmlOfAll, IsHtmlOfFirst};
+ghost use Rattle.markdown_render.specs.Rendering.{IsRenderingFor};
+
+use markdown_defs::BrokenLinkCallback;
+use markdown_inline::walk::Parser;
+
+/// What `push_html` makes of a parser: the HTML of all events that were left, and so of a document's reading, where all
+/// of it was left. At an error item, which is one of memory, the open HTML of the first of these events; so too where
+/// too many Starts are open in an image among them.
+pub fn html_of_a_parser_is_that_of_its_reading<'input, F: BrokenLinkCallback<'input>>(
+    parser: &Parser<'input, F>,
+)
+    ensures document { (text : List ℕ) (options : Options) (old new : List ℕ) → ReadsText text options parser.now
+        → IsRendered (NextGives F.answers IsEventOf) parser.now old new
+        → (html : List ℕ) × (new ≡ old ++ html)
+        × IsRenderingFor F.answers (parser_callback parser.now) text options html }
+    ensures rest { (old new : List ℕ) → IsRendered (NextGives F.answers IsEventOf) parser.now old new
+        → IsHtmlOfAll F.answers parser.now old new }
+    ensures error { (old new : List ℕ) (fault : Fault)
+        → StopsAtError (NextGives F.answers IsEventOf) parser.now old new fault
+        → (fault ≡ Memory) × (events : List EventView) × IsHtmlOfFirst F.answers parser.now old new events }
+    ensures deep { (old new : List ℕ) → GoesTooDeep (NextGives F.answers IsEventOf) parser.now old new
+        → (events : List EventView) × IsHtmlOfFirst F.answers parser.now old new events × IsTooDeep events }
+{}

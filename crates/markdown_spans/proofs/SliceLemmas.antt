@@ -1,0 +1,57 @@
+-- Slices of a text, and slices of those.
+use Rattle.std.proofs.Common.{◌≡◌, ℕ, zero, suc, ◌+◌, ◌-◌, ◌<◌, ◌≤◌, List, [], ◌∷◌, length, take, drop, refl, sym, ap, ◌∙◌, arith, ⊎_elim}
+use Rattle.std.specs.Prelude.{min, slice_range}
+use Rattle.std.specs.declared.ops.Range.{Range}
+use Rattle.std.proofs.Math.Logic.{∥∥₁_map}
+use Rattle.std.proofs.lemmas.Bool.{cases_lt}
+use Rattle.std.proofs.lemmas.List.{drop-drop, length-take, take-take, take_all}
+use Rattle.markdown_document.specs.Origins.{IsSlicedOf, Origin, StandsIn}
+
+-- the bytes between two places of a text stand in it, and so do all
+pub stands_between : (text : List ℕ) (start end : ℕ) (bytes : List ℕ) → bytes ≡ take (end - start) (drop start text) → StandsIn text bytes
+stands_between text start end bytes e = ∣ (record { start = start; end = end }, e) ∣₁
+
+pub stands_whole : (text : List ℕ) → StandsIn text text
+stands_whole text =
+    let all : length text - 0 ≡ length text = omega arith in
+    stands_between text 0 (length text) text (sym (ap (λ n. take n text) all ∙ take_all (length text) text (omega arith)))
+
+first_of_none : (n : ℕ) → let none : List ℕ = [] in none ≡ take n none
+first_of_none zero = refl
+first_of_none (suc n) = refl
+
+-- what is left of the first bytes of a text, and the first of those
+drop_of_take : (i m : ℕ) (xs : List ℕ) → drop i (take m xs) ≡ take (m - i) (drop i xs)
+drop_of_take zero m xs = let e : m ≡ m - 0 = omega arith in ap (λ n. take n xs) e
+drop_of_take (suc i) zero xs = let e : 0 ≡ 0 - suc i = omega arith in ap (λ n. take n (drop (suc i) xs)) e
+drop_of_take (suc i) (suc m) [] = first_of_none (suc m - suc i)
+drop_of_take (suc i) (suc m) (x ∷ xs) = let e : m - i ≡ suc m - suc i = omega arith in drop_of_take i m xs ∙ ap (λ n. take n (drop i xs)) e
+
+take_of_take : (i m : ℕ) (xs : List ℕ) → take i (take m xs) ≡ take (min i m) xs
+take_of_take i m xs =
+    ⊎_elim
+    (λ (l : i < m). let e : i ≡ min i m = omega (arith, l) in take-take i m xs (omega (arith, l)) ∙ ap (λ n. take n xs) e)
+    (λ (l : m ≤ i). let e : m ≡ min i m = omega (arith, l) in take_all i (take m xs) (omega (arith, l, length-take m xs))
+    ∙ ap (λ n. take n xs) e)
+    (cases_lt i m)
+
+slice_twice : (text : List ℕ) (a b c d : ℕ)
+    → slice_range (slice_range text a b) c d ≡ take ((a + c + min (d - c) (b - a - c)) - (a + c)) (drop (a + c) text)
+slice_twice text a b c d =
+    let n = min (d - c) (b - a - c) in
+    let e : n ≡ (a + c + n) - (a + c) = omega arith in
+    ap (λ xs. take (d - c) xs) (drop_of_take c (b - a) (drop a text)) ∙ take_of_take (d - c) (b - a - c) (drop c (drop a text))
+    ∙ ap (λ xs. take n xs) (drop-drop c a text) ∙ ap (λ k. take k (drop (a + c) text)) e
+
+-- what stands in a slice of a text stands in the text
+pub stands_within : (text : List ℕ) (a b : ℕ) (bytes : List ℕ) → StandsIn (slice_range text a b) bytes → StandsIn text bytes
+stands_within text a b bytes h =
+    ∥∥₁_map h (λ (p : (range : Range ℕ) × (bytes ≡ slice_range (slice_range text a b) range.start range.end)). (
+      record { start = a + p.0.start; end = a + p.0.start + min (p.0.end - p.0.start) (b - a - p.0.start) },
+      p.1
+          ∙ slice_twice text a b p.0.start p.0.end,
+    ))
+
+pub sliced_within : (text : List ℕ) (a b : ℕ) (origin : Origin) (bytes : List ℕ) → IsSlicedOf (slice_range text a b) origin bytes
+    → IsSlicedOf text origin bytes
+sliced_within text a b origin bytes h = λ is. stands_within text a b bytes (h is)

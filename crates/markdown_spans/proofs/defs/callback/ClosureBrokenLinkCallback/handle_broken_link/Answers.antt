@@ -1,6 +1,0 @@
--- The closure is asked what the callback is asked, and its answer is given.
-use Rattle.std.proofs.Common.{refl}
-use Rattle.markdown_spans.proofs.defs.callback.ClosureBrokenLinkCallback.handle_broken_link.Goals as goal
-
-pub returns-clause-answered : goal.returns-clause-answered
-returns-clause-answered g c = (c.args.link, c.f.result, refl, refl, c.f.ensures)

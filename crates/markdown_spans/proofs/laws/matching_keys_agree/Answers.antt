@@ -1,6 +1,0 @@
--- By the lemma.
-use Rattle.markdown_spans.proofs.LookUpLawsLemmas.{matching_keys_agree}
-use Rattle.markdown_spans.proofs.laws.matching_keys_agree.Goals as goal
-
-pub returns : goal.returns
-returns c = matching_keys_agree

@@ -1,6 +1,0 @@
--- By the lemma.
-use Rattle.markdown_spans.proofs.LookUpLawsLemmas.{tests_matching}
-use Rattle.markdown_spans.proofs.laws.names_are_tested_by_matching.Goals as goal
-
-pub returns : goal.returns
-returns c = tests_matching

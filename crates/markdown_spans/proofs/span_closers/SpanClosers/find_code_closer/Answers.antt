@@ -1,0 +1,98 @@
+-- No backticks, or a single escaped one, open nothing; else what was learned is read, or a walk is made.
+use Rattle.std.proofs.Common.{◌≡◌, Some, None, reverse, ap, sym, ◌∙◌, arith}
+use Rattle.std.proofs.lemmas.Result.{IfOk-weaker}
+use Rattle.markdown_base.specs.BlockTree.{item_at, no_item}
+use Rattle.markdown_base.specs.declared.item.Item.{Item}
+use Rattle.markdown_spans.specs.SpanMarks.{mark_at}
+use Rattle.markdown_spans.specs.declared.span_text.SpanKind.TheVariants.{Code}
+use Rattle.markdown_spans.proofs.ChainWalkLemmas.{chain_at}
+use Rattle.markdown_spans.proofs.FindCodeLemmas.{code_within, fails_walking, finds_known, holds_left, learned_from, looks_at_escaped}
+use Rattle.markdown_spans.proofs.FindCodeLemmas.{looks_at_known, looks_without_mark, nothing_from}
+use Rattle.markdown_spans.proofs.LearnedLemmas.{holds_next}
+use Rattle.markdown_spans.proofs.span_closers.SpanClosers.find_code_closer.Goals as goal
+
+pub item-requires : goal.item-requires
+item-requires c = (chain_at c.args.tree.now.nodes c.args.opener c.requires.chain).within
+
+pub next-requires : goal.next-requires
+next-requires c = (chain_at c.args.tree.now.nodes c.args.opener c.requires.chain).within
+
+pub search_code-requires-clause-chain : goal.search_code-requires-clause-chain
+search_code-requires-clause-chain c = rw c.next.ensures.value
+    (chain_at c.args.tree.now.nodes c.args.opener c.requires.chain).later
+
+pub returns-in_default-clause-counted : goal.returns-in_default-clause-counted
+returns-in_default-clause-counted c =
+    let is : mark_at Code c.args.opener (item_at c.args.tree.now.nodes c.args.opener).body ≡ None =
+    ap (λ (item : Item). mark_at Code c.args.opener item.body) (sym (c.item.ensures no_item))
+    ∙ (sym c.mark_of.ensures ∙ c.in_default.is) in
+    looks_without_mark c.args.tree.now.nodes c.args.opener c.args.self.now c.args.visits.now is (omega arith)
+
+pub returns-in_default-clause-learned : goal.returns-in_default-clause-learned
+returns-in_default-clause-learned c = holds_next Code c.args.tree.now.nodes c.args.opener c.args.self.now
+    c.requires.chain c.requires.learned
+
+pub returns-then-mark-eq0-clause-counted : goal.returns-then-mark-eq0-clause-counted
+returns-then-mark-eq0-clause-counted c =
+    let is : mark_at Code c.args.opener (item_at c.args.tree.now.nodes c.args.opener).body ≡ Some c.in-Some.mark =
+    ap (λ (item : Item). mark_at Code c.args.opener item.body) (sym (c.item.ensures no_item))
+    ∙ (sym c.mark_of.ensures ∙ c.in-Some.is) in
+    looks_at_escaped c.args.tree.now.nodes c.args.opener c.in-Some.mark c.args.self.now c.args.visits.now is
+    c.if-mark-eq0.true (omega arith)
+
+pub returns-then-mark-eq0-clause-learned : goal.returns-then-mark-eq0-clause-learned
+returns-then-mark-eq0-clause-learned c = holds_next Code c.args.tree.now.nodes c.args.opener c.args.self.now
+    c.requires.chain c.requires.learned
+
+pub returns-then-self-clause-found : goal.returns-then-self-clause-found
+returns-then-self-clause-found c =
+    let is : mark_at Code c.args.opener (item_at c.args.tree.now.nodes c.args.opener).body ≡ Some c.in-Some.mark =
+    ap (λ (item : Item). mark_at Code c.args.opener item.body) (sym (c.item.ensures no_item))
+    ∙ (sym c.mark_of.ensures ∙ c.in-Some.is) in
+    finds_known c.args.tree.now.nodes c.args.opener c.in-Some.mark c.args.self.now
+    (reverse c.self.inside.ahead.items) c.take_closer.result
+    c.requires.chain c.requires.learned (learned_from c.self.inside.failed
+    (reverse c.self.inside.ahead.items) c.args.self.now c.self.view_is c.if-self.true) is c.if-mark-eq0.false
+    c.take_closer.ensures.value
+
+pub returns-then-self-clause-counted : goal.returns-then-self-clause-counted
+returns-then-self-clause-counted c =
+    looks_at_known c.args.tree.now.nodes c.args.opener c.args.self.now
+    (reverse c.self.inside.ahead.items) c.args.visits.now
+    (learned_from c.self.inside.failed (reverse c.self.inside.ahead.items) c.args.self.now c.self.view_is
+    c.if-self.true) (omega arith)
+
+pub returns-then-self-clause-learned : goal.returns-then-self-clause-learned
+returns-then-self-clause-learned c =
+    let is : mark_at Code c.args.opener (item_at c.args.tree.now.nodes c.args.opener).body ≡ Some c.in-Some.mark =
+    ap (λ (item : Item). mark_at Code c.args.opener item.body) (sym (c.item.ensures no_item))
+    ∙ (sym c.mark_of.ensures ∙ c.in-Some.is) in
+    rw c.if-self.true (holds_left Code c.args.tree.now.nodes c.args.opener c.in-Some.mark c.args.self.now
+    (reverse c.self.inside.ahead.items) _
+    c.requires.chain c.requires.learned (learned_from c.self.inside.failed
+    (reverse c.self.inside.ahead.items) c.args.self.now c.self.view_is c.if-self.true) is c.take_closer.ensures.left)
+
+pub returns-clause-failed : goal.returns-clause-failed
+returns-clause-failed c =
+    let is : mark_at Code c.args.opener (item_at c.args.tree.now.nodes c.args.opener).body ≡ Some c.in-Some.mark =
+    ap (λ (item : Item). mark_at Code c.args.opener item.body) (sym (c.item.ensures no_item))
+    ∙ (sym c.mark_of.ensures ∙ c.in-Some.is) in
+    let at_sibling = rw c.next.ensures.value at c.search_code.ensures.searches in
+    IfOk-weaker c.search_code.result _ _ (λ found s. fails_walking c.args.tree.now.nodes c.args.opener c.in-Some.mark
+    found c.args.self.now c.search_code.new.self _ _
+    (chain_at c.args.tree.now.nodes c.args.opener c.requires.chain).later is c.if-mark-eq0.false
+    (nothing_from c.self.inside.failed (reverse c.self.inside.ahead.items) c.args.self.now c.self.view_is
+    c.if-self.false) s) at_sibling
+
+pub returns-then-self-clause-within : goal.returns-then-self-clause-within
+returns-then-self-clause-within c =
+    let is : mark_at Code c.args.opener (item_at c.args.tree.now.nodes c.args.opener).body ≡ Some c.in-Some.mark =
+    ap (λ (item : Item). mark_at Code c.args.opener item.body) (sym (c.item.ensures no_item))
+    ∙ (sym c.mark_of.ensures ∙ c.in-Some.is) in
+    code_within c.args.tree.now.nodes c.args.opener c.take_closer.result
+    (chain_at c.args.tree.now.nodes c.args.opener c.requires.chain).later
+    (finds_known c.args.tree.now.nodes c.args.opener c.in-Some.mark c.args.self.now
+    (reverse c.self.inside.ahead.items) c.take_closer.result
+    c.requires.chain c.requires.learned
+    (learned_from c.self.inside.failed (reverse c.self.inside.ahead.items) c.args.self.now c.self.view_is
+    c.if-self.true) is c.if-mark-eq0.false c.take_closer.ensures.value)

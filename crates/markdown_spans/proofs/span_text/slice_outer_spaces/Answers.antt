@@ -1,0 +1,20 @@
+use Rattle.std.proofs.Common.{◌≡◌, ◌∙◌, ◌-◌, length, arith, sym, true}
+use Rattle.std.proofs.lemmas.Str.{IsCharBoundary-after_ascii}
+use Rattle.markdown_spans.specs.CodeText.{has_outer_spaces}
+use Rattle.markdown_spans.proofs.CodeTextLemmas.{spaced}
+use Rattle.markdown_spans.proofs.SliceLemmas.{stands_between, stands_whole}
+use Rattle.markdown_spans.proofs.span_text.slice_outer_spaces.Goals as goal
+
+pub range-requires-clause-start_boundary : goal.range-requires-clause-start_boundary
+range-requires-clause-start_boundary c =
+    let is : has_outer_spaces c.args.text.now ≡ true = rw c.as_bytes.ensures.value at (sym c.has_outer_spaces.ensures
+    ∙ c.if-has_outer_spaces.true) in
+    let spaces = spaced c.args.text.now is in
+    λ _. IsCharBoundary-after_ascii c.args.text.now 0 c.utf8.text (omega (arith, spaces.two)) (omega (arith, spaces.first))
+
+pub returns-then-has_outer_spaces-clause-stands : goal.returns-then-has_outer_spaces-clause-stands
+returns-then-has_outer_spaces-clause-stands c =
+    stands_between c.args.text.now 1 (length c.args.text.now - 1) c.range.result.now c.range.ensures.value
+
+pub returns-else-has_outer_spaces-clause-stands : goal.returns-else-has_outer_spaces-clause-stands
+returns-else-has_outer_spaces-clause-stands c = stands_whole c.args.text.now

@@ -1,0 +1,10 @@
+-- The bytes between the delimiters, or between a space at each end of them, stand in them.
+use Rattle.markdown_spans.proofs.SliceLemmas.{stands_whole}
+use Rattle.markdown_spans.proofs.span_text.span_text.Goals as goal
+use Rattle.markdown_spans.proofs.span_text.span_text.Goals.{in-Code, in-Math}
+
+pub returns-then-is_none-clause-slice : goal.returns-then-is_none-clause-slice
+returns-then-is_none-clause-slice c = λ borrowed. elim c.match-kind.branch [
+  | in-Code w ↦ rw w.result-is w.slice_outer_spaces.ensures.stands
+  | in-Math w ↦ rw w.result-is (stands_whole c.args.text.now)
+]

@@ -1,0 +1,153 @@
+//! What stands after a `<`: an autolink, raw HTML, or nothing.
+ghost use Rattle.std.specs.Prelude.{◌≡◌, ◌≤◌, ◌+◌, ◌-◌, ℕ, List, slice_index, None, Some, length, IfOk, IfSome, IsOk};
+ghost use Rattle.std.specs.Prelude.{true, string_bytes, option_and_then};
+ghost use Rattle.std.specs.Option.{option_map};
+ghost use Rattle.std.specs.Str.{IsCharBoundary, IsUtf8};
+ghost use Rattle.markdown_spans.specs.AfterLess.{declared_end, html_at, is_unbroken, markup_at, unbroken};
+ghost use Rattle.markdown_spans.specs.MarkupView.{end_of, markup_of};
+ghost use Rattle.markdown_spans.specs.PrefixView.{length_by};
+ghost use Rattle.markdown_raw_html.specs.TagSource.{tag_at};
+
+use crate::prefixes::ContainerPrefix;
+use markdown_raw_html::html_tag::{ScannedTag, scan_html_tag};
+use markdown_raw_html::raw_html::RawHtmlScanner;
+use markdown_scan::autolink::scan_uri_autolink;
+use std::alloc::{AllocError, Global};
+
+/// What was found.
+#[derive(Drop)]
+pub enum MarkupFound<'t> {
+    /// An absolute-URI autolink: the byte after its `>`, and its URI.
+    Autolink(usize, &'t str),
+    /// Raw HTML as it stands: the byte after its `>`.
+    Html(usize),
+    /// A tag inside of which prefixes of lines stand: the byte after its `>`, and the tag without them.
+    OwnedHtml(usize, String),
+}
+
+/// The end of the comment, CDATA section or declaration whose `<!` stands right before `at`.
+fn scan_declared(scanner: &mut RawHtmlScanner<'_>, at: usize) -> Option<usize>
+    requires { at ≤ length scanner.old.text.now }
+    ensures value { result ≡ declared_end scanner.old.text.now at }
+    ensures within { IfSome result (λ end. end ≤ length scanner.old.text.now) }
+    ensures closed { IfSome result (λ end. slice_index scanner.old.text.now (end - 1) ≡ 62) }
+    ensures text { scanner.new.text ≡ scanner.old.text }
+{
+    if let Some(end) = scanner.scan_comment(at) {
+        return Some(end);
+    }
+    if let Some(end) = scanner.scan_cdata_section(at) {
+        return Some(end);
+    }
+    scanner.scan_declaration(at)
+}
+
+/// A text of these bytes.
+fn into_text(bytes: Vec<u8>) -> String
+    requires { IsUtf8 bytes.items }
+    ensures { string_bytes result ≡ bytes.items }
+{
+    String::from_utf8(bytes).unwrap()
+}
+
+/// The tag whose `<` stands at `start`: the byte after its `>`, and the tag without the prefixes of lines, where such
+/// stand inside it.
+fn scan_tag(
+    alloc: Global,
+    text: &str,
+    start: usize,
+    prefix: &ContainerPrefix<'_>,
+) -> Result<Option<(usize, Option<String>)>, AllocError>
+    requires { IsCharBoundary text.now start }
+    ensures value { IfOk result (λ found. option_map (λ tag. (tag.0, option_map string_bytes tag.1)) found
+        ≡ tag_at (λ rest. Some (length_by prefix.now rest)) text.now start) }
+    ensures plain { option_and_then (λ tag. tag.1) (tag_at (λ rest. Some (length_by prefix.now rest)) text.now start)
+        ≡ None → IsOk result }
+    ensures boundary { IfOk result (λ found. IfSome found (λ tag. IsCharBoundary text.now tag.0)) }
+{
+    match scan_html_tag(alloc, text, start, prefix)? {
+        None => Ok(None),
+        Some(
+            ScannedTag {
+                end,
+                without_prefixes: None,
+            },
+        ) => Ok(Some((end, None))),
+        Some(
+            ScannedTag {
+                end,
+                without_prefixes: Some(bytes),
+            },
+        ) => Ok(Some((end, Some(into_text(bytes))))),
+    }
+}
+
+/// Raw HTML that ends before this byte, without a prefix inside.
+#[tactic(auto, using(crate::proofs::AfterLessLemmas::closed_boundary))]
+fn as_html(text: &str, end: Option<usize>) -> Option<(usize, Option<String>)>
+    requires { IfSome end (λ end. (end ≤ length text.now) × (slice_index text.now (end - 1) ≡ 62)) }
+    ensures value { option_map (λ tag. (tag.0, option_map string_bytes tag.1)) result ≡ unbroken end }
+    ensures boundary { IfSome result (λ tag. IsCharBoundary text.now tag.0) }
+{
+    match end {
+        Some(end) => Some((end, None)),
+        None => None,
+    }
+}
+
+/// The raw HTML whose `<` stands at `start`, and `at` is the byte after it.
+fn scan_html(
+    alloc: Global,
+    text: &str,
+    start: usize,
+    at: usize,
+    scanner: &mut RawHtmlScanner<'_>,
+    prefix: &ContainerPrefix<'_>,
+) -> Result<Option<(usize, Option<String>)>, AllocError>
+    requires text { scanner.old.text.now ≡ text.now }
+    requires boundary { IsCharBoundary text.now start }
+    ensures value { IfOk result (λ found. option_map (λ tag. (tag.0, option_map string_bytes tag.1)) found
+        ≡ html_at (λ rest. Some (length_by prefix.now rest)) text.now start at) }
+    ensures plain { option_and_then (λ tag. tag.1) (html_at (λ rest. Some (length_by prefix.now rest)) text.now start
+        at) ≡ None → IsOk result }
+    ensures boundary { IfOk result (λ found. IfSome found (λ tag. IsCharBoundary text.now tag.0)) }
+    ensures same { scanner.new.text ≡ scanner.old.text }
+{
+    match text.as_bytes().get(at) {
+        Some(b'!') => Ok(as_html(text, scan_declared(scanner, at + 1))),
+        Some(b'?') => Ok(as_html(text, scanner.scan_processing_instruction(at + 1))),
+        _ => scan_tag(alloc, text, start, prefix),
+    }
+}
+
+/// What stands from the `<` at `start` on, in the text up to its block's end; `at` is the byte after it, and the
+/// scanner one of that text. An autolink is tried first, then raw HTML. Memory is taken, and can run out, only for a
+/// tag inside of which prefixes of lines stand.
+#[tactic(auto, unfolding(crate::specs::AfterLess::markup_at))]
+pub fn scan_after_less<'t>(
+    alloc: Global,
+    text: &'t str,
+    start: usize,
+    at: usize,
+    scanner: &mut RawHtmlScanner<'_>,
+    prefix: &ContainerPrefix<'_>,
+) -> Result<Option<MarkupFound<'t>>, AllocError>
+    requires text { scanner.old.text.now ≡ text.now }
+    requires start { IsCharBoundary text.now start }
+    requires after { IsCharBoundary text.now at }
+    ensures value { IfOk result (λ found. option_map markup_of found
+        ≡ markup_at (λ rest. Some (length_by prefix.now rest)) text.entry.now start at) }
+    ensures plain { is_unbroken (markup_at (λ rest. Some (length_by prefix.now rest)) text.entry.now start at) ≡ true
+        → IsOk result }
+    ensures boundary { IfOk result (λ found. IfSome found (λ markup. IsCharBoundary text.entry.now (end_of markup))) }
+    ensures same { scanner.new.text ≡ scanner.old.text }
+{
+    if let Some((end, uri)) = scan_uri_autolink(text, at) {
+        return Ok(Some(MarkupFound::Autolink(end, uri)));
+    }
+    match scan_html(alloc, text, start, at, scanner, prefix)? {
+        None => Ok(None),
+        Some((end, None)) => Ok(Some(MarkupFound::Html(end))),
+        Some((end, Some(tag))) => Ok(Some(MarkupFound::OwnedHtml(end, tag))),
+    }
+}

@@ -1,0 +1,342 @@
+//! Where spans close: searches along a chain for what closes code and math.
+ghost use Rattle.std.specs.Prelude.{◌≡◌, ◌++◌, ◌+◌, ◌<◌, ◌≤◌, ℕ, List, None, Some, length, reverse, IfErr, IfOk};
+ghost use Rattle.std.specs.Prelude.{IfSome, OnErr, OnOk, is_some};
+ghost use Rattle.markdown_base.specs.Arena.{sibling_of};
+ghost use Rattle.markdown_base.specs.BlockTree.{Numbered, item_at};
+ghost use Rattle.markdown_spans.specs.ChainInArena.{HasChain, LeadsThrough};
+ghost use Rattle.markdown_spans.specs.ChainSearch.{NotesMath, NotesRest, SearchesCode, SearchesMath, known_dollar};
+ghost use Rattle.markdown_spans.specs.ChainSearch.{next_closer};
+ghost use Rattle.markdown_spans.specs.Closers.{looked_for_code, looked_for_math};
+ghost use Rattle.markdown_spans.specs.MathOpening.{marks_at, opener_at};
+ghost use Rattle.markdown_spans.specs.SpanClosers.{item_in};
+ghost use Rattle.markdown_spans.specs.SpanMarks.{closers_of, known_after, known_closer};
+
+use crate::math_opener::MathOpener;
+use crate::span_marks::{KnownCloser, SpanMark, mark_of, note, walk_to};
+use crate::span_text::SpanKind;
+use markdown_base::item::Item;
+use markdown_base::tree::Tree;
+use std::alloc::{AllocError, Global};
+use std::collections::HashMap;
+use std::marker::Model;
+
+/// What closes a math span.
+#[derive(Clone, Copy, Debug, PartialEq, Eq, Drop)]
+pub struct FoundMath {
+    /// Whether it is display math.
+    pub display: bool,
+    /// The number of the `$` that its text ends at.
+    pub closer: usize,
+    /// The number of its last `$`.
+    pub last: usize,
+}
+
+/// Searches for what closes spans of one kind in a chain.
+///
+/// Each walks along the items after its opener. A text of backtick runs of rising lengths closes none of them, so that
+/// walks from each to the end would look at as many items as the square of their number. So the first walk that fails
+/// notes what closes each mark ahead of it, and later searches of the chain read that and walk no more.
+#[derive(Drop)]
+pub struct SpanClosers {
+    /// Whether a search has failed in this chain.
+    failed: bool,
+    /// If so, what closes the marks ahead, the next one last.
+    ahead: Vec<KnownCloser>,
+    /// The marks that a walk has passed.
+    noted: Vec<SpanMark>,
+    /// The number of the nearest mark of each key, while what closes them is found.
+    nearest: HashMap<usize, usize>,
+}
+
+impl Model for SpanClosers {
+    ghost use Rattle.std.specs.Prelude.{None, Some, reverse, if◌then◌else◌};
+    ghost use Rattle.markdown_spans.specs.SpanClosers.{Learned};
+
+    ghost Value = { Learned };
+
+    ghost view = { λ s. if s.failed then Some (reverse s.ahead.items) else None };
+}
+
+/// What closes each mark that was noted, that of the first one last.
+fn fill_ahead(
+    noted: &mut Vec<SpanMark>,
+    nearest: &mut HashMap<usize, usize>,
+    ahead: &mut Vec<KnownCloser>,
+) -> Result<(), AllocError>
+    ensures { OnOk result (reverse ahead.new.items ≡ closers_of noted.old.items) }
+{
+    ahead.clear();
+    nearest.clear();
+    'noted: while let Some(mark) = noted.pop() {
+        let closer = nearest.get(&mark.wanted).copied();
+        ahead.push(KnownCloser {
+            number: mark.number,
+            closer,
+        })?;
+        nearest.insert(mark.key, mark.number)?;
+    }
+    Ok(())
+}
+
+/// Takes off what is known of the marks up to one: what closes that one.
+fn take_closer(ahead: &mut Vec<KnownCloser>, number: usize) -> Option<usize>
+    ensures value { result ≡ known_closer number (reverse ahead.old.items) }
+    ensures left { reverse ahead.new.items ≡ known_after number (reverse ahead.old.items) }
+{
+    'ahead: while let Some(known) = ahead.pop() {
+        if known.number == number {
+            return known.closer;
+        }
+    }
+    None
+}
+
+/// What is known to close the next mark.
+fn next_closer(ahead: &[KnownCloser]) -> Option<usize>
+    ensures { result ≡ next_closer (reverse ahead.now) }
+{
+    match ahead.last() {
+        Some(known) => known.closer,
+        None => None,
+    }
+}
+
+/// Takes off what is known of the marks up to an opener of math: the first `$` after it, past its second one, that
+/// it wants.
+fn take_dollar(ahead: &mut Vec<KnownCloser>, opener: MathOpener) -> Option<usize>
+    ensures value { result ≡ known_dollar opener (reverse ahead.old.items) }
+    ensures left { reverse ahead.new.items ≡ known_after opener.number (reverse ahead.old.items) }
+{
+    let first = take_closer(ahead, opener.number);
+    match (first, opener.second) {
+        (Some(dollar), Some(second)) if dollar == second => next_closer(ahead),
+        _ => first,
+    }
+}
+
+/// Notes the second `$` of an opener of display math.
+fn note_second(
+    tree: &Tree<Item>,
+    opener: MathOpener,
+    noted: &mut Vec<SpanMark>,
+) -> Result<(), AllocError>
+    requires { IfSome opener.second (λ ix. ix < length tree.now.nodes) }
+    ensures { OnOk result (noted.new.items ≡ noted.old.items ++ marks_at tree.now.nodes opener.second) }
+{
+    if let Some(second) = opener.second {
+        note(
+            noted,
+            mark_of(SpanKind::Math, second, tree.item(second).body),
+        )?;
+    }
+    Ok(())
+}
+
+/// Goes on with a walk from a `$` that closes nothing, to the end.
+fn walk_on(
+    tree: &Tree<Item>,
+    ix: usize,
+    noted: &mut Vec<SpanMark>,
+    visits: &mut u128,
+) -> Result<(), AllocError>
+    requires { HasChain tree.now.nodes (Some ix) }
+    ensures notes { IfOk result (λ _. (low : ℕ) (after : List Numbered)
+        → LeadsThrough tree.now.nodes low (sibling_of tree.now.nodes ix) after
+        → NotesRest tree.now.nodes ix after noted.old.items noted.new.items visits.old visits.new) }
+    ensures refused { IfErr result (λ _. (low : ℕ) (after : List Numbered)
+        → LeadsThrough tree.now.nodes low (sibling_of tree.now.nodes ix) after
+        → visits.new ≤ visits.old + length after) }
+{
+    note(noted, mark_of(SpanKind::Math, ix, tree.item(ix).body))?;
+    walk_to(tree, tree.next(ix), SpanKind::Math, None, noted, visits)?;
+    Ok(())
+}
+
+/// What closes an opener of math, by a walk along the items after it. Where nothing does, all `$` after it are noted.
+fn walk_for_math(
+    tree: &Tree<Item>,
+    opener: MathOpener,
+    noted: &mut Vec<SpanMark>,
+    visits: &mut u128,
+) -> Result<Option<FoundMath>, AllocError>
+    requires chain { HasChain tree.now.nodes (Some opener.number) }
+    requires opener { opener_at tree.now.nodes opener.number ≡ Some opener }
+    ensures notes { IfOk result (λ found. (low : ℕ) (after : List Numbered)
+        → LeadsThrough tree.now.nodes low (sibling_of tree.now.nodes opener.number) after
+        → NotesMath opener after found noted.old.items noted.new.items visits.old visits.new) }
+    ensures refused { IfErr result (λ _. (low : ℕ) (after : List Numbered)
+        → LeadsThrough tree.now.nodes low (sibling_of tree.now.nodes opener.number) after
+        → visits.new ≤ visits.old + looked_for_math item_in opener.end opener.context after) }
+{
+    note_second(tree, opener, noted)?;
+    let first = opener.searched_from(tree);
+    let wanted = Some(opener.context);
+    let Some(ix) = walk_to(tree, first, SpanKind::Math, wanted, noted, visits)? else {
+        return Ok(None);
+    };
+    let close = opener.close_at(tree, ix);
+    if close.is_none() {
+        walk_on(tree, ix, noted, visits)?;
+    }
+    Ok(close)
+}
+
+impl SpanClosers {
+    ghost use Rattle.std.specs.Prelude.{Bool, ◌||◌, ◌&&◌, not};
+    ghost use Rattle.markdown_spans.specs.Closers.{can_open, opens_code};
+    ghost use Rattle.markdown_spans.specs.SpanClosers.{ClosesCode, ClosesMath, HoldsFrom, LooksForCode};
+    ghost use Rattle.markdown_spans.specs.SpanClosers.{LooksForCodeAtMost, LooksForMath, LooksForMathAtMost, StandsIn};
+    ghost use Rattle.markdown_spans.specs.SpanClosers.{failed_by_now, has_failed};
+
+    /// Nothing is known of any chain.
+    pub fn new(alloc: Global) -> SpanClosers
+        ensures { result ≡ None }
+    {
+        SpanClosers {
+            failed: false,
+            ahead: Vec::new(alloc),
+            noted: Vec::new(alloc),
+            nearest: HashMap::new(alloc),
+        }
+    }
+
+    /// For the next chain nothing is known. The memory is kept.
+    pub fn clear(&mut self)
+        ensures { self.new ≡ None }
+    {
+        self.failed = false;
+    }
+
+    /// Walks along a chain for so many backticks.
+    fn search_code(
+        &mut self,
+        tree: &Tree<Item>,
+        first: Option<usize>,
+        wanted: usize,
+        visits: &mut u128,
+    ) -> Result<Option<usize>, AllocError>
+        requires chain { HasChain tree.now.nodes first }
+        requires fresh { self.old ≡ None }
+        ensures searches { IfOk result (λ found. (low : ℕ) (chain : List Numbered)
+            → LeadsThrough tree.now.nodes low first chain
+            → SearchesCode wanted chain found self.new visits.old visits.new) }
+        ensures within { IfOk result (λ found. IfSome found (λ ix. ix < length tree.now.nodes)) }
+        ensures refused { OnErr result (self.new ≡ None) }
+        ensures at_most { IfErr result (λ _. (low : ℕ) (chain : List Numbered)
+            → LeadsThrough tree.now.nodes low first chain
+            → visits.new ≤ visits.old + looked_for_code item_in wanted chain) }
+    {
+        self.noted.clear();
+        let found = walk_to(
+            tree,
+            first,
+            SpanKind::Code,
+            Some(wanted),
+            &mut self.noted,
+            visits,
+        )?;
+        if found.is_none() {
+            fill_ahead(&mut self.noted, &mut self.nearest, &mut self.ahead)?;
+            self.failed = true;
+        }
+        Ok(found)
+    }
+
+    /// Walks along a chain for what closes an opener of math.
+    fn search_math(
+        &mut self,
+        tree: &Tree<Item>,
+        opener: MathOpener,
+        visits: &mut u128,
+    ) -> Result<Option<FoundMath>, AllocError>
+        requires chain { HasChain tree.now.nodes (Some opener.number) }
+        requires opener { opener_at tree.now.nodes opener.number ≡ Some opener }
+        requires fresh { self.old ≡ None }
+        ensures searches { IfOk result (λ found. (low : ℕ) (after : List Numbered)
+            → LeadsThrough tree.now.nodes low (sibling_of tree.now.nodes opener.number) after
+            → SearchesMath opener after found self.new visits.old visits.new) }
+        ensures refused { OnErr result (self.new ≡ None) }
+        ensures at_most { IfErr result (λ _. (low : ℕ) (after : List Numbered)
+            → LeadsThrough tree.now.nodes low (sibling_of tree.now.nodes opener.number) after
+            → visits.new ≤ visits.old + looked_for_math item_in opener.end opener.context after) }
+    {
+        self.noted.clear();
+        let found = walk_for_math(tree, opener, &mut self.noted, visits)?;
+        if found.is_none() {
+            fill_ahead(&mut self.noted, &mut self.nearest, &mut self.ahead)?;
+            self.failed = true;
+        }
+        Ok(found)
+    }
+
+    /// The item that closes the code span that a node opens (CommonMark 6.1), by its number. The node stands in a chain
+    /// of which what was learned holds. Each item that is looked at is counted. Memory can run out on a walk: then
+    /// nothing was learned.
+    pub fn find_code_closer(
+        &mut self,
+        tree: &Tree<Item>,
+        opener: usize,
+        visits: &mut u128,
+    ) -> Result<Option<usize>, AllocError>
+        requires chain { HasChain tree.now.nodes (Some opener) }
+        requires learned { HoldsFrom SpanKind.Code self.old tree.now.nodes (Some opener) }
+        ensures found { IfOk result (λ found. ClosesCode tree.now.nodes opener found) }
+        ensures within { IfOk result (λ found. IfSome found (λ ix. ix < length tree.now.nodes)) }
+        ensures counted { IfOk result (λ _. LooksForCode self.old tree.now.nodes opener visits.old visits.new) }
+        ensures failed { IfOk result (λ found. has_failed self.new
+            ≡ failed_by_now self.old (opens_code (item_at tree.now.nodes opener).body) (is_some found)) }
+        ensures learned { IfOk result (λ _. HoldsFrom SpanKind.Code self.new tree.now.nodes
+            (sibling_of tree.now.nodes opener)) }
+
+        // after a refusal
+        ensures unchanged { OnErr result (self.new ≡ self.old) }
+        ensures counted_at_most { IfErr result (λ _. LooksForCodeAtMost self.old tree.now.nodes opener visits.old
+            visits.new) }
+    {
+        let _from = *visits;
+        let Some(mark) = mark_of(SpanKind::Code, opener, tree.item(opener).body) else {
+            return Ok(None);
+        };
+        if mark.wanted == 0 {
+            return Ok(None);
+        }
+        if self.failed {
+            return Ok(take_closer(&mut self.ahead, opener));
+        }
+        self.search_code(tree, tree.next(opener), mark.wanted, visits)
+    }
+
+    /// What closes the math span that a node opens. The node stands in a chain of which what was learned holds. Each
+    /// item that is looked at is counted. Memory can run out on a walk: then nothing was learned.
+    pub fn find_math_closer(
+        &mut self,
+        tree: &Tree<Item>,
+        opener: usize,
+        visits: &mut u128,
+    ) -> Result<Option<FoundMath>, AllocError>
+        requires chain { HasChain tree.now.nodes (Some opener) }
+        requires learned { HoldsFrom SpanKind.Math self.old tree.now.nodes (Some opener) }
+        ensures found { IfOk result (λ found. ClosesMath tree.now.nodes opener found) }
+        ensures within { IfOk result (λ found. IfSome found (λ math. StandsIn tree.now.nodes math)) }
+        ensures counted { IfOk result (λ _. LooksForMath self.old tree.now.nodes opener visits.old visits.new) }
+        ensures failed { IfOk result (λ found. has_failed self.new
+            ≡ failed_by_now self.old (can_open (item_at tree.now.nodes opener).body) (is_some found)) }
+        ensures learned { IfOk result (λ _. HoldsFrom SpanKind.Math self.new tree.now.nodes
+            (sibling_of tree.now.nodes opener)) }
+
+        // after a refusal
+        ensures unchanged { OnErr result (self.new ≡ self.old) }
+        ensures counted_at_most { IfErr result (λ _. LooksForMathAtMost self.old tree.now.nodes opener visits.old
+            visits.new) }
+    {
+        let _from = *visits;
+        let Some(opening) = MathOpener::of_node(tree, opener) else {
+            return Ok(None);
+        };
+        if !self.failed {
+            return self.search_math(tree, opening, visits);
+        }
+        let first = take_dollar(&mut self.ahead, opening);
+        Ok(opening.close_by(tree, first))
+    }
+}

@@ -1,0 +1,1 @@
+-- No definition: the helpers ask nothing of values that a definition would have to name.

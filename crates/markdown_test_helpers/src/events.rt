@@ -1,0 +1,28 @@
+//! Events made by hand.
+use markdown_base::cow_str::CowStr;
+use markdown_base::event::Event;
+use markdown_base::tag::{LinkType, Tag};
+
+pub fn text<'a>(words: &'a str) -> Event<'a> {
+    Event::Text(CowStr::Borrowed(words))
+}
+
+/// The Start of a link.
+pub fn link<'a>(link_type: LinkType, destination: &'a str, title: &'a str) -> Event<'a> {
+    Event::Start(Tag::Link {
+        link_type,
+        dest_url: CowStr::Borrowed(destination),
+        title: CowStr::Borrowed(title),
+        id: CowStr::Borrowed(""),
+    })
+}
+
+/// The Start of an image.
+pub fn image<'a>(destination: &'a str, title: &'a str) -> Event<'a> {
+    Event::Start(Tag::Image {
+        link_type: LinkType::Inline,
+        dest_url: CowStr::Borrowed(destination),
+        title: CowStr::Borrowed(title),
+        id: CowStr::Borrowed(""),
+    })
+}

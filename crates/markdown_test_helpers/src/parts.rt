@@ -1,0 +1,62 @@
+//! Parts of block results made by hand.
+use markdown_base::block_parts::{BlockParts, HeadingAttributes, LinkDef};
+use markdown_base::cow_str::CowStr;
+use std::alloc::{AllocError, Global};
+
+pub fn no_parts<'a>(alloc: Global) -> BlockParts<'a> {
+    BlockParts {
+        definitions: Vec::new(alloc),
+        footnotes: Vec::new(alloc),
+        cows: Vec::new(alloc),
+        alignments: Vec::new(alloc),
+        headings: Vec::new(alloc),
+    }
+}
+
+/// Parts with one text.
+pub fn one_text(alloc: Global) -> Result<BlockParts<'static>, AllocError> {
+    let mut parts = no_parts(alloc);
+    parts.cows.push(CowStr::Borrowed("x"))?;
+    Ok(parts)
+}
+
+/// Parts with one text, one list of alignments and the attributes of one heading.
+pub fn one_of_each<'a>(alloc: Global) -> Result<BlockParts<'a>, AllocError> {
+    let mut parts = no_parts(alloc);
+    parts.cows.push(CowStr::Borrowed("x"))?;
+    parts.alignments.push(Vec::new(alloc))?;
+    parts.headings.push(no_attributes(alloc))?;
+    Ok(parts)
+}
+
+/// The attributes of a heading that has none.
+pub fn no_attributes<'a>(alloc: Global) -> HeadingAttributes<'a> {
+    HeadingAttributes {
+        id: None,
+        classes: Vec::new(alloc),
+        attrs: Vec::new(alloc),
+    }
+}
+
+/// A link definition without a title.
+pub fn link_to<'a>(destination: &'a str) -> LinkDef<'a> {
+    LinkDef {
+        dest: CowStr::Borrowed(destination),
+        title: None,
+        span: 0..0,
+    }
+}
+
+/// Parts with link definitions, each a label and a destination.
+pub fn defining<'a>(
+    alloc: Global,
+    definitions: &[(&'a str, &'a str)],
+) -> Result<BlockParts<'a>, AllocError> {
+    let mut held = Vec::new(alloc);
+    for (label, destination) in definitions {
+        held.push((CowStr::Borrowed(label), link_to(destination)))?;
+    }
+    let mut parts = no_parts(alloc);
+    parts.definitions = held;
+    Ok(parts)
+}

@@ -1,0 +1,98 @@
+//! Items and trees made by hand, and trees written down.
+use markdown_base::item::{Item, ItemBody};
+use markdown_base::tree::Tree;
+use std::alloc::{AllocError, Global};
+
+pub fn item(start: usize, end: usize, body: ItemBody) -> Item {
+    Item { start, end, body }
+}
+
+pub fn text(start: usize, end: usize) -> Item {
+    item(
+        start,
+        end,
+        ItemBody::Text {
+            backslash_escaped: false,
+        },
+    )
+}
+
+/// A character of a delimiter run, which has `count` characters from this one on.
+pub fn delimiter(start: usize, count: usize, opens: bool, closes: bool) -> Item {
+    item(
+        start,
+        start.saturating_add(1),
+        ItemBody::MaybeEmphasis(count, opens, closes),
+    )
+}
+
+/// Items in preorder, each with its depth below the root.
+pub type Outline<'x> = &'x [(usize, Item)];
+
+/// A tree of these items.
+pub fn tree_of(alloc: Global, outline: Outline<'_>) -> Result<Tree<Item>, AllocError> {
+    let mut tree = Tree::new(alloc)?;
+    let mut depth = 0;
+    for (wanted, item) in outline {
+        if *wanted > depth {
+            if let Some(_above) = tree.cur() {
+                tree.push()?;
+            }
+        }
+        for _ in *wanted..depth {
+            tree.pop();
+        }
+        depth = *wanted;
+        tree.append(*item)?;
+    }
+    Ok(tree)
+}
+
+/// A tree of `count` copies of an item, each in the one before it.
+pub fn nested(alloc: Global, item: Item, count: usize) -> Result<Tree<Item>, AllocError> {
+    let mut tree = Tree::new(alloc)?;
+    for _ in 0..count {
+        tree.append(item)?;
+        tree.push()?;
+    }
+    Ok(tree)
+}
+
+/// Appends a block with items in it.
+pub fn append_block(tree: &mut Tree<Item>, block: Item, inside: &[Item]) -> Result<(), AllocError> {
+    tree.append(block)?;
+    tree.push()?;
+    for item in inside {
+        tree.append(*item)?;
+    }
+    tree.pop();
+    Ok(())
+}
+
+/// Appends the items of a tree in preorder, each with its depth, what `say` says of its body, and
+/// its range. The walk ends after 10,000 steps.
+pub fn push_items<F: Fn(Global, ItemBody) -> Result<String, AllocError> + Drop>(
+    alloc: Global,
+    list: &mut String,
+    tree: &mut Tree<Item>,
+    say: F,
+) -> Result<(), AllocError>
+    requires callable { F.IsAlwaysCallable say }
+{
+    tree.reset();
+    for _ in 0..10000 {
+        if let Some(ix) = tree.cur() {
+            let item = *tree.item(ix);
+            let depth = tree.walk_spine().len();
+            let said = say(alloc, item.body)?;
+            let row = format!(in alloc; "{depth} {said} {}..{};", item.start, item.end)?;
+            list.push_str(row.as_str())?;
+            tree.push()?;
+        } else if let Some(ix) = tree.pop() {
+            tree.next_sibling(ix);
+        } else {
+            break;
+        }
+    }
+    Ok(())
+}

@@ -1,0 +1,1 @@
+-- No definition: the helpers say no more of parsers than that their callbacks can be asked.

@@ -1,0 +1,149 @@
+//! Callbacks that keep what they are asked.
+ghost use Rattle.std.specs.Prelude.{◌≡◌, ◌+◌, ◌%◌, ◌^◌, None};
+
+use crate::parsers::parser_asking;
+use markdown_base::cow_str::CowStr;
+use markdown_base::fault::Fault;
+use markdown_base::tag::LinkType;
+use markdown_defs::{BoxedCallback, BrokenLink, BrokenLinkCallback, Closure};
+use markdown_test_helpers::lists::take_some;
+use std::alloc::{AllocError, Global};
+use std::ops::Range;
+
+/// What a callback answers.
+#[derive(Clone, Copy, Drop)]
+pub enum Reply {
+    Nothing,
+    /// Each question by this destination and this title.
+    Target(&'static str, &'static str),
+    /// The n-th question by `/n`, without a title.
+    Number,
+    /// Each question by so many bytes `x`, without a title.
+    Bytes(usize),
+}
+
+/// An answer by `/n`.
+pub fn by_number<'a>(alloc: Global, number: u64) -> Option<(CowStr<'a>, CowStr<'a>)> {
+    let destination = format!(in alloc; "/{number}").ok()?;
+    Some((CowStr::from(destination), CowStr::Borrowed("")))
+}
+
+fn by_bytes<'a>(alloc: Global, bytes: usize) -> Option<(CowStr<'a>, CowStr<'a>)> {
+    let destination = "x".repeat(alloc, bytes).ok()?;
+    Some((CowStr::from(destination), CowStr::Borrowed("")))
+}
+
+/// A callback that answers so, counts the questions and notes each: its span, its form and its label.
+#[derive(Drop)]
+pub struct Recording {
+    alloc: Global,
+    reply: Reply,
+    pub asked: u64,
+    questions: String,
+}
+
+impl Recording {
+    /// A callback that has been asked nothing yet.
+    pub fn replying(alloc: Global, reply: Reply) -> Recording {
+        Recording {
+            alloc,
+            reply,
+            asked: 0,
+            questions: String::new(alloc),
+        }
+    }
+
+    /// The questions.
+    pub fn into_questions(self) -> String {
+        let Recording { questions, .. } = self;
+        questions
+    }
+
+    /// Counts and notes a question.
+    fn note(
+        &mut self,
+        span: Range<usize>,
+        link_type: LinkType,
+        label: &str,
+    ) -> Result<(), AllocError> {
+        self.asked = self.asked.wrapping_add(1);
+        let alloc = self.alloc;
+        let question = format!(in alloc;
+            "{}..{} {:?} ({}) ",
+            span.start, span.end, link_type, label
+        )?;
+        self.questions.push_str(question.as_str())
+    }
+
+    fn answered<'a>(&self) -> Option<(CowStr<'a>, CowStr<'a>)> {
+        match self.reply {
+            Reply::Nothing => None,
+            Reply::Target(destination, title) => {
+                Some((CowStr::Borrowed(destination), CowStr::Borrowed(title)))
+            }
+            Reply::Number => by_number(self.alloc, self.asked),
+            Reply::Bytes(bytes) => by_bytes(self.alloc, bytes),
+        }
+    }
+}
+
+impl<'input> BrokenLinkCallback<'input> for Recording {
+    ghost can_ask = { λ _. Unit {0} };
+
+    ghost answers = { λ old question answer new. Unit {0} };
+
+    fn handle_broken_link(
+        &mut self,
+        link: BrokenLink<'input>,
+    ) -> Option<(CowStr<'input>, CowStr<'input>)> {
+        let BrokenLink {
+            span,
+            link_type,
+            reference,
+        } = link;
+        let noted = self.note(span, link_type, reference.as_str());
+        drop(reference);
+        noted.ok()?;
+        self.answered()
+    }
+}
+
+impl BoxedCallback for Recording {
+    fn answer(
+        &mut self,
+        span: Range<usize>,
+        link_type: LinkType,
+        reference: &str,
+    ) -> Option<(CowStr<'static>, CowStr<'static>)> {
+        self.note(span, link_type, reference).ok()?;
+        self.answered()
+    }
+}
+
+/// Takes at most `most` events of a text with a callback. Returns how many it took.
+pub fn take_events<'a, F: BrokenLinkCallback<'a>>(
+    alloc: Global,
+    source: &'a str,
+    callback: F,
+    most: usize,
+) -> Result<usize, Fault>
+    requires { F.can_ask callback }
+{
+    take_some(parser_asking(alloc, source, callback)?, most)
+}
+
+/// Takes at most `most` events of a text with a closure that answers no question. Returns how many
+/// it took, and how many questions were asked.
+pub fn questions_in(alloc: Global, source: &str, most: usize) -> Result<(usize, u64), Fault> {
+    let mut asked = 0u64;
+    let counting = |link: BrokenLink| -> Option<(CowStr, CowStr)>
+        ensures answer { result ≡ None }
+        ensures counted { asked.exit ≡ (asked.entry + 1) % 2 ^ 64 }
+    {
+        asked = asked.wrapping_add(1);
+        drop(link);
+        None
+    };
+    let events = take_events(alloc, source, Closure::new(counting), most)?;
+    Ok((events, asked))
+}

@@ -1,0 +1,34 @@
+//! The HTML of events.
+ghost use Rattle.std.specs.Iterator.{IsFinite};
+
+use markdown_base::event::Event;
+use markdown_base::fault::Fault;
+use markdown_inline::walk::Parser;
+use markdown_out::html::push_html;
+use markdown_test_helpers::rows::gives;
+use std::alloc::Global;
+use std::test::Fail;
+
+/// The HTML of the events of an iterator.
+pub fn html_of<'a, I: Iterator<Item = Result<Event<'a>, Fault>>>(
+    alloc: Global,
+    iter: I,
+) -> Result<String, Fail>
+    requires can { I.can_next iter }
+    requires ends { IsFinite (I.remaining iter) }
+{
+    let mut html = String::new(alloc);
+    push_html(alloc, &mut html, iter)?;
+    Ok(html)
+}
+
+/// A parser gives this HTML.
+pub fn parser_shows(
+    alloc: Global,
+    row: &str,
+    parser: Parser<'_>,
+    wanted: &str,
+) -> Result<(), Fail> {
+    let html = html_of(alloc, parser)?;
+    gives(row, html.as_str(), wanted)
+}

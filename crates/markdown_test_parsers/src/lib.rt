@@ -1,0 +1,7 @@
+//! Helpers of the tests' crates that read texts: parsers, their callbacks, and the HTML of events.
+#![tactic(auto)]
+
+pub mod callbacks;
+pub mod html;
+pub mod parsers;
+pub mod sound;

@@ -1,0 +1,60 @@
+//! What holds of the events of every text: each End closes the last Start that is open, no Start stays open, and each
+//! range lies in the text, between characters.
+use crate::parsers::all_events;
+use markdown_base::event::Event;
+use markdown_base::options::Options;
+use markdown_base::tag::TagEnd;
+use markdown_inline::walk::Parser;
+use std::alloc::{AllocError, Global};
+use std::ops::Range;
+use std::test::Fail;
+
+/// Whether an event fits behind those that opened these tags, and opens or closes one.
+fn is_next(open: &mut Vec<TagEnd>, event: &Event<'_>) -> Result<bool, AllocError> {
+    match event {
+        Event::Start(tag) => {
+            open.push(tag.to_end())?;
+            Ok(true)
+        }
+        Event::End(tag) => Ok(open.pop() == Some(*tag)),
+        _ => Ok(true),
+    }
+}
+
+/// Whether Starts and Ends belong together.
+fn are_balanced(alloc: Global, events: &[(Event<'_>, Range<usize>)]) -> Result<bool, AllocError> {
+    let mut open = Vec::new(alloc);
+    for (event, _) in events {
+        if !is_next(&mut open, event)? {
+            return Ok(false);
+        }
+    }
+    Ok(open.is_empty())
+}
+
+/// Whether a range lies in the text, between characters.
+fn lies_in(source: &str, range: &Range<usize>) -> bool {
+    range.start <= range.end
+        && source.is_char_boundary(range.start)
+        && source.is_char_boundary(range.end)
+}
+
+/// Whether each range does.
+fn all_lie_in(source: &str, events: &[(Event<'_>, Range<usize>)]) -> bool {
+    for (_, range) in events {
+        if !lies_in(source, range) {
+            return false;
+        }
+    }
+    true
+}
+
+/// Whether the walk of a text ends and its events are so.
+pub fn is_sound(alloc: Global, source: &str, options: Options) -> Result<bool, Fail> {
+    let (events, callback) = all_events(Parser::new_ext(alloc, source, options)?)?;
+    drop(callback);
+    let balanced = are_balanced(alloc, events.as_slice());
+    let placed = all_lie_in(source, events.as_slice());
+    drop(events);
+    Ok(balanced? && placed)
+}

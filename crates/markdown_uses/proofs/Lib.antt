@@ -1,0 +1,5 @@
+-- Lemmas of the uses, a file each, and on what two of them read of a text.
+pub mod SiteGeneratorLemmas
+pub mod TextReadingLemmas
+pub mod LinkCheckerLemmas
+pub mod LinterLemmas

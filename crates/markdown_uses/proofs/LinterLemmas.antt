@@ -1,0 +1,85 @@
+-- What one more byte makes of the place behind it.
+use Rattle.std.proofs.Common.{◌≡◌, ℕ, suc, ◌+◌, ◌<◌, ◌∙◌, cond, List, [], ◌∷◌, ◌++◌, Bool, true, false, add-one, ap, append-nil, arith, get_or, length, map, refl, sym, take}
+use Rattle.std.specs.Prelude.{filter}
+use Rattle.std.specs.declared.ops.Range.{Range}
+use Rattle.std.proofs.lemmas.List.{map-append, take_more}
+use Rattle.std.proofs.lemmas.List.Sums.{sum_by-cons}
+use Rattle.markdown.specs.EventWords.{Event, event_view}
+use Rattle.markdown.specs.ReadingWords.{Ranged, viewed}
+use Rattle.markdown_uses.specs.Linter.{bytes_before, ends_line, html_places, is_html, lines_before, offsets_before, place_at}
+use Rattle.markdown_uses.specs.declared.linter.Place.{Place}
+
+-- the place behind a byte, by how many lines end before it, and how many bytes of its line stand there
+pub record ComesTo (text : List ℕ) (at line column : ℕ) : Type 0 where
+  pub lines : lines_before text (at + 1) ≡ line
+  pub bytes : bytes_before text (at + 1) ≡ column
+
+-- one more line ends before the next offset, if one ends with the byte
+lines_more : (text : List ℕ) (at : ℕ)
+    → lines_before text (suc at) ≡ cond (ends_line text at) 1 0 + lines_before text at
+lines_more text at = sum_by-cons (λ k. cond (ends_line text k) 1 0) at (offsets_before at)
+
+-- where a line ends with the byte, the next begins
+pub line_ended : (text : List ℕ) (at : ℕ) → ends_line text at ≡ true → ComesTo text at (lines_before text at + 1) 0
+line_ended text at ends = record {
+  lines = rw (add-one at, lines_more text at, ends) (omega arith);
+  bytes = rw (add-one at, ends) refl;
+}
+
+-- else the same line goes on
+pub line_continued : (text : List ℕ) (at : ℕ) → ends_line text at ≡ false
+    → ComesTo text at (lines_before text at) (bytes_before text at + 1)
+line_continued text at goes_on = record {
+  lines = rw (add-one at, lines_more text at, goes_on) (omega arith);
+  bytes = rw (add-one at, goes_on) (omega arith);
+}
+
+-- the places of one more event stand behind those of the others
+html_if : (text : List ℕ) (es : List Ranged) (e x : Ranged) (b : Bool)
+    → html_places text (es ++ e ∷ []) ≡ html_places text es ++ html_places text (e ∷ [])
+    → map (λ (y : Ranged). place_at text y.1.start)
+    (cond b (x ∷ filter (λ y. is_html y.0) (es ++ e ∷ [])) (filter (λ y. is_html y.0) (es ++ e ∷ [])))
+    ≡ map (λ (y : Ranged). place_at text y.1.start) (cond b (x ∷ filter (λ y. is_html y.0) es) (filter (λ y. is_html y.0) es))
+    ++ html_places text (e ∷ [])
+html_if text es e x true more = ap (λ (ps : List Place). place_at text x.1.start ∷ ps) more
+html_if text es e x false more = more
+
+html_more : (text : List ℕ) (es : List Ranged) (e : Ranged)
+    → html_places text (es ++ e ∷ []) ≡ html_places text es ++ html_places text (e ∷ [])
+html_more text [] e = refl
+html_more text (x ∷ es) e = html_if text es e x (is_html x.0) (html_more text es e)
+
+-- an event has one place, if it is raw HTML, and else none
+html_one : (text : List ℕ) (e : Ranged) (b : Bool) → b ≡ is_html e.0
+    → html_places text (e ∷ []) ≡ map (λ (y : Ranged). place_at text y.1.start) (cond b (e ∷ []) [])
+html_one text e b h = ap (λ (b : Bool). map (λ (y : Ranged). place_at text y.1.start) (cond b (e ∷ []) [])) (sym h)
+
+-- an event as it is seen, with its range
+abbrev see : Event × Range ℕ → Ranged
+see e = (event_view e.0, e.1)
+
+-- one more event adds its place, if it is raw HTML
+module _ (text : List ℕ) (items : List (Event × Range ℕ)) (i : ℕ) (x : Event × Range ℕ) (places : List Place) where
+  taken_one : i < length items → x ≡ get_or items i x → viewed (take (i + 1) items) ≡ viewed (take i items) ++ see x ∷ []
+  taken_one l is = ap viewed (take_more items i x l) ∙ map-append see (take i items) (get_or items i x ∷ [])
+      ∙ ap (λ (y : Event × Range ℕ). viewed (take i items) ++ see y ∷ []) (sym is)
+
+  added : (b : Bool) → i < length items → x ≡ get_or items i x → b ≡ is_html (event_view x.0)
+      → places ≡ html_places text (viewed (take i items))
+      → places ++ map (λ (y : Ranged). place_at text y.1.start) (cond b (see x ∷ []) [])
+      ≡ html_places text (viewed (take (i + 1) items))
+  added b l is html so_far =
+      ap (λ (ps : List Place). ps ++ map (λ (y : Ranged). place_at text y.1.start) (cond b (see x ∷ []) [])) so_far
+      ∙ ap (λ (ps : List Place). html_places text (viewed (take i items)) ++ ps) (sym (html_one text (see x) b html))
+      ∙ sym (html_more text (viewed (take i items)) (see x))
+      ∙ ap (λ (es : List Ranged). html_places text es) (sym (taken_one l is))
+
+  pub places-more : i < length items → x ≡ get_or items i x → true ≡ is_html (event_view x.0)
+      → places ≡ html_places text (viewed (take i items))
+      → places ++ place_at text x.1.start ∷ [] ≡ html_places text (viewed (take (i + 1) items))
+  places-more l is html so_far = added true l is html so_far
+
+  pub places-same : i < length items → x ≡ get_or items i x → false ≡ is_html (event_view x.0)
+      → places ≡ html_places text (viewed (take i items))
+      → places ≡ html_places text (viewed (take (i + 1) items))
+  places-same l is html so_far = sym (append-nil places) ∙ added false l is html so_far

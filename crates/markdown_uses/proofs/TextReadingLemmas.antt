@@ -1,0 +1,62 @@
+-- What a new parser of a text gives is the reading of the text.
+use Rattle.std.proofs.Common.{◌≡◌, ℕ, List, [], ◌∷◌, ◌++◌, map, Option, None, Some, false, true, refl, ap, subst, sym, ◌∙◌}
+use Rattle.std.specs.Prelude.{is_some}
+use Rattle.std.specs.declared.ops.Range.{Range}
+use Rattle.markdown.specs.DefsWords.{Answer, Answers, Asks, Question}
+use Rattle.markdown.specs.EventWords.{Event, event_view}
+use Rattle.markdown.specs.OptionWords.{no_options}
+use Rattle.markdown.specs.ReadingWords.{AreOf, GaveRest, IsPlacedOf, OffsetIter, Parser, Placed, Ranged, ReadsText}
+use Rattle.markdown.specs.ReadingWords.{elements, events_of, offset_parser, parser_callback, parser_text}
+use Rattle.markdown.specs.ReadingWords.{questions_of, ranged, reading_of, viewed}
+use Rattle.markdown_uses.specs.TextReading.{AreEventsOf, AreQuestionsOf}
+
+-- events are seen as those of the reading that they are
+viewed-placed : (source : List ℕ) (given : List (Event × Range ℕ)) (events : List Placed)
+    → AreOf IsPlacedOf source given events → viewed given ≡ ranged events
+viewed-placed source [] [] are = refl
+viewed-placed source [] (placed ∷ events) are = absurd are
+viewed-placed source (e ∷ given) [] are = absurd are
+viewed-placed source (e ∷ given) (placed ∷ events) are =
+    rw (are.0.is_event.view, are.0.range, viewed-placed source given events are.1) refl
+
+module _ {F : Type 0} (step : F → Question → Option Answer → F → Type 0) where
+  -- where nobody is asked, nothing is answered
+  unasked : (questions : List Question) (answers : Answers) (after : Option F) → Asks step None questions answers after
+      → answers ≡ []
+  unasked [] [] after asks = refl
+  unasked [] (answer ∷ answers) after asks = absurd asks
+  unasked (q ∷ questions) [] after asks = absurd asks
+  unasked (q ∷ questions) (answer ∷ answers) after asks = absurd asks
+
+  -- so what a parser without a callback gives are the events of its text, whatever would be answered
+  pub are_events : (text : List ℕ) (p : Parser F) (o : OffsetIter F) (given : List (Event × Range ℕ)) (after : Option F)
+      → ReadsText text no_options p → parser_callback p ≡ None → offset_parser o ≡ p
+      → GaveRest IsPlacedOf step (offset_parser o) given after → AreEventsOf text (viewed given)
+  are_events text p o given after reads none begun all =
+      let rest : GaveRest IsPlacedOf step p given after = rw begun at all in
+      let silent : rest.answers ≡ [] =
+      unasked (questions_of (elements p rest.answers)) rest.answers after
+      (subst (λ (c : Option F). Asks step c (questions_of (elements p rest.answers)) rest.answers after) none rest.asked) in
+      record {
+        blocks = reads.blocks;
+        of_text = reads.of_text;
+        are = λ answers.
+            let left : events_of (elements p answers) ≡ rest.events =
+            subst (λ (a : Answers). events_of (elements p (a ++ answers)) ≡ rest.events) silent (rest.left answers) in
+            let read : elements p answers ≡ reading_of reads.blocks false answers =
+            subst (λ (c : Option F). elements p answers ≡ reading_of reads.blocks (is_some c) answers) none (reads.left answers) in
+            viewed-placed (parser_text p) given rest.events rest.are ∙ ap ranged (sym left ∙ ap events_of read);
+      }
+
+  -- where no question was answered, those that were asked are the questions of the text
+  pub are_questions : (text : List ℕ) (p : Parser F) (callback : F) (answers : Answers) → ReadsText text no_options p
+      → parser_callback p ≡ Some callback → answers ≡ map (λ q. None) (questions_of (elements p answers))
+      → AreQuestionsOf text (questions_of (elements p answers))
+  are_questions text p callback answers reads holds refused =
+      let read : elements p answers ≡ reading_of reads.blocks true answers =
+      subst (λ (c : Option F). elements p answers ≡ reading_of reads.blocks (is_some c) answers) holds (reads.left answers) in
+      record {
+        blocks = reads.blocks;
+        of_text = reads.of_text;
+        are = ap questions_of read ∙ ap (λ (a : Answers). questions_of (reading_of reads.blocks true a)) refused;
+      }

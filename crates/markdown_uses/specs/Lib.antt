@@ -1,0 +1,5 @@
+-- what contracts speak of, a use each, and what two of them read of a text
+pub mod SiteGenerator
+pub mod TextReading
+pub mod LinkChecker
+pub mod Linter

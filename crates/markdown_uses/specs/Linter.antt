@@ -1,0 +1,58 @@
+-- The lines and columns of a text, and the places of its raw HTML.
+use Rattle.std.specs.Prelude.{◌≡◌, ℕ, zero, suc, ◌+◌, min, Bool, true, false, not, ◌==◌, ◌&&◌, ◌||◌}
+use Rattle.std.specs.Prelude.{List, [], ◌∷◌, count_by, filter, length, map, slice_index}
+use Rattle.std.specs.List.{prefix_len}
+use Rattle.markdown.specs.EventWords.{EventView, html, inline_html}
+use Rattle.markdown.specs.ReadingWords.{Ranged}
+use Rattle.markdown_uses.specs.TextReading.{AreEventsOf}
+use Rattle.markdown_uses.specs.declared.linter.Place.{Place}
+
+abbrev pub line_feed : ℕ
+line_feed = 10
+
+abbrev pub carriage_return : ℕ
+carriage_return = 13
+
+-- a line ends with the byte at an offset: a line feed, or a carriage return with no line feed after
+-- it
+abbrev pub ends_line : List ℕ → ℕ → Bool
+ends_line text at =
+    (slice_index text at == line_feed)
+    || ((slice_index text at == carriage_return) && not (slice_index text (at + 1) == line_feed))
+
+-- the offsets before this one, the nearest first
+abbrev pub offsets_before : ℕ → List ℕ
+offsets_before zero = []
+offsets_before (suc at) = at ∷ offsets_before at
+
+-- how many lines end before an offset
+abbrev pub lines_before : List ℕ → ℕ → ℕ
+lines_before text at = count_by (ends_line text) (offsets_before at)
+
+-- how many bytes of its own line come before an offset
+abbrev pub bytes_before : List ℕ → ℕ → ℕ
+bytes_before text at = prefix_len (λ k. not (ends_line text k)) (offsets_before at)
+
+-- the line and column of an offset within the text, both counted from 1, the column in bytes
+abbrev pub place_within : List ℕ → ℕ → Place
+place_within text at = record { line = lines_before text at + 1; column = bytes_before text at + 1 }
+
+-- the same for any offset; one past the end of the text has the place of its end
+abbrev pub place_at : List ℕ → ℕ → Place
+place_at text offset = place_within text (min offset (length text))
+
+-- an event is raw HTML: a tag or comment in a paragraph, or a line of an HTML block
+abbrev pub is_html : EventView → Bool
+is_html (html bytes) = true
+is_html (inline_html bytes) = true
+is_html other = false
+
+-- where the raw HTML among some events begins, in order
+abbrev pub html_places : List ℕ → List Ranged → List Place
+html_places text events = map (λ e. place_at text e.1.start) (filter (λ e. is_html e.0) events)
+
+-- these are the places of the raw HTML in the events of a text
+pub record AreHtmlPlacesOf (text : List ℕ) (places : List Place) : Type 0 where
+  pub events : List Ranged
+  pub read : AreEventsOf text events
+  pub are : places ≡ html_places text events

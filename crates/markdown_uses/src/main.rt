@@ -1,0 +1,48 @@
+//! Uses of the library, each on one page of Markdown.
+#![tactic(auto)]
+
+mod link_checker;
+mod linter;
+mod site_generator;
+
+use markdown::{Fault, Options};
+use std::alloc::Global;
+use std::process::ExitCode;
+
+/// The page that is read.
+const PAGE: &str = "\
+# Bread
+Flour and water,
+*salt* and [yeast](/yeast \"fresh\").
+
+###### See also
+<https://bread.example>, [ovens] or ![a loaf](loaf.png).
+A <b>sourdough</b> takes longer.
+
+<hr>
+";
+
+/// What each use says of a page.
+fn report(alloc: Global, source: &str) -> Result<String, Fault> {
+    let mut notes = String::new(alloc);
+    let html = site_generator::page_html(alloc, source, Options::empty())?;
+    notes.push_str(html.as_str())?;
+    let links = link_checker::report(alloc, source)?;
+    notes.push_str(links.as_str())?;
+    let hits = linter::report(alloc, source)?;
+    notes.push_str(hits.as_str())?;
+    Ok(notes)
+}
+
+fn main(rt: HostRuntime) -> ExitCode {
+    match report(rt.alloc(), PAGE) {
+        Ok(notes) => {
+            let _ = rt.print(notes.as_str());
+            ExitCode::from(0)
+        }
+        Err(_) => {
+            let _ = rt.eprintln("out of memory");
+            ExitCode::from(1)
+        }
+    }
+}
