@@ -106,11 +106,6 @@ module _ (own : Shape → List ℕ) (numbers : NumbersNoMarks own) where
     mono_forward [] ns ms w = w
     mono_forward (x ∷ xs) ns ms w = keep_list (of x) (forward xs ns) (forward xs ms) (mono_forward xs ns ms w)
 
-    -- characters may be dropped
-    drop_forward : (xs : List (Label A)) (ns ms : List ℕ) → IsWithin ns ms → IsWithin ns (forward xs ms)
-    drop_forward [] ns ms w = w
-    drop_forward (x ∷ xs) ns ms w = drop_list (of x) ns (forward xs ms) (drop_forward xs ns ms w)
-
     -- what stands before a chain in which things were read
     ends_texts : (xs : List (Label A)) (chain : Forest (Label A)) (t : List ℕ) → ends (texts_before xs chain) t ≡ backward xs (ends chain t)
     ends_texts [] chain t = refl
@@ -263,10 +258,6 @@ module _ (own : Shape → List ℕ) (numbers : NumbersNoMarks own) where
           subst (λ (xs : List ℕ). IsWithin xs (ends whole t)) (sym (ends_dropped d rs (forward vs (ends rest t)))) (h t);
       left = λ closer vs rs rest h t.
           subst (λ (xs : List ℕ). IsWithin xs (ends whole t)) (sym (ends_left closer vs rs (ends rest t))) (h t);
-      gone = λ vs rs rest h t.
-          within_trans (ends_read rs (ends rest t)) (ends_read rs (forward vs (ends rest t))) (ends whole t)
-          (mono_read rs (ends rest t) (forward vs (ends rest t)) (drop_forward vs (ends rest t) (ends rest t) (within_same (ends rest t))))
-          (h t);
       found = λ closer vs rs rest h.
           IfSome_then (nearest_opener closer rs nil) (ends_nearest closer rs nil (ends_read rs) (λ t. refl))
           (λ f splits t. within_trans _ (ends_read rs (forward vs (ends rest t))) _ (pair_within s vs rs rest f t splits) (h t));
