@@ -11,7 +11,7 @@ use markdown_render::render;
 use markdown_test_helpers::parts::defining;
 use markdown_test_helpers::rows::gives;
 use markdown_test_helpers::trees::{item, text, tree_of};
-use markdown_test_parsers::callbacks::{Recording, Reply, by_number, questions_in};
+use markdown_test_parsers::callbacks::{Recording, Reply, Replying, questions_in};
 use markdown_test_parsers::parsers::{all_noted, parser_asking, parser_gives, parser_of};
 use std::alloc::Global;
 use std::test::Fail;
@@ -306,7 +306,7 @@ fn is_rendered<'a, F: BrokenLinkCallback<'a>>(
 
 /// A text is rendered as this with a boxed callback that replies so.
 fn is_rendered_with(alloc: Global, source: &str, reply: Reply, wanted: &str) -> Result<(), Fail> {
-    let boxed: Box<dyn BoxedCallback> = Box::new(alloc, Recording::replying(alloc, reply))?;
+    let boxed: Box<dyn BoxedCallback> = Box::new(alloc, Replying::new(alloc, reply))?;
     is_rendered(alloc, source, boxed, wanted)
 }
 
@@ -335,7 +335,8 @@ fn html_with_a_closure_that_counts(rt: HostRuntime) -> Result<(), Fail> {
     {
         asked = asked.wrapping_add(1);
         drop(link);
-        by_number(alloc, asked)
+        let destination = format!(in alloc; "/{asked}").ok()?;
+        Some((CowStr::from(destination), CowStr::Borrowed("")))
     };
     let wanted = "<p><a href=\"/1\">a</a> <a href=\"/2\">b</a></p>\n";
     is_rendered(alloc, "[a] [b]", Closure::new(numbering), wanted)?;

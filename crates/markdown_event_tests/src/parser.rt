@@ -10,7 +10,7 @@ use markdown_test_helpers::lists::is_nothing;
 use markdown_test_helpers::parts::no_parts;
 use markdown_test_helpers::rows::gives;
 use markdown_test_helpers::trees::{Outline, item, nested, text, tree_of};
-use markdown_test_parsers::callbacks::{Recording, Reply, questions_in};
+use markdown_test_parsers::callbacks::{Reply, Replying, questions_in};
 use markdown_test_parsers::html::parser_shows;
 use markdown_test_parsers::parsers::{all_noted, ask_for, parser_asking, parser_gives, parser_of};
 use std::alloc::Global;
@@ -160,8 +160,7 @@ fn stays_with<'a, F: BrokenLinkCallback<'a>>(
 #[test]
 fn callbacks_that_do_not_answer(rt: HostRuntime) -> Result<(), Fail> {
     let alloc = rt.alloc();
-    let recording = Recording::replying(alloc, Reply::Nothing);
-    let boxed: Box<dyn BoxedCallback> = Box::new(alloc, recording)?;
+    let boxed: Box<dyn BoxedCallback> = Box::new(alloc, Replying::new(alloc, Reply::Nothing))?;
     stays_with(alloc, "a box", boxed)?;
     stays_with(alloc, "the default", DefaultBrokenLinkCallback)?;
     let (source, _) = UNKNOWN;

@@ -1,5 +1,7 @@
 //! The calls that take no memory. Each function makes what it needs, and then makes the calls if it is told
 //! to: a run that makes them takes as much memory as one that does not.
+ghost use Rattle.std.specs.Prelude.{◌≡◌, None};
+
 use markdown_base::cow_str::CowStr;
 use markdown_base::fault::Fault;
 use markdown_base::options::Options;
@@ -139,10 +141,13 @@ fn callbacks(calls: bool) -> bool {
     if !calls {
         return true;
     }
-    let mut closure = Closure::new(|link: BrokenLink| -> Option<(CowStr, CowStr)> {
+    let silent = |link: BrokenLink| -> Option<(CowStr, CowStr)>
+        ensures answer { result ≡ None }
+    {
         drop(link);
         None
-    });
+    };
+    let mut closure = Closure::new(silent);
     let mut none = DefaultBrokenLinkCallback;
     is_silent(&mut closure) && is_silent(&mut none)
 }

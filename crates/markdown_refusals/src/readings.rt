@@ -62,8 +62,8 @@ fn walks(alloc: Global, source: Source) -> bool {
         return true;
     };
     match parser(alloc, source) {
-        Ok(mut parser) => {
-            let outcome = walked(&mut parser, full.as_slice());
+        Ok(parser) => {
+            let (outcome, parser) = walked(parser, full.as_slice());
             is_left(outcome, all_events(parser))
         }
         Err(fault) => fault == Fault::Memory,
@@ -81,8 +81,9 @@ fn walks_with_ranges(alloc: Global, source: Source) -> bool {
     };
     match parser(alloc, source) {
         Ok(parser) => {
-            let mut iter = parser.into_offset_iter();
-            walked(&mut iter, full.as_slice()) != Outcome::Wrong
+            let (outcome, iter) = walked(parser.into_offset_iter(), full.as_slice());
+            drop(iter);
+            outcome != Outcome::Wrong
         }
         Err(fault) => fault == Fault::Memory,
     }

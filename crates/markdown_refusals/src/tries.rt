@@ -98,27 +98,33 @@ fn stays_over<T: Drop, I: Iterator<Item = T>>(items: &mut I) -> bool
     is_nothing(items.next()) && is_nothing(items.next()) && is_nothing(items.next())
 }
 
-/// The same of an iterator that is lent, and that has to give None ever after.
-pub fn walked<T: PartialEq + Drop, I: Iterator<Item = Result<T, Fault>>>(
-    items: &mut I,
+/// The same, where None has to come ever after; with the iterator as it is then.
+pub fn walked<T: PartialEq + Drop, I: Iterator<Item = Result<T, Fault>> + Drop>(
+    items: I,
     full: &[T],
-) -> Outcome
+) -> (Outcome, I)
     requires can { (left : I) → I.can_next left }
+    requires ends { IsFinite (I.remaining items) }
 {
+    let mut items = items;
     'giving: for at in 0..1000 {
         match items.next() {
             Some(Ok(item)) => {
                 if !stands_at(full, at, item) {
-                    return Outcome::Wrong;
+                    return (Outcome::Wrong, items);
                 }
             }
             Some(Err(fault)) => {
-                return right_if(fault == Fault::Memory && stays_over(items), Outcome::Cut);
+                let is_right = fault == Fault::Memory && stays_over(&mut items);
+                return (right_if(is_right, Outcome::Cut), items);
             }
-            None => return right_if(at == full.len() && stays_over(items), Outcome::Whole),
+            None => {
+                let is_right = at == full.len() && stays_over(&mut items);
+                return (right_if(is_right, Outcome::Whole), items);
+            }
         }
     }
-    Outcome::Wrong
+    (Outcome::Wrong, items)
 }
 
 /// Whether the items of a list come in order, and then None ever after; or a beginning of them, `Memory`,

@@ -23,7 +23,7 @@ pub enum Reply {
 }
 
 /// An answer by `/n`.
-pub fn by_number<'a>(alloc: Global, number: u64) -> Option<(CowStr<'a>, CowStr<'a>)> {
+fn by_number<'a>(alloc: Global, number: u64) -> Option<(CowStr<'a>, CowStr<'a>)> {
     let destination = format!(in alloc; "/{number}").ok()?;
     Some((CowStr::from(destination), CowStr::Borrowed("")))
 }
@@ -33,12 +33,53 @@ fn by_bytes<'a>(alloc: Global, bytes: usize) -> Option<(CowStr<'a>, CowStr<'a>)>
     Some((CowStr::from(destination), CowStr::Borrowed("")))
 }
 
-/// A callback that answers so, counts the questions and notes each: its span, its form and its label.
+/// A callback that answers so, and counts the questions.
 #[derive(Drop)]
-pub struct Recording {
+pub struct Replying {
     alloc: Global,
     reply: Reply,
     pub asked: u64,
+}
+
+impl Replying {
+    /// A callback that has been asked nothing yet.
+    pub fn new(alloc: Global, reply: Reply) -> Replying {
+        Replying {
+            alloc,
+            reply,
+            asked: 0,
+        }
+    }
+
+    /// Counts a question, and answers it.
+    fn count<'a>(&mut self) -> Option<(CowStr<'a>, CowStr<'a>)> {
+        self.asked = self.asked.wrapping_add(1);
+        match self.reply {
+            Reply::Nothing => None,
+            Reply::Target(destination, title) => {
+                Some((CowStr::Borrowed(destination), CowStr::Borrowed(title)))
+            }
+            Reply::Number => by_number(self.alloc, self.asked),
+            Reply::Bytes(bytes) => by_bytes(self.alloc, bytes),
+        }
+    }
+}
+
+impl BoxedCallback for Replying {
+    fn answer(
+        &mut self,
+        _span: Range<usize>,
+        _link_type: LinkType,
+        _reference: &str,
+    ) -> Option<(CowStr<'static>, CowStr<'static>)> {
+        self.count()
+    }
+}
+
+/// The same, which also notes each question: its span, its form and its label.
+#[derive(Drop)]
+pub struct Recording {
+    pub replying: Replying,
     questions: String,
 }
 
@@ -46,9 +87,7 @@ impl Recording {
     /// A callback that has been asked nothing yet.
     pub fn replying(alloc: Global, reply: Reply) -> Recording {
         Recording {
-            alloc,
-            reply,
-            asked: 0,
+            replying: Replying::new(alloc, reply),
             questions: String::new(alloc),
         }
     }
@@ -59,31 +98,19 @@ impl Recording {
         questions
     }
 
-    /// Counts and notes a question.
+    /// Notes a question.
     fn note(
         &mut self,
         span: Range<usize>,
         link_type: LinkType,
         label: &str,
     ) -> Result<(), AllocError> {
-        self.asked = self.asked.wrapping_add(1);
-        let alloc = self.alloc;
+        let alloc = self.replying.alloc;
         let question = format!(in alloc;
             "{}..{} {:?} ({}) ",
             span.start, span.end, link_type, label
         )?;
         self.questions.push_str(question.as_str())
-    }
-
-    fn answered<'a>(&self) -> Option<(CowStr<'a>, CowStr<'a>)> {
-        match self.reply {
-            Reply::Nothing => None,
-            Reply::Target(destination, title) => {
-                Some((CowStr::Borrowed(destination), CowStr::Borrowed(title)))
-            }
-            Reply::Number => by_number(self.alloc, self.asked),
-            Reply::Bytes(bytes) => by_bytes(self.alloc, bytes),
-        }
     }
 }
 
@@ -104,19 +131,7 @@ impl<'input> BrokenLinkCallback<'input> for Recording {
         let noted = self.note(span, link_type, reference.as_str());
         drop(reference);
         noted.ok()?;
-        self.answered()
-    }
-}
-
-impl BoxedCallback for Recording {
-    fn answer(
-        &mut self,
-        span: Range<usize>,
-        link_type: LinkType,
-        reference: &str,
-    ) -> Option<(CowStr<'static>, CowStr<'static>)> {
-        self.note(span, link_type, reference).ok()?;
-        self.answered()
+        self.replying.count()
     }
 }
 
