@@ -7,6 +7,7 @@ use markdown_base::fault::Fault;
 use markdown_out::html::push_html;
 use markdown_test_helpers::lists::{Listed, is_nothing, is_same};
 use std::alloc::Global;
+use std::ops::Range;
 
 /// Whether a call made something, or memory was refused.
 pub fn is_made<T: Drop>(made: Result<T, Fault>) -> bool {
@@ -56,8 +57,40 @@ fn right_if(is_so: bool, outcome: Outcome) -> Outcome {
     if is_so { outcome } else { Outcome::Wrong }
 }
 
-/// How the items of an iterator are beside those of a full run.
-pub fn compared<T: PartialEq + Drop, I: Iterator<Item = Result<T, Fault>> + Drop>(
+/// An item of a merge.
+pub trait Merged: PartialEq + Drop {
+    /// Whether this is a text with which the other begins: an error has ended its run.
+    fn begins(&self, whole: &Self) -> bool;
+}
+
+impl Merged for Event<'static> {
+    fn begins(&self, whole: &Event<'static>) -> bool {
+        match (self, whole) {
+            (Event::Text(text), Event::Text(whole)) => whole.as_str().starts_with(text.as_str()),
+            _ => false,
+        }
+    }
+}
+
+impl Merged for (Event<'static>, Range<usize>) {
+    fn begins(&self, whole: &(Event<'static>, Range<usize>)) -> bool {
+        self.0.begins(&whole.0) && self.1.start == whole.1.start && self.1.end <= whole.1.end
+    }
+}
+
+/// How an item is beside the one in its place in a list.
+fn beside<T: Merged>(full: &[T], at: usize, item: T) -> Outcome {
+    let Some(whole) = full.get(at) else {
+        return Outcome::Wrong;
+    };
+    if *whole == item {
+        return Outcome::Whole;
+    }
+    right_if(item.begins(whole), Outcome::Cut)
+}
+
+/// How the items of a merge are beside those of a full run. Of a beginning the last may be a text cut short.
+pub fn compared<T: Merged, I: Iterator<Item = Result<T, Fault>> + Drop>(
     items: I,
     full: &[T],
 ) -> Outcome
@@ -65,30 +98,35 @@ pub fn compared<T: PartialEq + Drop, I: Iterator<Item = Result<T, Fault>> + Drop
     requires ends { IsFinite (I.remaining items) }
 {
     let mut given = 0usize;
-    let mut is_cut = false;
+    let mut last = Outcome::Whole;
+    let mut is_over = false;
     for item in items {
-        if is_cut {
+        if is_over {
             return Outcome::Wrong;
         }
         match item {
             Ok(item) => {
-                if !stands_at(full, given, item) {
+                if last != Outcome::Whole {
                     return Outcome::Wrong;
                 }
+                last = beside(full, given, item);
                 given = given.saturating_add(1);
             }
             Err(fault) => {
-                if fault != Fault::Memory {
+                if fault != Fault::Memory || last == Outcome::Wrong {
                     return Outcome::Wrong;
                 }
-                is_cut = true;
+                is_over = true;
             }
         }
     }
-    if is_cut {
+    if is_over {
         return Outcome::Cut;
     }
-    right_if(given == full.len(), Outcome::Whole)
+    right_if(
+        last == Outcome::Whole && given == full.len(),
+        Outcome::Whole,
+    )
 }
 
 /// Whether None comes three times.
