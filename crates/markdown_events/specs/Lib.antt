@@ -1,0 +1,1 @@
+-- No definition: what the program does is said of `run` of `markdown_text_json`.

@@ -1,0 +1,2 @@
+-- Lemmas on the lines of what a parser gives.
+pub mod TextJsonLemmas

@@ -1,0 +1,84 @@
+-- What a parser gives with ranges, up to its first None, is all that was left of it.
+use Rattle.std.proofs.Common.{◌≡◌, ℕ, List, [], ◌∷◌, ◌++◌, map, Ok, Err, Option, Some, None, Result}
+use Rattle.std.proofs.Common.{ap, refl, subst, sym, ◌∙◌, is_some}
+use Rattle.std.specs.Iterator.{Drains, Yields}
+use Rattle.std.specs.Str.{IsUtf8}
+use Rattle.std.specs.declared.ops.Range.{Range}
+use Rattle.markdown_base.specs.Event.{event_view}
+use Rattle.markdown_base.specs.Questions.{Question, Answer, Answers}
+use Rattle.markdown_base.specs.declared.event.Event.{Event}
+use Rattle.markdown_base.specs.declared.fault.Fault.{Fault}
+use Rattle.markdown_base.specs.declared.fault.Fault.TheVariants.{Memory}
+use Rattle.markdown_base.specs.declared.options.Options.{Options}
+use Rattle.markdown_defs.specs.Callback.{Asks}
+use Rattle.markdown_inline.specs.Elements.{Element, event, events_of}
+use Rattle.markdown_inline.specs.NextGives.{NextGives, IsPlacedOf}
+use Rattle.markdown_inline.specs.ParserLeft.{ReadsText, elements, parser_callback, offset_parser, reading_of}
+use Rattle.markdown_inline.specs.declared.walk.OffsetIter.{OffsetIter}
+use Rattle.markdown_inline.specs.declared.walk.Parser.{Parser}
+use Rattle.markdown_inline.proofs.RunLemmas.{events_of-questions}
+use Rattle.markdown_json.specs.JsonLines.{Placed, IsWritten, StopsAtError, items, lines_of}
+use Rattle.markdown_text_json.specs.TextJson.{IsJsonOf, reading_lines}
+
+-- with no callback nothing is asked, and there is none afterwards
+unasked : {F : Type 0} (step : F → Question → Option Answer → F → Type 0) (after : Option F) (questions : List Question)
+    (answers : Answers) → Asks step None questions answers after → (answers ≡ []) × (after ≡ None)
+unasked step after [] [] asked = (refl, sym asked)
+unasked step after [] (a ∷ answers) asked = absurd asked
+unasked step after (q ∷ questions) [] asked = absurd asked
+unasked step after (q ∷ questions) (a ∷ answers) asked = absurd asked
+
+module _ {F : Type 0} (step : F → Question → Option Answer → F → Type 0) where
+  -- calls of `next`
+  abbrev Steps : OffsetIter F → Option (Result Placed Fault) → OffsetIter F → Type 0
+  Steps o item t = NextGives step IsPlacedOf (offset_parser o) item (offset_parser t)
+
+  -- an error item is one of memory
+  memory_alone : (o left : OffsetIter F) (given : List Placed) (fault : Fault)
+      → Yields Steps o (items given ++ Err fault ∷ []) left → fault ≡ Memory
+  memory_alone o left [] fault (j, h, y) = h.gives.memory
+  memory_alone o left (e ∷ given) fault (j, h, y) = memory_alone j left given fault y
+
+  pub stopped_by_memory : (o : OffsetIter F) (old new : List ℕ) (fault : Fault) → StopsAtError Steps o old new fault
+      → fault ≡ Memory
+  stopped_by_memory o old new fault s = memory_alone o s.left s.events fault s.read
+
+  -- where nobody is asked, the lines of all events given are those of what was left
+  drained : (o : OffsetIter F) (given : List Placed) → Drains Steps o (items given)
+      → parser_callback (offset_parser o) ≡ None
+      → (later : Answers) → reading_lines (elements (offset_parser o) later) ≡ lines_of given
+  drained o [] (u, (t, y, z)) none later = rw (y, z.gives.none_left later) refl
+  drained o (e ∷ given) (u, (t, (j, h, y), z)) none later =
+      let g = h.gives in
+      let asked = rw none at g.asked in
+      let nobody = unasked step (parser_callback (offset_parser j)) g.questions g.answers asked in
+      let left = rw nobody.0 at (g.left later) in
+      let rest = drained j given (u, (t, y, z)) nobody.1 later in
+      rw (
+        left,
+        events_of-questions g.questions (event g.placed ∷ elements (offset_parser j) later),
+        g.is_item.is_event.view,
+        g.is_item.range,
+        rest,
+      ) refl
+
+  -- so they are those of the text, where all of its reading was left
+  lines_of_text : (o : OffsetIter F) (text old new : List ℕ) (options : Options) → IsUtf8 text
+      → ReadsText text options (offset_parser o) → parser_callback (offset_parser o) ≡ None → old ≡ []
+      → IsWritten Steps o old new → IsJsonOf text options new
+  lines_of_text o text old new options utf8 reads none empty w = record {
+    is_text = utf8;
+    blocks = reads.blocks;
+    of_text = reads.of_text;
+    written = λ answers.
+        let left = reads.left answers ∙ ap (λ (c : Option F). reading_of reads.blocks (is_some c) answers) none in
+        w.stands ∙ (ap (λ bytes. bytes ++ lines_of w.events) empty
+        ∙ (sym (drained o w.events w.read none answers) ∙ ap reading_lines left));
+  }
+
+  pub json_of_text : (p : Parser F) (o : OffsetIter F) (text old new : List ℕ) (options : Options) → IsUtf8 text
+      → offset_parser o ≡ p → ReadsText text options p → parser_callback p ≡ None → old ≡ []
+      → IsWritten Steps o old new → IsJsonOf text options new
+  json_of_text p o text old new options utf8 is reads none empty w =
+      lines_of_text o text old new options utf8 (subst (ReadsText text options) (sym is) reads)
+      (ap (λ (q : Parser F). parser_callback q) is ∙ none) empty w

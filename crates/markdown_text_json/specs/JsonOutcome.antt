@@ -1,0 +1,30 @@
+-- What a run of the program leaves, by what came of it.
+use Rattle.std.specs.Prelude.{◌≡◌, ◌⊎◌, ℕ, List, Option, Result, Ok, Err, IfSome}
+use Rattle.std.specs.Str.{IsUtf8}
+use Rattle.std.specs.Io.KnownBytes.{Appends, IsAtEnd}
+use Rattle.markdown_base.specs.declared.fault.Fault.TheVariants.{Memory, Blocks, Depth}
+use Rattle.markdown_base.specs.declared.options.Options.{Options}
+use Rattle.markdown_render.specs.Outcome.{AppendsKnownPrefix}
+use Rattle.markdown_render.specs.declared.run.Failure.{Failure}
+use Rattle.markdown_render.specs.declared.run.Failure.TheVariants.{ReadFailed, NotText, Fault, WriteFailed}
+use Rattle.markdown_text_json.specs.TextJson.{IsJsonOf}
+
+-- what is left of the reader before a run and after it, and the writer before and after, of which it is known what it
+-- holds
+module _ {W : Type 0} (held : W → Option (List ℕ)) (options : Options) (unread left : Option (List ℕ)) (old new : W) where
+  -- all was read, and its lines with these options stand behind what the writer held, whole or in part
+  pub record JsonIsWritten (stands : Option (List ℕ) → Option (List ℕ) → List ℕ → Type 0) : Type 0 where
+    pub all_read : IsAtEnd left
+    pub written : IfSome unread (λ bytes. (json : List ℕ) × IsJsonOf bytes options json
+        × stands (held old) (held new) json)
+
+  -- Where nothing failed all is written. Nothing is written before all was read and parsed; where memory was refused,
+  -- it may have been before that or in writing.
+  abbrev pub LeavesJson : Result (Unit {0}) Failure → Type 0
+  LeavesJson (Ok done) = JsonIsWritten Appends
+  LeavesJson (Err ReadFailed) = new ≡ old
+  LeavesJson (Err NotText) = (new ≡ old) × IfSome unread (λ bytes. IsUtf8 bytes → ⊥)
+  LeavesJson (Err (Fault Memory)) = (new ≡ old) ⊎ JsonIsWritten AppendsKnownPrefix
+  LeavesJson (Err (Fault Depth)) = ⊥
+  LeavesJson (Err (Fault Blocks)) = ⊥
+  LeavesJson (Err WriteFailed) = JsonIsWritten AppendsKnownPrefix

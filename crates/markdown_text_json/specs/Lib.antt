@@ -1,0 +1,3 @@
+-- What contracts speak of: the lines of a text, and what a run of the program leaves.
+pub mod TextJson
+pub mod JsonOutcome

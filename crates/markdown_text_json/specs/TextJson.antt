@@ -1,0 +1,27 @@
+-- The JSON of a text: the lines of the events of its reading.
+use Rattle.std.specs.Prelude.{◌≡◌, ℕ, false, List}
+use Rattle.std.specs.List.{flat_map}
+use Rattle.std.specs.Str.{IsUtf8}
+use Rattle.markdown_base.specs.Questions.{Answers}
+use Rattle.markdown_base.specs.declared.options.Options.{Options}
+use Rattle.markdown_blocks.specs.Blocks.{IsOfText}
+use Rattle.markdown_blocks.specs.declared.blocks.Blocks.{Blocks}
+use Rattle.markdown_inline.specs.Elements.{Element, Placed, events_of}
+use Rattle.markdown_inline.specs.ParserLeft.{reading_of}
+use Rattle.markdown_json.specs.Json.{line_json}
+
+-- the line of an event of a reading, with its range
+abbrev pub placed_line : Placed → List ℕ
+placed_line placed = line_json placed.0 placed.1.start placed.1.end
+
+-- the lines of the events among these elements, one after another
+abbrev pub reading_lines : List Element → List ℕ
+reading_lines elements = flat_map placed_line (events_of elements)
+
+-- the input is text, and these are the lines of the events of a block result of it with these options, read with nobody
+-- to ask
+pub record IsJsonOf (bytes : List ℕ) (options : Options) (json : List ℕ) : Type 0 where
+  pub is_text : IsUtf8 bytes
+  pub blocks : Blocks
+  pub of_text : IsOfText bytes options blocks
+  pub written : (answers : Answers) → json ≡ reading_lines (reading_of blocks false answers)
