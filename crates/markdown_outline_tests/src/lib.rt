@@ -1,0 +1,10 @@
+//! Tests of what no clause says of outlines: a module for each topic. They stand apart from the library, so that it is
+//! not proved a second time with its tests.
+#![tactic(auto)]
+
+#[cfg(test)]
+mod made_events;
+#[cfg(test)]
+mod notes;
+#[cfg(test)]
+mod texts;

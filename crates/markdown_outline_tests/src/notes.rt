@@ -1,0 +1,28 @@
+//! Outlines written down: the level of each entry, its text in brackets and its range; or the fault.
+use markdown_base::fault::Fault;
+use markdown_outline::Entry;
+use std::alloc::{AllocError, Global};
+
+/// Writes entries down, one after another.
+fn notes_of(alloc: Global, entries: &[Entry]) -> Result<String, AllocError> {
+    let mut notes = String::new(alloc);
+    for entry in entries {
+        let note = format!(in alloc;
+            "{} [{}]{}..{} ",
+            entry.level,
+            entry.text.as_str(),
+            entry.range.start,
+            entry.range.end
+        )?;
+        notes.push_str(note.as_str())?;
+    }
+    Ok(notes)
+}
+
+/// Writes an outline down, or the fault.
+pub fn said_of(alloc: Global, outline: Result<Vec<Entry>, Fault>) -> Result<String, AllocError> {
+    match outline {
+        Ok(entries) => notes_of(alloc, entries.as_slice()),
+        Err(fault) => format!(in alloc; "{fault:?}"),
+    }
+}
