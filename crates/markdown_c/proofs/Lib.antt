@@ -1,0 +1,2 @@
+-- What comes of a text.
+pub mod OutcomeLemmas

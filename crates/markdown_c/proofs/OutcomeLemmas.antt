@@ -1,0 +1,32 @@
+-- What the library gives of a text, as the outcome of its bytes.
+use Rattle.std.proofs.Common.{◌≡◌, ◌⊎◌, ℕ, List, Option, None, Ok, Err, inl, inr}
+use Rattle.std.specs.Str.{IsUtf8}
+use Rattle.markdown_base.specs.Questions.{Question, Answer}
+use Rattle.markdown_base.specs.declared.fault.Fault.{Fault}
+use Rattle.markdown_base.specs.declared.fault.Fault.TheVariants as fault
+use Rattle.markdown_base.specs.declared.options.Options.{Options}
+use Rattle.markdown_render.specs.Rendering.{IsRenderingFor, IsTooDeepFor}
+use Rattle.markdown_render.proofs.RenderingLemmas.{rendering_alone, too_deep_alone}
+use Rattle.markdown_text_json.specs.TextJson.{IsJsonOf}
+use Rattle.markdown_c.specs.CallsFromC.{IsHtmlOutcome, IsJsonOutcome, refusal_of}
+
+module _ (text bytes : List ℕ) (options wanted : Options) (same : (text ≡ bytes) × IsUtf8 bytes) (is : options ≡ wanted) where
+  -- the HTML
+  pub html_of_text : {F : Type 0} (step : F → Question → Option Answer → F → Type 0) (html : List ℕ)
+      → IsRenderingFor step None text options html → IsHtmlOutcome bytes wanted (Ok html)
+  html_of_text step html r = rendering_alone step bytes html wanted same.1 (rw (same.0, is) at r)
+
+  -- rendering fails by memory, or where too many Starts are open
+  pub html_refused : {F : Type 0} (step : F → Question → Option Answer → F → Type 0) (f : Fault)
+      → (f ≡ fault.Memory) ⊎ ((f ≡ fault.Depth) × IsTooDeepFor step None text options)
+      → IsHtmlOutcome bytes wanted (Err (refusal_of f))
+  html_refused step f (inl e) = rw e tt
+  html_refused step f (inr (e, deep)) = rw e (too_deep_alone step bytes wanted same.1 (rw (same.0, is) at deep))
+
+  -- the lines of the events
+  pub json_of_text : (json : List ℕ) → IsJsonOf text options json → IsJsonOutcome bytes wanted (Ok json)
+  json_of_text json r = rw (same.0, is) at r
+
+  -- reading events fails by memory
+  pub json_refused : (f : Fault) → f ≡ fault.Memory → IsJsonOutcome bytes wanted (Err (refusal_of f))
+  json_refused f e = rw e tt

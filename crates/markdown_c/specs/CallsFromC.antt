@@ -1,0 +1,53 @@
+-- What a call from C leaves: what came of the text, the number that is returned, and what stands in the buffer.
+use Rattle.std.specs.Prelude.{ℕ, ℤ, pos, negsuc, nat_le, ◌++◌, List, length, drop, if◌then◌else◌}
+use Rattle.std.specs.Prelude.{Result, Ok, Err, String, string_bytes}
+use Rattle.std.specs.Str.{IsUtf8}
+use Rattle.markdown_base.specs.declared.fault.Fault.{Fault}
+use Rattle.markdown_base.specs.declared.fault.Fault.TheVariants as fault
+use Rattle.markdown_base.specs.declared.options.Options.{Options}
+use Rattle.markdown_render.specs.Rendering.{IsRenderingOf, IsTooDeepOf}
+use Rattle.markdown_text_json.specs.TextJson.{IsJsonOf}
+use Rattle.markdown_c.specs.declared.readings.Refusal.{Refusal}
+use Rattle.markdown_c.specs.declared.readings.Refusal.TheVariants.{NotUtf8, Memory, Depth}
+
+-- the refusal that stands for a fault of the library; no text has the fault Blocks
+abbrev pub refusal_of : Fault → Refusal
+refusal_of fault.Memory = Memory
+refusal_of fault.Depth = Depth
+refusal_of fault.Blocks = Memory
+
+-- an outcome, by the bytes of the whole
+abbrev pub bytes_of : {A : Type 0} → Result (String A) Refusal → Result (List ℕ) Refusal
+bytes_of (Ok whole) = Ok (string_bytes whole)
+bytes_of (Err refusal) = Err refusal
+
+-- the HTML of a text, or why there is none
+abbrev pub IsHtmlOutcome : (text : List ℕ) → Options → Result (List ℕ) Refusal → Type 0
+IsHtmlOutcome text options (Ok html) = IsRenderingOf text options html
+IsHtmlOutcome text options (Err NotUtf8) = IsUtf8 text → ⊥
+IsHtmlOutcome text options (Err Memory) = Unit {0}
+IsHtmlOutcome text options (Err Depth) = IsTooDeepOf text options
+
+-- the lines of a text's events, or why there are none
+abbrev pub IsJsonOutcome : (text : List ℕ) → Options → Result (List ℕ) Refusal → Type 0
+IsJsonOutcome text options (Ok json) = IsJsonOf text options json
+IsJsonOutcome text options (Err NotUtf8) = IsUtf8 text → ⊥
+IsJsonOutcome text options (Err Memory) = Unit {0}
+IsJsonOutcome text options (Err Depth) = ⊥
+
+-- the status of a refusal: -1, -2 and -3
+abbrev pub status_of : Refusal → ℤ
+status_of NotUtf8 = negsuc 0
+status_of Memory = negsuc 1
+status_of Depth = negsuc 2
+
+-- what is returned: how many bytes the whole has, or a status
+abbrev pub number_of : Result (List ℕ) Refusal → ℤ
+number_of (Ok whole) = pos (length whole)
+number_of (Err refusal) = status_of refusal
+
+-- what stands in the buffer: the whole at its front, where it fits; else what stood there before
+abbrev pub buffer_after : (old : List ℕ) → Result (List ℕ) Refusal → List ℕ
+buffer_after old (Ok whole) =
+    if nat_le (length whole) (length old) then whole ++ drop (length whole) old else old
+buffer_after old (Err refusal) = old

@@ -1,0 +1,2 @@
+-- What a call from C leaves.
+pub mod CallsFromC

@@ -1,0 +1,39 @@
+//! What is written to the caller's buffer, and the number that is returned.
+ghost use Rattle.std.specs.Prelude.{◌≡◌, Ok, pos, length};
+ghost use Rattle.markdown_c.specs.CallsFromC.{bytes_of, number_of, buffer_after, status_of};
+
+use crate::readings::Refusal;
+
+/// Writes all of `whole` to the front of `out`, if it fits. Returns its length.
+fn fill(whole: &str, out: &mut [u8]) -> i64
+    ensures number { result ≡ pos (length whole.now) }
+    ensures buffer { out.new ≡ buffer_after out.old (Ok whole.now) }
+{
+    let bytes = whole.as_bytes();
+    if bytes.len() <= out.len() {
+        out[..bytes.len()].copy_from_slice(bytes);
+    }
+    bytes.len() as i64
+}
+
+/// Returns the status of a refusal.
+fn status(refusal: Refusal) -> i64
+    ensures { result ≡ status_of refusal }
+{
+    match refusal {
+        Refusal::NotUtf8 => -1,
+        Refusal::Memory => -2,
+        Refusal::Depth => -3,
+    }
+}
+
+/// Returns what a call returns by its outcome, and writes what it writes.
+pub(crate) fn answer(outcome: Result<String, Refusal>, out: &mut [u8]) -> i64
+    ensures number { result ≡ number_of (bytes_of outcome) }
+    ensures buffer { out.new ≡ buffer_after out.old (bytes_of outcome) }
+{
+    match outcome {
+        Ok(whole) => fill(whole.as_str(), out),
+        Err(refusal) => status(refusal),
+    }
+}

@@ -1,0 +1,76 @@
+//! What is made of the bytes of a text, or why nothing is.
+ghost use Rattle.std.specs.Prelude.{◌≡◌, IfOk, IfErr};
+ghost use Rattle.std.specs.Str.{IsUtf8};
+ghost use Rattle.markdown_render.specs.Words.{of_bits};
+ghost use Rattle.markdown_c.specs.CallsFromC.{IsHtmlOutcome, IsJsonOutcome, bytes_of};
+ghost use Rattle.markdown_c.specs.declared.readings.Refusal.{Refusal};
+
+use bitflags::Flags;
+use markdown_base::fault::Fault;
+use markdown_base::options::Options;
+use markdown_defs::DefaultBrokenLinkCallback;
+use markdown_render::render;
+use markdown_text_json::text_json;
+use std::alloc::Global;
+use std::str;
+
+/// Why there is nothing to write.
+#[derive(Clone, Copy, Drop)]
+pub enum Refusal {
+    /// The bytes are not UTF-8.
+    NotUtf8,
+    /// Memory was refused.
+    Memory,
+    /// Too many Starts are open in an image.
+    Depth,
+}
+
+/// The refusal that stands for a fault of the library. No text has the fault `Blocks`.
+impl From<Fault> for Refusal {
+    ghost use Rattle.std.specs.Prelude.{◌≡◌};
+    ghost use Rattle.markdown_c.specs.CallsFromC.{refusal_of};
+
+    ghost from_gives = { λ fault refusal. refusal ≡ refusal_of fault };
+
+    fn from(fault: Fault) -> Refusal {
+        match fault {
+            Fault::Memory | Fault::Blocks => Refusal::Memory,
+            Fault::Depth => Refusal::Depth,
+        }
+    }
+}
+
+/// Returns the bytes as text.
+fn text_of(bytes: &[u8]) -> Result<&str, Refusal>
+    ensures text { IfOk result (λ text. (text.now ≡ bytes.now) × IsUtf8 bytes.now) }
+    ensures refused { IfErr result (λ refusal. (refusal ≡ Refusal.NotUtf8) × (IsUtf8 bytes.now → ⊥)) }
+{
+    match str::from_utf8(bytes) {
+        Ok(text) => Ok(text),
+        Err(_) => Err(Refusal::NotUtf8),
+    }
+}
+
+/// Returns the options of these bits.
+fn options_of(bits: u32) -> Options
+    ensures { result ≡ of_bits bits }
+{
+    Options::from_bits_retain(bits)
+}
+
+/// Returns the HTML of a text.
+pub(crate) fn html_of(alloc: Global, bytes: &[u8], bits: u32) -> Result<String, Refusal>
+    ensures { IsHtmlOutcome bytes.now (of_bits bits) (bytes_of result) }
+{
+    let text = text_of(bytes)?;
+    let nobody = None::<DefaultBrokenLinkCallback>;
+    Ok(render(alloc, text, options_of(bits), nobody)?)
+}
+
+/// Returns the lines of the events of a text.
+pub(crate) fn json_of(alloc: Global, bytes: &[u8], bits: u32) -> Result<String, Refusal>
+    ensures { IsJsonOutcome bytes.now (of_bits bits) (bytes_of result) }
+{
+    let text = text_of(bytes)?;
+    Ok(text_json(alloc, text, options_of(bits))?)
+}
