@@ -1,0 +1,45 @@
+"""Calls of the library, over a shared object that is made of the static one."""
+import ctypes
+
+STRIKETHROUGH = 1 << 3
+
+
+class Refused(Exception):
+    """There is nothing: the text is not UTF-8, memory was refused, or images nest too deeply."""
+
+
+REFUSALS = {-1: "not UTF-8", -2: "out of memory", -3: "image nested too deeply"}
+
+
+class Markdown:
+    def __init__(self, path):
+        library = ctypes.CDLL(path)
+        self.html, self.json = library.markdown_to_html, library.markdown_to_json
+        # These fit include/markdown.h. Nothing compares the declarations.
+        for call in (self.html, self.json):
+            call.argtypes = [ctypes.c_char_p, ctypes.c_size_t, ctypes.c_uint32, ctypes.c_char_p, ctypes.c_size_t]
+            call.restype = ctypes.c_int64
+
+    def into(self, call, text, options, out):
+        """Makes one call: returns how many bytes the whole has, which stand in `out` if they fit."""
+        # (a buffer of no bytes has no address, so it has one more than its length)
+        length = call(text, len(text), options, out, len(out) - 1)
+        if length < 0:
+            raise Refused(REFUSALS[length])
+        return length
+
+    def whole(self, call, text, options):
+        out = ctypes.create_string_buffer(len(text) * 3 // 2 + 1)
+        length = self.into(call, text, options, out)
+        if length >= len(out):
+            out = ctypes.create_string_buffer(length + 1)
+            self.into(call, text, options, out)
+        return out.raw[:length]
+
+    def to_html(self, text, options=0):
+        """Returns the HTML of a text, of bytes as of the text."""
+        return self.whole(self.html, text, options)
+
+    def to_json(self, text, options=0):
+        """Returns the events of a text, as lines of JSON."""
+        return self.whole(self.json, text, options)

@@ -1,0 +1,53 @@
+//! Renders the texts of a folder and compares what the calls give with what is stored beside them; then passes bytes that
+//! are not UTF-8, and buffers that are too small.
+
+mod markdown;
+
+use markdown::{Refusal, STRIKETHROUGH, html_into, json_into, to_html, to_json};
+use std::{env, fs};
+
+type Whole = fn(&str, u32) -> Result<String, Refusal>;
+type Into = fn(&[u8], u32, &mut [u8]) -> Result<usize, Refusal>;
+
+fn read(folder: &str, name: &str, kind: &str) -> String {
+    let path = format!("{folder}/{name}.{kind}");
+    fs::read_to_string(&path).unwrap_or_else(|error| panic!("{path}: {error}"))
+}
+
+/// Nothing is written to a buffer that is too small, and nothing behind the whole.
+fn try_buffers(into: Into, text: &str, stored: &str) {
+    for room in 0..stored.len() + 2 {
+        let mut out = vec![b'?'; room];
+        assert_eq!(into(text.as_bytes(), STRIKETHROUGH, &mut out), Ok(stored.len()));
+        let written = if room < stored.len() { "" } else { stored };
+        assert!(out.starts_with(written.as_bytes()));
+        assert!(out[written.len()..].iter().all(|byte| *byte == b'?'));
+    }
+}
+
+fn try_text(folder: &str, name: &str) {
+    let text = read(folder, name, "md");
+    let calls: [(&str, Whole, Into); 2] = [("html", to_html, html_into), ("jsonl", to_json, json_into)];
+    for (kind, whole, into) in calls {
+        let stored = read(folder, name, kind);
+        assert_eq!(whole(&text, STRIKETHROUGH).as_deref(), Ok(stored.as_str()), "{name}.{kind}");
+        try_buffers(into, &text, &stored);
+    }
+}
+
+fn try_not_utf8(into: Into) {
+    let mut out = [b'?'; 64];
+    assert_eq!(into(b"a\xff", STRIKETHROUGH, &mut out), Err(Refusal::NotUtf8));
+    assert_eq!(out, [b'?'; 64]);
+}
+
+fn main() {
+    let words: Vec<String> = env::args().skip(1).collect();
+    let (folder, names) = words.split_first().expect("usage: callers FOLDER NAME ..");
+    for name in names {
+        try_text(folder, name);
+    }
+    try_not_utf8(html_into);
+    try_not_utf8(json_into);
+    println!("Rust: {} texts, as stored", names.len());
+}
