@@ -1,13 +1,15 @@
 -- What a new parser of a text gives is the reading of the text.
-use Rattle.std.proofs.Common.{◌≡◌, ℕ, List, [], ◌∷◌, ◌++◌, map, Option, None, Some, false, true, refl, ap, subst, sym, ◌∙◌}
+use Rattle.std.proofs.Common.{◌≡◌, ℕ, List, [], ◌∷◌, ◌++◌, map, Ok, Err, Result, Option, None, Some, false, true, refl, ap, subst, sym, ◌∙◌}
+use Rattle.std.specs.Iterator.{Drains, Yields}
 use Rattle.std.specs.Prelude.{is_some}
 use Rattle.std.specs.declared.ops.Range.{Range}
 use Rattle.markdown.specs.DefsWords.{Answer, Answers, Asks, Question}
-use Rattle.markdown.specs.EventWords.{Event, event_view}
+use Rattle.markdown.specs.EventWords.{Event, Fault, event_view}
 use Rattle.markdown.specs.OptionWords.{no_options}
-use Rattle.markdown.specs.ReadingWords.{AreOf, GaveRest, IsPlacedOf, OffsetIter, Parser, Placed, Ranged, ReadsText}
-use Rattle.markdown.specs.ReadingWords.{elements, events_of, offset_parser, parser_callback, parser_text}
+use Rattle.markdown.specs.ReadingWords.{AreOf, GaveRest, IsPlacedOf, NextGives, OffsetIter, Parser, Placed, Ranged, ReadsText}
+use Rattle.markdown.specs.ReadingWords.{elements, event, events_of, offset_parser, parser_callback, parser_text}
 use Rattle.markdown.specs.ReadingWords.{questions_of, ranged, reading_of, viewed}
+use Rattle.markdown.proofs.CallerLemmas.{events_of-questions}
 use Rattle.markdown_uses.specs.TextReading.{AreEventsOf, AreQuestionsOf}
 
 -- events are seen as those of the reading that they are
@@ -47,6 +49,56 @@ module _ {F : Type 0} (step : F → Question → Option Answer → F → Type 0)
             subst (λ (c : Option F). elements p answers ≡ reading_of reads.blocks (is_some c) answers) none (reads.left answers) in
             viewed-placed (parser_text p) given rest.events rest.are ∙ ap ranged (sym left ∙ ap events_of read);
       }
+
+  -- nor is there a callback afterwards
+  nobody_after : (questions : List Question) (answers : Answers) (after : Option F) → Asks step None questions answers after
+      → after ≡ None
+  nobody_after [] [] after asks = sym asks
+  nobody_after [] (answer ∷ answers) after asks = absurd asks
+  nobody_after (q ∷ questions) [] after asks = absurd asks
+  nobody_after (q ∷ questions) (answer ∷ answers) after asks = absurd asks
+
+  -- a step of an iterator with ranges
+  abbrev pub OffsetSteps : OffsetIter F → Option (Result (Event × Range ℕ) Fault) → OffsetIter F → Type 0
+  OffsetSteps o r t = NextGives step IsPlacedOf (offset_parser o) r (offset_parser t)
+
+  -- what such an iterator gives without a callback, up to its None, is what was left
+  all-given : (o : OffsetIter F) (given : List (Event × Range ℕ)) → Drains OffsetSteps o (map (λ e. Ok e) given)
+      → parser_callback (offset_parser o) ≡ None → (later : Answers)
+      → ranged (events_of (elements (offset_parser o) later)) ≡ viewed given
+  all-given o [] (u, (t, y, z)) none later = rw (y, z.gives.none_left later) refl
+  all-given o (e ∷ given) (u, (t, (j, h, y), z)) none later =
+      let g = h.gives in
+      let asked = subst (λ (c : Option F). Asks step c g.questions g.answers (parser_callback (offset_parser j))) none g.asked in
+      let silent : g.answers ≡ [] = unasked g.questions g.answers (parser_callback (offset_parser j)) asked in
+      let before : events_of (elements (offset_parser o) (g.answers ++ later)) ≡ g.placed ∷ events_of (elements (offset_parser j) later) =
+      ap events_of (g.left later) ∙ events_of-questions g.questions (event g.placed ∷ elements (offset_parser j) later) in
+      let first : events_of (elements (offset_parser o) later) ≡ g.placed ∷ events_of (elements (offset_parser j) later) =
+      subst (λ (a : Answers). events_of (elements (offset_parser o) (a ++ later)) ≡ g.placed ∷ events_of (elements (offset_parser j) later))
+      silent before in
+      let rest = all-given j given (u, (t, y, z)) (nobody_after g.questions g.answers (parser_callback (offset_parser j)) asked) later in
+      rw (first, g.is_item.is_event.view, g.is_item.range, rest) refl
+
+  -- so these are the events of the text, whatever would be answered
+  pub are_events_given : (text : List ℕ) (p : Parser F) (o : OffsetIter F) (given : List (Event × Range ℕ))
+      → ReadsText text no_options p → parser_callback p ≡ None → offset_parser o ≡ p
+      → Drains OffsetSteps o (map (λ e. Ok e) given) → AreEventsOf text (viewed given)
+  are_events_given text p o given reads none begun all = record {
+    blocks = reads.blocks;
+    of_text = reads.of_text;
+    are = λ answers.
+        let read : elements p answers ≡ reading_of reads.blocks false answers =
+        subst (λ (c : Option F). elements p answers ≡ reading_of reads.blocks (is_some c) answers) none (reads.left answers) in
+        sym (all-given o given all (ap parser_callback begun ∙ none) answers)
+        ∙ ap (λ (q : Parser F). ranged (events_of (elements q answers))) begun
+        ∙ ap (λ es. ranged (events_of es)) read;
+  }
+
+  -- an error of such an iterator is one of memory
+  pub only_memory : (o left : OffsetIter F) (given : List (Event × Range ℕ)) (fault : Fault)
+      → Yields OffsetSteps o (map (λ e. Ok e) given ++ Err fault ∷ []) left → fault ≡ Fault.Memory
+  only_memory o left [] fault (j, h, y) = h.gives.memory
+  only_memory o left (e ∷ given) fault (j, h, y) = only_memory j left given fault y
 
   -- where no question was answered, those that were asked are the questions of the text
   pub are_questions : (text : List ℕ) (p : Parser F) (callback : F) (answers : Answers) → ReadsText text no_options p

@@ -1,6 +1,7 @@
 //! Uses of the library, each on one page of Markdown.
 #![tactic(auto)]
 
+mod contents;
 mod link_checker;
 mod linter;
 mod site_generator;
@@ -22,11 +23,24 @@ A <b>sourdough</b> takes longer.
 <hr>
 ";
 
+/// The page of which the table of contents is made.
+const CHAPTERS: &str = "\
+# Baking
+## Bread, with *yeast*
+#### Shaping
+## Cakes & `[tarts]`
+### Shaping
+Glaze & fruit
+-------------
+";
+
 /// What each use says of a page.
 fn report(alloc: Global, source: &str) -> Result<String, Fault> {
     let mut notes = String::new(alloc);
     let html = site_generator::page_html(alloc, source, Options::empty())?;
     notes.push_str(html.as_str())?;
+    let list = contents::contents(alloc, CHAPTERS)?;
+    notes.push_str(list.as_str())?;
     let links = link_checker::report(alloc, source)?;
     notes.push_str(links.as_str())?;
     let hits = linter::report(alloc, source)?;

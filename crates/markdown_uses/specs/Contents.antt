@@ -1,0 +1,98 @@
+-- A table of contents: a nested Markdown list of links to the headings of a text, each to its heading's anchor.
+use Rattle.std.specs.Prelude.{◌≡◌, ℕ, zero, suc, ◌+◌, Bool, true, false, ◌==◌, ◌||◌, nat_lt, if◌then◌else◌}
+use Rattle.std.specs.Prelude.{List, [], ◌∷◌, ◌++◌, map, reverse, flat_map, count_by}
+use Rattle.std.specs.Prelude.{codes, chars, bytes_eq, decimal, encode_utf8}
+use Rattle.std.specs.Char.Unicode.Alphabetic.{is_alphabetic}
+use Rattle.std.specs.Char.Unicode.Numeric.{is_numeric}
+use Rattle.std.specs.List.{list_any}
+use Rattle.std.specs.StrCase.Lower.{str_to_lowercase}
+use Rattle.markdown.specs.OutlineWords.{EntryView, entries_of}
+use Rattle.markdown.specs.ReadingWords.{Ranged}
+use Rattle.markdown_uses.specs.TextReading.{AreEventsOf}
+
+abbrev pub space : ℕ
+space = 32
+
+abbrev pub hyphen : ℕ
+hyphen = 45
+
+abbrev pub low_line : ℕ
+low_line = 95
+
+-- letters and digits of every script, `-` and `_` stand in an anchor
+abbrev pub stays_in_anchor : ℕ → Bool
+stays_in_anchor c = ((c == hyphen) || (c == low_line)) || (is_alphabetic c || is_numeric c)
+
+-- what stands in an anchor for a character: `-` for a space, and nothing for those that do not stay
+abbrev pub anchor_char : ℕ → List ℕ
+anchor_char c = if c == space then codes "-" else if stays_in_anchor c then encode_utf8 c else []
+
+-- the anchor of a heading's text, without a number: what stands for its characters in lower case
+abbrev pub plain_anchor : List ℕ → List ℕ
+plain_anchor text = flat_map anchor_char (chars (str_to_lowercase text))
+
+-- an anchor that stood so many times before has that number behind it
+abbrev pub numbered : List ℕ → ℕ → List ℕ
+numbered anchor times = if times == 0 then anchor else anchor ++ codes "-" ++ decimal times
+
+-- the anchor of a heading's text, behind headings with these texts
+abbrev pub anchor_of : (before : List (List ℕ)) → List ℕ → List ℕ
+anchor_of before text =
+    numbered (plain_anchor text) (count_by (λ other. bytes_eq other (plain_anchor text)) (map plain_anchor before))
+
+-- what may be markup in the text of a link
+abbrev pub is_markup : ℕ → Bool
+is_markup c = list_any (λ mark. c == mark) (codes "\\[]*_`<&")
+
+-- what stands in a link's text for a character: a reference for a line ending, and a backslash before what may be markup
+abbrev pub escaped_char : ℕ → List ℕ
+escaped_char c =
+    if c == 10 then codes "&#10;"
+    else if c == 13 then codes "&#13;"
+    else if is_markup c then codes "\\" ++ encode_utf8 c
+    else encode_utf8 c
+
+-- what stands in a link's text for a text
+abbrev pub escaped : List ℕ → List ℕ
+escaped text = flat_map escaped_char (chars text)
+
+-- how many headings stand above one of this level, behind headings of these levels, the last of them first: the nearest
+-- of a lower level, and those above that
+abbrev pub depth : ℕ → List ℕ → ℕ
+depth level [] = 0
+depth level (nearest ∷ others) = if nat_lt nearest level then depth nearest others + 1 else depth level others
+
+-- two spaces for each
+abbrev pub indent : ℕ → List ℕ
+indent zero = []
+indent (suc depth) = codes "  " ++ indent depth
+
+-- the line of a heading
+abbrev pub line : (depth : ℕ) (text anchor : List ℕ) → List ℕ
+line depth text anchor = indent depth ++ codes "- [" ++ escaped text ++ codes "](#" ++ anchor ++ codes ")\n"
+
+-- the line of a heading behind others
+abbrev pub line_after : List EntryView → EntryView → List ℕ
+line_after before e =
+    line (depth e.level (reverse (map (λ b. b.level) before))) e.text (anchor_of (map (λ b. b.text) before) e.text)
+
+-- the lines of headings behind others
+abbrev pub lines_after : List EntryView → List EntryView → List ℕ
+lines_after before [] = []
+lines_after before (e ∷ entries) = line_after before e ++ lines_after (before ++ e ∷ []) entries
+
+-- the table of contents of these headings
+abbrev pub contents_of : List EntryView → List ℕ
+contents_of entries = lines_after [] entries
+
+-- these are the headings of a text
+pub record AreHeadingsOf (text : List ℕ) (entries : List EntryView) : Type 0 where
+  pub events : List Ranged
+  pub read : AreEventsOf text events
+  pub are : entries ≡ entries_of events
+
+-- this is the table of contents of a text
+pub record IsContentsOf (text list : List ℕ) : Type 0 where
+  pub entries : List EntryView
+  pub headings : AreHeadingsOf text entries
+  pub is : list ≡ contents_of entries

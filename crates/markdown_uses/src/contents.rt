@@ -1,0 +1,189 @@
+//! A table of contents: a nested Markdown list of links to the headings of a text.
+ghost use Rattle.std.specs.Prelude.{◌≡◌, ◌++◌, IfOk, IfErr, OnOk, count_by, bytes_eq, encode_utf8};
+ghost use Rattle.std.specs.Prelude.{map, reverse, string_bytes};
+ghost use Rattle.markdown.specs.OutlineWords.{entry_view};
+ghost use Rattle.markdown_uses.specs.Contents.{AreHeadingsOf, IsContentsOf, contents_of};
+ghost use Rattle.markdown_uses.specs.Contents.{anchor_char, depth, escaped, escaped_char, is_markup};
+ghost use Rattle.markdown_uses.specs.Contents.{indent, line, numbered, plain_anchor, stays_in_anchor};
+
+use markdown::outline::{Entry, outline};
+use markdown::{Fault, Parser};
+use std::alloc::Global;
+
+/// Returns whether a character stands in an anchor: letters and digits of every script, `-` and `_`.
+fn stays_in_anchor(c: char) -> bool
+    ensures { result ≡ stays_in_anchor c }
+{
+    c == '-' || c == '_' || c.is_alphanumeric()
+}
+
+/// Appends what stands in an anchor for a character: `-` for a space, and nothing for those that do not stay.
+fn push_anchor_char(anchor: &mut String, c: char) -> Result<(), Fault>
+    ensures ok { OnOk result (string_bytes anchor.new ≡ string_bytes anchor.old ++ anchor_char c) }
+    ensures refused { IfErr result (λ fault. fault ≡ Fault.Memory) }
+{
+    if c == ' ' {
+        return Ok(anchor.push_str("-")?);
+    }
+    if stays_in_anchor(c) {
+        anchor.push(c)?;
+    }
+    Ok(())
+}
+
+/// Returns the anchor of a heading's text, without a number: the text in lower case, with `-` for each space, and without
+/// punctuation but `-` and `_`.
+fn plain_anchor(alloc: Global, text: &str) -> Result<String, Fault>
+    ensures anchor { IfOk result (λ anchor. string_bytes anchor ≡ plain_anchor text.now) }
+    ensures refused { IfErr result (λ fault. fault ≡ Fault.Memory) }
+{
+    let lower = text.to_lowercase(alloc)?;
+    let mut anchor = String::new(alloc);
+    for c in lower.as_str().chars() {
+        push_anchor_char(&mut anchor, c)?;
+    }
+    Ok(anchor)
+}
+
+/// Returns how many of these anchors are this one.
+fn times_among(anchors: &[String], anchor: &str) -> usize
+    ensures { result ≡ count_by (λ other. bytes_eq (string_bytes other) anchor.now) anchors.now }
+{
+    let mut times = 0;
+    for other in anchors {
+        if other.as_str() == anchor {
+            times += 1;
+        }
+    }
+    times
+}
+
+/// Returns an anchor that stood so many times before: with that number behind it, if it did.
+fn numbered(alloc: Global, anchor: &str, times: usize) -> Result<String, Fault>
+    ensures anchor { IfOk result (λ made. string_bytes made ≡ numbered anchor.now times) }
+    ensures refused { IfErr result (λ fault. fault ≡ Fault.Memory) }
+{
+    if times == 0 {
+        return Ok(String::from_str(alloc, anchor)?);
+    }
+    Ok(format!(in alloc; "{anchor}-{times}")?)
+}
+
+/// Returns how many headings stand above one of this level behind others: the nearest of a lower level, and those above
+/// that.
+fn depth_behind(before: &[Entry], level: u8) -> usize
+    ensures { result ≡ depth level (reverse (map (λ b. b.level) before.now)) }
+{
+    let mut nearest = level;
+    let mut depth = 0;
+    for heading in before.iter().rev() {
+        if heading.level < nearest {
+            nearest = heading.level;
+            depth += 1;
+        }
+    }
+    depth
+}
+
+/// Returns whether a character may be markup in the text of a link.
+fn is_markup(c: char) -> bool
+    ensures { result ≡ is_markup c }
+{
+    matches!(c, '\\' | '[' | ']' | '*' | '_' | '`' | '<' | '&')
+}
+
+/// Appends a character of a link's text, so that it is read back as that character.
+fn push_escaped_char(list: &mut String, c: char) -> Result<(), Fault>
+    ensures ok { OnOk result (string_bytes list.new ≡ string_bytes list.old ++ escaped_char c) }
+    ensures refused { IfErr result (λ fault. fault ≡ Fault.Memory) }
+{
+    if c == '\n' {
+        return Ok(list.push_str("&#10;")?);
+    }
+    if c == '\r' {
+        return Ok(list.push_str("&#13;")?);
+    }
+    if is_markup(c) {
+        list.push_str("\\")?;
+    }
+    Ok(list.push(c)?)
+}
+
+/// Appends the text of a link. A backslash comes before `\`, `[`, `]`, `*`, `_`, `` ` ``, `<` and `&`, and a line ending is
+/// a numeric reference, so that the text is read back where no extension is enabled.
+fn push_escaped(list: &mut String, text: &str) -> Result<(), Fault>
+    ensures ok { OnOk result (string_bytes list.new ≡ string_bytes list.old ++ escaped text.now) }
+    ensures refused { IfErr result (λ fault. fault ≡ Fault.Memory) }
+{
+    for c in text.chars() {
+        push_escaped_char(list, c)?;
+    }
+    Ok(())
+}
+
+/// Appends two spaces for each level of depth.
+fn push_indent(list: &mut String, depth: usize) -> Result<(), Fault>
+    ensures ok { OnOk result (string_bytes list.new ≡ string_bytes list.old ++ indent depth) }
+    ensures refused { IfErr result (λ fault. fault ≡ Fault.Memory) }
+{
+    for _ in 0..depth {
+        list.push_str("  ")?;
+    }
+    Ok(())
+}
+
+/// Appends the line of a heading.
+fn push_line(list: &mut String, depth: usize, text: &str, anchor: &str) -> Result<(), Fault>
+    ensures ok { OnOk result (string_bytes list.new
+        ≡ string_bytes list.old ++ line depth text.now anchor.now) }
+    ensures refused { IfErr result (λ fault. fault ≡ Fault.Memory) }
+{
+    push_indent(list, depth)?;
+    list.push_str("- [")?;
+    push_escaped(list, text)?;
+    list.push_str("](#")?;
+    list.push_str(anchor)?;
+    list.push_str(")\n")?;
+    Ok(())
+}
+
+/// Returns the table of contents of these headings.
+fn list_of(alloc: Global, headings: &[Entry]) -> Result<String, Fault>
+    ensures list { IfOk result (λ list.
+        string_bytes list ≡ contents_of (map entry_view headings.now)) }
+    ensures refused { IfErr result (λ fault. fault ≡ Fault.Memory) }
+{
+    let mut list = String::new(alloc);
+    let mut anchors = Vec::new(alloc);
+    for at in 0..headings.len() {
+        let heading = &headings[at];
+        let depth = depth_behind(&headings[..at], heading.level);
+        let plain = plain_anchor(alloc, heading.text.as_str())?;
+        let times = times_among(anchors.as_slice(), plain.as_str());
+        let anchor = numbered(alloc, plain.as_str(), times)?;
+        push_line(&mut list, depth, heading.text.as_str(), anchor.as_str())?;
+        anchors.push(plain)?;
+    }
+    Ok(list)
+}
+
+/// Returns the headings of a text. The only error is `Fault::Memory`.
+pub fn headings(alloc: Global, source: &str) -> Result<Vec<Entry>, Fault>
+    ensures headings { IfOk result (λ headings.
+        AreHeadingsOf source.now (map entry_view headings.items)) }
+    ensures refused { IfErr result (λ fault. fault ≡ Fault.Memory) }
+{
+    let parser = Parser::new(alloc, source)?;
+    outline(alloc, parser.into_offset_iter())
+}
+
+/// Returns the table of contents of a text: a line for each heading, below the nearest heading of a lower level, with a
+/// link to its anchor. The anchor is GitHub's: the heading's text in lower case, with `-` for each space, without
+/// punctuation but `-` and `_`, and with `-1`, `-2` and so on where it stood before. The only error is `Fault::Memory`.
+pub fn contents(alloc: Global, source: &str) -> Result<String, Fault>
+    ensures contents { IfOk result (λ list. IsContentsOf source.now (string_bytes list)) }
+    ensures refused { IfErr result (λ fault. fault ≡ Fault.Memory) }
+{
+    let headings = headings(alloc, source)?;
+    list_of(alloc, headings.as_slice())
+}
