@@ -5,6 +5,7 @@ pub mod Item
 pub mod BlockParts
 pub mod Arena
 pub mod Forest
+pub mod HeadingLevels
 pub mod BlockTree
 pub mod WellFormed
 pub mod Coverage

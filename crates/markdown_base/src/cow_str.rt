@@ -15,6 +15,7 @@ use std::boxed::BoxedStr;
 use std::convert::AsStr;
 use std::fmt;
 use std::hash::{Hash, Hasher};
+use std::ops::DerefStr;
 
 /// A text. Two are equal, and hash alike, where their texts are equal, whatever their forms.
 #[derive(Drop)]
@@ -90,6 +91,16 @@ impl<'a> CowStr<'a> {
             CowStr::Borrowed(borrowed) => String::from_str(alloc, borrowed),
             CowStr::Inlined(inlined) => String::from_str(alloc, inlined.as_str()),
         }
+    }
+}
+
+impl<'a> DerefStr for CowStr<'a> {
+    ghost use Rattle.markdown_base.specs.CowText.{text_of};
+
+    ghost deref_gives = { λ cow text. text ≡ text_of cow };
+
+    fn deref(&self) -> &str {
+        CowStr::as_str(self)
     }
 }
 

@@ -9,6 +9,9 @@ use crate::copies::{
 use crate::cow_str::CowStr;
 use crate::fault::Fault;
 use std::alloc::Global;
+use std::convert::TryFrom;
+use std::error::Error;
+use std::fmt;
 
 /// How a link or an image was written (CommonMark 6.3, 6.5).
 #[derive(Clone, Copy, Debug, PartialEq, Eq, Drop)]
@@ -44,6 +47,56 @@ pub enum HeadingLevel {
     H4,
     H5,
     H6,
+}
+
+/// A number that is no heading's level.
+#[derive(Clone, Copy, Debug, PartialEq, Eq, Drop)]
+pub struct InvalidHeadingLevel(pub usize);
+
+impl fmt::Display for InvalidHeadingLevel {
+    fn fmt<W: fmt::Write>(&self, f: &mut fmt::Formatter<W>) -> fmt::Result {
+        write!(f, "no heading level has number {}", self.0)
+    }
+}
+
+impl Error for InvalidHeadingLevel {}
+
+impl TryFrom<usize> for HeadingLevel {
+    ghost use Rattle.markdown_base.specs.HeadingLevels.{GivesLevel};
+
+    type Error = InvalidHeadingLevel;
+
+    ghost try_from_gives = { GivesLevel };
+
+    fn try_from(number: usize) -> Result<HeadingLevel, InvalidHeadingLevel> {
+        match number {
+            1 => Ok(HeadingLevel::H1),
+            2 => Ok(HeadingLevel::H2),
+            3 => Ok(HeadingLevel::H3),
+            4 => Ok(HeadingLevel::H4),
+            5 => Ok(HeadingLevel::H5),
+            6 => Ok(HeadingLevel::H6),
+            _ => Err(InvalidHeadingLevel(number)),
+        }
+    }
+}
+
+impl fmt::Display for HeadingLevel {
+    ghost use Rattle.std.specs.Prelude.{Some};
+    ghost use Rattle.markdown_base.specs.HeadingLevels.{level_text};
+
+    ghost output = { λ level. Some (level_text level) };
+
+    fn fmt<W: fmt::Write>(&self, f: &mut fmt::Formatter<W>) -> fmt::Result {
+        match self {
+            HeadingLevel::H1 => f.write_str("h1"),
+            HeadingLevel::H2 => f.write_str("h2"),
+            HeadingLevel::H3 => f.write_str("h3"),
+            HeadingLevel::H4 => f.write_str("h4"),
+            HeadingLevel::H5 => f.write_str("h5"),
+            HeadingLevel::H6 => f.write_str("h6"),
+        }
+    }
 }
 
 /// A block quote's kind, as GFM's alerts name it.

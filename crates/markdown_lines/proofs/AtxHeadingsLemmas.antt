@@ -2,7 +2,8 @@
 use Rattle.std.proofs.Common.{◌≡◌, ℕ, zero, suc, ◌+◌, ◌<◌, List, Some, true, length, drop, slice_range, refl, arith}
 use Rattle.std.specs.List.{prefix_len}
 use Rattle.markdown_base.specs.declared.tag.HeadingLevel.{HeadingLevel}
-use Rattle.markdown_lines.specs.AtxHeadings.{is_hash, level_of, heading_content, atx_heading_at}
+use Rattle.markdown_base.specs.HeadingLevels.{level_of}
+use Rattle.markdown_lines.specs.AtxHeadings.{is_hash, heading_content, atx_heading_at}
 use Rattle.markdown_lines.specs.Lines.{is_space_or_tab}
 use Rattle.markdown_lines.specs.LineBytes.{is_parted}
 

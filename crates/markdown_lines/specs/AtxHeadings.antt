@@ -4,7 +4,7 @@ use Rattle.std.specs.Prelude.{if◌then◌else◌}
 use Rattle.std.specs.List.{prefix_len}
 use Rattle.markdown_base.specs.Bytes.{number_sign}
 use Rattle.markdown_base.specs.declared.tag.HeadingLevel.{HeadingLevel}
-use Rattle.markdown_base.specs.declared.tag.HeadingLevel.TheVariants as level
+use Rattle.markdown_base.specs.HeadingLevels.{level_of}
 use Rattle.markdown_lines.specs.declared.atx_heading.AtxHeading.{AtxHeading}
 use Rattle.markdown_lines.specs.Lines.{is_space_or_tab}
 use Rattle.markdown_lines.specs.LineBytes.{without_end, is_parted}
@@ -12,17 +12,6 @@ use Rattle.markdown_lines.specs.LineBytes.{without_end, is_parted}
 -- a `#`
 abbrev pub is_hash : ℕ → Bool
 is_hash byte = byte == number_sign
-
--- one to six `#` have a level
-abbrev pub level_of : ℕ → Option HeadingLevel
-level_of count =
-    if count == 1 then Some level.H1
-    else if count == 2 then Some level.H2
-    else if count == 3 then Some level.H3
-    else if count == 4 then Some level.H4
-    else if count == 5 then Some level.H5
-    else if count == 6 then Some level.H6
-    else None
 
 -- What is content of what follows the opening `#` and white space: no white space at the end, and no closing
 -- sequence, which is a run of `#` behind white space or nothing.

@@ -1,12 +1,14 @@
 //! ATX headings (CommonMark 4.2).
 ghost use Rattle.std.specs.Prelude.{◌≡◌, ◌≤◌, ◌-◌, length};
 ghost use Rattle.std.specs.List.{suffix_len};
-ghost use Rattle.markdown_lines.specs.AtxHeadings.{is_hash, level_of, heading_content, atx_heading_at};
+ghost use Rattle.markdown_base.specs.HeadingLevels.{level_of};
+ghost use Rattle.markdown_lines.specs.AtxHeadings.{is_hash, heading_content, atx_heading_at};
 ghost use Rattle.markdown_lines.specs.Lines.{is_space_or_tab};
 
 use crate::bytes::{bytes_of, is_parted, run_length, white_length};
 use crate::line::is_space_or_tab;
 use markdown_base::tag::HeadingLevel;
+use std::convert::TryFrom;
 
 /// An ATX heading: its level, and the bytes from `from` up to `to` that are its content.
 #[derive(Clone, Copy, Drop)]
@@ -16,19 +18,11 @@ pub struct AtxHeading {
     pub to: usize,
 }
 
-/// The level of as many `#`.
+/// Returns the level of an opening sequence of `count` characters.
 fn heading_level(count: usize) -> Option<HeadingLevel>
     ensures { result ≡ level_of count }
 {
-    match count {
-        1 => Some(HeadingLevel::H1),
-        2 => Some(HeadingLevel::H2),
-        3 => Some(HeadingLevel::H3),
-        4 => Some(HeadingLevel::H4),
-        5 => Some(HeadingLevel::H5),
-        6 => Some(HeadingLevel::H6),
-        _ => None,
-    }
+    HeadingLevel::try_from(count).ok()
 }
 
 /// How many bytes stand before the white space at the end of some.
