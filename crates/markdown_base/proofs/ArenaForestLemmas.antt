@@ -1,4 +1,5 @@
--- Laws of the forest that an arena spells: it is found, there is one at most, and it opens node by node.
+-- Laws of the forest that the links of an arena represent: it is found, there is at most one, and it opens node by
+-- node.
 use Rattle.std.proofs.Common.{◌≡◌, ℕ, ◌<◌, ◌≤◌, max, Option, Some, None, suc, zero, refl, sym, ◌∙◌, arith}
 use Rattle.markdown_base.specs.Forest.{Forest, nil, node, Each}
 use Rattle.markdown_base.specs.ArenaForest.{Links, Spells, followed, forest_at}
@@ -26,12 +27,12 @@ followed-fits (suc n) k (Some j) (node i kids rest) s h =
     let b : followed n k (k.next j) ≡ rest = rw e (followed-fits n k (k.next i) rest s.3 (omega (arith, h))) in
     cc
 
--- what is spelled is found, if it is no higher than the arena is large
+-- a forest that the links represent is found, if it is no higher than the arena is large
 pub forest_at-fits : (k : Links) (l : Option ℕ) (f : Forest ℕ) → Spells k l f → height f ≤ k.size → forest_at k l ≡ f
 unfolding forest_at
 forest_at-fits k l f s h = followed-fits k.size k l f s h
 
--- at most one forest is spelled
+-- the links represent at most one forest
 pub Spells-same : (k : Links) (l : Option ℕ) (f g : Forest ℕ) → Spells k l f → Spells k l g → f ≡ g
 Spells-same k l f g s t =
     sym (followed-fits (max (height f) (height g)) k l f s (omega arith)) ∙ followed-fits (max (height f) (height g)) k l g t (omega arith)

@@ -90,7 +90,7 @@ sibling_within [] size ix h = tt
 sibling_within (n ∷ nodes) size zero h = h.0.next
 sibling_within (n ∷ nodes) size (suc ix) h = sibling_within nodes size ix h.1
 
--- the last of the nodes gone into
+-- the last of the nodes entered
 pub innermost-snoc : (outer : List ℕ) (ix : ℕ) → innermost (outer ++ ix ∷ []) ≡ ix
 innermost-snoc [] ix = refl
 innermost-snoc (x ∷ []) ix = refl
@@ -102,7 +102,7 @@ pub length-led_to : {T : Type 0} (ix : ℕ) (spine : List ℕ) (cursor : Option 
 length-led_to ix spine (Some before) nodes = length-changed_at before (λ n. record n { next = Some ix }) nodes
 length-led_to ix spine None nodes = length-changed_at (innermost spine) (λ n. record n { child = Some ix }) nodes
 
--- the node gone into last lies in the arena
+-- the node entered last lies in the arena
 pub innermost_within : (size : ℕ) (spine : List ℕ) → 0 < size → AllByRecursion (λ ix. ix < size) spine → innermost spine < size
 innermost_within size [] r h = r
 innermost_within size (x ∷ []) r h = h.0

@@ -1,5 +1,5 @@
--- The rules hold throughout the trees from a link on just where the node of each number keeps them: the one way from
--- trees to numbers and back.
+-- The rules hold throughout the trees from a link on if and only if the node of each number keeps them: the one way
+-- from trees to numbers and back.
 use Rattle.std.proofs.Common.{◌≡◌, ℕ, ◌≤◌, List, Option, length, refl, ap, arith}
 use Rattle.std.specs.Prelude.{◌↔◌}
 use Rattle.std.specs.Option.{option_map}
@@ -13,18 +13,18 @@ use Rattle.markdown_base.specs.Forest.{Forest, nil, node, Each, first_root, rela
 use Rattle.markdown_base.specs.WellFormed.{PartCounts, AllKeepRules}
 use Rattle.markdown_base.proofs.ArenaForestLemmas.{height, forest_at-fits}
 
--- the trees from a link on are those that it spells
+-- the trees from a link on are those that its links represent
 pub trees_at-fits : (nodes : List (Node Item)) (l : Option ℕ) (f : Forest ℕ) → Spells (links_of nodes) l f → height f ≤ length nodes
     → trees_at nodes l ≡ relabelled (numbered nodes) f
 trees_at-fits nodes l f s h = ap (relabelled (numbered nodes)) (forest_at-fits (links_of nodes) l f s h)
 
--- and the first of them is that of its number
+-- the first of these trees is that of the link's node
 first_spelled : (nodes : List (Node Item)) (l : Option ℕ) (f : Forest ℕ) → Spells (links_of nodes) l f
     → option_map (numbered nodes) l ≡ first_root (relabelled (numbered nodes) f)
 first_spelled nodes l nil s = rw s refl
 first_spelled nodes l (node ix below after) s = rw s.0 refl
 
--- what a node's links spell, and that it is no higher
+-- what a node's links represent, and that it is no higher
 record Opens (nodes : List (Node Item)) (ix : ℕ) (below after : Forest ℕ) : Type 0 where
   inside : trees_at nodes (child_of nodes ix) ≡ relabelled (numbered nodes) below
   next : next_at nodes ix ≡ first_root (relabelled (numbered nodes) after)

@@ -1,5 +1,5 @@
--- Laws of bytes that are looked at together, for the crates above: of a part of some bytes, and of a test that none of
--- them passes. `none_further` is the one that a scan cites which goes over many bytes at once.
+-- Laws of bytes that are examined together, for higher crates: of a slice of bytes, and of a test that no byte passes.
+-- A scan that passes over many bytes at once cites `none_further`.
 use Rattle.std.proofs.Common.{◌≡◌, ℕ, zero, suc, ◌+◌, ◌-◌, ◌<◌, ◌≤◌, List, [], ◌∷◌, Bool, true, false, length, get_or, refl, sym, ap, ◌∙◌}
 use Rattle.std.proofs.Common.{arith, slice_range, slice_index, ⊎_elim, drop, length-take-le, length-drop}
 use Rattle.std.proofs.lemmas.Bool.{cases_lt}
@@ -7,12 +7,12 @@ use Rattle.std.proofs.lemmas.List.{get_or-drop, get_or-take}
 use Rattle.std.specs.Prelude.{◌||◌}
 use Rattle.std.specs.List.{list_any}
 
--- where it is false that one of two holds, neither does
+-- if a disjunction is false, both sides are
 pub neither : (x y : Bool) → (x || y) ≡ false → (x ≡ false) × (y ≡ false)
 neither true y h = cc
 neither false y h = (refl, h)
 
--- where no byte of a list passes a test, the one at a place does not
+-- if no byte of a list passes a test, the byte at an offset does not
 pub none_at : (test : ℕ → Bool) (bytes : List ℕ) (at : ℕ) → at < length bytes → list_any test bytes ≡ false
     → test (get_or bytes at 0) ≡ false
 none_at test [] at h e = absurd (omega (arith, h))
@@ -20,17 +20,17 @@ none_at test (byte ∷ bytes) zero h e = let both = neither (test byte) (list_an
 none_at test (byte ∷ bytes) (suc at) h e =
     let both = neither (test byte) (list_any test bytes) e in none_at test bytes at (omega (arith, h)) both.1
 
--- a byte of a part of some bytes is one of them
+-- the byte at an offset of a slice
 pub byte_of_part : (bytes : List ℕ) (start end at : ℕ) → at < end - start
     → get_or (slice_range bytes start end) at 0 ≡ get_or bytes (start + at) 0
 byte_of_part bytes start end at h = get_or-take (end - start) (drop start bytes) at 0 h ∙ get_or-drop start bytes at 0
 
--- a part that ends within some bytes has as many as it was asked for
+-- a slice that ends within the bytes has the length of its range
 pub part_length : (bytes : List ℕ) (start end : ℕ) → end ≤ length bytes → length (slice_range bytes start end) ≡ end - start
 part_length bytes start end h = length-take-le (end - start) (drop start bytes) (omega (arith, length-drop start bytes))
 
--- where no byte passes a test from one place up to a second, nor any from there up to a third, none does from the first
--- up to the third
+-- if no byte passes a test from one offset up to a second, nor from there up to a third, none does from the first up to
+-- the third
 pub none_further : (test : ℕ → Bool) (bytes : List ℕ) (from start stop : ℕ) → start ≤ stop → stop ≤ length bytes
     → ((at : ℕ) → from ≤ at → at < start → test (slice_index bytes at) ≡ false)
     → list_any test (slice_range bytes start stop) ≡ false

@@ -44,22 +44,22 @@ pub roots-relabelled : {A B : Type 0} (f : A → B) (t : Forest A) → roots (re
 roots-relabelled f nil = refl
 roots-relabelled f (node a below after) = ap (λ x. f a ∷ x) (roots-relabelled f after)
 
--- the facts of two lists, joined
+-- if a fact holds for two lists, it holds for the lists joined
 pub All-append : {X : Type 0} (p : X → Type 0) (xs ys : List X) → AllByRecursion p xs → AllByRecursion p ys → AllByRecursion p (xs ++ ys)
 All-append p [] ys a b = b
 All-append p (x ∷ xs) ys a b = (a.0, All-append p xs ys a.1 b)
 
--- and parted
+-- and conversely
 pub All-parted : {X : Type 0} (p : X → Type 0) (xs ys : List X) → AllByRecursion p (xs ++ ys) → AllByRecursion p xs × AllByRecursion p ys
 All-parted p [] ys a = (tt, a)
 All-parted p (x ∷ xs) ys a = let parts = All-parted p xs ys a.1 in ((a.0, parts.0), parts.1)
 
--- those of a list, by what follows from them
+-- a fact about each element of a list, weakened
 pub All-weaker : {X : Type 0} (p q : X → Type 0) → ((x : X) → p x → q x) → (xs : List X) → AllByRecursion p xs → AllByRecursion q xs
 All-weaker p q h [] a = tt
 All-weaker p q h (x ∷ xs) a = (h x a.0, All-weaker p q h xs a.1)
 
--- a fact holds of each label just where it holds of the labels in preorder
+-- a fact holds for each label if and only if it holds for the labels in preorder
 pub preorder-Each : {A : Type 0} (p : A → Type 0) (f : Forest A) → Each p f → AllByRecursion p (preorder f)
 preorder-Each p nil e = tt
 preorder-Each p (node a below after) e = (

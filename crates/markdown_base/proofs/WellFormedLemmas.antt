@@ -1,4 +1,4 @@
--- Laws of the parts that a block result names: they are there, also where more are.
+-- Laws of the parts that a block result refers to: they exist, also where there are more.
 use Rattle.std.proofs.Common.{ℕ, ◌<◌, ◌≤◌, List, ◌++◌, Option, Some, None, arith}
 use Rattle.std.specs.Prelude.{IfSome}
 use Rattle.std.specs.List.{AllByRecursion, filter_map, cons_option}
@@ -10,18 +10,18 @@ use Rattle.markdown_base.specs.Item.{text_named, alignments_named}
 use Rattle.markdown_base.specs.WellFormed.{PartCounts, PartsAreNamed, KeepsRules, AllKeepRules, all_named}
 use Rattle.markdown_base.proofs.ForestLemmas.{Throughout-weaker, All-append}
 
--- as many parts of each kind are there, or more
+-- there are at least as many parts of each kind
 pub record HasMore (few many : PartCounts) : Type 0 where
   pub texts : few.texts ≤ many.texts
   pub alignments : few.alignments ≤ many.alignments
   pub attributes : few.attributes ≤ many.attributes
 
--- whatever is named stays so under a fact that follows
+-- a fact about an optional number, weakened
 some_weaker : (o : Option ℕ) (p q : ℕ → Type 0) → ((ix : ℕ) → p ix → q ix) → IfSome o p → IfSome o q
 some_weaker None p q h s = tt
 some_weaker (Some ix) p q h s = h ix s
 
--- what is named is there where more parts are there
+-- parts that exist still exist where there are more parts
 pub named_more : (few many : PartCounts) (b : ItemBody) → HasMore few many → PartsAreNamed few b → PartsAreNamed many b
 named_more few many b more n = record {
   text = some_weaker _ (λ ix. ix < few.texts) (λ ix. ix < many.texts) (λ ix k. omega (arith, k, more.texts)) n.text;
@@ -31,7 +31,7 @@ named_more few many b more n = record {
       (λ ix k. (k.0, omega (arith, k.1, more.attributes))) n.attributes;
 }
 
--- a fact of what each item names is one of all that are named
+-- a fact about the number that each item holds is one about all numbers that are held
 all_named-Each : (name : ItemBody → Option ℕ) (p : ℕ → Type 0) (f : Forest Numbered) → Each (λ n. IfSome (name n.item.body) p) f
     → AllByRecursion p (all_named name f)
 all_named-Each name p nil e = tt
@@ -46,7 +46,7 @@ all_named-Each name p (node a below after) e =
     first_named None others h a = a
     first_named (Some ix) others h a = (h, a)
 
--- the texts that are named are there
+-- the texts that are referred to exist
 pub texts_there : (text : List ℕ) (counts : PartCounts) (f : Forest Numbered) → AllKeepRules text counts f
     → AllByRecursion (λ ix. ix < counts.texts) (all_named text_named f)
 texts_there text counts f t =
@@ -54,7 +54,7 @@ texts_there text counts f t =
     (Throughout-weaker (λ a below after. KeepsRules text counts a below (first_root after)) _ (λ a below after k. k.parts_are_named.text) f
     t)
 
--- and the lists of alignments
+-- likewise the alignments
 pub alignments_there : (text : List ℕ) (counts : PartCounts) (f : Forest Numbered) → AllKeepRules text counts f
     → AllByRecursion (λ ix. ix < counts.alignments) (all_named alignments_named f)
 alignments_there text counts f t =

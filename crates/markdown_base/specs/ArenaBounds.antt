@@ -1,4 +1,4 @@
--- The numbers that a tree keeps are those of its nodes: a fact of the representation.
+-- The numbers that a tree stores are numbers of its nodes: a fact about the representation.
 use Rattle.std.specs.Prelude.{ℕ, ◌<◌, IfSome, length}
 use Rattle.std.specs.List.{AllByRecursion}
 use Rattle.markdown_base.specs.declared.node.Node.{Node}
@@ -9,7 +9,7 @@ pub record LeadsBelow {T : Type 0} (size : ℕ) (node : Node T) : Type 0 where
   pub child : IfSome node.child (λ ix. ix < size)
   pub next : IfSome node.next (λ ix. ix < size)
 
--- every number that an arena holds is that of a node
+-- every number that an arena stores is the number of a node
 pub record IsWithin {T : Type 0} (arena : Arena T) : Type 0 where
   pub rooted : 0 < length arena.nodes
   pub cursor : IfSome arena.cursor (λ ix. ix < length arena.nodes)

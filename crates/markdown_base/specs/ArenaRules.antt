@@ -1,4 +1,4 @@
--- The rules of a block result at the node of a number: a fact of the representation.
+-- The rules for block results, at the node of a number: a fact about the representation.
 use Rattle.std.specs.Prelude.{ℕ, List, Option}
 use Rattle.std.specs.Option.{option_map}
 use Rattle.markdown_base.specs.declared.item.Item.{Item}
@@ -7,7 +7,7 @@ use Rattle.markdown_base.specs.Arena.{child_of, sibling_of}
 use Rattle.markdown_base.specs.BlockTree.{Numbered, numbered, trees_at}
 use Rattle.markdown_base.specs.WellFormed.{PartCounts, KeepsRules}
 
--- the item after that of a number
+-- the next sibling of a node, with its item
 abbrev pub next_at : List (Node Item) → ℕ → Option Numbered
 next_at nodes ix = option_map (numbered nodes) (sibling_of nodes ix)
 

@@ -1,17 +1,17 @@
--- A link reference definition without the memory that holds its texts: what two definitions are compared by.
+-- Link reference definitions for comparison: without the memory that holds their texts.
 use Rattle.std.specs.Prelude.{ℕ, ◌≤◌, List, Option, IfSome, length}
 use Rattle.std.specs.Option.{option_map}
 use Rattle.std.specs.declared.ops.Range.{Range}
 use Rattle.markdown_base.specs.CowText.{text_of}
 use Rattle.markdown_base.specs.declared.block_parts.LinkDef.{LinkDef}
 
--- where a definition leads, its title where it has one, and the bytes of the source that it stands over
+-- a definition's destination, its title if it has one, and its source range in bytes
 pub record DefinitionView : Type 0 where
   pub destination : List ℕ
   pub title : Option (List ℕ)
   pub span : Range ℕ
 
--- what a definition of a link says
+-- the view of a definition
 abbrev pub definition_view : LinkDef → DefinitionView
 definition_view d = record {
   destination = text_of d.dest;
@@ -19,7 +19,7 @@ definition_view d = record {
   span = d.span;
 }
 
--- its texts can be held in place
+-- its texts can be stored inline
 pub record HasShortTexts (d : LinkDef) : Type 0 where
   pub destination : length (text_of d.dest) ≤ 22
   pub title : IfSome d.title (λ title. length (text_of title) ≤ 22)

@@ -12,7 +12,7 @@ pub record Numbered : Type 0 where
   pub number : ℕ
   pub item : Item
 
--- what stands for the item of a number that no node has
+-- a placeholder for the item of a number that no node has
 abbrev pub no_item : Item
 no_item = record { start = 0; end = 0; body = body.Root }
 

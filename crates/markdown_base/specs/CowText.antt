@@ -1,4 +1,4 @@
--- The text of a `CowStr`: its bytes, wherever they are held.
+-- The text of a `CowStr`: its bytes, wherever they are stored.
 use Rattle.std.specs.Prelude.{ℕ, List}
 use Rattle.std.specs.Box.{boxed_str_bytes}
 use Rattle.markdown_base.specs.InlineText.{inline_text}
@@ -11,17 +11,17 @@ text_of (Boxed boxed) = boxed_str_bytes boxed
 text_of (Borrowed borrowed) = borrowed.now
 text_of (Inlined inlined) = inline_text inlined
 
--- it is held in place
+-- the text is stored inline
 abbrev pub IsInlined : CowStr → Type 0
 IsInlined (Inlined inlined) = Unit {0}
 IsInlined text = ⊥
 
--- it is owned, on the heap
+-- the text is owned, on the heap
 abbrev pub IsBoxed : CowStr → Type 0
 IsBoxed (Boxed boxed) = Unit {0}
 IsBoxed text = ⊥
 
--- it is a slice of the source
+-- the text is a slice of the source
 abbrev pub IsBorrowed : CowStr → Type 0
 IsBorrowed (Borrowed borrowed) = Unit {0}
 IsBorrowed text = ⊥

@@ -1,4 +1,4 @@
--- Which extensions a set of options turns on.
+-- Which extensions a set of options enables.
 use Rattle.std.specs.Prelude.{Bool, not, ◌&&◌, ◌==◌}
 use Rattle.std.specs.Int.RustNames.{bit_and, bit_or}
 use Rattle.markdown_base.specs.declared.options.Options.{Options}
@@ -7,7 +7,7 @@ use Rattle.markdown_base.specs.declared.options.TheConstants.Options.{ENABLE_OLD
 use Rattle.markdown_base.specs.declared.options.TheConstants.Options.{ENABLE_STRIKETHROUGH, ENABLE_SUBSCRIPT}
 use Rattle.markdown_base.specs.declared.options.TheConstants.Options.{ENABLE_SUPERSCRIPT, ENABLE_WIKILINKS}
 
--- no option
+-- the empty set of options
 abbrev pub no_options : Options
 no_options = record { 0 = 0 }
 
@@ -15,7 +15,7 @@ no_options = record { 0 = 0 }
 abbrev pub both_options : Options → Options → Options
 both_options a b = record { 0 = bit_or a.0 b.0 }
 
--- an option is on: the set has all of its bits
+-- an option is enabled: the set contains all of its bits
 abbrev pub is_on : (option options : Options) → Bool
 is_on option options = bit_and options.0 option.0 == option.0
 
@@ -23,11 +23,11 @@ is_on option options = bit_and options.0 option.0 == option.0
 abbrev pub footnotes_on : Options → Bool
 footnotes_on = is_on ENABLE_FOOTNOTES
 
--- footnotes of the old style
+-- footnotes in the old style
 abbrev pub old_footnotes_on : Options → Bool
 old_footnotes_on = is_on ENABLE_OLD_FOOTNOTES
 
--- footnotes of the style of GitHub
+-- footnotes in GitHub's style
 abbrev pub gfm_footnotes_on : Options → Bool
 gfm_footnotes_on options = footnotes_on options && not (old_footnotes_on options)
 

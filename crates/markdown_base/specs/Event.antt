@@ -1,4 +1,4 @@
--- Events and tags without the memory that holds their texts: what two events are compared by.
+-- Events and tags for comparison: without the memory that holds their texts.
 use Rattle.std.specs.Prelude.{ℕ, List, Bool, Option, map, is_some}
 use Rattle.std.specs.Option.{option_map}
 use Rattle.markdown_base.specs.CowText.{text_of}
@@ -17,21 +17,21 @@ use Rattle.markdown_base.specs.declared.tag.TagEnd.TheVariants as closes
 use Rattle.markdown_base.specs.declared.event.Event.{Event}
 use Rattle.markdown_base.specs.declared.event.Event.TheVariants as step
 
--- where a link or an image leads
+-- a link or an image
 pub record LinkView : Type 0 where
   pub kind : LinkType
   pub destination : List ℕ
   pub title : List ℕ
   pub label : List ℕ
 
--- a heading, with what stands in braces behind it: names, each with its value where there is one
+-- a heading, with the attributes in braces after it: names, each with its value if it has one
 pub record HeadingView : Type 0 where
   pub level : HeadingLevel
   pub id : Option (List ℕ)
   pub classes : List (List ℕ)
   pub attributes : List (List ℕ × Option (List ℕ))
 
--- what a Start opens
+-- what a `Start` event opens
 pub data TagView : Type 0 where
   paragraph : TagView
   heading : HeadingView → TagView
@@ -40,7 +40,7 @@ pub data TagView : Type 0 where
   -- with its info string
   fenced_code : List ℕ → TagView
   html_block : TagView
-  -- with its first number, where it is ordered
+  -- with its first number, if it is ordered
   list : Option ℕ → TagView
   list_item : TagView
   -- with its name
@@ -77,7 +77,7 @@ pub data EventView : Type 0 where
   rule : EventView
   task_list_marker : Bool → EventView
 
--- a name with its value
+-- an attribute's name and value, by their texts
 abbrev pub attribute_view : CowStr × Option CowStr → List ℕ × Option (List ℕ)
 attribute_view attribute = (text_of attribute.0, option_map text_of attribute.1)
 
@@ -143,7 +143,7 @@ event_view step.HardBreak = hard_break
 event_view step.Rule = rule
 event_view (step.TaskListMarker done) = task_list_marker done
 
--- the End that belongs to a Start
+-- what the `End` event of a tag closes
 abbrev pub end_of : TagView → TagEnd
 end_of paragraph = closes.Paragraph
 end_of (heading h) = closes.Heading h.level

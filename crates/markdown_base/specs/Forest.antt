@@ -1,4 +1,4 @@
--- Forests: nothing, or a first tree, which is a label with the forest below it, and the trees after it.
+-- Forests: empty, or a first tree, which is a label with the forest below it, and the trees after it.
 use Rattle.std.specs.Prelude.{List, [], ◌∷◌, ◌++◌, Option, Some, None, ⊤}
 use Rattle.std.specs.Coded.{Unit-prop}
 
@@ -6,12 +6,12 @@ pub data Forest (A : Type 0) : Type 0 where
   nil : Forest A
   node : A → Forest A → Forest A → Forest A
 
--- p holds at each tree: of its label, of the forest below it and of the trees after it
+-- p holds for each tree: for its label, the forest below it and the trees after it
 abbrev pub Throughout : {A : Type 0} → (A → Forest A → Forest A → Type 0) → Forest A → Type 0
 Throughout p nil = ⊤
 Throughout p (node a below after) = p a below after × Throughout p below × Throughout p after
 
--- p holds of each label
+-- p holds for each label
 abbrev pub Each : {A : Type 0} → (A → Type 0) → Forest A → Type 0
 Each p f = Throughout (λ a below after. p a) f
 
@@ -20,7 +20,7 @@ abbrev pub preorder : {A : Type 0} → Forest A → List A
 preorder nil = []
 preorder (node a below after) = a ∷ (preorder below ++ preorder after)
 
--- the labels of the trees that stand side by side
+-- the labels of the trees at the top, which are siblings
 abbrev pub roots : {A : Type 0} → Forest A → List A
 roots nil = []
 roots (node a below after) = a ∷ roots after
@@ -35,7 +35,7 @@ abbrev pub relabelled : {A B : Type 0} → (A → B) → Forest A → Forest B
 relabelled f nil = nil
 relabelled f (node a below after) = node (f a) (relabelled f below) (relabelled f after)
 
--- it has one proof at most, where the fact of a tree has
+-- `Throughout` has at most one proof if p has at most one for each tree
 pub Throughout-prop : {A : Type 0} (p : A → Forest A → Forest A → Type 0)
     → ((a : A) (below after : Forest A) → IsProp (p a below after)) → (f : Forest A) → IsProp (Throughout p f)
 Throughout-prop p h nil = Unit-prop

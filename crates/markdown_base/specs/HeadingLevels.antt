@@ -1,4 +1,4 @@
--- The levels of headings as numbers, and as they are printed.
+-- The levels of headings as numbers and as text.
 use Rattle.std.specs.Prelude.{◌≡◌, ℕ, ◌==◌, if◌then◌else◌, List, Option, Some, None, Result, MatchResult, codes}
 use Rattle.markdown_base.specs.declared.tag.HeadingLevel.{HeadingLevel}
 use Rattle.markdown_base.specs.declared.tag.HeadingLevel.TheVariants as level
@@ -29,7 +29,7 @@ abbrev pub GivesLevel : ℕ → Result HeadingLevel InvalidHeadingLevel → Type
 GivesLevel n result =
     MatchResult result (λ found. level_of n ≡ Some found) (λ e. (e.0 ≡ n) × (level_of n ≡ None))
 
--- what `{}` prints of a level
+-- the text that `{}` writes for a level
 abbrev pub level_text : HeadingLevel → List ℕ
 level_text level.H1 = codes "h1"
 level_text level.H2 = codes "h2"

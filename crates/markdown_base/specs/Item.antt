@@ -7,7 +7,7 @@ use Rattle.markdown_base.specs.declared.item.Item.{Item}
 use Rattle.markdown_base.specs.declared.item.ItemBody.{ItemBody}
 use Rattle.markdown_base.specs.declared.item.ItemBody.TheVariants as body
 
--- it is open: one of the eight bodies whose meaning is decided when their chain is resolved
+-- the body is open: one of the eight bodies whose meaning is decided when their chain is resolved
 abbrev pub is_open : ItemBody → Bool
 is_open (body.MaybeEmphasis count opens closes) = true
 is_open (body.MaybeMath opens closes context) = true
@@ -19,7 +19,7 @@ is_open (body.MaybeLinkClose reference) = true
 is_open body.MaybeImage = true
 is_open other = false
 
--- it is inline: open, or settled by the block pass
+-- the body is inline: open, or settled by the block pass
 abbrev pub is_inline : ItemBody → Bool
 is_inline (body.TaskListMarker done) = true
 is_inline body.InlineHtml = true
@@ -32,12 +32,12 @@ is_inline body.SoftBreak = true
 is_inline (body.HardBreak backslash) = true
 is_inline other = is_open other
 
--- it has no children
+-- the body can have no children: it is inline, or a thematic break
 abbrev pub is_childless : ItemBody → Bool
 is_childless body.Rule = true
 is_childless other = is_inline other
 
--- it is what an open item becomes
+-- the body is one that open items are resolved to
 abbrev pub is_resolved : ItemBody → Bool
 is_resolved body.Emphasis = true
 is_resolved body.Strong = true
@@ -51,27 +51,27 @@ is_resolved (body.Image ix) = true
 is_resolved (body.FootnoteReference ix) = true
 is_resolved other = false
 
--- it is a block: not inline, and not what an inline item becomes
+-- the body is a block: neither inline nor resolved
 abbrev pub is_block : ItemBody → Bool
 is_block body = not (is_inline body || is_resolved body)
 
--- it is a cell of a table
+-- the body is a table's cell
 abbrev pub is_table_cell : ItemBody → Bool
 is_table_cell body.TableCell = true
 is_table_cell other = false
 
--- it is a paragraph of a tight list
+-- the body is a paragraph of a tight list
 abbrev pub is_tight_paragraph : ItemBody → Bool
 is_tight_paragraph body.TightParagraph = true
 is_tight_paragraph other = false
 
--- it stands at the top alone, or for a block that is not decided upon
+-- the body is the root, or a block whose kind is not decided
 abbrev pub is_unplaced : ItemBody → Bool
 is_unplaced body.Root = true
 is_unplaced body.MaybeDefinitionListTitle = true
 is_unplaced other = false
 
--- the number of the text that it names
+-- the number of the text that the body refers to
 abbrev pub text_named : ItemBody → Option ℕ
 text_named (body.Math ix display) = Some ix.0
 text_named (body.Code ix) = Some ix.0
@@ -82,26 +82,26 @@ text_named (body.FencedCodeBlock ix) = Some ix.0
 text_named (body.FootnoteDefinition ix) = Some ix.0
 text_named other = None
 
--- the number of the alignments that it names
+-- the number of the alignments that the body refers to
 abbrev pub alignments_named : ItemBody → Option ℕ
 alignments_named (body.Table ix) = Some ix.0
 alignments_named other = None
 
--- the number of the heading attributes that it names
+-- the number of the heading attributes that the body refers to
 abbrev pub attributes_named : ItemBody → Option ℕ
 attributes_named (body.Heading level (Some ix)) = Some ix.0
 attributes_named other = None
 
--- the bytes that an item stands over
+-- the source range of an item, in bytes
 abbrev pub range_of : Item → Range ℕ
 range_of item = record { start = item.start; end = item.end }
 
--- its range lies in a text, between characters
+-- the item's range lies in a text, between characters
 pub record LiesIn (text : List ℕ) (item : Item) : Type 0 where
   pub ordered : item.start ≤ item.end
   pub start : IsCharBoundary text item.start
   pub end : IsCharBoundary text item.end
 
--- it has one proof at most
+-- `LiesIn` has at most one proof
 pub LiesIn-prop : (text : List ℕ) (item : Item) → IsProp (LiesIn text item)
 LiesIn-prop text item = hlevel props

@@ -1,4 +1,4 @@
--- what contracts and other definitions speak of
+-- what contracts and other definitions cite
 pub mod CowText
 pub mod Event
 pub mod Item
@@ -13,7 +13,7 @@ pub mod Questions
 pub mod FaultText
 pub mod Bytes
 pub mod EnabledOptions
--- facts of a representation
+-- facts about the representation
 pub mod InlineText
 pub mod ArenaBounds
 pub mod StoredNodes

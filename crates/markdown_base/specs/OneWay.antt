@@ -1,4 +1,5 @@
--- That a block result is well formed can hold in one way only: what a value needs that keeps the fact.
+-- A block result is well formed in at most one way, as a type needs whose values carry that proof. Each `-prop` says
+-- that its fact has at most one proof.
 use Rattle.std.specs.Prelude.{◌≡◌, ℕ, zero, suc, Bool, List, Option, Some, None, nat_eq, refl}
 use Rattle.std.specs.Coded.{Coded, Coded-set, code_by, coded×, coded_ℕ, coded_bool, coded_list, coded_option}
 use Rattle.std.specs.List.{IsDistinct-prop}
@@ -18,39 +19,39 @@ use Rattle.markdown_base.specs.Item.{LiesIn-prop}
 use Rattle.markdown_base.specs.WellFormed.{IsReachedOnce, StandsOverMarkup, source_of, RunCharacter, GoesOn, RunGoesOn}
 use Rattle.markdown_base.specs.WellFormed.{StandsInRun, PartCounts, counts_of, KeepsRules, IsWellFormed}
 
--- an equation of `nil` with a forest, taken to that of `nil` with itself where it can be
+-- maps an equation of `nil` and a forest to `refl` if the forest is empty, and otherwise to itself
 from_nil : {A : Type 0} (f : Forest A) → nil ≡ f → nil ≡ f
 from_nil nil e = refl
 from_nil (node a below after) e = e
 
--- nothing is lost by that
+-- the result equals the equation
 from_nil-same : {A : Type 0} (f : Forest A) (e : nil ≡ f) → from_nil f e ≡ e
 unfolding from_nil
 from_nil-same {A} f e = path_j {A = Forest A} {x = nil} (λ g d. from_nil g d ≡ d) refl e
 
--- all such equations are taken to one
+-- any two such equations have the same result
 from_nil-one : {A : Type 0} (f : Forest A) (d e : nil ≡ f) → from_nil f d ≡ from_nil f e
 unfolding from_nil
 from_nil-one nil d e = refl
 from_nil-one (node a below after) d e = cc d
 
--- that a forest is empty
+-- a forest is empty
 nil-prop : {A : Type 0} (f : Forest A) → IsProp (f ≡ nil)
 nil-prop nil d e = sym (from_nil-same nil d) ∙ (from_nil-one nil d e ∙ from_nil-same nil e)
 nil-prop (node a below after) d e = cc d
 
--- that each node is reached once
+-- each node is reached once
 IsReachedOnce-prop : (nodes : List (Node Item)) → IsProp (IsReachedOnce nodes)
 IsReachedOnce-prop nodes =
     let finite = Spells-prop (links_of nodes) (child_of nodes 0) (numbers_below nodes) in
     let once = IsDistinct-prop nat_eq in
     hlevel (props, finite, once)
 
--- that two texts are equal
+-- two texts are equal
 bytes-prop : (xs ys : List ℕ) → IsProp (xs ≡ ys)
 bytes-prop xs ys = Coded-set (coded_list coded_ℕ) xs ys
 
--- that an item stands over its markup, here and wherever else the rule is kept
+-- an item's source is its markup; public, since higher crates keep this rule too
 pub StandsOverMarkup-prop : (source : List ℕ) (b : ItemBody) → IsProp (StandsOverMarkup source b)
 StandsOverMarkup-prop source (body.MaybeMath opens closes context) = bytes-prop source _
 StandsOverMarkup-prop source (body.MaybeSmartQuote quote opens closes) = hlevel (props, bytes-prop)
@@ -61,23 +62,23 @@ StandsOverMarkup-prop source (body.MaybeLinkClose reference) = bytes-prop source
 StandsOverMarkup-prop source body.MaybeImage = bytes-prop source _
 StandsOverMarkup-prop source other = hlevel
 
--- characters of runs, by what they hold
+-- a character of a delimiter run, as a tuple of its fields
 abbrev coded_character : Coded RunCharacter
 coded_character =
     code_by (ℕ × (Bool × Bool)) (coded× coded_ℕ (coded× coded_bool coded_bool))
     (λ c. (c.count, (c.can_open, c.can_close)))
     (λ p. record { count = p.0; can_open = p.1.0; can_close = p.1.1 }) (λ c. refl)
 
--- that two characters of runs are equal
+-- two characters of delimiter runs are equal
 character-prop : (a b : Option RunCharacter) → IsProp (a ≡ b)
 character-prop a b = Coded-set (coded_option coded_character) a b
 
--- that a run goes on in the next item
+-- a run continues in the next item
 GoesOn-prop : (text : List ℕ) (a b : Numbered) (count : ℕ) (opens closes : Bool)
     → IsProp (GoesOn text a b count opens closes)
 GoesOn-prop text a b count opens closes = hlevel (props, character-prop)
 
--- that it does where it has to
+-- a run continues if it has to
 RunGoesOn-prop : (text : List ℕ) (a : Numbered) (count : ℕ) (opens closes : Bool) (next : Option Numbered)
     → IsProp (RunGoesOn text a count opens closes next)
 RunGoesOn-prop text a zero opens closes next = hlevel
@@ -85,14 +86,14 @@ RunGoesOn-prop text a (suc zero) opens closes next = hlevel props
 RunGoesOn-prop text a (suc (suc count)) opens closes None = hlevel
 RunGoesOn-prop text a (suc (suc count)) opens closes (Some b) = GoesOn-prop text a b (suc count) opens closes
 
--- that an item stands in a run as the rules ask, likewise
+-- an item is in a delimiter run as the rules require; public for the same reason
 pub StandsInRun-prop : (text : List ℕ) (a : Numbered) (next : Option Numbered) (c : RunCharacter)
     → IsProp (StandsInRun text a next c)
 StandsInRun-prop text a next c =
     let goes_on = RunGoesOn-prop text a c.count c.can_open c.can_close next in
     hlevel (props, goes_on)
 
--- that an item keeps the rules
+-- an item keeps the rules
 KeepsRules-prop : (text : List ℕ) (counts : PartCounts) (a : Numbered) (below : Forest Numbered)
     (next : Option Numbered) → IsProp (KeepsRules text counts a below next)
 KeepsRules-prop text counts a below next =
@@ -101,7 +102,7 @@ KeepsRules-prop text counts a below next =
     let run = StandsInRun-prop text a next in
     hlevel (props, nil-prop {A = Numbered}, range, markup, run)
 
--- that a block result is well formed
+-- a block result is well formed
 pub IsWellFormed-prop : (text : List ℕ) (nodes : List (Node Item)) (parts : BlockParts)
     → IsProp (IsWellFormed text nodes parts)
 IsWellFormed-prop text nodes parts =

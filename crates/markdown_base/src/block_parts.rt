@@ -1,4 +1,4 @@
-//! What a block result holds beside its tree.
+//! The parts of a block result other than its tree.
 ghost use Rattle.std.specs.Prelude.{◌≡◌, IfOk, IfErr, IsOk};
 ghost use Rattle.markdown_base.specs.BlockParts.{definition_view, HasShortTexts};
 ghost use Rattle.markdown_base.specs.declared.fault.Fault.{Fault};
@@ -15,13 +15,13 @@ use std::ops::Range;
 pub struct LinkDef<'a> {
     pub dest: CowStr<'a>,
     pub title: Option<CowStr<'a>>,
-    /// The bytes of the source from its `[` to its end.
+    /// The definition's source range in bytes, from its `[` to its end.
     pub span: Range<usize>,
 }
 
 impl<'a> LinkDef<'a> {
-    /// The same definition once more: slices of the source stay such, and only boxed texts of more
-    /// than 22 bytes take memory. The only error is `Fault::Memory`.
+    /// Returns a copy of the definition. Slices of the source are copied as slices, and only boxed texts of more than
+    /// 22 bytes allocate memory. The only error is `Fault::Memory`.
     pub fn try_clone(&self, alloc: Global) -> Result<LinkDef<'a>, Fault>
         ensures same { IfOk result (λ copy. definition_view copy ≡ definition_view self.now) }
         ensures short { HasShortTexts self.now → IsOk result }
@@ -36,8 +36,8 @@ impl<'a> LinkDef<'a> {
         })
     }
 
-    /// The same definition, borrowed from nothing. Only slices of more than 22 bytes take memory. The
-    /// only error is `Fault::Memory`; then the definition is gone.
+    /// Returns the same definition without borrowing from the source. Only slices of more than 22 bytes allocate
+    /// memory. The only error is `Fault::Memory`, in which case the definition is dropped.
     pub fn into_static(self, alloc: Global) -> Result<LinkDef<'static>, Fault>
         ensures same { IfOk result (λ made. definition_view made ≡ definition_view self.entry) }
         ensures short { HasShortTexts self.entry → IsOk result }
@@ -53,26 +53,26 @@ impl<'a> LinkDef<'a> {
     }
 }
 
-/// What stands in braces behind a heading.
+/// The attributes in braces after a heading.
 #[derive(Debug, Drop)]
 pub struct HeadingAttributes<'a> {
     pub id: Option<CowStr<'a>>,
     pub classes: Vec<CowStr<'a>>,
-    /// Names, each with its value where there is one.
+    /// Names, each with its value if it has one.
     pub attrs: Vec<(CowStr<'a>, Option<CowStr<'a>>)>,
 }
 
-/// What the items of a tree name by number, and the definitions.
+/// The parts that the items of a tree refer to by number, and the definitions.
 #[derive(Debug, Drop)]
 pub struct BlockParts<'a> {
-    /// Link labels with what they define, in the order of the source.
+    /// Link labels with their reference definitions, in the order of the source.
     pub definitions: Vec<(CowStr<'a>, LinkDef<'a>)>,
-    /// The names of the footnotes that are defined.
+    /// The names of the defined footnotes.
     pub footnotes: Vec<CowStr<'a>>,
-    /// The texts that a `CowIndex` names.
+    /// The texts, by `CowIndex`.
     pub cows: Vec<CowStr<'a>>,
-    /// The alignments that an `AlignmentIndex` names.
+    /// The alignments of tables, by `AlignmentIndex`.
     pub alignments: Vec<Vec<Alignment>>,
-    /// The attributes that a `HeadingIndex` names.
+    /// The attributes of headings, by `HeadingIndex`.
     pub headings: Vec<HeadingAttributes<'a>>,
 }

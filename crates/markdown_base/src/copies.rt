@@ -1,5 +1,5 @@
-//! Copies of what an event or a definition holds, and forms of it that are borrowed from nothing. Slices of the source
-//! are copied as slices.
+//! Copies of the parts of events and definitions, and forms of them that do not borrow from the source. Slices of the
+//! source are copied as slices. The only error is `Fault::Memory`.
 ghost use Rattle.std.specs.Prelude.{◌≡◌, ◌≤◌, length, map, IfOk, IfErr, IfSome, IsOk};
 ghost use Rattle.std.specs.Option.{option_map};
 ghost use Rattle.markdown_base.specs.CowText.{text_of};
@@ -10,7 +10,7 @@ use crate::cow_str::CowStr;
 use crate::fault::Fault;
 use std::alloc::Global;
 
-/// The same text once more, where there is one.
+/// Returns a copy of a text, if there is one.
 pub fn clone_optional<'a>(
     text: &Option<CowStr<'a>>,
     alloc: Global,
@@ -25,7 +25,7 @@ pub fn clone_optional<'a>(
     }
 }
 
-/// The same text, borrowed from nothing, where there is one.
+/// Returns the same text without borrowing from the source, if there is one.
 pub fn static_optional(
     text: Option<CowStr<'_>>,
     alloc: Global,
@@ -40,7 +40,7 @@ pub fn static_optional(
     }
 }
 
-/// The same texts once more.
+/// Returns copies of texts.
 pub fn clone_texts<'a>(texts: &[CowStr<'a>], alloc: Global) -> Result<Vec<CowStr<'a>>, Fault>
     ensures same { IfOk result (λ copies. map text_of copies.items ≡ map text_of texts.now) }
     ensures refused { IfErr result (λ fault. fault ≡ Fault.Memory) }
@@ -52,7 +52,7 @@ pub fn clone_texts<'a>(texts: &[CowStr<'a>], alloc: Global) -> Result<Vec<CowStr
     Ok(copies)
 }
 
-/// The same texts, borrowed from nothing.
+/// Returns the same texts without borrowing from the source.
 pub fn static_texts(texts: Vec<CowStr<'_>>, alloc: Global) -> Result<Vec<CowStr<'static>>, Fault>
     ensures same { IfOk result (λ made. map text_of made.items ≡ map text_of texts.entry.items) }
     ensures refused { IfErr result (λ fault. fault ≡ Fault.Memory) }
@@ -64,7 +64,7 @@ pub fn static_texts(texts: Vec<CowStr<'_>>, alloc: Global) -> Result<Vec<CowStr<
     Ok(made)
 }
 
-/// A name with its value once more.
+/// Returns a copy of an attribute's name and value.
 fn clone_attribute<'a>(
     attribute: &(CowStr<'a>, Option<CowStr<'a>>),
     alloc: Global,
@@ -77,7 +77,7 @@ fn clone_attribute<'a>(
     Ok((name, value))
 }
 
-/// A name with its value, borrowed from nothing.
+/// Returns the same attribute without borrowing from the source.
 fn static_attribute(
     attribute: (CowStr<'_>, Option<CowStr<'_>>),
     alloc: Global,
@@ -90,7 +90,7 @@ fn static_attribute(
     Ok((name, value))
 }
 
-/// The same names with their values once more.
+/// Returns copies of attributes.
 pub fn clone_attributes<'a>(
     attributes: &[(CowStr<'a>, Option<CowStr<'a>>)],
     alloc: Global,
@@ -105,7 +105,7 @@ pub fn clone_attributes<'a>(
     Ok(copies)
 }
 
-/// The same names with their values, borrowed from nothing.
+/// Returns the same attributes without borrowing from the source.
 pub fn static_attributes(
     attributes: Vec<(CowStr<'_>, Option<CowStr<'_>>)>,
     alloc: Global,

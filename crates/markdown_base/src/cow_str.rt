@@ -1,4 +1,4 @@
-//! A text that is boxed, borrowed from the source, or short and held in place.
+//! Texts that are boxed, borrowed from the source, or short and stored inline.
 ghost use Rattle.std.specs.Prelude.{◌≡◌, ◌<◌, ◌≤◌, length, IfOk, IsOk, IsOkAnd, Some, nat_eq, encode_utf8};
 ghost use Rattle.std.specs.Prelude.{string_bytes};
 ghost use Rattle.std.specs.Str.{bytes_eq};
@@ -17,21 +17,21 @@ use std::fmt;
 use std::hash::{Hash, Hasher};
 use std::ops::DerefStr;
 
-/// A text. Two are equal, and hash alike, where their texts are equal, whatever their forms.
+/// A text in one of three forms. Equality and hashing depend on the text only, not on its form.
 #[derive(Drop)]
 pub enum CowStr<'a> {
     /// Owned, on the heap.
     Boxed(BoxedStr),
     /// A slice of the source.
     Borrowed(&'a str),
-    /// At most 22 bytes, held in place.
+    /// At most 22 bytes, stored inline.
     Inlined(InlineStr),
 }
 
 impl<'a> CowStr<'a> {
     ghost use Rattle.markdown_base.specs.CowText.{text_of, IsBorrowed, IsBoxed};
 
-    /// The text.
+    /// Returns the text.
     pub fn as_str(&self) -> &str
         ensures { result.now ≡ text_of self.now }
     {
@@ -42,7 +42,8 @@ impl<'a> CowStr<'a> {
         }
     }
 
-    /// A text of its own: in place where it is short enough, else on the heap.
+    /// Returns an owned copy of a text, stored inline if it has at most 22 bytes, and otherwise on the heap. The error
+    /// is a refused allocation.
     fn owned<'b>(alloc: Global, text: &str) -> Result<CowStr<'b>, AllocError>
         ensures text { IfOk result (λ made. text_of made ≡ text.now) }
         ensures short { length text.now ≤ 22 → IsOk result }
@@ -53,8 +54,8 @@ impl<'a> CowStr<'a> {
         }
     }
 
-    /// The same text once more. A slice of the source stays one and takes no memory, nor does a text of at most
-    /// 22 bytes.
+    /// Returns a copy. A slice of the source is copied as a slice, and only boxed texts of more than 22 bytes allocate
+    /// memory. The error is a refused allocation.
     pub fn try_clone(&self, alloc: Global) -> Result<CowStr<'a>, AllocError>
         ensures text { IfOk result (λ copy. text_of copy ≡ text_of self.now) }
         ensures borrowed { IsBorrowed self.now → IsOkAnd result IsBorrowed }
@@ -67,8 +68,8 @@ impl<'a> CowStr<'a> {
         }
     }
 
-    /// The same text, borrowed from nothing. A boxed text stays so and takes no memory, nor does a text of at most
-    /// 22 bytes.
+    /// Returns the same text without borrowing from the source. A boxed text keeps its allocation, and only slices of
+    /// more than 22 bytes allocate memory. The error is a refused allocation.
     pub fn into_static(self, alloc: Global) -> Result<CowStr<'static>, AllocError>
         ensures text { IfOk result (λ made. text_of made ≡ text_of self.entry) }
         ensures boxed { IsBoxed self.entry → IsOkAnd result IsBoxed }
@@ -81,7 +82,8 @@ impl<'a> CowStr<'a> {
         }
     }
 
-    /// The text as a `String`. A boxed one takes no memory.
+    /// Returns the text as a `String`. A boxed text keeps its allocation; other texts are copied. The error is a
+    /// refused allocation.
     pub fn into_string(self, alloc: Global) -> Result<String, AllocError>
         ensures text { IfOk result (λ made. string_bytes made ≡ text_of self.entry) }
         ensures boxed { IsBoxed self.entry → IsOk result }

@@ -1,4 +1,4 @@
-//! What a document is read as.
+//! The events that a document is read as.
 ghost use Rattle.std.specs.Prelude.{◌≡◌, IfOk, IfErr};
 ghost use Rattle.markdown_base.specs.Event.{event_view};
 ghost use Rattle.markdown_base.specs.declared.fault.Fault.{Fault};
@@ -8,7 +8,7 @@ use crate::fault::Fault;
 use crate::tag::{Tag, TagEnd};
 use std::alloc::Global;
 
-/// A step of a document's reading, in preorder.
+/// A step of a document's traversal in preorder.
 #[derive(Debug, PartialEq, Drop)]
 pub enum Event<'a> {
     Start(Tag<'a>),
@@ -22,20 +22,20 @@ pub enum Event<'a> {
     Html(CowStr<'a>),
     /// Raw HTML in a paragraph (CommonMark 6.6).
     InlineHtml(CowStr<'a>),
-    /// A footnote's name where it is referred to.
+    /// A footnote reference: the footnote's name.
     FootnoteReference(CowStr<'a>),
-    /// CommonMark 6.8.
+    /// A soft line break (CommonMark 6.8).
     SoftBreak,
-    /// CommonMark 6.7.
+    /// A hard line break (CommonMark 6.7).
     HardBreak,
     /// A thematic break (CommonMark 4.1).
     Rule,
-    /// Whether the task is done.
+    /// The marker of a task list item: whether the task is done.
     TaskListMarker(bool),
 }
 
 impl<'a> Event<'a> {
-    /// The same event once more. Slices of the source stay such. The only error is `Fault::Memory`.
+    /// Returns a copy of the event. Slices of the source are copied as slices. The only error is `Fault::Memory`.
     pub fn try_clone(&self, alloc: Global) -> Result<Event<'a>, Fault>
         ensures same { IfOk result (λ copy. event_view copy ≡ event_view self.now) }
         ensures refused { IfErr result (λ fault. fault ≡ Fault.Memory) }
@@ -57,8 +57,8 @@ impl<'a> Event<'a> {
         })
     }
 
-    /// The same event, borrowed from nothing, so that it can outlive the text. The only error is `Fault::Memory`; then
-    /// the event is gone.
+    /// Returns the same event without borrowing from the source, so that it can outlive the source. The only error is
+    /// `Fault::Memory`, in which case the event is dropped.
     pub fn into_static(self, alloc: Global) -> Result<Event<'static>, Fault>
         ensures same { IfOk result (λ made. event_view made ≡ event_view self.entry) }
         ensures refused { IfErr result (λ fault. fault ≡ Fault.Memory) }

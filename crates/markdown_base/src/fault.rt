@@ -1,20 +1,20 @@
-//! Why a call of the library gave no value.
+//! The errors that the library's functions return.
 ghost use Rattle.std.specs.Prelude.{◌≡◌};
 
 use std::alloc::{AllocError, AllocFailed};
 use std::error::Error;
 use std::fmt;
 
-/// Why a call gave no value.
+/// Why a call failed.
 #[derive(Debug, Clone, Copy, PartialEq, Eq, Drop)]
 pub enum Fault {
     /// An allocation was refused.
     Memory,
-    /// A block result that is not well formed was handed in. It breaks one of nine rules: each node is reached
-    /// once, ranges lie in the text, inline items stand in order, chains are kept, nothing is resolved, markup
-    /// is there, runs are whole, parts are named, blocks are settled.
+    /// The given block result is not well formed. It breaks one of nine rules: each node is reached once, ranges lie in
+    /// the text, inline items are in order, chains are kept, nothing is resolved, markup is there, delimiter runs are
+    /// whole, parts are named, blocks are settled.
     Blocks,
-    /// More starts are open in one image's alt text than a counter holds.
+    /// More than 2^64 - 1 `Start` events are open in one image's alt text.
     Depth,
 }
 

@@ -1,13 +1,13 @@
-//! A short text that is held in place.
+//! Short texts that are stored inline.
 ghost use Rattle.std.specs.Prelude.{◌≡◌, ◌<◌, ◌≤◌, length, take, MatchOption, IfSome, encode_utf8};
 ghost use Rattle.std.specs.Str.{IsUtf8};
 
 use std::str::from_utf8_unchecked;
 
-/// The most bytes that an `InlineStr` holds.
+/// The maximum length of an `InlineStr` in bytes.
 pub const MAX_INLINE_STR_LEN: usize = 22;
 
-/// At most 22 bytes of text, held in place.
+/// A text of at most 22 bytes, stored inline.
 #[derive(Clone, Copy)]
 pub struct InlineStr {
     bytes: [u8; MAX_INLINE_STR_LEN],
@@ -19,7 +19,7 @@ pub struct InlineStr {
 impl InlineStr {
     ghost use Rattle.markdown_base.specs.InlineText.{inline_text};
 
-    /// A copy of a text of at most 22 bytes; of a longer one there is none.
+    /// Returns a copy of a text, or `None` if it has more than 22 bytes.
     pub fn new(text: &str) -> Option<InlineStr>
         ensures { MatchOption result (22 < length text.now) (λ held. (inline_text held ≡ text.now)
             × (length text.now ≤ 22)) }
@@ -36,7 +36,7 @@ impl InlineStr {
         })
     }
 
-    /// The text.
+    /// Returns the text.
     pub fn as_str(&self) -> &str
         ensures { result.now ≡ inline_text self.now }
     {
@@ -49,7 +49,7 @@ impl From<char> for InlineStr {
 
     ghost from_gives = { λ c held. inline_text held ≡ encode_utf8 c };
 
-    /// The character in UTF-8, at most four bytes.
+    /// Returns the text of a character, at most four bytes of UTF-8.
     fn from(c: char) -> InlineStr {
         let mut buffer = [0; 4];
         let text = c.encode_utf8(&mut buffer);

@@ -1,25 +1,25 @@
-//! What the block pass makes of a text: items, each over a range of bytes.
+//! The items that the block pass makes of a text, each with its source range.
 use crate::index::{AlignmentIndex, CowIndex, HeadingIndex, LinkIndex};
 use crate::tag::{BlockQuoteKind, HeadingLevel, MetadataBlockKind};
 
-/// What an item is. The eight `Maybe` bodies from `MaybeEmphasis` to `MaybeImage` are open: whether
-/// they are markup is decided when their chain is resolved.
+/// The kind of an item. The eight bodies from `MaybeEmphasis` to `MaybeImage` are open: whether they are markup is
+/// decided when their chain is resolved.
 #[derive(Clone, Copy, Debug, PartialEq, Eq, Drop)]
 pub enum ItemBody {
-    /// A character of a delimiter run: the characters from here to the run's end, whether the run
-    /// can open, whether it can close.
+    /// A character of a delimiter run: the number of characters from this one to the run's end, whether the run can
+    /// open, whether it can close.
     MaybeEmphasis(usize, bool, bool),
     /// A `$`: whether it can open, whether it can close, its brace context.
     MaybeMath(bool, bool, u8),
-    /// A quote: its byte, whether it can open, whether it can close.
+    /// A quotation mark: its byte, whether it can open, whether it can close.
     MaybeSmartQuote(u8, bool, bool),
-    /// Backticks: how many, whether a backslash stands before them.
+    /// A run of backticks: its length, whether a backslash precedes it.
     MaybeCode(usize, bool),
     /// A `<`.
     MaybeHtml,
     /// A `[`.
     MaybeLinkOpen,
-    /// A `]`: whether what it closes could be a reference.
+    /// A `]`: whether the brackets that it closes could be a reference.
     MaybeLinkClose(bool),
     /// A `![`.
     MaybeImage,
@@ -34,7 +34,7 @@ pub enum ItemBody {
     Link(LinkIndex),
     Image(LinkIndex),
     FootnoteReference(CowIndex),
-    /// Whether the task is done.
+    /// The marker of a task list item: whether the task is done.
     TaskListMarker(bool),
     InlineHtml,
     OwnedInlineHtml(CowIndex),
@@ -43,12 +43,12 @@ pub enum ItemBody {
     Html,
     Text { backslash_escaped: bool },
     SoftBreak,
-    /// Whether a backslash makes it.
+    /// A hard line break: whether it is written with a backslash.
     HardBreak(bool),
-    /// The node above all others.
+    /// The tree's root.
     Root,
     Paragraph,
-    /// A paragraph of a tight list, which gives no event of its own.
+    /// A paragraph of a tight list, which has no events of its own.
     TightParagraph,
     Rule,
     Heading(HeadingLevel, Option<HeadingIndex>),
@@ -59,17 +59,17 @@ pub enum ItemBody {
     BlockQuote(Option<BlockQuoteKind>),
     /// A list: whether it is tight, its marker's character, its first number.
     List(bool, u8, u64),
-    /// A list item: the columns that its content is indented by.
+    /// A list item: the indentation of its content in columns.
     ListItem(usize),
     /// A footnote definition: its name.
     FootnoteDefinition(CowIndex),
     MetadataBlock(MetadataBlockKind),
-    /// Whether it is tight.
+    /// A definition list: whether it is tight.
     DefinitionList(bool),
-    /// A block that the block pass has not decided upon.
+    /// A block whose kind the block pass has not decided.
     MaybeDefinitionListTitle,
     DefinitionListTitle,
-    /// The columns that its content is indented by.
+    /// A definition: the indentation of its content in columns.
     DefinitionListDefinition(usize),
     /// A table: its alignments.
     Table(AlignmentIndex),
@@ -78,7 +78,7 @@ pub enum ItemBody {
     TableCell,
 }
 
-/// A body over the bytes from `start` up to `end`.
+/// A body with its source range: the bytes from `start` up to, but not including, `end`.
 #[derive(Clone, Copy, Debug, PartialEq, Eq, Drop)]
 pub struct Item {
     pub start: usize,
@@ -92,8 +92,8 @@ impl ItemBody {
     ghost use Rattle.markdown_base.specs.Item.{is_open, is_inline, is_childless, is_resolved, is_block, is_table_cell};
     ghost use Rattle.markdown_base.specs.Item.{is_tight_paragraph, is_unplaced, text_named, alignments_named, attributes_named};
 
-    /// Whether its meaning is decided when its chain is resolved: one of the eight `Maybe` bodies from
-    /// `MaybeEmphasis` to `MaybeImage`.
+    /// Returns whether the body is open: one of the eight bodies from `MaybeEmphasis` to `MaybeImage`, whose meaning is
+    /// decided when their chain is resolved.
     pub fn is_open(self) -> bool
         ensures { result ≡ is_open self }
     {
@@ -110,7 +110,7 @@ impl ItemBody {
         }
     }
 
-    /// Whether it is inline: open, or settled by the block pass.
+    /// Returns whether the body is inline: open, or settled by the block pass.
     pub fn is_inline(self) -> bool
         ensures { result ≡ is_inline self }
     {
@@ -128,7 +128,7 @@ impl ItemBody {
         }
     }
 
-    /// Whether it has no children.
+    /// Returns whether the body can have no children: it is inline, or a thematic break.
     pub fn is_childless(self) -> bool
         ensures { result ≡ is_childless self }
     {
@@ -138,7 +138,7 @@ impl ItemBody {
         }
     }
 
-    /// Whether it is what an open item becomes.
+    /// Returns whether the body is one that open items are resolved to.
     pub fn is_resolved(self) -> bool
         ensures { result ≡ is_resolved self }
     {
@@ -157,21 +157,21 @@ impl ItemBody {
         }
     }
 
-    /// Whether it is a block: not inline, and not what an inline item becomes.
+    /// Returns whether the body is a block: neither inline nor resolved.
     pub fn is_block(self) -> bool
         ensures { result ≡ is_block self }
     {
         !(self.is_inline() || self.is_resolved())
     }
 
-    /// Whether it is a cell of a table.
+    /// Returns whether the body is a table's cell.
     pub fn is_table_cell(self) -> bool
         ensures { result ≡ is_table_cell self }
     {
         matches!(self, ItemBody::TableCell)
     }
 
-    /// Whether it is a paragraph of a tight list.
+    /// Returns whether the body is a paragraph of a tight list.
     pub fn is_tight_paragraph(self) -> bool
         ensures { result ≡ is_tight_paragraph self }
     {
@@ -181,7 +181,7 @@ impl ItemBody {
         }
     }
 
-    /// Whether it stands at the top alone, or for a block that is not decided upon.
+    /// Returns whether the body is the root, or a block whose kind is not decided.
     pub fn is_unplaced(self) -> bool
         ensures { result ≡ is_unplaced self }
     {
@@ -191,7 +191,7 @@ impl ItemBody {
         }
     }
 
-    /// The number of the heading attributes that it names.
+    /// Returns the number of the heading attributes that the body refers to.
     pub fn attributes_named(self) -> Option<HeadingIndex>
         ensures { option_map (λ ix. ix.0) result ≡ attributes_named self }
     {
@@ -201,7 +201,7 @@ impl ItemBody {
         }
     }
 
-    /// The number of the text that it names.
+    /// Returns the number of the text that the body refers to.
     pub fn text_named(self) -> Option<CowIndex>
         ensures { option_map (λ ix. ix.0) result ≡ text_named self }
     {
@@ -217,7 +217,7 @@ impl ItemBody {
         }
     }
 
-    /// The number of the alignments that it names.
+    /// Returns the number of the alignments that the body refers to.
     pub fn alignments_named(self) -> Option<AlignmentIndex>
         ensures { option_map (λ ix. ix.0) result ≡ alignments_named self }
     {

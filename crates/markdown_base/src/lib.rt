@@ -1,5 +1,5 @@
-//! The types that every layer of the inline engine speaks of: texts, events, items, options and the
-//! tree of items, with the definitions (in `specs/`) that the contracts above cite.
+//! The types that every layer of the inline engine uses: texts, events, items, options and the tree of items. The
+//! definitions that contracts cite, here and in higher crates, are in `specs/`.
 #![tactic(auto)]
 
 pub mod block_parts;

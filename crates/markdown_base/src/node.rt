@@ -1,4 +1,4 @@
-//! A node of a tree, as contracts speak of it.
+//! The nodes of a tree as contracts describe them.
 
 /// An item with the numbers of its first child and its next sibling.
 #[derive(Debug, Drop)]

@@ -1,4 +1,4 @@
-//! What the parser reads beyond CommonMark.
+//! Extensions of CommonMark, as a set of options.
 ghost use Rattle.std.specs.Prelude.{⊤, [], ◌∷◌, codes};
 
 use bitflags::{Flag, Flags, bitflag_items};
@@ -9,30 +9,32 @@ pub struct Options(u32);
 
 bitflag_items! {
     impl Options: u32 {
-        /// Tables. No table is made of a text yet: this changes nothing.
+        /// Tables. The block pass makes none yet, so this has no effect.
         const ENABLE_TABLES = 1 << 1;
-        /// Footnotes: definitions `[^name]: ..` and references `[^name]`. A name that is defined nowhere stays text.
+        /// Footnotes: definitions `[^name]: ..` and references `[^name]`. A reference to an undefined name remains
+        /// text.
         const ENABLE_FOOTNOTES = 1 << 2;
         /// Strikethrough, `~text~` or `~~text~~`.
         const ENABLE_STRIKETHROUGH = 1 << 3;
-        /// List items that begin with `[ ]` or `[x]`. No such mark is made of a text yet: this changes nothing.
+        /// List items that begin with `[ ]` or `[x]`. The block pass makes no such markers yet, so this has no effect.
         const ENABLE_TASKLISTS = 1 << 4;
-        /// Quotation marks that curl. Dashes and dots stay as they are.
+        /// Curly quotation marks. Dashes and dots remain as they are written.
         const ENABLE_SMART_PUNCTUATION = 1 << 5;
-        /// An id, classes and attributes in braces behind a heading. None are made of a text yet: this changes nothing.
+        /// An id, classes and attributes in braces after a heading. The block pass makes none yet, so this has no
+        /// effect.
         const ENABLE_HEADING_ATTRIBUTES = 1 << 6;
-        /// Metadata between lines of `---`. No such block is made of a text yet: this changes nothing.
+        /// Metadata between lines of `---`. The block pass makes no such blocks yet, so this has no effect.
         const ENABLE_YAML_STYLE_METADATA_BLOCKS = 1 << 7;
-        /// Metadata between lines of `+++`. No such block is made of a text yet: this changes nothing.
+        /// Metadata between lines of `+++`. The block pass makes no such blocks yet, so this has no effect.
         const ENABLE_PLUSES_DELIMITED_METADATA_BLOCKS = 1 << 8;
-        /// Footnotes of the older style, in which a name that is defined nowhere is a reference too. It has the bit of
-        /// `ENABLE_FOOTNOTES` with its own.
+        /// Footnotes of the old style, in which a reference needs no definition. Includes the bit of
+        /// `ENABLE_FOOTNOTES`.
         const ENABLE_OLD_FOOTNOTES = (1 << 9) | (1 << 2);
         /// Math, `$text$`, and display math, `$$text$$`.
         const ENABLE_MATH = 1 << 10;
-        /// The kinds of block quotes that GitHub has, as `[!NOTE]`. None are made of a text yet: this changes nothing.
+        /// GitHub's kinds of block quotes, such as `[!NOTE]`. The block pass makes none yet, so this has no effect.
         const ENABLE_GFM = 1 << 11;
-        /// Definition lists. None are made of a text yet: this changes nothing.
+        /// Definition lists. The block pass makes none yet, so this has no effect.
         const ENABLE_DEFINITION_LIST = 1 << 12;
         /// Superscript, `^text^`.
         const ENABLE_SUPERSCRIPT = 1 << 13;
@@ -43,26 +45,26 @@ bitflag_items! {
     }
 }
 
-/// The calls of `Flags` that callers need most, so that they need not import it.
+/// The functions of `Flags` that callers need most, so that they need not import the trait.
 impl Options {
     ghost use Rattle.std.specs.Prelude.{◌≡◌};
     ghost use Rattle.markdown_base.specs.EnabledOptions.{both_options, is_on, no_options};
 
-    /// No option.
+    /// Returns the empty set.
     pub fn empty() -> Options
         ensures { result ≡ no_options }
     {
         Options(0)
     }
 
-    /// Whether all bits of another set are in this one.
+    /// Returns whether this set contains all bits of another set.
     pub fn contains(&self, other: Options) -> bool
         ensures { result ≡ is_on other self.now }
     {
         Flags::contains(self, other)
     }
 
-    /// The options of both sets.
+    /// Returns the options of both sets.
     pub fn union(self, other: Options) -> Options
         ensures { result ≡ both_options self other }
     {

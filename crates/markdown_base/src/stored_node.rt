@@ -1,15 +1,15 @@
-//! A node as a tree stores it: a link takes the bytes of one number, half of what an `Option<usize>` takes.
+//! Nodes as a tree stores them: a link has the size of one `usize`, half that of an `Option<usize>`.
 ghost use Rattle.std.specs.Prelude.{◌≡◌, ◌<◌, ◌^◌, IfSome};
 ghost use Rattle.markdown_base.specs.StoredNodes.{target_of};
 
-/// To the node of a number, which is one less, or nowhere: 0.
+/// A link to a node, stored as the node's number plus one; 0 leads to no node.
 #[derive(Clone, Copy, Drop)]
 pub struct Link {
     past: usize,
 }
 
 impl Link {
-    /// The link that leads to a node, or nowhere.
+    /// Returns the link to a node, or to none.
     pub fn to(target: Option<usize>) -> Link
         requires { IfSome target (λ ix. ix < 2 ^ 63) }
         ensures { target_of result ≡ target }
@@ -20,7 +20,7 @@ impl Link {
         }
     }
 
-    /// The node that it leads to.
+    /// Returns the number of the node that the link leads to, if any.
     pub fn target(self) -> Option<usize>
         ensures { result ≡ target_of self }
     {

@@ -1,4 +1,4 @@
-//! What an event opens and closes.
+//! Tags: what `Start` events open and `End` events close.
 ghost use Rattle.std.specs.Prelude.{◌≡◌, IfOk, IfErr};
 ghost use Rattle.markdown_base.specs.Event.{code_block_view, tag_view};
 ghost use Rattle.markdown_base.specs.declared.fault.Fault.{Fault};
@@ -13,22 +13,22 @@ use std::convert::TryFrom;
 use std::error::Error;
 use std::fmt;
 
-/// How a link or an image was written (CommonMark 6.3, 6.5).
+/// How a link or an image was written (CommonMark 6.3 to 6.5).
 #[derive(Clone, Copy, Debug, PartialEq, Eq, Drop)]
 pub enum LinkType {
     /// `[text](destination)`
     Inline,
     /// `[text][label]`
     Reference,
-    /// `[text][label]`, whose label a callback knew
+    /// `[text][label]`, where a callback resolved the label
     ReferenceUnknown,
     /// `[text][]`
     Collapsed,
-    /// `[text][]`, whose label a callback knew
+    /// `[text][]`, where a callback resolved the label
     CollapsedUnknown,
     /// `[text]`
     Shortcut,
-    /// `[text]`, whose label a callback knew
+    /// `[text]`, where a callback resolved the label
     ShortcutUnknown,
     /// `<scheme:rest>`
     Autolink,
@@ -49,7 +49,7 @@ pub enum HeadingLevel {
     H6,
 }
 
-/// A number that is no heading's level.
+/// The error that holds a number that is no heading level.
 #[derive(Clone, Copy, Debug, PartialEq, Eq, Drop)]
 pub struct InvalidHeadingLevel(pub usize);
 
@@ -99,7 +99,7 @@ impl fmt::Display for HeadingLevel {
     }
 }
 
-/// A block quote's kind, as GFM's alerts name it.
+/// The kind of a block quote, named as in GFM's alerts.
 #[derive(Clone, Copy, Debug, PartialEq, Eq, Drop)]
 pub enum BlockQuoteKind {
     Note,
@@ -109,7 +109,7 @@ pub enum BlockQuoteKind {
     Caution,
 }
 
-/// How a metadata block is fenced.
+/// The style of a metadata block's fences.
 #[derive(Clone, Copy, Debug, PartialEq, Eq, Drop)]
 pub enum MetadataBlockKind {
     /// `---`
@@ -118,7 +118,7 @@ pub enum MetadataBlockKind {
     PlusesStyle,
 }
 
-/// How a table's column is aligned.
+/// The alignment of a table's column.
 #[derive(Clone, Copy, Debug, PartialEq, Eq, Drop)]
 pub enum Alignment {
     None,
@@ -135,7 +135,7 @@ pub enum CodeBlockKind<'a> {
 }
 
 impl<'a> CodeBlockKind<'a> {
-    /// The same kind once more. The only error is `Fault::Memory`.
+    /// Returns a copy of the kind. A slice of the source is copied as a slice. The only error is `Fault::Memory`.
     pub fn try_clone(&self, alloc: Global) -> Result<CodeBlockKind<'a>, Fault>
         ensures same { IfOk result (λ copy. code_block_view copy ≡ code_block_view self.now) }
         ensures refused { IfErr result (λ fault. fault ≡ Fault.Memory) }
@@ -146,7 +146,8 @@ impl<'a> CodeBlockKind<'a> {
         }
     }
 
-    /// The same kind, borrowed from nothing. The only error is `Fault::Memory`; then the kind is gone.
+    /// Returns the same kind without borrowing from the source. The only error is `Fault::Memory`, in which case the
+    /// kind is dropped.
     pub fn into_static(self, alloc: Global) -> Result<CodeBlockKind<'static>, Fault>
         ensures same { IfOk result (λ made. code_block_view made ≡ code_block_view self.entry) }
         ensures refused { IfErr result (λ fault. fault ≡ Fault.Memory) }
@@ -158,7 +159,7 @@ impl<'a> CodeBlockKind<'a> {
     }
 }
 
-/// What a Start opens.
+/// What a `Start` event opens.
 #[derive(Debug, PartialEq, Drop)]
 pub enum Tag<'a> {
     Paragraph,
@@ -166,13 +167,13 @@ pub enum Tag<'a> {
         level: HeadingLevel,
         id: Option<CowStr<'a>>,
         classes: Vec<CowStr<'a>>,
-        /// Names, each with its value where there is one.
+        /// Names, each with its value if it has one.
         attrs: Vec<(CowStr<'a>, Option<CowStr<'a>>)>,
     },
     BlockQuote(Option<BlockQuoteKind>),
     CodeBlock(CodeBlockKind<'a>),
     HtmlBlock,
-    /// An ordered list's first number; a bullet list has none.
+    /// A list: the first number of an ordered list, `None` for a bullet list.
     List(Option<u64>),
     Item,
     FootnoteDefinition(CowStr<'a>),
@@ -206,7 +207,7 @@ pub enum Tag<'a> {
     MetadataBlock(MetadataBlockKind),
 }
 
-/// What an End closes.
+/// What an `End` event closes.
 #[derive(Clone, Copy, Debug, PartialEq, Eq, Drop)]
 pub enum TagEnd {
     Paragraph,
@@ -214,7 +215,7 @@ pub enum TagEnd {
     BlockQuote(Option<BlockQuoteKind>),
     CodeBlock,
     HtmlBlock,
-    /// Whether the list is ordered.
+    /// A list: whether it is ordered.
     List(bool),
     Item,
     FootnoteDefinition,
@@ -238,7 +239,7 @@ pub enum TagEnd {
 impl<'a> Tag<'a> {
     ghost use Rattle.markdown_base.specs.Event.{end_of};
 
-    /// The End that belongs to this Start.
+    /// Returns what the `End` event of this tag closes.
     pub fn to_end(&self) -> TagEnd
         ensures { result ≡ end_of (tag_view self.now) }
     {
@@ -269,7 +270,7 @@ impl<'a> Tag<'a> {
         }
     }
 
-    /// The same tag once more. Slices of the source stay such. The only error is `Fault::Memory`.
+    /// Returns a copy of the tag. Slices of the source are copied as slices. The only error is `Fault::Memory`.
     pub fn try_clone(&self, alloc: Global) -> Result<Tag<'a>, Fault>
         ensures same { IfOk result (λ copy. tag_view copy ≡ tag_view self.now) }
         ensures refused { IfErr result (λ fault. fault ≡ Fault.Memory) }
@@ -331,7 +332,8 @@ impl<'a> Tag<'a> {
         })
     }
 
-    /// The same tag, borrowed from nothing. The only error is `Fault::Memory`; then the tag is gone.
+    /// Returns the same tag without borrowing from the source. The only error is `Fault::Memory`, in which case the tag
+    /// is dropped.
     pub fn into_static(self, alloc: Global) -> Result<Tag<'static>, Fault>
         ensures same { IfOk result (λ made. tag_view made ≡ tag_view self.entry) }
         ensures refused { IfErr result (λ fault. fault ≡ Fault.Memory) }

@@ -1,4 +1,4 @@
-//! A tree of items: nodes by number, with a cursor that goes into nodes and out of them.
+//! A tree of items: an arena of numbered nodes, with a cursor that enters and leaves nodes.
 ghost use Rattle.std.specs.Prelude.{◌≡◌, ℕ, ◌<◌, ◌^◌, ◌++◌, ◌∷◌, [], length, slice_index_or, MatchOption, MatchResult};
 ghost use Rattle.std.specs.Prelude.{IfOk, IfSome, OnErr};
 ghost use Rattle.markdown_base.specs.Arena.{items_of, child_of, sibling_of, innermost, single, changed_at, follower};
@@ -10,7 +10,7 @@ use crate::stored_node::{Link, StoredNode};
 use std::alloc::{AllocError, Global};
 use std::marker::Model;
 
-/// Nodes by number, from the root, node 0, on. New nodes are put where the cursor stands.
+/// An arena of nodes, numbered from the root, which is node 0. Nodes are appended at the cursor.
 #[derive(Drop)]
 pub struct Tree<T> {
     nodes: Vec<StoredNode<T>>,
@@ -35,7 +35,8 @@ impl<T> Model for Tree<T> {
 }
 
 impl Tree<Item> {
-    /// A root alone, which is gone into: the first node appended is its first child.
+    /// Returns a tree with the root only; the first node appended becomes its first child. The error is a refused
+    /// allocation.
     pub fn new(alloc: Global) -> Result<Tree<Item>, AllocError>
         ensures { IfOk result (λ made. made
             ≡ record {
@@ -65,7 +66,7 @@ impl Tree<Item> {
 }
 
 impl<T: Drop> Tree<T> {
-    /// How many nodes there are, with the root.
+    /// Returns the number of nodes, including the root.
     pub fn len(&self) -> usize
         ensures count { result ≡ length self.now.nodes }
         ensures rooted { 0 < result }
@@ -74,7 +75,7 @@ impl<T: Drop> Tree<T> {
         self.nodes.len()
     }
 
-    /// The node in focus.
+    /// Returns the node at the cursor, if any.
     pub fn cur(&self) -> Option<usize>
         ensures value { result ≡ self.now.cursor }
         ensures within { IfSome result (λ ix. ix < length self.now.nodes) }
@@ -82,7 +83,7 @@ impl<T: Drop> Tree<T> {
         self.cur
     }
 
-    /// The item of a node.
+    /// Returns the item of a node.
     pub fn item(&self, ix: usize) -> &T
         requires { ix < length self.now.nodes }
         ensures { (d : T) → result.now ≡ slice_index_or (items_of self.now.nodes) ix d }
@@ -90,7 +91,7 @@ impl<T: Drop> Tree<T> {
         &self.nodes[ix].item
     }
 
-    /// The first child of a node.
+    /// Returns the first child of a node, if any.
     pub fn child(&self, ix: usize) -> Option<usize>
         requires { ix < length self.now.nodes }
         ensures value { result ≡ child_of self.now.nodes ix }
@@ -99,7 +100,7 @@ impl<T: Drop> Tree<T> {
         self.nodes[ix].child.target()
     }
 
-    /// The next sibling of a node.
+    /// Returns the next sibling of a node, if any.
     pub fn next(&self, ix: usize) -> Option<usize>
         requires { ix < length self.now.nodes }
         ensures value { result ≡ sibling_of self.now.nodes ix }
@@ -108,7 +109,7 @@ impl<T: Drop> Tree<T> {
         self.nodes[ix].next.target()
     }
 
-    /// The node gone into last.
+    /// Returns the node entered last, if any.
     pub fn peek_up(&self) -> Option<usize>
         ensures value { MatchOption result (self.now.spine ≡ []) (λ ix. (outer : _)
             × (self.now.spine ≡ outer ++ ix ∷ [])) }
@@ -117,14 +118,14 @@ impl<T: Drop> Tree<T> {
         self.spine.last().copied()
     }
 
-    /// The nodes gone into, the outermost first.
+    /// Returns the nodes that were entered, the outermost first.
     pub fn walk_spine(&self) -> &[usize]
         ensures { result.now ≡ self.now.spine }
     {
         &self.spine
     }
 
-    /// Puts an item in place of that of a node.
+    /// Replaces the item of a node.
     pub fn set_item(&mut self, ix: usize, item: T)
         requires { ix < length self.old.nodes }
         ensures { self.new ≡ record self.old { nodes = changed_at ix (λ n. record n { item = item }) self.old.nodes } }
@@ -132,30 +133,31 @@ impl<T: Drop> Tree<T> {
         self.nodes[ix].item = item;
     }
 
-    /// Lets a node's first child be another.
+    /// Sets the first child of a node.
     pub fn set_child(&mut self, ix: usize, child: Option<usize>)
         requires node { ix < length self.old.nodes }
         requires child { IfSome child (λ below. below < length self.old.nodes) }
         ensures { self.new
             ≡ record self.old { nodes = changed_at ix (λ n. record n { child = child }) self.old.nodes } }
     {
-        // a link holds any number that a node has
+        // a link can hold the number of any node
         let _nodes = self.len();
         self.nodes[ix].child = Link::to(child);
     }
 
-    /// Lets a node's next sibling be another.
+    /// Sets the next sibling of a node.
     pub fn set_next(&mut self, ix: usize, next: Option<usize>)
         requires node { ix < length self.old.nodes }
         requires next { IfSome next (λ after. after < length self.old.nodes) }
         ensures { self.new ≡ record self.old { nodes = changed_at ix (λ n. record n { next = next }) self.old.nodes } }
     {
-        // a link holds any number that a node has
+        // a link can hold the number of any node
         let _nodes = self.len();
         self.nodes[ix].next = Link::to(next);
     }
 
-    /// A new node without children, before a node that is there or none.
+    /// Adds a node without children, followed by the given node if any, and returns its number. After a refused
+    /// allocation the tree is unchanged.
     fn add_node(&mut self, item: T, next: Option<usize>) -> Result<usize, AllocError>
         requires { IfSome next (λ after. after < length self.old.nodes) }
         ensures number { IfOk result (λ ix. ix ≡ length self.old.nodes) }
@@ -174,7 +176,7 @@ impl<T: Drop> Tree<T> {
         Ok(ix)
     }
 
-    /// A node of its own, to which nothing leads. After a refusal all is as before.
+    /// Adds a node that no link leads to, and returns its number. After a refused allocation the tree is unchanged.
     pub fn create_node(&mut self, item: T) -> Result<usize, AllocError>
         ensures number { IfOk result (λ ix. ix ≡ length self.old.nodes) }
         ensures made { IfOk result (λ _. self.new ≡ record self.old { nodes = self.old.nodes ++ single item ∷ [] }) }
@@ -183,7 +185,7 @@ impl<T: Drop> Tree<T> {
         self.add_node(item, None)
     }
 
-    /// The node gone into last, or the root.
+    /// Returns the node entered last, or the root.
     fn parent(&self) -> usize
         ensures value { result ≡ innermost self.now.spine }
         ensures within { result < length self.now.nodes }
@@ -196,7 +198,7 @@ impl<T: Drop> Tree<T> {
         }
     }
 
-    /// What stands where a new node would be put.
+    /// Returns the node that would follow a node appended now, if any.
     fn follower(&self) -> Option<usize>
         ensures value { result ≡ follower self.now.nodes self.now.spine self.now.cursor }
         ensures within { IfSome result (λ after. after < length self.now.nodes) }
@@ -207,7 +209,7 @@ impl<T: Drop> Tree<T> {
         }
     }
 
-    /// Lets the link at the cursor's place lead to a node.
+    /// Makes the link at the cursor's position lead to a node.
     fn lead_to(&mut self, ix: usize)
         requires { ix < length self.old.nodes }
         ensures { self.new ≡ record self.old { nodes = led_to ix self.old.spine self.old.cursor self.old.nodes } }
@@ -221,7 +223,7 @@ impl<T: Drop> Tree<T> {
         }
     }
 
-    /// Brings a node into focus.
+    /// Moves the cursor to a node.
     fn focus(&mut self, ix: usize)
         requires { ix < length self.old.nodes }
         ensures { self.new ≡ record self.old { cursor = Some ix } }
@@ -229,8 +231,9 @@ impl<T: Drop> Tree<T> {
         self.cur = Some(ix);
     }
 
-    /// A new node after the one in focus or, where there is none, first under the node gone into. What
-    /// stood there follows it, and it is in focus then. After a refusal all is as before.
+    /// Inserts a node after the one at the cursor or, where there is none, as the first child of the node entered last,
+    /// and returns its number. What was there follows the new node, and the cursor is at the new node. After a refused
+    /// allocation the tree is unchanged.
     pub fn append(&mut self, item: T) -> Result<usize, AllocError>
         ensures number { IfOk result (λ ix. ix ≡ length self.old.nodes) }
         ensures made { IfOk result (λ _. self.new ≡ appended self.old item) }
@@ -243,7 +246,8 @@ impl<T: Drop> Tree<T> {
         Ok(ix)
     }
 
-    /// Goes into the node in focus: its first child is in focus then. After a refusal all is as before.
+    /// Enters the node at the cursor and returns its number; the cursor moves to its first child. After a refused
+    /// allocation the tree is unchanged.
     pub fn push(&mut self) -> Result<usize, AllocError>
         requires { (ix : ℕ) × (self.old.cursor ≡ Some ix) }
         ensures goes { IfOk result (λ ix. (self.old.cursor ≡ Some ix)
@@ -256,7 +260,8 @@ impl<T: Drop> Tree<T> {
         Ok(ix)
     }
 
-    /// Goes out to the node gone into last, which is in focus then; at the top nothing changes.
+    /// Leaves the node entered last and returns its number; the cursor moves to it. Where no node was entered, nothing
+    /// changes.
     pub fn pop(&mut self) -> Option<usize>
         ensures goes { MatchOption result
             ((self.old.spine ≡ []) × (self.new ≡ self.old))
@@ -269,7 +274,7 @@ impl<T: Drop> Tree<T> {
         Some(outer)
     }
 
-    /// Goes on to the node after `ix`.
+    /// Moves the cursor to the next sibling of `ix`, if any, and returns that sibling.
     pub fn next_sibling(&mut self, ix: usize) -> Option<usize>
         requires { ix < length self.old.nodes }
         ensures value { result ≡ sibling_of self.old.nodes ix }
@@ -279,7 +284,7 @@ impl<T: Drop> Tree<T> {
         self.cur()
     }
 
-    /// Back to the first node below the root.
+    /// Moves the cursor back to the first child of the root; every entered node is left.
     pub fn reset(&mut self)
         ensures { self.new ≡ record self.old { spine = []; cursor = child_of self.old.nodes 0 } }
     {
@@ -287,7 +292,7 @@ impl<T: Drop> Tree<T> {
         self.cur = self.child(0);
     }
 
-    /// Goes nowhere more: no node is in focus, and none is gone into.
+    /// Ends the traversal: there is no node at the cursor, and every entered node is left.
     pub fn stop(&mut self)
         ensures { self.new ≡ record self.old { spine = []; cursor = None } }
     {

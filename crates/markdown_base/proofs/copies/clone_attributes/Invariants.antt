@@ -1,4 +1,4 @@
--- The names so far are copied, with their values.
+-- The attributes so far have been copied.
 use Rattle.std.proofs.Common.{◌≡◌, map, take}
 use Rattle.markdown_base.specs.Event.{attribute_view}
 use Rattle.markdown_base.proofs.copies.clone_attributes.Given as goal

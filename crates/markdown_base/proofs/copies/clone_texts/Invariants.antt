@@ -1,4 +1,4 @@
--- The texts so far are copied.
+-- The texts so far have been copied.
 use Rattle.std.proofs.Common.{◌≡◌, map, take}
 use Rattle.markdown_base.specs.CowText.{text_of}
 use Rattle.markdown_base.proofs.copies.clone_texts.Given as goal

@@ -1,4 +1,4 @@
--- The names so far have their forms that are borrowed from nothing, with their values.
+-- The attributes so far have the same names and values, without borrowing from the source.
 use Rattle.std.proofs.Common.{◌≡◌, map}
 use Rattle.markdown_base.specs.Event.{attribute_view}
 use Rattle.markdown_base.proofs.copies.static_attributes.Given as goal

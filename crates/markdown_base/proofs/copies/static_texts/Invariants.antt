@@ -1,4 +1,4 @@
--- The texts so far have their forms that are borrowed from nothing.
+-- The texts so far are the same, without borrowing from the source.
 use Rattle.std.proofs.Common.{◌≡◌, map}
 use Rattle.markdown_base.specs.CowText.{text_of}
 use Rattle.markdown_base.proofs.copies.static_texts.Given as goal

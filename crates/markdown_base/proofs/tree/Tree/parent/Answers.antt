@@ -1,4 +1,4 @@
--- The last of the nodes gone into is the innermost.
+-- The last of the nodes entered is the innermost.
 use Rattle.std.proofs.Common.{sym, ap, ◌∙◌}
 use Rattle.markdown_base.specs.Arena.{innermost}
 use Rattle.markdown_base.proofs.ArenaLemmas.{innermost-snoc}
