@@ -1,5 +1,5 @@
--- Steps of the scanner of a destination: what the whole has is what stands before a byte and what
--- the rest has.
+-- Steps of the scanner of a destination: the length of the whole is the number of bytes before an offset and the length
+-- of the rest.
 use Rattle.std.proofs.Common.{◌≡◌, ℕ, ◌+◌, List, ◌∷◌, Bool, false, Option, Some, None, drop, refl, ◌∙◌, ap, arith}
 use Rattle.std.specs.Option.{option_map}
 use Rattle.std.proofs.lemmas.List.{drop-drop}
@@ -7,12 +7,12 @@ use Rattle.markdown_base.specs.Bytes.{backslash}
 use Rattle.markdown_scan.specs.Backslash.{is_bare}
 use Rattle.markdown_scan.specs.Destination.{angle_length, is_refused, bare_length, is_past_bare, is_too_deep, open_after}
 
--- one byte more, and so many before it
+-- one more byte after `at` bytes
 pub one_more : (at : ℕ) (o : Option ℕ) → option_map (λ n. at + n) (option_map (λ n. 1 + n) o) ≡ option_map (λ n. at + 1 + n) o
 one_more at None = refl
 one_more at (Some n) = let sum : at + (1 + n) ≡ at + 1 + n = omega arith in rw sum
 
--- what follows the first byte of what stands at a byte stands at the next one
+-- what follows the byte at an offset is at the next offset
 pub drop_next : (bytes tail : List ℕ) (at b : ℕ) → b ∷ tail ≡ drop at bytes → tail ≡ drop (at + 1) bytes
 drop_next bytes tail at b here = ap (drop 1) here ∙ drop-drop 1 at bytes
 

@@ -14,7 +14,7 @@ use Rattle.markdown_scan.specs.Label.{is_not_white_space}
 use Rattle.markdown_scan.specs.LinePrefix.{prefix_after}
 use Rattle.markdown_scan.specs.LabelScan.{byte_shown, end_after, found_in}
 
--- what stands before what stands before
+-- two texts before what was found, joined
 pub put_before_twice : (n m : ℕ) (xs ys : List ℕ) (o : Option (ℕ × List ℕ)) → put_before n xs (put_before m ys o)
     ≡ put_before (n + m) (xs ++ ys) o
 put_before_twice n m xs ys None = refl
@@ -23,7 +23,7 @@ put_before_twice n m xs ys (Some r) =
     let text : xs ++ (ys ++ r.1) ≡ (xs ++ ys) ++ r.1 = sym (append_assoc xs ys r.1) in
     rw (sum, text)
 
--- nothing before it
+-- nothing before what was found
 pub put_before_none : (o : Option (ℕ × List ℕ)) → put_before 0 [] o ≡ o
 put_before_none None = refl
 put_before_none (Some r) = let sum : 0 + r.0 ≡ r.0 = omega arith in rw sum
@@ -79,7 +79,7 @@ one_shown : (goes : Bool) (b : ℕ) (text : List ℕ) → (if goes then text els
 one_shown true b text = refl
 one_shown false b text = refl
 
--- a byte before a text that begins with a pipe where these bytes do, as it is shown
+-- a byte before a text that begins with a pipe if and only if these bytes do, as it is shown
 shown_before : (in_table : Bool) (m b : ℕ) (bytes : List ℕ) (o : Option (ℕ × List ℕ)) → IfSome o (λ f. begins_pipe f.1 ≡ begins_pipe bytes)
     → with_shown in_table (put_before m (b ∷ []) o) ≡ put_before m (byte_shown in_table b bytes) (with_shown in_table o)
 shown_before in_table m b bytes None same = refl
@@ -100,7 +100,7 @@ or_assoc : (a b c : Bool) → (a || (b || c)) ≡ ((a || b) || c)
 or_assoc true b c = refl
 or_assoc false b c = refl
 
--- the end after what is found after a text
+-- the end of a label, if a text precedes what was found
 pub end_of_put : (at characters n : ℕ) (solid : Bool) (text : List ℕ) (o : Option (ℕ × List ℕ))
     → end_after at characters solid (put_before n text o)
     ≡ end_after (at + n) (characters + count_by begins_character text) (solid || list_any is_not_white_space text) o

@@ -34,7 +34,7 @@ take_past source xs ys i n within e size =
     let size' : length (take i source ++ xs) ≡ i + n = omega (arith, length-append (take i source) xs, before, size) in
     ap (λ (zs : List ℕ). take (i + n) zs) both ∙ take_at (take i source ++ xs) ys (i + n) size'
 
--- what follows the beginning of a source in a beginning of it follows it in the source
+-- if the rest of a source does not begin with a text, the source's beginning followed by that text is no prefix of it
 pub no_beginning : (source xs : List ℕ) (i : ℕ) → ((tail : List ℕ) → drop i source ≢ xs ++ tail)
     → IsNoBeginning (take i source ++ xs) source
 no_beginning source xs i differs rest n e =
@@ -45,13 +45,13 @@ no_beginning source xs i differs rest n e =
     ∙ append_assoc (take i source) xs (rest ++ drop n source) in
     differs (rest ++ drop n source) (append_cancel_left (take i source) (drop i source) (xs ++ (rest ++ drop n source)) joined)
 
--- without a text of its own it is the beginning of the source
+-- without an owned text it is a prefix of the source
 pub own_or_none : (own : Option (String Global)) (beginning : List ℕ) → ((x : String Global) → own ≡ Some x → ⊥)
     → own_or own beginning ≡ beginning
 own_or_none None beginning none = refl
 own_or_none (Some x) beginning none = absurd (none x refl)
 
--- what holds holds of an error
+-- a fact that holds anyway holds for an error
 pub on_err : {T E : Type 0} (r : Result T E) (P : Type 0) → P → OnErr r P
 on_err (Ok x) P p = tt
 on_err (Err e) P p = p
@@ -65,7 +65,7 @@ put_text so mid new begun waiting c solid first second rest =
     rw (whole, squeeze_character begun waiting c rest solid) (append_assoc (so ++ gap begun waiting) (encode_utf8 c)
     (collapse_whitespace true false rest) ∙ append_assoc so (gap begun waiting) (encode_utf8 c ++ collapse_whitespace true false rest))
 
--- a space before the character that is in no beginning of the source
+-- a space after which the text is no longer a prefix of the source
 pub gap_differs : (so source : List ℕ) (begun waiting : Bool) (c : ℕ) → is_white_space c ≡ false
     → IsNoBeginning (so ++ gap begun waiting) source
     → (rest : List ℕ) (n : ℕ) → so ++ collapse_whitespace begun waiting (encode_utf8 c ++ rest) ≢ take n source
@@ -73,14 +73,14 @@ gap_differs so source begun waiting c solid differs rest n e =
     differs (encode_utf8 c ++ collapse_whitespace true false rest) n (append_assoc so (gap begun waiting) (encode_utf8 c
     ++ collapse_whitespace true false rest) ∙ ap (λ (xs : List ℕ). so ++ xs) (sym (squeeze_character begun waiting c rest solid)) ∙ e)
 
--- a character that is in no beginning of the source
+-- a character after which the text is no longer a prefix of the source
 pub put_differs : (so mid source : List ℕ) (begun waiting : Bool) (c : ℕ) → is_white_space c ≡ false → mid ≡ so ++ gap begun waiting
     → IsNoBeginning (mid ++ encode_utf8 c) source
     → (rest : List ℕ) (n : ℕ) → so ++ collapse_whitespace begun waiting (encode_utf8 c ++ rest) ≢ take n source
 put_differs so mid source begun waiting c solid first differs rest n e =
     differs (collapse_whitespace true false rest) n (put_text so mid (mid ++ encode_utf8 c) begun waiting c solid first refl rest ∙ e)
 
--- a text of its own is no beginning of the source
+-- a text that is a prefix of the source is borrowed
 pub borrowed_if_same : (own : Option (String Global)) (same source text : List ℕ) (B : Type 0)
     → ((x : String Global) → own ≡ Some x → IsNoBeginning (string_bytes x) source) → (own ≡ None → B)
     → text ≡ own_or own same → (n : ℕ) → text ≡ take n source → B
@@ -88,12 +88,12 @@ borrowed_if_same None same source text B differs borrowed is n e = borrowed refl
 borrowed_if_same (Some x) same source text B differs borrowed is n e =
     absurd (differs x refl [] n (append-nil (string_bytes x) ∙ sym is ∙ e))
 
--- what follows from two clauses on what there is
+-- a consequence of two facts about an optional value
 pub if_both : {X : Type 0} (r : Option X) (P Q R : X → Type 0) → IfSome r P → IfSome r Q → ((x : X) → P x → Q x → R x) → IfSome r R
 if_both None P Q R p q both = tt
 if_both (Some x) P Q R p q both = both x p q
 
--- neither of two
+-- if a disjunction is false, both sides are
 pub neither : (a b : Bool) → (a || b) ≡ false → (a ≡ false) × (b ≡ false)
 neither true b h = cc
 neither false b h = (refl, h)
@@ -113,7 +113,7 @@ read_step whole found None m text before after was goes_on step = was ∙ ap (op
 read_step whole found (Some g) m text before after was goes_on step =
     was ∙ ap (option_map (λ (f : ℕ × List ℕ). before f.1)) goes_on ∙ ap (λ (xs : List ℕ). Some xs) (sym (step g.1))
 
--- what is read is no beginning of the source once its beginning is none
+-- if the text so far is no prefix of the source, the whole is not either
 pub read_differs : (whole found later : Option (ℕ × List ℕ)) (m : ℕ) (text source : List ℕ) (squeezed before : List ℕ → List ℕ)
     → option_map (λ f. squeezed f.1) whole ≡ option_map (λ f. before f.1) found → found ≡ put_before m text later
     → ((rest : List ℕ) (n : ℕ) → before (text ++ rest) ≢ take n source)

@@ -26,7 +26,7 @@ use Rattle.markdown_scan.specs.ScanLaws.{holds_bare_bracket, is_in_bare, is_plai
 use Rattle.markdown_scan.specs.Unescape.{reference, unescaped}
 use Rattle.markdown_scan.proofs.UnescapeLemmas.{step_byte, step_reference}
 
--- as many elements as pass a test from the front on pass it
+-- the elements before the first that fails a test pass it
 passing_first : (p : ℕ → Bool) (x : ℕ) (xs : List ℕ) (b : Bool) → p x ≡ b → list_all p (take (prefix_len p xs) xs) ≡ true
     → list_all p (take (prefix_len p (x ∷ xs)) (x ∷ xs)) ≡ true
 passing_first p x xs true passes rest =
@@ -38,20 +38,20 @@ passing : (p : ℕ → Bool) (xs : List ℕ) → list_all p (take (prefix_len p 
 passing p [] = refl
 passing p (x ∷ xs) = passing_first p x xs (p x) refl (passing p xs)
 
--- what is taken while a test passes passes it
+-- the elements that `take_while` takes pass its test
 pub all_taken : (p : ℕ → Bool) (xs : List ℕ) → list_all p (take (length (take_while p xs)) xs) ≡ true
 all_taken p xs =
     let size : length (take_while p xs) ≡ prefix_len p xs = length-prefix_len p xs in
     rw size (passing p xs)
 
--- what a clause says of the text that was found
+-- a fact about the text that was found
 pub if_found : (b : Bool) (at n : ℕ) (bytes : List ℕ) (p : ℕ → Bool) → list_all p (take n bytes) ≡ true
     → IfSome {T = ℕ × List ℕ} (option_map (λ m. (at + m + 1, take m bytes)) (if b then Some n else None))
     (λ found. IsTrue (list_all p found.1))
 if_found true at n bytes p all = all
 if_found false at n bytes p all = tt
 
--- neither an escape nor an entity begins with any other byte than a backslash or a `&`
+-- no escape and no entity begins with another byte than a backslash or a `&`
 no_reference : (in_table : Bool) (b : ℕ) (bytes : List ℕ) → (b == 92) ≡ false
     → (92 == b) ≡ false → (38 == b) ≡ false → reference in_table (b ∷ bytes) ≡ None
 no_reference true b [] e f g = rw (f, g) refl

@@ -1,6 +1,6 @@
--- ASCII characters and their kinds. The control characters are those of CommonMark 2.1. White space
--- is not: what 2.1 defines is Unicode's, with spaces outside of ASCII. Taken is here what of it is
--- ASCII, and the line tabulation.
+-- Kinds of ASCII characters. The control characters are those of CommonMark 2.1. White space is not the Unicode
+-- whitespace of 2.1, which includes spaces outside of ASCII: it consists of the ASCII characters among those, and of
+-- the line tabulation, which 2.1 does not count.
 use Rattle.std.specs.Prelude.{ℕ, Bool, ◌==◌, ◌||◌, ◌&&◌, nat_le}
 use Rattle.std.specs.Char.{is_ascii_control}
 use Rattle.markdown_base.specs.Bytes.{carriage_return, space, tab}

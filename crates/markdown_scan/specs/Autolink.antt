@@ -7,34 +7,34 @@ use Rattle.markdown_base.specs.Bytes.{colon, full_stop, greater_than, hyphen, le
 use Rattle.markdown_scan.specs.AsciiKinds.{is_control_or_space}
 use Rattle.markdown_scan.specs.Beginnings.{begins_with_letter}
 
--- a character of a scheme: an ASCII letter, a digit, a plus, a period or a hyphen
+-- a character of a scheme: an ASCII letter, a digit, a plus sign, a period or a hyphen
 abbrev pub is_scheme_byte : ℕ → Bool
 is_scheme_byte b = is_ascii_alphanumeric b || (b == plus_sign) || (b == full_stop) || (b == hyphen)
 
--- how many characters of a scheme the bytes begin with
+-- the number of characters of a scheme that the bytes begin with
 abbrev pub scheme_length : List ℕ → ℕ
 scheme_length bytes = length (take_while is_scheme_byte bytes)
 
--- the bytes begin with a scheme, which has 2 to 32 characters of which the first is a letter, and a colon
+-- the bytes begin with a scheme, which is 2 to 32 characters, the first a letter, and with a colon after it
 abbrev pub begins_scheme : List ℕ → Bool
 begins_scheme bytes =
     begins_with_letter bytes && nat_le 2 (scheme_length bytes) && nat_le (scheme_length bytes) 32
     && (slice_index bytes (scheme_length bytes) == colon)
 
--- a character of a URI: no ASCII control character, no space, no < and no >
+-- a character of a URI: no ASCII control character, no space, no `<` and no `>`
 abbrev pub is_uri_byte : ℕ → Bool
 is_uri_byte b = not (is_control_or_space b) && not (b == less_than) && not (b == greater_than)
 
--- how many characters of a URI the bytes begin with
+-- the number of characters of a URI that the bytes begin with
 abbrev pub uri_length : List ℕ → ℕ
 uri_length bytes = length (take_while is_uri_byte bytes)
 
--- the length of the URI that the bytes begin with, where a > follows it
+-- the length of the URI that the bytes begin with, if a `>` follows it
 abbrev pub closed_uri : List ℕ → Option ℕ
 closed_uri bytes =
     if begins_scheme bytes && (slice_index bytes (uri_length bytes) == greater_than) then Some (uri_length bytes)
     else None
 
--- the byte after the autolink of which the `<` stands before this byte, and its URI
+-- the byte offset after the autolink whose `<` is the byte before `at`, and its URI
 abbrev pub uri_autolink : List ℕ → ℕ → Option (ℕ × List ℕ)
 uri_autolink text at = option_map (λ n. (at + n + 1, take n (drop at text))) (closed_uri (drop at text))

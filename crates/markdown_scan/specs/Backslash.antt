@@ -1,9 +1,9 @@
--- Backslash escapes (CommonMark 2.4), where all that matters is which brackets and backslashes count,
--- and those of a table's pipes.
+-- Backslash escapes (CommonMark 2.4), as far as they decide which brackets and backslashes have an effect, and the
+-- escapes of pipes in a table.
 use Rattle.std.specs.Prelude.{ℕ, Bool, false, not, ◌&&◌, ◌==◌, List, [], ◌∷◌}
 use Rattle.markdown_base.specs.Bytes.{backslash, pipe}
 
--- the byte is this punctuation character, and no backslash escapes it
+-- the byte is the punctuation character `what`, and no backslash escapes it
 abbrev pub is_bare : Bool → ℕ → ℕ → Bool
 is_bare escaped b what = not escaped && (b == what)
 

@@ -1,4 +1,4 @@
--- Bytes that begin with a text or a letter, or begin and end with a byte.
+-- What bytes begin with, and which byte they begin and end with.
 use Rattle.std.specs.Prelude.{◌≡◌, ℕ, ◌-◌, Bool, false, List, [], ◌∷◌, nat_eq, slice_index}
 use Rattle.std.specs.Char.{is_ascii_alphabetic}
 use Rattle.std.specs.List.{starts_with}
@@ -12,7 +12,7 @@ abbrev pub begins_with_letter : List ℕ → Bool
 begins_with_letter [] = false
 begins_with_letter (b ∷ bytes) = is_ascii_alphabetic b
 
--- of the first n bytes the first is this one, and the last that one
+-- the first of n bytes is `first`, and the last of them is `last`
 abbrev pub StandsBetween : ℕ → ℕ → List ℕ → ℕ → Type 0
 StandsBetween first last bytes n =
     (slice_index bytes 0 ≡ first) × (slice_index bytes (n - 1) ≡ last)

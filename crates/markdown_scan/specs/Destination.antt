@@ -1,5 +1,5 @@
--- Link destinations (CommonMark 6.3), as they stand in the text. A backslash escapes ASCII
--- punctuation only, and so neither a control character nor a space.
+-- Link destinations (CommonMark 6.3), as they are written. A backslash escapes ASCII punctuation only, and therefore
+-- neither a control character nor a space.
 use Rattle.std.specs.Prelude.{ℕ, ◌+◌, ◌-◌, Bool, false, ◌&&◌, ◌||◌, ◌==◌, nat_lt, List, [], ◌∷◌, take, drop}
 use Rattle.std.specs.Prelude.{slice_index, Option, Some, None, if◌then◌else◌}
 use Rattle.std.specs.Option.{option_map}
@@ -8,11 +8,11 @@ use Rattle.markdown_base.specs.Bytes.{line_feed, open_parenthesis}
 use Rattle.markdown_scan.specs.AsciiKinds.{is_control_or_space}
 use Rattle.markdown_scan.specs.Backslash.{is_bare}
 
--- the byte may not stand between angle brackets: another <, or a line ending
+-- the byte is not allowed between angle brackets: another `<`, or a line ending
 abbrev pub is_refused : Bool → ℕ → Bool
 is_refused escaped b = is_bare escaped b less_than || (b == line_feed) || (b == carriage_return)
 
--- the bytes before the > that closes a destination in angle brackets
+-- the number of bytes before the `>` that closes a destination in angle brackets
 abbrev pub angle_length : Bool → List ℕ → Option ℕ
 angle_length escaped [] = None
 angle_length escaped (b ∷ bytes) =
@@ -20,26 +20,26 @@ angle_length escaped (b ∷ bytes) =
     else if is_refused escaped b then None
     else option_map (λ n. 1 + n) (angle_length (is_bare escaped b backslash) bytes)
 
--- the parentheses that are open after this byte
+-- the number of parentheses that are open after this byte
 abbrev pub open_after : Bool → ℕ → ℕ → ℕ
 open_after escaped b opened =
     if is_bare escaped b open_parenthesis then opened + 1
     else if is_bare escaped b close_parenthesis then opened - 1
     else opened
 
--- a destination ends before this byte: a control character, a space, a ) that closes nothing
+-- a destination ends before this byte: a control character, a space, or a `)` that closes no `(`
 abbrev pub is_past_bare : Bool → ℕ → ℕ → Bool
 is_past_bare escaped opened b = is_control_or_space b || (is_bare escaped b close_parenthesis && (opened == 0))
 
--- a ( at which more than so many parentheses are open
+-- a `(` inside more than `max_nesting` open parentheses
 abbrev pub is_too_deep : ℕ → Bool → ℕ → ℕ → Bool
 is_too_deep max_nesting escaped opened b = is_bare escaped b open_parenthesis && nat_lt max_nesting opened
 
--- a destination may end where no parenthesis is open
+-- a destination can only end where no parenthesis is open
 abbrev pub end_of_bare : ℕ → Option ℕ
 end_of_bare opened = if opened == 0 then Some 0 else None
 
--- the bytes of a destination that is in no brackets
+-- the length of a destination without angle brackets, if its parentheses are balanced and not nested too deeply
 abbrev pub bare_length : ℕ → Bool → ℕ → List ℕ → Option ℕ
 bare_length max_nesting escaped opened [] = end_of_bare opened
 bare_length max_nesting escaped opened (b ∷ bytes) =
@@ -48,11 +48,11 @@ bare_length max_nesting escaped opened (b ∷ bytes) =
     else option_map (λ n. 1 + n) (bare_length max_nesting (is_bare escaped b backslash) (open_after escaped b opened)
     bytes)
 
--- in angle brackets: the length through the closing one, and what stands between them
+-- in angle brackets: the length through the closing one, and the bytes between them
 abbrev pub angle_destination : List ℕ → Option (ℕ × List ℕ)
 angle_destination inside = option_map (λ n. (n + 2, take n inside)) (angle_length false inside)
 
--- in no brackets: the length, and the bytes; none at all where a link leaves its destination out
+-- without angle brackets: the length, and the bytes; both are empty where a link has no destination
 abbrev pub bare_destination : ℕ → List ℕ → Option (ℕ × List ℕ)
 bare_destination max_nesting bytes = option_map (λ n. (n, take n bytes)) (bare_length max_nesting false 0 bytes)
 

@@ -1,20 +1,20 @@
--- Entities and numeric character references (CommonMark 2.5): `&amp;`, `&lt;`, `&gt;` and `&quot;`
--- by name, and any character by its number.
+-- Entities and numeric character references (CommonMark 2.5): `&amp;`, `&lt;`, `&gt;` and `&quot;` by name, and any
+-- character by its number.
 use Rattle.std.specs.Prelude.{ℕ, ◌+◌, ◌*◌, Bool, ◌&&◌, ◌||◌, ◌==◌, nat_le, List, Option, Some, None, if◌then◌else◌}
 use Rattle.std.specs.Prelude.{length, drop, take_while, fold, codes}
 use Rattle.std.specs.Char.{digit_value, is_digit}
 use Rattle.markdown_base.specs.Bytes.{ampersand, double_quote, greater_than, less_than}
 use Rattle.markdown_scan.specs.Beginnings.{begins_with}
 
--- a surrogate, or above U+10FFFF
+-- no Unicode scalar value: a surrogate, or a number above U+10FFFF
 abbrev pub is_no_scalar : ℕ → Bool
 is_no_scalar n = (nat_le 0xD800 n && nat_le n 0xDFFF) || nat_le 0x11_0000 n
 
--- the character of a number: U+FFFD for zero and for what is no Unicode scalar value
+-- the character of a number: U+FFFD for zero and for numbers that are not Unicode scalar values
 abbrev pub character_of : ℕ → ℕ
 character_of n = if n == 0 || is_no_scalar n then 0xFFFD else n
 
--- the number that digits write
+-- the number that digits represent
 abbrev pub number_of : ℕ → List ℕ → ℕ
 number_of radix digits = fold (λ n digit. radix * n + digit_value digit) 0 digits
 
@@ -22,8 +22,8 @@ number_of radix digits = fold (λ n digit. radix * n + digit_value digit) 0 digi
 abbrev pub digits_of : ℕ → List ℕ → List ℕ
 digits_of radix bytes = take_while (λ b. is_digit b radix) bytes
 
--- after `start` bytes one digit or more, at most `most` of them, and a semicolon: the length of all
--- that, and the character
+-- 1 to `most` digits and a semicolon after the first `start` bytes: the length of all these, including the first
+-- `start`, and the character
 abbrev pub numeric_reference : ℕ → ℕ → ℕ → List ℕ → Option (ℕ × ℕ)
 numeric_reference start radix most bytes =
     let digits = digits_of radix (drop start bytes) in
@@ -32,7 +32,7 @@ numeric_reference start radix most bytes =
     then Some (start + length digits + 1, character_of (number_of radix digits))
     else None
 
--- the length in bytes of the reference that the bytes begin with, and its character
+-- the length in bytes of the entity or reference that the bytes begin with, and its character
 abbrev pub entity : List ℕ → Option (ℕ × ℕ)
 entity bytes =
     if begins_with (codes "&amp;") bytes then Some (5, ampersand)

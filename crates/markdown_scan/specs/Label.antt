@@ -1,5 +1,5 @@
--- Link labels (CommonMark 6.3), from the byte after the opening bracket on. `skipped` says how many
--- bytes of what follows a line ending are its line's prefix, if the line ending may stand there.
+-- Link labels (CommonMark 6.3), from the byte after the opening bracket on. `skipped` returns the length of the line
+-- prefix that the bytes after a line ending begin with, if a line ending is allowed there.
 use Rattle.std.specs.Prelude.{ℕ, zero, suc, ◌+◌, List, [], ◌∷◌, ◌++◌, Bool, true, false, not, ◌&&◌, ◌||◌, Option, Some}
 use Rattle.std.specs.Prelude.{None, if◌then◌else◌, unwrap_or, is_none, nat_le, nat_lt, count_by, option_and_then}
 use Rattle.std.specs.List.{list_any}
@@ -9,13 +9,13 @@ use Rattle.markdown_scan.specs.AsciiKinds.{is_white_space}
 use Rattle.markdown_scan.specs.Backslash.{escapes_pipe, is_bare}
 use Rattle.markdown_scan.specs.LinePrefix.{prefix_after}
 
--- a byte of the label, a byte of a line's prefix, or a line ending that may not stand there
+-- a byte of the label, a byte of a line's prefix, or a line ending that is not allowed
 pub data LabelByte : Type 0 where
   kept : ℕ → LabelByte
   dropped : LabelByte
   refused : LabelByte
 
--- the bytes, of which the first n are prefix
+-- the bytes as label bytes, the first n of them in a prefix
 abbrev pub label_bytes : (List ℕ → Option ℕ) → ℕ → List ℕ → List LabelByte
 label_bytes skipped n [] = []
 label_bytes skipped (suc n) (b ∷ bytes) = dropped ∷ label_bytes skipped n bytes
@@ -23,11 +23,11 @@ label_bytes skipped zero (b ∷ bytes) =
     kept b ∷ (if is_none (prefix_after skipped b bytes) then refused ∷ []
     else label_bytes skipped (unwrap_or (prefix_after skipped b bytes) 0) bytes)
 
--- what was found, after so many bytes more and this text
+-- what was found, with n more bytes and a text before it
 abbrev pub put_before : ℕ → List ℕ → Option (ℕ × List ℕ) → Option (ℕ × List ℕ)
 put_before n text found = option_map (λ f. (n + f.0, text ++ f.1)) found
 
--- up to the first ] that is not escaped, with no [ before it that is not: its place, and the bytes before it
+-- the byte offset of the first unescaped `]`, and the label's bytes before it; none if an unescaped `[` precedes it
 abbrev pub body : Bool → List LabelByte → Option (ℕ × List ℕ)
 body escaped [] = None
 body escaped (refused ∷ rest) = None
@@ -37,13 +37,13 @@ body escaped (kept b ∷ rest) =
     else if is_bare escaped b open_bracket then None
     else put_before 1 (b ∷ []) (body (is_bare escaped b backslash) rest)
 
--- in a table, without each backslash directly before a pipe, whatever stands before that backslash
+-- in a table, without each backslash directly before a pipe, whether or not that backslash is itself escaped
 abbrev pub shown : Bool → List ℕ → List ℕ
 shown in_table [] = []
 shown in_table (b ∷ bytes) =
     if escapes_pipe in_table b bytes then shown in_table bytes else b ∷ shown in_table bytes
 
--- what was found, its text as it is shown
+-- what was found, with its text as it is shown
 abbrev pub with_shown : Bool → Option (ℕ × List ℕ) → Option (ℕ × List ℕ)
 with_shown in_table found = option_map (λ f. (f.0, shown in_table f.1)) found
 
@@ -51,11 +51,11 @@ with_shown in_table found = option_map (λ f. (f.0, shown in_table f.1)) found
 abbrev pub is_bracket : Bool → ℕ → Bool
 is_bracket escaped b = is_bare escaped b close_bracket || is_bare escaped b open_bracket
 
--- a space before a byte that is no white space, if white space stands between it and an earlier one
+-- one space before a byte that is not white space, if white space separates it from an earlier one
 abbrev pub gap : Bool → Bool → List ℕ
 gap begun waiting = if begun && waiting then space ∷ [] else []
 
--- each inner run of white space as one space, none at the ends; `begun` once a byte was given,
+-- each inner run of white space as one space, and none at the ends; `begun` after the first byte of the result,
 -- `waiting` after white space
 abbrev pub collapse_whitespace : Bool → Bool → List ℕ → List ℕ
 collapse_whitespace begun waiting [] = []
@@ -67,21 +67,21 @@ collapse_whitespace begun waiting (b ∷ bytes) =
 abbrev pub begins_character : ℕ → Bool
 begins_character b = nat_lt b 128 || nat_le 192 b
 
--- no white space
+-- not white space
 abbrev pub is_not_white_space : ℕ → Bool
 is_not_white_space b = not (is_white_space b)
 
--- at most 999 characters, and one that is no white space
+-- at most 999 characters, at least one of them not white space
 abbrev pub fits_label : List ℕ → Bool
 fits_label text = nat_le (count_by begins_character text) 999 && list_any is_not_white_space text
 
--- the place of the closing bracket, and the text before it
+-- the byte offset of the closing bracket, and the text before it
 abbrev pub label_body : (List ℕ → Option ℕ) → Bool → List ℕ → Option (ℕ × List ℕ)
 label_body skipped in_table bytes =
     option_and_then (λ f. if fits_label f.1 then Some f else None)
     (with_shown in_table (body false (label_bytes skipped 0 bytes)))
 
--- the label that the bytes begin with: its length through the closing bracket, and its text
+-- the label that the bytes begin with: its length, including the closing bracket, and its text
 abbrev pub link_label : (List ℕ → Option ℕ) → Bool → List ℕ → Option (ℕ × List ℕ)
 link_label skipped in_table bytes =
     option_map (λ f. (f.0 + 1, collapse_whitespace false false f.1)) (label_body skipped in_table bytes)

@@ -1,4 +1,4 @@
--- The text of a label while it is read. It gives no meaning: `Label` does.
+-- The text of a label while it is read, for private clauses: labels are defined in `Label`.
 use Rattle.std.specs.Prelude.{ℕ, List, ◌++◌, take}
 use Rattle.markdown_scan.specs.declared.label_text.LabelText.{LabelText}
 use Rattle.markdown_scan.specs.Label.{collapse_whitespace}
@@ -8,6 +8,6 @@ use Rattle.markdown_scan.specs.LabelScan.{own_or}
 abbrev pub so_far : LabelText → List ℕ
 so_far label = own_or label.own (take label.same label.source.now)
 
--- the whole text, if these bytes are still to be squeezed
+-- the whole text, if the white space of these bytes is still to be collapsed
 abbrev pub completed : LabelText → List ℕ → List ℕ
 completed label rest = so_far label ++ collapse_whitespace label.begun label.waiting rest

@@ -1,4 +1,4 @@
--- what stands at a byte, by CommonMark: a file for each family of scanners
+-- what begins at a byte, by CommonMark: a file for each family of scanners
 pub mod LineEnd
 pub mod LinePrefix
 pub mod AsciiKinds
@@ -17,5 +17,5 @@ pub mod ScanLaws
 pub mod LabelScan
 pub mod LabelText
 pub mod LineSteps
--- the words of the lower crate that the clauses here are written in
+-- the definitions of a lower crate that clauses here cite
 pub use Rattle.markdown_base.specs.CowText

@@ -8,7 +8,7 @@ abbrev pub begins_line_feed : List ℕ → Bool
 begins_line_feed [] = false
 begins_line_feed (b ∷ bytes) = b == line_feed
 
--- the length of the line ending that the bytes begin with, where they begin with one
+-- the length of the line ending that the bytes begin with, if any
 abbrev pub line_ending : List ℕ → Option ℕ
 line_ending [] = None
 line_ending (b ∷ bytes) =

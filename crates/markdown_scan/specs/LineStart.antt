@@ -1,39 +1,39 @@
--- The beginning of a line, read by columns (CommonMark 2.2): a tab goes to the next multiple of 4
--- columns. A tab of which a column is used is taken; its other columns are owed to what is read next.
+-- The beginning of a line, measured in columns (CommonMark 2.2): a tab extends to the next multiple of 4 columns. A tab
+-- of which only some columns are read has been scanned, and owes its other columns to the next read.
 use Rattle.std.specs.Prelude.{ℕ, ◌+◌, ◌-◌, Bool, true, ◌&&◌, ◌||◌, ◌==◌, nat_le, nat_lt, List, [], ◌∷◌, drop}
 use Rattle.std.specs.Prelude.{slice_index, if◌then◌else◌}
 use Rattle.markdown_base.specs.Bytes.{carriage_return, greater_than, line_feed, space as space_byte, tab}
 
--- what is left of a line: the bytes that were scanned, the columns of space that a cut tab owes, and
--- the bytes that follow, with the columns between them and the last tab stop
+-- the rest of a line: the number of bytes scanned, the columns that a partly read tab owes, the column after it,
+-- counted from the last tab stop, and the bytes that follow
 pub record LineLeft : Type 0 where
   pub scanned : ℕ
   pub owed : ℕ
   pub column : ℕ
   pub bytes : List ℕ
 
--- columns of space, and what is left after them
+-- a number of columns of space, and the line after them
 pub record Space : Type 0 where
   pub columns : ℕ
   pub after : LineLeft
 
--- the columns of a space or a tab, and none of any other byte
+-- the columns of a space or a tab, and 0 for any other byte
 abbrev pub space_width : ℕ → ℕ → ℕ
 space_width column b = if b == space_byte then 1 else if b == tab then 4 - column else 0
 
--- the column after a byte of one column
+-- the column after a byte of one column, counted from the last tab stop
 abbrev pub next_column : ℕ → ℕ
 next_column column = if column == 3 then 0 else column + 1
 
--- the column after a space or a tab
+-- the column after a space or a tab, counted from the last tab stop
 abbrev pub column_after : ℕ → ℕ → ℕ
 column_after column b = if b == tab then 0 else next_column column
 
--- so many columns more before that space
+-- n more columns before that space
 abbrev pub wider : ℕ → Space → Space
 wider n space = record { columns = n + space.columns; after = space.after }
 
--- no column is taken
+-- no column is read
 abbrev pub no_space : LineLeft → Space
 no_space left = record { columns = 0; after = left }
 
@@ -57,33 +57,33 @@ space_from n scanned column (b ∷ bytes) =
     else wider (space_width column b) (space_from (n - space_width column b) (scanned + 1) (column_after column b)
     bytes)
 
--- at most n columns of space of what is left: those that are owed first
+-- at most n columns of space of the line, beginning with those that are owed
 abbrev pub space : ℕ → LineLeft → Space
 space n left =
     if nat_le n left.owed then record { columns = n; after = record left { owed = left.owed - n } }
     else wider left.owed (space_from (n - left.owed) left.scanned left.column left.bytes)
 
--- all the space
+-- the line after all the space that comes next, if no column is owed
 abbrev pub past_space_from : ℕ → ℕ → List ℕ → LineLeft
 past_space_from scanned column [] = record { scanned = scanned; owed = 0; column = column; bytes = [] }
 past_space_from scanned column (b ∷ bytes) =
     if space_width column b == 0 then record { scanned = scanned; owed = 0; column = column; bytes = b ∷ bytes }
     else past_space_from (scanned + 1) (column_after column b) bytes
 
--- past the white space at the start of a line
+-- the line after all the space that comes next
 abbrev pub past_space : LineLeft → LineLeft
 past_space left = past_space_from left.scanned left.column left.bytes
 
--- a line feed, a carriage return or no byte comes next
+-- a line feed, a carriage return or the end of the bytes comes next
 abbrev pub is_line_over : List ℕ → Bool
 is_line_over [] = true
 is_line_over (b ∷ bytes) = (b == line_feed) || (b == carriage_return)
 
--- a block quote marker (CommonMark 5.1) comes next: a >
+-- a block quote marker (CommonMark 5.1) comes next: a `>`
 abbrev pub begins_marker : LineLeft → Bool
 begins_marker left = (left.owed == 0) && (slice_index left.bytes 0 == greater_than)
 
--- what is left after the > that comes next
+-- the line after the `>` that comes next
 abbrev pub past_byte : LineLeft → LineLeft
 past_byte left = record {
   scanned = left.scanned + 1;
@@ -93,6 +93,6 @@ past_byte left = record {
       drop 1 left.bytes;
 }
 
--- what is left after a block quote marker and at most one column of space
+-- the line after a block quote marker and at most one column of space
 abbrev pub past_marker : LineLeft → LineLeft
 past_marker left = (space 1 (past_byte left)).after

@@ -1,7 +1,7 @@
--- What a `LineStart` has left.
+-- The line that a `LineStart` has left.
 use Rattle.markdown_scan.specs.declared.line_start.LineStart.{LineStart}
 use Rattle.markdown_scan.specs.LineStart.{LineLeft}
 
--- what is left of the line
+-- the rest of the line
 abbrev pub line_left : LineStart → LineLeft
 line_left line = record { scanned = line.scanned; owed = line.owed; column = line.column; bytes = line.rest.now }

@@ -1,4 +1,4 @@
--- Laws of what is scanned, in a reader's words.
+-- Laws of the scanners, in a reader's words.
 use Rattle.std.specs.Prelude.{◌+◌, ◌||◌, [], ◌∷◌, suc, zero, take, Option, ◌≤◌, false, ℕ, Bool, not, ◌&&◌, ◌==◌, ◌≡◌}
 use Rattle.std.specs.Prelude.{List, IfSome, IsTrue}
 use Rattle.std.specs.Char.{is_ascii_punctuation}
@@ -15,7 +15,7 @@ use Rattle.markdown_scan.specs.LineStart.{LineLeft, space, wider}
 use Rattle.markdown_scan.specs.Unescape.{unescaped}
 use Rattle.markdown_scan.specs.WikilinkPipe.{wikilink_pipe}
 
--- an autolink's text holds no space, no control character and no angle bracket
+-- an autolink's text contains no space, no control character and no angle bracket
 abbrev pub AutolinkIsPlain : List ℕ → ℕ → Type 0
 AutolinkIsPlain text at = IfSome (uri_autolink text at) (λ found. IsTrue (list_all is_uri_byte found.1))
 
@@ -23,27 +23,27 @@ AutolinkIsPlain text at = IfSome (uri_autolink text at) (λ found. IsTrue (list_
 abbrev pub is_plain : ℕ → Bool
 is_plain b = not (b == backslash) && not (b == ampersand)
 
--- a text without backslashes and `&` stands for itself
+-- `unescaped` leaves a text without backslashes and `&` unchanged
 abbrev pub UnescapingLeavesPlainText : Bool → List ℕ → Type 0
 UnescapingLeavesPlainText in_table text =
     IsTrue (list_all is_plain text) → unescaped in_table text ≡ text
 
--- a backslash and punctuation stand for the punctuation
+-- a backslash and punctuation are replaced by the punctuation
 abbrev pub EscapedPunctuationStandsForItself : ℕ → List ℕ → Type 0
 EscapedPunctuationStandsForItself mark text =
     IsTrue (is_ascii_punctuation mark)
     → unescaped false (backslash ∷ mark ∷ text) ≡ mark ∷ unescaped false text
 
--- no pipe
+-- not a pipe
 abbrev pub is_no_pipe : ℕ → Bool
 is_no_pipe b = not (b == pipe)
 
--- the name before a wikilink's pipe holds no pipe
+-- the name before a wikilink's pipe contains no pipe
 abbrev pub WikilinkNameHoldsNoPipe : List ℕ → ℕ → ℕ → Type 0
 WikilinkNameHoldsNoPipe text start size =
     IfSome (wikilink_pipe text start size) (λ found. IsTrue (list_all is_no_pipe found.1))
 
--- an entity begins with `&` (38) and ends with `;` (59)
+-- an entity begins with `&` and ends with `;`
 abbrev pub EntityBeginsAndEnds : List ℕ → Type 0
 EntityBeginsAndEnds bytes = IfSome (entity bytes) (λ r. StandsBetween ampersand semicolon bytes r.0)
 
@@ -51,12 +51,12 @@ EntityBeginsAndEnds bytes = IfSome (entity bytes) (λ r. StandsBetween ampersand
 abbrev pub is_in_bare : ℕ → Bool
 is_in_bare b = not (is_control_or_space b)
 
--- a destination in no brackets holds no space and no control character
+-- a destination without angle brackets contains no space and no control character
 abbrev pub BareDestinationHoldsNoSpace : ℕ → List ℕ → Type 0
 BareDestinationHoldsNoSpace max_nesting bytes =
     IfSome (bare_destination max_nesting bytes) (λ d. IsTrue (list_all is_in_bare d.1))
 
--- a bracket stands there that no backslash escapes; `escaped` where a backslash stands before
+-- one of the brackets is not escaped; `escaped` if a backslash before the bytes escapes the first
 abbrev pub holds_bare_bracket : Bool → List LabelByte → Bool
 holds_bare_bracket escaped [] = false
 holds_bare_bracket escaped (refused ∷ rest) = holds_bare_bracket escaped rest
@@ -64,7 +64,7 @@ holds_bare_bracket escaped (dropped ∷ rest) = holds_bare_bracket escaped rest
 holds_bare_bracket escaped (kept b ∷ rest) =
     is_bracket escaped b || holds_bare_bracket (is_bare escaped b backslash) rest
 
--- before the closing bracket of a label each bracket is escaped, by whatever rule for its lines
+-- before the closing bracket of a label each bracket is escaped, whatever the rule for its lines
 abbrev pub LabelHoldsNoBareBracket : Bool → List ℕ → Type 0
 LabelHoldsNoBareBracket in_table bytes =
     (skipped : List ℕ → Option ℕ) → IfSome (label_body skipped in_table bytes)
@@ -74,12 +74,12 @@ LabelHoldsNoBareBracket in_table bytes =
 abbrev pub line_of : List ℕ → LineLeft
 line_of bytes = record { scanned = 0; owed = 0; column = 0; bytes = bytes }
 
--- so many spaces and a tab, and then these bytes
+-- a number of spaces, a tab, and then these bytes
 abbrev pub spaces_and_tab : ℕ → List ℕ → List ℕ
 spaces_and_tab zero bytes = 9 ∷ bytes
 spaces_and_tab (suc spaces) bytes = space_byte ∷ spaces_and_tab spaces bytes
 
--- at most three spaces and a tab are four columns, after which the next bytes stand at a tab stop
+-- at most three spaces and a tab are four columns, and the next byte is at a tab stop
 abbrev pub TabGoesToTheNextStop : ℕ → List ℕ → Type 0
 TabGoesToTheNextStop spaces bytes =
     spaces ≤ 3 → space 4 (line_of (spaces_and_tab spaces bytes))
@@ -88,7 +88,7 @@ TabGoesToTheNextStop spaces bytes =
       after = record { scanned = spaces + 1; owed = 0; column = 0; bytes = bytes };
     }
 
--- n and then m columns of space, of what is left of any line, are n + m columns
+-- n and then m columns of space of the rest of any line are n + m columns
 abbrev pub LineSpaceIsCountedByColumns : ℕ → ℕ → Type 0
 LineSpaceIsCountedByColumns n m =
     (left : LineLeft) → space (n + m) left

@@ -1,4 +1,4 @@
-//! Absolute-URI autolinks (CommonMark 6.5). An address of electronic mail is none.
+//! Absolute-URI autolinks (CommonMark 6.5). Email autolinks are not among them.
 ghost use Rattle.std.specs.Prelude.{◌≡◌, ◌≤◌, ◌<◌, IfSome, length, slice_index};
 ghost use Rattle.std.specs.Option.{option_map};
 ghost use Rattle.std.specs.Str.{IsCharBoundary};
@@ -7,14 +7,14 @@ ghost use Rattle.markdown_scan.specs.Autolink as autolink;
 
 use crate::ascii_kinds::{begins_with_letter, is_control_or_space};
 
-// A letter, a digit, `+`, `.` or `-`.
+// Returns whether the byte is a letter, a digit, `+`, `.` or `-`.
 fn is_scheme_byte(byte: u8) -> bool
     ensures { result ≡ autolink.is_scheme_byte byte }
 {
     byte.is_ascii_alphanumeric() || b"+.-".contains(&byte)
 }
 
-// No control character, no space and no angle bracket.
+// Returns whether the byte is neither a control character nor a space nor an angle bracket.
 fn is_uri_byte(byte: u8) -> bool
     ensures { result ≡ autolink.is_uri_byte byte }
 {
@@ -38,7 +38,7 @@ fn uri_length(bytes: &[u8]) -> usize
     bytes.iter().take_while(|byte| is_uri_byte(**byte)).count()
 }
 
-// Whether a scheme of 2 to 32 characters and a colon begin the bytes.
+// Returns whether the bytes begin with a scheme of 2 to 32 characters and a colon.
 fn begins_scheme(bytes: &[u8]) -> bool
     ensures { result ≡ autolink.begins_scheme bytes.now }
 {
@@ -46,7 +46,7 @@ fn begins_scheme(bytes: &[u8]) -> bool
     begins_with_letter(bytes) && 2 <= length && length <= 32 && bytes.get(length) == Some(&b':')
 }
 
-// The length of the URI that the bytes begin with, where `>` follows it.
+// Returns the length in bytes of the URI that the bytes begin with, if a `>` follows it.
 fn closed_uri(bytes: &[u8]) -> Option<usize>
     ensures value { result ≡ closed_uri bytes.now }
     ensures here { IfSome result (λ n. (n < length bytes.now) × (slice_index bytes.now n ≡ 62)) }
@@ -62,8 +62,8 @@ fn closed_uri(bytes: &[u8]) -> Option<usize>
     }
 }
 
-/// The byte after the `>` and the text between the brackets, where an absolute-URI autolink stands
-/// whose `<` is the byte before `at`. Upstream: `scan_uri`.
+/// Returns the byte offset after the `>`, and the text between the angle brackets, of the absolute-URI autolink whose
+/// `<` is the byte before `at`, if there is one. Upstream: `scan_uri`.
 pub fn scan_uri_autolink(text: &str, at: usize) -> Option<(usize, &str)>
     requires { IsCharBoundary text.now at }
     ensures value { option_map (λ p. (p.0, p.1.now)) result ≡ uri_autolink text.now at }

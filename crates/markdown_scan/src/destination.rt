@@ -7,14 +7,14 @@ ghost use Rattle.markdown_scan.specs.Destination as destination;
 use crate::ascii_kinds::is_control_or_space;
 use crate::backslash::is_bare;
 
-// Another `<`, or a line ending.
+// Returns whether the byte is not allowed between angle brackets: another `<`, or a line ending.
 fn is_refused(escaped: bool, byte: u8) -> bool
     ensures { result ≡ destination.is_refused escaped byte }
 {
     is_bare(escaped, byte, b'<') || byte == b'\n' || byte == b'\r'
 }
 
-// The bytes before the closing angle bracket.
+// Returns the number of bytes before the closing angle bracket, if there is one.
 fn angle_length(bytes: &[u8]) -> Option<usize>
     ensures value { result ≡ destination.angle_length false bytes.now }
     ensures here { IfSome result (λ n. (n < length bytes.now) × (slice_index bytes.now n ≡ 62)) }
@@ -37,7 +37,7 @@ fn angle_length(bytes: &[u8]) -> Option<usize>
     None
 }
 
-// How many parentheses are open after this byte.
+// Returns the number of parentheses that are open after this byte.
 fn open_after(escaped: bool, byte: u8, opened: usize) -> usize
     requires { opened + 1 < 2 ^ 64 }
     ensures value { result ≡ destination.open_after escaped byte opened }
@@ -52,21 +52,23 @@ fn open_after(escaped: bool, byte: u8, opened: usize) -> usize
     }
 }
 
-// A control character, a space or a `)` that closes nothing.
+// Returns whether a destination without angle brackets ends before the byte: a control character, a space, or a `)`
+// that closes no `(`.
 fn is_past_bare(escaped: bool, opened: usize, byte: u8) -> bool
     ensures { result ≡ destination.is_past_bare escaped opened byte }
 {
     is_control_or_space(byte) || (is_bare(escaped, byte, b')') && opened == 0)
 }
 
-// A `(` at which more than `max_nesting` parentheses are open.
+// Returns whether the byte is a `(` inside more than `max_nesting` open parentheses.
 fn is_too_deep(max_nesting: usize, escaped: bool, opened: usize, byte: u8) -> bool
     ensures { result ≡ destination.is_too_deep max_nesting escaped opened byte }
 {
     is_bare(escaped, byte, b'(') && max_nesting < opened
 }
 
-// The bytes of a destination in no brackets.
+// Returns the length in bytes of a destination without angle brackets; `None` if its parentheses are nested too deeply
+// or not balanced.
 fn bare_length(bytes: &[u8], max_nesting: usize) -> Option<usize>
     ensures value { result ≡ destination.bare_length max_nesting false 0 bytes.now }
     ensures within { IfSome result (λ n. n ≤ length bytes.now) }
@@ -99,11 +101,10 @@ fn begins_angle(bytes: &[u8]) -> bool
     bytes.first() == Some(&b'<')
 }
 
-/// The length in bytes and the raw text of the link destination that stands at the byte `at`. In
-/// angle brackets the length counts these and the text does not. A destination in no brackets ends
-/// before a control character, a space or a `)` that closes nothing; a `(` at which more than
-/// `max_nesting` are open refuses it, and so does one that is left open. It may be empty, of length
-/// 0, as in a link that leaves it out. Upstream: `scan_link_dest`.
+/// Returns the length in bytes and the raw text of the link destination at the byte `at`. In angle brackets, the length
+/// includes these and the text does not. Without brackets, a destination ends before a control character, a space, or a
+/// `)` that closes no `(`; there is no destination if a `(` is inside more than `max_nesting` open parentheses, or is
+/// not closed. A destination may be empty, with length 0, as in a link that leaves it out. Upstream: `scan_link_dest`.
 pub fn scan_link_destination(text: &str, at: usize, max_nesting: usize) -> Option<(usize, &str)>
     requires { IsCharBoundary text.now at }
     ensures value { option_map (λ p. (p.0, p.1.now)) result ≡ destination.destination max_nesting (drop at text.now) }

@@ -3,7 +3,7 @@ ghost use Rattle.std.specs.Prelude.{◌≡◌, ◌≤◌, IfSome, length, take_w
 ghost use Rattle.std.specs.Char.{digit_value, is_digit};
 ghost use Rattle.markdown_scan.specs.Entity.{character_of, entity, number_of, numeric_reference};
 
-/// The value of a digit or a letter, and 36 for any other byte.
+/// Returns the value of an ASCII digit or letter, and 36 for any other byte.
 fn digit_value(byte: u8) -> u32
     ensures value { result ≡ digit_value byte }
     ensures bound { result ≤ 36 }
@@ -16,7 +16,7 @@ fn digit_value(byte: u8) -> u32
     }
 }
 
-/// The number that digits write.
+/// Returns the number that the digits represent.
 fn number_of(digits: &[u8], radix: u32) -> u32
     requires few { length digits.now ≤ 7 }
     requires base { radix ≤ 16 }
@@ -29,7 +29,7 @@ fn number_of(digits: &[u8], radix: u32) -> u32
     number
 }
 
-/// The character of a number: U+FFFD for zero and for what is no Unicode scalar value.
+/// Returns the character of a number: U+FFFD for zero and for numbers that are not Unicode scalar values.
 fn character_of(number: u32) -> char
     ensures { result ≡ character_of number }
 {
@@ -39,7 +39,7 @@ fn character_of(number: u32) -> char
     }
 }
 
-/// How many digits the bytes begin with.
+/// Returns the number of digits that the bytes begin with.
 fn count_digits(bytes: &[u8], radix: u32) -> usize
     requires low { 2 ≤ radix }
     requires high { radix ≤ 36 }
@@ -51,8 +51,8 @@ fn count_digits(bytes: &[u8], radix: u32) -> usize
         .count()
 }
 
-/// At most so many digits and a semicolon after `start` bytes: the length of all that, and the
-/// character of the number.
+/// Reads 1 to `most` digits and a semicolon after the first `start` bytes. Returns the length in bytes of all these,
+/// including the first `start`, and the character of the number.
 fn scan_numeric_reference(
     bytes: &[u8],
     start: usize,
@@ -77,8 +77,8 @@ fn scan_numeric_reference(
     ))
 }
 
-/// The entity or numeric character reference that the bytes begin with, from its `&` on: its length
-/// in bytes and its character. By name there are `&amp;`, `&lt;`, `&gt;` and `&quot;` alone.
+/// Reads the entity or numeric character reference that the bytes begin with, from its `&` on, and returns its length
+/// in bytes and its character. The only named entities are `&amp;`, `&lt;`, `&gt;` and `&quot;`.
 pub fn scan_entity(bytes: &[u8]) -> Option<(usize, char)>
     ensures value { result ≡ entity bytes.now }
     ensures within { IfSome result (λ found. found.0 ≤ length bytes.now) }

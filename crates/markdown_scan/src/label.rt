@@ -16,7 +16,8 @@ use crate::line_rule::LineRule;
 use markdown_base::cow_str::CowStr;
 use std::alloc::{AllocError, Global};
 
-// How many bytes of the rest are a line's prefix, where the character before it ends a line.
+// Returns the length in bytes of the line prefix that `rest` begins with: 0 if the character before it does not end a
+// line, and `None` if the text may not continue on another line.
 fn prefix_after_character<R: LineRule>(rule: &R, c: char, rest: &str) -> Option<usize>
     ensures value { result ≡ prefix_after (R.skipped rule.now) c rest.now }
     ensures within { IfSome result (λ n. n ≤ length rest.now) }
@@ -29,14 +30,15 @@ fn prefix_after_character<R: LineRule>(rule: &R, c: char, rest: &str) -> Option<
     }
 }
 
-// A bracket that is not escaped.
+// Returns whether the character is a bracket that is not escaped.
 fn is_bracket(escaped: bool, c: char) -> bool
     ensures { result ≡ label.is_bracket escaped c }
 {
     is_bare(escaped, c, ']') || is_bare(escaped, c, '[')
 }
 
-// The next character of a label, and what follows it and the prefix after it.
+// Returns the next character of a label, and what follows it and the line prefix after it; `None` where the label's
+// text ends.
 fn next_character<'a, R: LineRule>(
     rule: &R,
     escaped: bool,
@@ -56,7 +58,8 @@ fn next_character<'a, R: LineRule>(
     Some((c, &tail[skipped..]))
 }
 
-// The text of a label, of which the source is what stands before its closing bracket.
+// Returns the text of a label: `source` is the part of `text` before the label's closing bracket. The error is a
+// refused allocation, which cannot occur if the label's text is a prefix of `source`.
 fn label_text<'t, R: LineRule>(
     alloc: Global,
     text: &str,
@@ -81,12 +84,13 @@ fn label_text<'t, R: LineRule>(
     Ok(found.finish())
 }
 
-/// The length in bytes through the closing bracket, and the text, of the label of which `text` begins
-/// after the opening one: outer white space removed, each inner run of it one space, and after each
-/// line ending what the rule calls the line's prefix left out. Escapes stay as they are written, but
-/// in a table each backslash directly before a `|` goes. None where no label of at most 999
-/// characters stands that has one which is no white space. A text that changes is made anew; where
-/// memory for it is refused, that is the error. Upstream: `scan_link_label_rest`.
+/// Reads a link label, of which `text` begins after the opening bracket, and returns its length in bytes, including the
+/// closing bracket, and its text. In the text, outer white space is removed, each inner run of white space is one
+/// space, and the prefix of each line, by `rule`, is left out. Escapes remain as they are written, except that in a
+/// table a backslash directly before a `|` is removed.
+///
+/// Returns `None` if there is no label of at most 999 characters, at least one of them not white space. The error is a
+/// refused allocation, which cannot occur if the text is a prefix of the source. Upstream: `scan_link_label_rest`.
 pub fn scan_link_label<'t, R: LineRule>(
     alloc: Global,
     text: &'t str,
@@ -95,7 +99,7 @@ pub fn scan_link_label<'t, R: LineRule>(
 ) -> Result<Option<(usize, CowStr<'t>)>, AllocError>
     ensures value { IfOk result (λ found. option_map (λ p. (p.0, text_of p.1)) found
         ≡ link_label (R.skipped rule.now) in_table text.now) }
-    // What did not change is a slice of the source, and takes no memory.
+    // A text that is unchanged is a slice of the source, and allocates no memory.
     ensures borrowed { IfOk result (λ found. IfSome found (λ p.
         text_of p.1 ≡ take (p.0 - 1) text.now → IsBorrowed p.1)) }
     ensures unchanged { (n : ℕ) → link_label (R.skipped rule.now) in_table text.now ≡ Some (n + 1, take n text.now)

@@ -1,4 +1,4 @@
-//! The text of a link label (CommonMark 6.3): the source itself as long as nothing changes.
+//! The text of a link label (CommonMark 6.3): a slice of the source as long as nothing changes.
 ghost use Rattle.std.specs.Prelude.{◌≡◌, ◌≢◌, ◌++◌, ℕ, List, [], false, take, length, encode_utf8, string_bytes};
 ghost use Rattle.std.specs.Prelude.{IsTrue, IsFalse, None, IfOk, OnOk, OnErr, MatchOption};
 ghost use Rattle.std.specs.Option.{ForSome};
@@ -13,7 +13,7 @@ ghost use Rattle.markdown_scan.specs.LabelScan.{IsNoBeginning};
 use markdown_base::cow_str::CowStr;
 use std::alloc::{AllocError, Global};
 
-/// The text of a label so far: the beginning of its source, or a text of its own.
+/// The text of a label so far: a prefix of its source, or an owned text.
 #[derive(Drop)]
 pub(crate) struct LabelText<'t> {
     source: &'t str,
@@ -25,7 +25,7 @@ pub(crate) struct LabelText<'t> {
     ghost differs: { ForSome own (λ text. IsNoBeginning (string_bytes text) source.now) },
 }
 
-/// The first character, and what follows it.
+/// Returns the first character and what follows it.
 pub(crate) fn split_first(text: &str) -> Option<(char, &str)>
     ensures { MatchOption result (length text.now ≡ 0) (λ p. text.now ≡ encode_utf8 p.0 ++ p.1.now) }
 {
@@ -34,7 +34,7 @@ pub(crate) fn split_first(text: &str) -> Option<(char, &str)>
     Some((first, chars.as_str()))
 }
 
-// Whether the text begins with the character.
+// Returns whether the text begins with the character.
 fn begins_with(text: &str, c: char) -> bool
     ensures yes { IsTrue result → (tail : List ℕ) × (text.now ≡ encode_utf8 c ++ tail) }
     ensures no { IsFalse result → (tail : List ℕ) → text.now ≢ encode_utf8 c ++ tail }
@@ -51,21 +51,21 @@ fn is_white_space(c: char) -> bool
     matches!(c, ' ' | '\t'..='\r')
 }
 
-/// Whether the character is this one, and not escaped.
+/// Returns whether the character is `what` and is not escaped.
 pub(crate) fn is_bare(escaped: bool, c: char, what: char) -> bool
     ensures { result ≡ backslash.is_bare escaped c what }
 {
     !escaped && c == what
 }
 
-// Whether, in a table, the character is a backslash and a pipe stands directly after it.
+// Returns whether, in a table, the character is a backslash directly before a pipe.
 fn escapes_pipe(in_table: bool, c: char, next: &str) -> bool
     ensures { result ≡ backslash.escapes_pipe in_table c next.now }
 {
     c == '\\' && in_table && next.as_bytes().first() == Some(&b'|')
 }
 
-// A text of its own: this one and a character.
+// Returns an owned text: the given one and a character after it.
 fn joined(alloc: Global, text: &str, c: char) -> Result<String, AllocError>
     ensures { IfOk result (λ own. string_bytes own ≡ text.now ++ encode_utf8 c) }
 {
@@ -74,7 +74,7 @@ fn joined(alloc: Global, text: &str, c: char) -> Result<String, AllocError>
     Ok(own)
 }
 
-// A text of its own, or else a slice of the source.
+// Returns the owned text if there is one, and otherwise the slice of the source.
 fn own_or<'t>(own: Option<String>, same: &'t str) -> CowStr<'t>
     ensures text { text_of result ≡ scan.own_or own same.now }
     ensures borrowed { own ≡ None → IsBorrowed result }
@@ -88,7 +88,7 @@ fn own_or<'t>(own: Option<String>, same: &'t str) -> CowStr<'t>
 impl<'t> LabelText<'t> {
     ghost use Rattle.markdown_scan.specs.LabelText.{so_far, completed};
 
-    /// Nothing yet.
+    /// Returns the empty text.
     pub(crate) fn new(source: &'t str) -> LabelText<'t>
         ensures text { so_far result ≡ [] }
         ensures source { result.source.now ≡ source.now }
@@ -103,7 +103,8 @@ impl<'t> LabelText<'t> {
         }
     }
 
-    // Adds a character to the text.
+    // Appends a character to the text. The error is a refused allocation, which cannot occur while the text is a prefix
+    // of the source.
     fn push(&mut self, alloc: Global, c: char) -> Result<(), AllocError>
         ensures text { OnOk result (so_far self.new ≡ so_far self.old ++ encode_utf8 c) }
         ensures source { self.new.source ≡ self.old.source }
@@ -121,7 +122,7 @@ impl<'t> LabelText<'t> {
         Ok(())
     }
 
-    // Adds the space that stands for the white space before the next character.
+    // Appends the space that replaces the white space before the next character, if there is any.
     fn put_gap(&mut self, alloc: Global) -> Result<(), AllocError>
         ensures text { OnOk result (so_far self.new ≡ so_far self.old ++ label.gap self.old.begun self.old.waiting) }
         ensures source { self.new.source ≡ self.old.source }
@@ -134,7 +135,7 @@ impl<'t> LabelText<'t> {
         Ok(())
     }
 
-    // Adds a character, white space squeezed.
+    // Appends a character, collapsing white space.
     fn put(&mut self, alloc: Global, c: char) -> Result<(), AllocError>
         ensures text { OnOk result ((rest : List ℕ)
             → completed self.new rest ≡ completed self.old (encode_utf8 c ++ rest)) }
@@ -153,8 +154,8 @@ impl<'t> LabelText<'t> {
         Ok(())
     }
 
-    /// Adds a character of the source that stands before the next ones, but for a backslash that in a
-    /// table stands directly before a pipe.
+    /// Appends a character of the source that `next` follows, unless it is a backslash directly before a pipe in a
+    /// table.
     pub(crate) fn put_shown(
         &mut self,
         alloc: Global,
@@ -174,7 +175,7 @@ impl<'t> LabelText<'t> {
         self.put(alloc, c)
     }
 
-    /// The text as it stands: a slice of the source where it is one.
+    /// Returns the text: a slice of the source if it is a prefix of the source.
     pub(crate) fn finish(self) -> CowStr<'t>
         ensures text { text_of result ≡ so_far self.entry }
         ensures borrowed { (n : ℕ) → text_of result ≡ take n self.entry.source.now → IsBorrowed result }

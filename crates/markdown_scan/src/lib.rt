@@ -1,4 +1,4 @@
-//! What stands at a byte of a text, by CommonMark: a module for each family of scanners but raw HTML.
+//! Scanners of what begins at a byte of a text, by CommonMark: a module for each family of scanners except raw HTML.
 #![tactic(auto)]
 
 pub mod ascii_kinds;

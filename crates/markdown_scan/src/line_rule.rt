@@ -1,23 +1,23 @@
-//! What is skipped at the beginning of a line that a label or a tag goes on in.
+//! What is skipped at the beginning of a line on which a label or a tag continues.
 ghost use Rattle.std.specs.Prelude.{◌≡◌, ◌≤◌, ℕ, List, Option, IfSome, IsTrue, None, Some, length, take};
 ghost use Rattle.std.specs.List.{list_all};
 ghost use Rattle.std.specs.Char.{is_ascii};
 
-/// How a text goes on after a line ending.
+/// How a text continues after a line ending.
 pub trait LineRule {
-    /// How many of the bytes that follow a line ending are a prefix and no part of the text; None
-    /// where no line ending may stand there.
+    /// The number of bytes after a line ending that are a prefix and not part of the text; `None` where a line ending
+    /// is not allowed.
     ghost skipped: { Self → List ℕ → Option ℕ };
 
-    /// The length in bytes of the prefix that the rest after a line ending begins with, or None
-    /// where no line ending may stand there. A prefix is ASCII.
+    /// Returns the length in bytes of the prefix at the beginning of `rest`, which follows a line ending; `None` where
+    /// a line ending is not allowed. A prefix is ASCII.
     fn skip(&self, rest: &[u8]) -> Option<usize>
         ensures value { result ≡ skipped self.now rest.now }
         ensures within { IfSome result (λ n. n ≤ length rest.now) }
         ensures ascii { IfSome result (λ n. IsTrue (list_all is_ascii (take n rest.now))) };
 }
 
-/// Lines have no prefix: the text is that of a paragraph directly under the document.
+/// The rule for lines without a prefix, as those of a paragraph directly below the document.
 #[derive(Debug, Drop)]
 pub struct NoPrefix;
 
@@ -31,7 +31,7 @@ impl LineRule for NoPrefix {
     }
 }
 
-/// No line ending may stand in the text.
+/// The rule for a text in which no line ending is allowed.
 #[derive(Debug, Drop)]
 pub struct OneLine;
 

@@ -1,9 +1,9 @@
-//! The beginning of a line, read by columns (CommonMark 2.2).
+//! The beginning of a line, measured in columns (CommonMark 2.2).
 ghost use Rattle.std.specs.Prelude.{◌≡◌, ◌≤◌, ◌<◌, ◌==◌, ◌+◌, ◌^◌, length, min, if◌then◌else◌, slice_index, IsTrue};
 ghost use Rattle.markdown_scan.specs.LineStart as spec;
 
-/// What is left of a line, of which the white space is read by columns. A tab goes to the next
-/// multiple of 4 columns; where only some of its columns are read, the others come next.
+/// The rest of a line, whose white space is read in columns. A tab extends to the next multiple of 4 columns; if only
+/// some of its columns are read, the others come next.
 #[derive(Drop)]
 pub struct LineStart<'t> {
     rest: &'t [u8],
@@ -14,7 +14,7 @@ pub struct LineStart<'t> {
     ghost in_memory: { scanned + length rest.now < 2 ^ 64 },
 }
 
-// The columns of a space or a tab, and none of any other byte.
+// Returns the columns of a space or a tab, and 0 for any other byte.
 fn space_width(column: usize, byte: u8) -> usize
     requires { column < 4 }
     ensures value { result ≡ spec.space_width column byte }
@@ -27,7 +27,7 @@ fn space_width(column: usize, byte: u8) -> usize
     }
 }
 
-// The column after a byte of one column.
+// Returns the column after a byte of one column, counted from the last tab stop.
 fn next_column(column: usize) -> usize
     requires { column < 4 }
     ensures value { result ≡ spec.next_column column }
@@ -36,7 +36,7 @@ fn next_column(column: usize) -> usize
     if column == 3 { 0 } else { column + 1 }
 }
 
-// The column after a space or a tab.
+// Returns the column after a space or a tab, counted from the last tab stop.
 fn column_after(column: usize, byte: u8) -> usize
     requires { column < 4 }
     ensures value { result ≡ spec.column_after column byte }
@@ -53,7 +53,7 @@ impl<'t> LineStart<'t> {
     ghost use Rattle.markdown_scan.specs.LineView.{line_left};
     ghost use Rattle.markdown_scan.specs.LineSteps.{width_next, past_white};
 
-    /// The whole line.
+    /// Returns a reader at the beginning of the line.
     pub fn new(bytes: &'t [u8]) -> LineStart<'t>
         ensures { line_left result ≡ record { scanned = 0; owed = 0; column = 0; bytes = bytes.now } }
     {
@@ -65,21 +65,21 @@ impl<'t> LineStart<'t> {
         }
     }
 
-    /// The bytes that were scanned.
+    /// Returns the number of bytes that were scanned.
     pub fn bytes_scanned(&self) -> usize
         ensures { result ≡ (line_left self.now).scanned }
     {
         self.scanned
     }
 
-    /// The columns of space that the last tab owes.
+    /// Returns the columns that are left of a tab of which only some were read.
     pub fn remaining_space(&self) -> usize
         ensures { result ≡ (line_left self.now).owed }
     {
         self.owed
     }
 
-    /// Whether a line feed, a carriage return or no byte comes next.
+    /// Returns whether a line feed, a carriage return or the end of the bytes comes next.
     pub fn is_at_eol(&self) -> bool
         ensures { result ≡ spec.is_line_over (line_left self.now).bytes }
     {
@@ -89,7 +89,8 @@ impl<'t> LineStart<'t> {
         }
     }
 
-    // Takes a space or a tab, of which at most so many columns are used: how many of them are.
+    // Reads at most `most` columns of a space or a tab, and returns how many were read, 0 if neither comes next. The
+    // other columns of a tab come next.
     fn take_white(&mut self, most: usize) -> usize
         requires none_owed { self.old.owed ≡ 0 }
         requires some { 0 < most }
@@ -111,7 +112,7 @@ impl<'t> LineStart<'t> {
         columns
     }
 
-    /// Takes as many columns of space as there are, at most `n`, and answers how many.
+    /// Reads at most `n` columns of space, and returns how many were read.
     pub fn scan_space_upto(&mut self, n: usize) -> usize
         ensures columns { result ≡ (spec.space n (line_left self.old)).columns }
         ensures left { line_left self.new ≡ (spec.space n (line_left self.old)).after }
@@ -128,7 +129,7 @@ impl<'t> LineStart<'t> {
         taken
     }
 
-    /// Takes `n` columns of space where there are so many, and nothing else: whether there are.
+    /// Reads `n` columns of space, and returns whether there were that many. If not, nothing is read.
     pub fn scan_space(&mut self, n: usize) -> bool
         ensures value { result ≡ ((spec.space n (line_left self.old)).columns == n) }
         ensures left { line_left self.new ≡ (if result then (spec.space n (line_left self.old)).after
@@ -142,7 +143,7 @@ impl<'t> LineStart<'t> {
         true
     }
 
-    // The same once more.
+    // Returns a copy of the reader.
     fn copy(&self) -> LineStart<'t>
         ensures { line_left result ≡ line_left self.now }
     {
@@ -154,7 +155,7 @@ impl<'t> LineStart<'t> {
         }
     }
 
-    /// Takes all the space.
+    /// Reads all the space that comes next.
     pub fn scan_all_space(&mut self)
         ensures { line_left self.new ≡ spec.past_space (line_left self.old) }
     {
@@ -162,8 +163,8 @@ impl<'t> LineStart<'t> {
         while self.take_white(4) > 0 {}
     }
 
-    /// Takes a block quote marker (CommonMark 5.1), a `>` and at most one column of space after it:
-    /// whether it comes next.
+    /// Reads a block quote marker (CommonMark 5.1), a `>` and at most one column of space after it, and returns whether
+    /// there was one. If not, nothing is read.
     pub fn scan_blockquote_marker(&mut self) -> bool
         ensures value { result ≡ spec.begins_marker (line_left self.old) }
         ensures left { line_left self.new ≡ (if result then spec.past_marker (line_left self.old)

@@ -1,4 +1,4 @@
-//! Backslash escapes (CommonMark 2.4) and entities (2.5) in a text, replaced by what they stand for.
+//! Backslash escapes (CommonMark 2.4) and entities (2.5) in a text, replaced by their characters.
 ghost use Rattle.std.specs.Prelude.{◌≡◌, ◌≢◌, ◌<◌, ◌≤◌, ◌++◌, IfNone, IfOk, IfSome, IsOk, encode_utf8, length};
 ghost use Rattle.std.specs.Prelude.{string_bytes};
 ghost use Rattle.markdown_base.specs.CowText.{text_of, IsBorrowed};
@@ -8,7 +8,7 @@ use crate::entity::scan_entity;
 use markdown_base::cow_str::CowStr;
 use std::alloc::{AllocError, Global};
 
-/// The escape or entity that the bytes begin with: its length in bytes and its character.
+/// Reads the escape or entity that the bytes begin with, and returns its length in bytes and its character.
 fn scan_reference(bytes: &[u8], in_table: bool) -> Option<(usize, char)>
     ensures value { result ≡ reference in_table bytes.now }
     ensures within { IfSome result (λ found. found.0 ≤ length bytes.now) }
@@ -23,7 +23,8 @@ fn scan_reference(bytes: &[u8], in_table: bool) -> Option<(usize, char)>
     }
 }
 
-/// What stands before the first escape or entity, its character, and what stands after it.
+/// Returns the text before the first escape or entity, the character of that, and the text after it; `None` if there is
+/// none.
 fn split_at_reference<'t>(text: &'t str, in_table: bool) -> Option<(&'t str, char, &'t str)>
     ensures none { IfNone result (unescaped in_table text.now ≡ text.now) }
     ensures some { IfSome result (λ parts. unescaped in_table text.now
@@ -40,7 +41,7 @@ fn split_at_reference<'t>(text: &'t str, in_table: bool) -> Option<(&'t str, cha
     None
 }
 
-/// A copy of the text with its escapes and entities replaced.
+/// Returns a copy of the text with its escapes and entities replaced. The error is a refused allocation.
 fn unescaped_copy(alloc: Global, text: &str, in_table: bool) -> Result<String, AllocError>
     ensures { IfOk result (λ made. string_bytes made ≡ unescaped in_table text.now) }
 {
@@ -55,9 +56,9 @@ fn unescaped_copy(alloc: Global, text: &str, in_table: bool) -> Result<String, A
     Ok(made)
 }
 
-/// The text with its backslash escapes and its entities replaced by the characters that they stand
-/// for; in a table two backslashes and a pipe stand for the pipe. Where that is the text itself, it
-/// is a slice of the source, and no memory is taken; else memory can run out.
+/// Returns the text with its backslash escapes and its entities replaced by their characters; in a table, two
+/// backslashes and a pipe are replaced by the pipe. A text that does not change is returned as a slice of the source,
+/// without an allocation. The error is a refused allocation.
 pub fn unescape<'t>(alloc: Global, text: &'t str, in_table: bool) -> Result<CowStr<'t>, AllocError>
     ensures value { IfOk result (λ made. text_of made ≡ unescaped in_table text.now) }
     ensures borrowed { IfOk result (λ made. text_of made ≡ text.now → IsBorrowed made) }

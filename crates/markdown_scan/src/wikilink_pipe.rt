@@ -5,7 +5,7 @@ ghost use Rattle.std.specs.Str.{IsCharBoundary};
 ghost use Rattle.markdown_base.specs.Bytes.{pipe};
 ghost use Rattle.markdown_scan.specs.WikilinkPipe.{wikilink_pipe};
 
-// Where the first pipe stands.
+// Returns the index of the first pipe, if there is one.
 fn first_pipe(bytes: &[u8]) -> Option<usize>
     ensures value { result ≡ position (λ b. b == pipe) bytes.now }
     ensures here { IfSome result (λ n. (n < length bytes.now) × (slice_index bytes.now n ≡ pipe)) }
@@ -13,8 +13,8 @@ fn first_pipe(bytes: &[u8]) -> Option<usize>
     bytes.iter().position(|byte| *byte == b'|')
 }
 
-/// The byte after the first `|` and the text before it, within the `length` bytes of `text` from the
-/// byte `start` on; None where no pipe stands in them.
+/// Returns the byte offset after the first `|` and the text before that, within the `length` bytes of `text` from the
+/// byte `start` on; `None` if these contain no pipe.
 pub fn scan_wikilink_pipe(text: &str, start: usize, length: usize) -> Option<(usize, &str)>
     requires start { IsCharBoundary text.now start }
     requires end { IsCharBoundary text.now (start + length) }

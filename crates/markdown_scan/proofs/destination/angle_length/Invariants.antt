@@ -3,7 +3,7 @@ use Rattle.std.specs.Option.{option_map}
 use Rattle.markdown_scan.specs.Destination.{angle_length}
 use Rattle.markdown_scan.proofs.destination.angle_length.Given as goal
 
--- what follows stands at this byte, and the whole has its bytes and these before them
+-- the rest begins at the byte `at`, and the length of the whole is that of the rest and the `at` bytes before it
 abbrev pub invariant-loop-first : goal.invariant-loop-first
 invariant-loop-first l = record {
   sum : l.at + length l.rest ≡ length l.bytes;

@@ -2,7 +2,7 @@ use Rattle.std.proofs.Common.{◌≡◌, ◌≤◌, ◌+◌, length, drop, false
 use Rattle.markdown_scan.specs.LabelScan.{end_after, found_in}
 use Rattle.markdown_scan.proofs.label_end.label_end.Given as goal
 
--- what follows stands at this byte, and the whole has its end after what was read
+-- the rest begins at the byte `at`, and the whole label ends after what was read
 abbrev pub invariant-loop-first : goal.invariant-loop-first
 invariant-loop-first g l = record {
   sum : l.at + length l.rest ≡ length l.bytes;
