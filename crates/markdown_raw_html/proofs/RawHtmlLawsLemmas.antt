@@ -56,7 +56,7 @@ Opens-html_tag : Opens html_tag
 Opens-html_tag =
     Opens-either open_tag closing_tag (Opens-both _ _ Opens-byte) (Opens-both _ _ Opens-byte)
 
--- a tag stands between angle brackets
+-- a tag begins with `<` and ends with `>`
 pub tag_between : (bytes : List ℕ) → IfSome (html_tag bytes) (StandsBetween 60 62 bytes)
 tag_between bytes = together (html_tag bytes) (Opens-html_tag.is bytes) (Closes-html_tag.is bytes)
   where
@@ -65,7 +65,7 @@ tag_between bytes = together (html_tag bytes) (Opens-html_tag.is bytes) (Closes-
     together None opens closes = tt
     together (Some n) opens closes = (opens, closes.last)
 
--- where the closing bytes do not stand here, they are first what they are first further on
+-- if the bytes do not begin with the closing bytes, the first of these are the first of the rest
 first_close_later : (closing : List ℕ) (b : ℕ) (bytes : List ℕ) (found : Option ℕ)
     → begins_with closing (b ∷ bytes) ≡ false → IfSome found (IsFirstClose closing bytes)
     → IfSome (option_map (λ n. 1 + n) found) (IsFirstClose closing (b ∷ bytes))
@@ -78,7 +78,7 @@ first_close_later closing b bytes (Some n) differs later =
     before zero less = differs
     before (suc k) less = later.2 k (omega (arith, later.0, less))
 
--- the closing bytes stand first where they are found
+-- `through_first` finds the first closing bytes
 pub first_close : (closing bytes : List ℕ)
     → IfSome (through_first closing bytes) (IsFirstClose closing bytes)
 first_close closing [] = tt

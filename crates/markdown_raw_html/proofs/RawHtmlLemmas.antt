@@ -1,4 +1,4 @@
--- The first place where closing bytes stand.
+-- The first occurrence of closing bytes.
 use Rattle.std.proofs.Common.{◌≡◌, ℕ, suc, zero, ◌+◌, ◌-◌, ◌<◌, ◌≤◌, List, [], ◌∷◌, Bool, true, false, cond, Option, Some, None, IfSome}
 use Rattle.std.proofs.Common.{length, drop, get_or, codes, refl, arith, ◌∙◌, sym, ap, lit≤}
 use Rattle.std.proofs.lemmas.Bool.{cond_both, cond-true}
@@ -10,7 +10,7 @@ use Rattle.markdown_raw_html.specs.RawHtml.{cdata_section, comment, declaration,
 use Rattle.markdown_raw_html.specs.RawHtml.{through_first_after}
 use Rattle.markdown_scan.proofs.BeginsWithLemmas.{begins_with-fits, begins_with-reads}
 
--- where they stand nowhere, they stand nowhere further on
+-- bytes that do not contain them do not contain them from a later offset on
 pub none_later : (closing : List ℕ) (n : ℕ) (bytes : List ℕ) → through_first closing bytes ≡ None
     → through_first closing (drop n bytes) ≡ None
 none_later closing zero bytes h = h
@@ -25,7 +25,7 @@ none_later closing (suc n) (b ∷ bytes) h =
     tail_has_none false m None e = refl
     tail_has_none false m (Some x) e = cc
 
--- nor is anything found from a later place on
+-- nothing is found from a later offset on
 pub none_past : (closing text : List ℕ) (from start : ℕ)
     → through_first closing (drop from text) ≡ None → from ≤ start
     → None ≡ end_from (through_first closing) text start
@@ -40,7 +40,7 @@ pub added_twice : (n m : ℕ) (found : Option ℕ)
 added_twice n m None = refl
 added_twice n m (Some k) = ap Some (omega arith)
 
--- what is found n bytes after a place is found from there on
+-- what is found after the first n bytes is found from that offset on
 pub end_after : (closing text : List ℕ) (start n : ℕ)
     → end_from (through_first closing) text (start + n)
     ≡ end_from (through_first_after n closing) text start
@@ -49,7 +49,7 @@ end_after closing text start n =
     ∙ ap (λ bytes. option_map (λ k. start + n + k) (through_first closing bytes))
     (drop-drop n start text))
 
--- what is found n bytes after a place where its beginning stands
+-- the same, where the bytes begin as they have to
 pub end_if : (closing text : List ℕ) (start n : ℕ) (begins : Bool) → begins ≡ true
     → end_from (through_first closing) text (start + n)
     ≡ option_map (λ k. start + k)
@@ -59,7 +59,7 @@ end_if closing text start n begins e =
     ∙ ap (option_map (λ k. start + k))
     (sym (cond-true begins (through_first_after n closing (drop start text)) None e))
 
--- so many bytes, of which the last is this one
+-- the first n bytes end with `mark`
 pub record EndsWith (mark : ℕ) (bytes : List ℕ) (n : ℕ) : Type 0 where
   pub some : 1 ≤ n
   pub within : n ≤ length bytes
@@ -76,7 +76,7 @@ EndsWith-text mark text bytes e is = record {
       begins_with-reads text bytes (length text - 1) e inside ∙ is.last;
 }
 
--- n bytes further on
+-- the same, n bytes later
 pub EndsWith-after : (mark n : ℕ) (bytes : List ℕ) (found : Option ℕ)
     → IfSome found (EndsWith mark (drop n bytes))
     → IfSome (option_map (λ m. n + m) found) (EndsWith mark bytes)

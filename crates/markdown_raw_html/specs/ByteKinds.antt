@@ -1,4 +1,4 @@
--- The kinds of bytes that the scanner of tags names. Only private clauses cite this.
+-- The kinds of bytes that the scanner of tags names, for private clauses.
 use Rattle.std.specs.Prelude.{ℕ, Bool, not, ◌==◌}
 use Rattle.std.specs.Char.{is_ascii_alphabetic}
 use Rattle.markdown_raw_html.specs.HtmlTag.{begins_attribute, in_attribute, in_tag_name, in_unquoted, is_tag_blank}

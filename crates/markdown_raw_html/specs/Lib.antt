@@ -7,6 +7,6 @@ pub mod RawHtmlLaws
 -- for private clauses
 pub mod ByteKinds
 pub mod TagSteps
--- the words of the lower crate that the definitions here are written in
+-- the definitions of a lower crate that those here cite
 pub use Rattle.markdown_scan.specs.Beginnings
 pub use Rattle.markdown_scan.specs.LinePrefix

@@ -1,17 +1,17 @@
--- The text that a tag over several lines is read from: after a line ending a line rule says how many
--- bytes are a prefix, and no part of the text, or that the text ends there.
+-- The text from which a tag that spans several lines is read: after a line ending, a line rule tells the length of the
+-- prefix, which is not part of the text, or that the text ends there.
 use Rattle.std.specs.Prelude.{ℕ, suc, zero, List, [], ◌∷◌, Option, drop}
 use Rattle.std.specs.Option.{option_map_or}
 use Rattle.markdown_scan.specs.LinePrefix.{prefix_after}
 
--- the bytes of the text, of which the first `passed` are a prefix
+-- the text in a source whose first `passed` bytes belong to a prefix
 abbrev pub text_past : (List ℕ → Option ℕ) → ℕ → List ℕ → List ℕ
 text_past skipped passed [] = []
 text_past skipped (suc passed) (b ∷ bytes) = text_past skipped passed bytes
 text_past skipped zero (b ∷ bytes) =
     b ∷ option_map_or (λ n. text_past skipped n bytes) (prefix_after skipped b bytes) []
 
--- the text that the bytes of the source hold
+-- the text in a source: its bytes without prefixes
 abbrev pub text_in : (List ℕ → Option ℕ) → List ℕ → List ℕ
 text_in skipped source = text_past skipped 0 source
 

@@ -1,4 +1,4 @@
-//! The kinds of bytes that tags are made of.
+//! The kinds of bytes that tags consist of.
 ghost use Rattle.std.specs.Prelude.{◌≡◌};
 ghost use Rattle.markdown_raw_html.specs.ByteKinds.{in_kind};
 
@@ -9,21 +9,21 @@ pub(crate) enum ByteKind {
     Blank,
     /// An ASCII letter.
     Letter,
-    /// In a tag's name after its first letter.
+    /// A byte of a tag's name after its first letter.
     InTagName,
-    /// At the beginning of an attribute's name.
+    /// The first byte of an attribute's name.
     BeginsAttribute,
-    /// In an attribute's name after that.
+    /// A byte of an attribute's name after the first one.
     InAttribute,
-    /// In a value without quotes.
+    /// A byte of a value without quotes.
     Unquoted,
-    /// This byte.
+    /// The given byte.
     Only(u8),
-    /// All but this byte.
+    /// Any byte except the given one.
     Except(u8),
 }
 
-/// Whether the byte is of the kind.
+/// Returns whether the byte is of the kind.
 pub(crate) fn is_in_kind(kind: ByteKind, byte: u8) -> bool
     ensures { result ≡ in_kind kind byte }
 {

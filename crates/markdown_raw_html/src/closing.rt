@@ -1,10 +1,9 @@
-//! The first place where closing bytes stand, looked for once: a search that failed is not repeated.
+//! The search for the first closing bytes: a search that failed is not repeated.
 ghost use Rattle.std.specs.Prelude.{◌≡◌, ◌<◌, ◌≤◌, IfSome, None, drop, length};
 ghost use Rattle.markdown_raw_html.specs.RawHtml.{end_from, through_first};
 
-/// A text, closing bytes, and a place from which on they do not stand in the text. Without that
-/// place each start of many that no end follows would be searched to the end of the text: `<!a<!a`
-/// and so on, n times, would cost n².
+/// A text, closing bytes, and a byte offset from which on the text does not contain them. Without that offset, each
+/// start that no end follows would cost a search to the end of the text: `<!a`, repeated n times, would cost n².
 #[derive(Debug, Drop)]
 pub(crate) struct ClosingGuard<'t> {
     pub(crate) text: &'t [u8],
@@ -14,7 +13,7 @@ pub(crate) struct ClosingGuard<'t> {
     ghost none: { through_first closing.now (drop none_from text.now) ≡ None },
 }
 
-/// The length of the bytes up to the first place where the closing bytes stand, and through them.
+/// Returns the length in bytes through the first closing bytes, if there are any.
 fn find_closing(bytes: &[u8], closing: &[u8]) -> Option<usize>
     ensures value { result ≡ through_first closing.now bytes.now }
     ensures within { IfSome result (λ n. n ≤ length bytes.now) }
@@ -32,7 +31,7 @@ fn find_closing(bytes: &[u8], closing: &[u8]) -> Option<usize>
 }
 
 impl<'t> ClosingGuard<'t> {
-    /// No search has failed yet.
+    /// Returns a guard for which no search has failed yet.
     pub(crate) fn new(text: &'t [u8], closing: &'t [u8]) -> ClosingGuard<'t>
         ensures text { result.text.now ≡ text.now }
         ensures closing { result.closing.now ≡ closing.now }
@@ -44,7 +43,8 @@ impl<'t> ClosingGuard<'t> {
         }
     }
 
-    /// The place just after the first closing bytes that stand at `start` or later.
+    /// Returns the byte offset after the first closing bytes at `start` or later. If there are none, the guard
+    /// remembers that from `start` on.
     pub(crate) fn end(&mut self, start: usize) -> Option<usize>
         requires { start ≤ length self.old.text.now }
         ensures value { result ≡ end_from (through_first self.old.closing.now) self.old.text.now

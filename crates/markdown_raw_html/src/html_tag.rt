@@ -15,13 +15,13 @@ use std::alloc::{AllocError, Global};
 /// A tag that was found.
 #[derive(Debug, Drop)]
 pub struct ScannedTag {
-    /// The place just after it.
+    /// The byte offset after the tag.
     pub end: usize,
-    /// Its bytes without the prefixes of lines, where such prefixes stand inside it.
+    /// The tag's bytes without the prefixes of its lines, if it contains such prefixes.
     pub without_prefixes: Option<Vec<u8>>,
 }
 
-/// How many bytes the tag has that stands before `rest`, without prefixes.
+/// Returns the length in bytes, without prefixes, of the tag between the beginning of `source` and `rest`.
 fn count_tag<R: LineRule>(rule: &R, source: &[u8], rest: &[u8]) -> usize
     requires { Some rest.now ≡ after_part (R.skipped rule.now) html_tag source.now }
     ensures { Some result ≡ html_tag (text_in (R.skipped rule.now) source.now) }
@@ -38,7 +38,7 @@ fn count_tag<R: LineRule>(rule: &R, source: &[u8], rest: &[u8]) -> usize
     count
 }
 
-/// The tag that begins the source: how many bytes it takes with its prefixes, and without them.
+/// Returns the length in bytes of the tag that the source begins with, with the prefixes of its lines and without them.
 fn read_tag<R: LineRule>(rule: &R, source: &[u8]) -> Option<(usize, usize)>
     ensures value { result ≡ option_map (λ n. tag_lengths (R.skipped rule.now) source.now n)
         (html_tag (text_in (R.skipped rule.now) source.now)) }
@@ -48,7 +48,7 @@ fn read_tag<R: LineRule>(rule: &R, source: &[u8]) -> Option<(usize, usize)>
     Some((source.len() - rest.len(), count_tag(rule, source, rest)))
 }
 
-/// The first so many bytes of the text, without prefixes.
+/// Returns the first `count` bytes of the text, without prefixes. The error is a refused allocation.
 fn copy_text<R: LineRule>(
     alloc: Global,
     rule: &R,
@@ -71,9 +71,9 @@ fn copy_text<R: LineRule>(
     Ok(made)
 }
 
-/// The open or closing tag (CommonMark 6.6) whose `<` stands at the byte `at`. None where no tag begins there, or
-/// where a line ending stands in it after which the rule lets no text go on. Memory is taken, and can run out, only
-/// for a tag's bytes without prefixes.
+/// Returns the open or closing tag (CommonMark 6.6) whose `<` is at the byte offset `at`; `None` if no tag begins
+/// there, or if it contains a line ending after which, by `rule`, the text may not continue. Only a copy of the tag's
+/// bytes without prefixes allocates memory. The error is a refused allocation.
 pub fn scan_html_tag<R: LineRule>(
     alloc: Global,
     text: &str,

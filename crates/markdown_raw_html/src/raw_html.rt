@@ -6,9 +6,9 @@ ghost use Rattle.markdown_raw_html.specs.RawHtml.{processing_instruction};
 use crate::closing::ClosingGuard;
 use markdown_scan::ascii_kinds::begins_with_letter;
 
-/// The comments, CDATA sections, declarations and processing instructions of a text, which is that
-/// of one block up to its end. It remembers from where on none of a kind ends, so that the scans of
-/// a text that fail cost linear time together; no answer depends on that. Each kind ends with `>`.
+/// A scanner of the comments, CDATA sections, declarations and processing instructions in a text, which ends where its
+/// block ends. For each kind it remembers the offset from which on none ends, so that all failed scans of a text
+/// together take linear time; no result depends on that. Each kind ends with `>`.
 #[derive(Debug, Drop)]
 pub struct RawHtmlScanner<'t> {
     /// The bytes of the text.
@@ -28,7 +28,7 @@ pub struct RawHtmlScanner<'t> {
 }
 
 impl<'t> RawHtmlScanner<'t> {
-    /// A scanner of these bytes.
+    /// Returns a scanner of the bytes.
     pub fn new(text: &'t [u8]) -> RawHtmlScanner<'t>
         ensures { result.text.now ≡ text.now }
     {
@@ -41,8 +41,8 @@ impl<'t> RawHtmlScanner<'t> {
         }
     }
 
-    /// The place just after the comment that begins with `<!` right before `start`, or None. A
-    /// comment ends with the first `-->` after its `<!--`; `<!-->` and `<!--->` are comments too.
+    /// Returns the byte offset after the comment whose `<!` is directly before `start`, if there is one. A comment ends
+    /// with the first `-->` after its `<!--`; `<!-->` and `<!--->` are comments too.
     pub fn scan_comment(&mut self, start: usize) -> Option<usize>
         requires { start ≤ length self.old.text.now }
         ensures value { result ≡ end_from comment self.old.text.now start }
@@ -62,8 +62,8 @@ impl<'t> RawHtmlScanner<'t> {
         }
     }
 
-    /// The place just after the CDATA section that begins with `<!` right before `start`, or None.
-    /// It ends with the first `]]>` after its `<![CDATA[`.
+    /// Returns the byte offset after the CDATA section whose `<!` is directly before `start`, if there is one. It ends
+    /// with the first `]]>` after its `<![CDATA[`.
     pub fn scan_cdata_section(&mut self, start: usize) -> Option<usize>
         requires { start ≤ length self.old.text.now }
         ensures value { result ≡ end_from cdata_section self.old.text.now start }
@@ -77,8 +77,8 @@ impl<'t> RawHtmlScanner<'t> {
         self.cdata_sections.end(start + 7)
     }
 
-    /// The place just after the declaration that begins with `<!` right before `start`, or None. It
-    /// is an ASCII letter and all up to the first `>`.
+    /// Returns the byte offset after the declaration whose `<!` is directly before `start`, if there is one. After the
+    /// `<!` it has an ASCII letter, and then everything through the first `>`.
     pub fn scan_declaration(&mut self, start: usize) -> Option<usize>
         requires { start ≤ length self.old.text.now }
         ensures value { result ≡ end_from declaration self.old.text.now start }
@@ -92,8 +92,8 @@ impl<'t> RawHtmlScanner<'t> {
         self.declarations.end(start + 1)
     }
 
-    /// The place just after the processing instruction that begins with `<?` right before `start`,
-    /// or None. It ends with the first `?>` at `start` or later.
+    /// Returns the byte offset after the processing instruction whose `<?` is directly before `start`, if there is one.
+    /// It ends with the first `?>` at `start` or later.
     pub fn scan_processing_instruction(&mut self, start: usize) -> Option<usize>
         requires { start ≤ length self.old.text.now }
         ensures value { result ≡ end_from processing_instruction self.old.text.now start }

@@ -1,4 +1,5 @@
-//! Open and closing tags (CommonMark 6.6), each as the source after it.
+//! Open and closing tags (CommonMark 6.6). Each function takes what the source begins with, and returns the source
+//! after that, or `None` if the source does not begin with it.
 ghost use Rattle.std.specs.Prelude.{◌≡◌, Some};
 ghost use Rattle.std.specs.Option.{option_copied};
 ghost use Rattle.markdown_raw_html.specs.HtmlTag.{attribute, both, byte, closing_tag, html_tag, nonempty, often};
@@ -10,7 +11,7 @@ use crate::tag_parts::{take_name_and_value, take_optional, take_tag_name, take_w
 use crate::tag_text::take_one;
 use markdown_scan::line_rule::LineRule;
 
-/// White space, which has a byte or more.
+/// Takes white space of at least one byte.
 fn take_some_white_space<'t, R: LineRule>(rule: &R, source: &'t [u8]) -> Option<&'t [u8]>
     ensures { option_copied result
         ≡ after_part (R.skipped rule.now) (nonempty white_space) source.now }
@@ -23,7 +24,7 @@ fn take_some_white_space<'t, R: LineRule>(rule: &R, source: &'t [u8]) -> Option<
     }
 }
 
-/// White space, a name, and maybe a value.
+/// Takes white space, an attribute's name, and optionally its value.
 #[tactic(auto, using(crate::proofs::TagTextLemmas::both_none, crate::proofs::TagTextLemmas::both_some))]
 fn take_attribute<'t, R: LineRule>(rule: &R, source: &'t [u8]) -> Option<&'t [u8]>
     ensures { option_copied result
@@ -33,7 +34,7 @@ fn take_attribute<'t, R: LineRule>(rule: &R, source: &'t [u8]) -> Option<&'t [u8
     take_name_and_value(rule, rest)
 }
 
-/// Attributes, as many as come.
+/// Takes as many attributes as there are.
 fn take_attributes<'t, R: LineRule>(rule: &R, source: &'t [u8]) -> &'t [u8]
     ensures { Some result.now
         ≡ after_part (R.skipped rule.now) (often attribute) source.now }
@@ -45,7 +46,7 @@ fn take_attributes<'t, R: LineRule>(rule: &R, source: &'t [u8]) -> &'t [u8]
     rest
 }
 
-/// Maybe `/`, and `>`.
+/// Takes an optional `/`, and `>`.
 #[tactic(auto, using(crate::proofs::TagTextLemmas::both_none, crate::proofs::TagTextLemmas::both_some))]
 fn take_angle_bracket<'t, R: LineRule>(rule: &R, source: &'t [u8]) -> Option<&'t [u8]>
     ensures { option_copied result
@@ -55,7 +56,7 @@ fn take_angle_bracket<'t, R: LineRule>(rule: &R, source: &'t [u8]) -> Option<&'t
     take_one(rule, rest, ByteKind::Only(b'>'))
 }
 
-/// The end of an open tag.
+/// Takes the end of an open tag.
 #[tactic(auto, using(crate::proofs::TagTextLemmas::both_none, crate::proofs::TagTextLemmas::both_some))]
 fn take_open_tag_end<'t, R: LineRule>(rule: &R, source: &'t [u8]) -> Option<&'t [u8]>
     ensures { option_copied result
@@ -65,7 +66,7 @@ fn take_open_tag_end<'t, R: LineRule>(rule: &R, source: &'t [u8]) -> Option<&'t 
     take_angle_bracket(rule, rest)
 }
 
-/// Attributes and the end of an open tag.
+/// Takes attributes and the end of an open tag.
 #[tactic(auto, using(crate::proofs::TagTextLemmas::both_none, crate::proofs::TagTextLemmas::both_some))]
 fn take_attributes_and_end<'t, R: LineRule>(rule: &R, source: &'t [u8]) -> Option<&'t [u8]>
     ensures { option_copied result
@@ -75,7 +76,7 @@ fn take_attributes_and_end<'t, R: LineRule>(rule: &R, source: &'t [u8]) -> Optio
     take_open_tag_end(rule, rest)
 }
 
-/// An open tag after its `<`.
+/// Takes an open tag after its `<`.
 #[tactic(auto, using(crate::proofs::TagTextLemmas::both_none, crate::proofs::TagTextLemmas::both_some))]
 fn take_open_tag_inside<'t, R: LineRule>(rule: &R, source: &'t [u8]) -> Option<&'t [u8]>
     ensures { option_copied result
@@ -85,7 +86,7 @@ fn take_open_tag_inside<'t, R: LineRule>(rule: &R, source: &'t [u8]) -> Option<&
     take_attributes_and_end(rule, rest)
 }
 
-/// An open tag.
+/// Takes an open tag.
 #[tactic(auto, using(crate::proofs::TagTextLemmas::both_none, crate::proofs::TagTextLemmas::both_some))]
 fn take_open_tag<'t, R: LineRule>(rule: &R, source: &'t [u8]) -> Option<&'t [u8]>
     ensures { option_copied result
@@ -95,7 +96,7 @@ fn take_open_tag<'t, R: LineRule>(rule: &R, source: &'t [u8]) -> Option<&'t [u8]
     take_open_tag_inside(rule, rest)
 }
 
-/// The end of a closing tag.
+/// Takes the end of a closing tag.
 #[tactic(auto, using(crate::proofs::TagTextLemmas::both_none, crate::proofs::TagTextLemmas::both_some))]
 fn take_closing_tag_end<'t, R: LineRule>(rule: &R, source: &'t [u8]) -> Option<&'t [u8]>
     ensures { option_copied result
@@ -105,7 +106,7 @@ fn take_closing_tag_end<'t, R: LineRule>(rule: &R, source: &'t [u8]) -> Option<&
     take_one(rule, rest, ByteKind::Only(b'>'))
 }
 
-/// A closing tag after its `</`.
+/// Takes a closing tag after its `</`.
 #[tactic(auto, using(crate::proofs::TagTextLemmas::both_none, crate::proofs::TagTextLemmas::both_some))]
 fn take_closing_tag_name<'t, R: LineRule>(rule: &R, source: &'t [u8]) -> Option<&'t [u8]>
     ensures { option_copied result
@@ -115,7 +116,7 @@ fn take_closing_tag_name<'t, R: LineRule>(rule: &R, source: &'t [u8]) -> Option<
     take_closing_tag_end(rule, rest)
 }
 
-/// A closing tag after its `<`.
+/// Takes a closing tag after its `<`.
 #[tactic(auto, using(crate::proofs::TagTextLemmas::both_none, crate::proofs::TagTextLemmas::both_some))]
 fn take_closing_tag_inside<'t, R: LineRule>(rule: &R, source: &'t [u8]) -> Option<&'t [u8]>
     ensures { option_copied result
@@ -125,7 +126,7 @@ fn take_closing_tag_inside<'t, R: LineRule>(rule: &R, source: &'t [u8]) -> Optio
     take_closing_tag_name(rule, rest)
 }
 
-/// A closing tag.
+/// Takes a closing tag.
 #[tactic(auto, using(crate::proofs::TagTextLemmas::both_none, crate::proofs::TagTextLemmas::both_some))]
 fn take_closing_tag<'t, R: LineRule>(rule: &R, source: &'t [u8]) -> Option<&'t [u8]>
     ensures { option_copied result
@@ -135,7 +136,7 @@ fn take_closing_tag<'t, R: LineRule>(rule: &R, source: &'t [u8]) -> Option<&'t [
     take_closing_tag_inside(rule, rest)
 }
 
-/// A tag. Each byte is looked at a bounded number of times: no text begins both kinds of tags.
+/// Takes a tag. Each byte is read a bounded number of times, since no text begins with both kinds of tags.
 #[tactic(auto, using(crate::proofs::TagTextLemmas::either_none, crate::proofs::TagTextLemmas::either_some))]
 pub(crate) fn take_html_tag<'t, R: LineRule>(rule: &R, source: &'t [u8]) -> Option<&'t [u8]>
     ensures { option_copied result

@@ -1,5 +1,5 @@
-//! The parts of tags (CommonMark 6.6), each as the source after it. A function takes two parts at
-//! most, as the grammar does.
+//! The parts of tags (CommonMark 6.6). Each function takes what the source begins with, and returns the source after
+//! that, or `None` if the source does not begin with it. It combines at most two parts, as the grammar does.
 ghost use Rattle.std.specs.Prelude.{◌≡◌, ◌==◌, Some, not};
 ghost use Rattle.std.specs.Option.{option_copied};
 ghost use Rattle.markdown_raw_html.specs.ByteKinds.{in_kind};
@@ -12,7 +12,7 @@ use crate::byte_kind::ByteKind;
 use crate::tag_text::{take_all, take_one};
 use markdown_scan::line_rule::LineRule;
 
-/// A byte of the kind, if one comes.
+/// Takes an optional byte of the kind.
 #[tactic(auto, using(crate::proofs::TagTextLemmas::optional_none, crate::proofs::TagTextLemmas::optional_some))]
 pub(crate) fn take_optional<'t, R: LineRule>(rule: &R, source: &'t [u8], kind: ByteKind) -> &'t [u8]
     ensures { Some result.now
@@ -24,7 +24,7 @@ pub(crate) fn take_optional<'t, R: LineRule>(rule: &R, source: &'t [u8], kind: B
     }
 }
 
-/// A carriage return, and the line feed that follows it, if one does.
+/// Takes a carriage return, and the line feed after it if there is one.
 #[tactic(auto, using(crate::proofs::TagTextLemmas::both_none, crate::proofs::TagTextLemmas::both_some))]
 fn take_carriage_return<'t, R: LineRule>(rule: &R, source: &'t [u8]) -> Option<&'t [u8]>
     ensures { option_copied result
@@ -34,7 +34,7 @@ fn take_carriage_return<'t, R: LineRule>(rule: &R, source: &'t [u8]) -> Option<&
     Some(take_optional(rule, rest, ByteKind::Only(b'\n')))
 }
 
-/// A line ending.
+/// Takes a line ending.
 #[tactic(auto, using(crate::proofs::TagTextLemmas::either_none, crate::proofs::TagTextLemmas::either_some))]
 fn take_line_end<'t, R: LineRule>(rule: &R, source: &'t [u8]) -> Option<&'t [u8]>
     ensures { option_copied result
@@ -46,7 +46,7 @@ fn take_line_end<'t, R: LineRule>(rule: &R, source: &'t [u8]) -> Option<&'t [u8]
     }
 }
 
-/// A line ending, if one comes.
+/// Takes an optional line ending.
 #[tactic(auto, using(crate::proofs::TagTextLemmas::optional_none, crate::proofs::TagTextLemmas::optional_some))]
 fn take_optional_line_end<'t, R: LineRule>(rule: &R, source: &'t [u8]) -> &'t [u8]
     ensures { Some result.now
@@ -58,7 +58,7 @@ fn take_optional_line_end<'t, R: LineRule>(rule: &R, source: &'t [u8]) -> &'t [u
     }
 }
 
-/// A line ending, if one comes, and spaces and tabs.
+/// Takes an optional line ending, and spaces and tabs.
 #[tactic(auto, using(crate::proofs::TagTextLemmas::both_none, crate::proofs::TagTextLemmas::both_some))]
 fn take_next_line<'t, R: LineRule>(rule: &R, source: &'t [u8]) -> &'t [u8]
     ensures { Some result.now
@@ -68,7 +68,7 @@ fn take_next_line<'t, R: LineRule>(rule: &R, source: &'t [u8]) -> &'t [u8]
     take_all(rule, line, ByteKind::Blank)
 }
 
-/// Spaces and tabs, and up to one line ending.
+/// Takes spaces and tabs, and at most one line ending.
 #[tactic(auto, using(crate::proofs::TagTextLemmas::both_none, crate::proofs::TagTextLemmas::both_some))]
 pub(crate) fn take_white_space<'t, R: LineRule>(rule: &R, source: &'t [u8]) -> &'t [u8]
     ensures { Some result.now
@@ -78,7 +78,7 @@ pub(crate) fn take_white_space<'t, R: LineRule>(rule: &R, source: &'t [u8]) -> &
     take_next_line(rule, line_end)
 }
 
-/// A tag's name.
+/// Takes a tag's name.
 #[tactic(auto, using(crate::proofs::TagTextLemmas::both_none, crate::proofs::TagTextLemmas::both_some))]
 pub(crate) fn take_tag_name<'t, R: LineRule>(rule: &R, source: &'t [u8]) -> Option<&'t [u8]>
     ensures { option_copied result
@@ -88,7 +88,7 @@ pub(crate) fn take_tag_name<'t, R: LineRule>(rule: &R, source: &'t [u8]) -> Opti
     Some(take_all(rule, rest, ByteKind::InTagName))
 }
 
-/// An attribute's name.
+/// Takes an attribute's name.
 #[tactic(auto, using(crate::proofs::TagTextLemmas::both_none, crate::proofs::TagTextLemmas::both_some))]
 fn take_attribute_name<'t, R: LineRule>(rule: &R, source: &'t [u8]) -> Option<&'t [u8]>
     ensures { option_copied result
@@ -98,7 +98,7 @@ fn take_attribute_name<'t, R: LineRule>(rule: &R, source: &'t [u8]) -> Option<&'
     Some(take_all(rule, rest, ByteKind::InAttribute))
 }
 
-/// A value without quotes.
+/// Takes a value without quotes.
 #[tactic(auto, using(crate::proofs::TagTextLemmas::both_none, crate::proofs::TagTextLemmas::both_some))]
 fn take_unquoted_value<'t, R: LineRule>(rule: &R, source: &'t [u8]) -> Option<&'t [u8]>
     ensures { option_copied result
@@ -108,7 +108,7 @@ fn take_unquoted_value<'t, R: LineRule>(rule: &R, source: &'t [u8]) -> Option<&'
     Some(take_all(rule, rest, ByteKind::Unquoted))
 }
 
-/// All up to this mark, and through it.
+/// Takes everything through the first `mark`.
 #[tactic(auto, using(crate::proofs::TagTextLemmas::both_none, crate::proofs::TagTextLemmas::both_some))]
 fn take_to_mark<'t, R: LineRule>(rule: &R, source: &'t [u8], mark: u8) -> Option<&'t [u8]>
     ensures { option_copied result
@@ -118,7 +118,7 @@ fn take_to_mark<'t, R: LineRule>(rule: &R, source: &'t [u8], mark: u8) -> Option
     take_one(rule, end, ByteKind::Only(mark))
 }
 
-/// A value between two of these marks.
+/// Takes a value between two of the marks.
 #[tactic(auto, using(crate::proofs::TagTextLemmas::both_none, crate::proofs::TagTextLemmas::both_some))]
 fn take_quoted_value<'t, R: LineRule>(rule: &R, source: &'t [u8], mark: u8) -> Option<&'t [u8]>
     ensures { option_copied result
@@ -128,7 +128,7 @@ fn take_quoted_value<'t, R: LineRule>(rule: &R, source: &'t [u8], mark: u8) -> O
     take_to_mark(rule, inside, mark)
 }
 
-/// A value in single or in double quotes.
+/// Takes a value in single or double quotes.
 #[tactic(auto, using(crate::proofs::TagTextLemmas::either_none, crate::proofs::TagTextLemmas::either_some))]
 fn take_value_in_quotes<'t, R: LineRule>(rule: &R, source: &'t [u8]) -> Option<&'t [u8]>
     ensures { option_copied result
@@ -140,7 +140,7 @@ fn take_value_in_quotes<'t, R: LineRule>(rule: &R, source: &'t [u8]) -> Option<&
     }
 }
 
-/// An attribute's value.
+/// Takes an attribute's value.
 #[tactic(auto, using(crate::proofs::TagTextLemmas::either_none, crate::proofs::TagTextLemmas::either_some))]
 fn take_attribute_value<'t, R: LineRule>(rule: &R, source: &'t [u8]) -> Option<&'t [u8]>
     ensures { option_copied result
@@ -152,7 +152,7 @@ fn take_attribute_value<'t, R: LineRule>(rule: &R, source: &'t [u8]) -> Option<&
     }
 }
 
-/// Maybe white space, and a value.
+/// Takes optional white space, and a value.
 #[tactic(auto, using(crate::proofs::TagTextLemmas::both_none, crate::proofs::TagTextLemmas::both_some))]
 fn take_spaced_value<'t, R: LineRule>(rule: &R, source: &'t [u8]) -> Option<&'t [u8]>
     ensures { option_copied result
@@ -162,7 +162,7 @@ fn take_spaced_value<'t, R: LineRule>(rule: &R, source: &'t [u8]) -> Option<&'t 
     take_attribute_value(rule, value)
 }
 
-/// `=` and a value.
+/// Takes `=`, optional white space, and a value.
 #[tactic(auto, using(crate::proofs::TagTextLemmas::both_none, crate::proofs::TagTextLemmas::both_some))]
 fn take_equals_and_value<'t, R: LineRule>(rule: &R, source: &'t [u8]) -> Option<&'t [u8]>
     ensures { option_copied result
@@ -172,7 +172,7 @@ fn take_equals_and_value<'t, R: LineRule>(rule: &R, source: &'t [u8]) -> Option<
     take_spaced_value(rule, value)
 }
 
-/// `=` and a value, maybe white space before each of them.
+/// Takes `=` and a value, with optional white space before each.
 #[tactic(auto, using(crate::proofs::TagTextLemmas::both_none, crate::proofs::TagTextLemmas::both_some))]
 fn take_value_specification<'t, R: LineRule>(rule: &R, source: &'t [u8]) -> Option<&'t [u8]>
     ensures { option_copied result
@@ -182,7 +182,7 @@ fn take_value_specification<'t, R: LineRule>(rule: &R, source: &'t [u8]) -> Opti
     take_equals_and_value(rule, equals)
 }
 
-/// `=` and a value, if they come.
+/// Takes an optional `=` and value.
 #[tactic(auto, using(crate::proofs::TagTextLemmas::optional_none, crate::proofs::TagTextLemmas::optional_some))]
 fn take_optional_value<'t, R: LineRule>(rule: &R, source: &'t [u8]) -> &'t [u8]
     ensures { Some result.now
@@ -194,7 +194,7 @@ fn take_optional_value<'t, R: LineRule>(rule: &R, source: &'t [u8]) -> &'t [u8]
     }
 }
 
-/// An attribute's name, and maybe its value.
+/// Takes an attribute's name, and optionally its value.
 #[tactic(auto, using(crate::proofs::TagTextLemmas::both_none, crate::proofs::TagTextLemmas::both_some))]
 pub(crate) fn take_name_and_value<'t, R: LineRule>(rule: &R, source: &'t [u8]) -> Option<&'t [u8]>
     ensures { option_copied result

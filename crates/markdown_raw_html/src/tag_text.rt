@@ -1,4 +1,4 @@
-//! The text of a tag, byte by byte over the prefixes of its lines.
+//! The text of a tag, read byte by byte without the prefixes of its lines.
 ghost use Rattle.std.specs.Prelude.{◌≡◌, ◌<◌, ◌≤◌, IfSome, Some, length};
 ghost use Rattle.std.specs.Option.{option_copied, option_map};
 ghost use Rattle.markdown_raw_html.specs.ByteKinds.{in_kind};
@@ -9,7 +9,7 @@ use crate::byte_kind::{ByteKind, is_in_kind};
 use markdown_scan::line_prefix::prefix_after;
 use markdown_scan::line_rule::LineRule;
 
-/// The next byte of the text, and the source from the one after it on.
+/// Returns the next byte of the text, and the source from the following byte of the text on.
 pub(crate) fn first_byte<'t, R: LineRule>(rule: &R, source: &'t [u8]) -> Option<(u8, &'t [u8])>
     ensures value { option_map (λ p. (p.0, p.1.now)) result
         ≡ first_byte (R.skipped rule.now) source.now }
@@ -22,7 +22,7 @@ pub(crate) fn first_byte<'t, R: LineRule>(rule: &R, source: &'t [u8]) -> Option<
     }
 }
 
-/// The source after one byte of the kind.
+/// Takes one byte of the kind: returns the source after it, or `None` if no such byte comes next.
 pub(crate) fn take_one<'t, R: LineRule>(
     rule: &R,
     source: &'t [u8],
@@ -39,7 +39,7 @@ pub(crate) fn take_one<'t, R: LineRule>(
     }
 }
 
-/// The source after all bytes of the kind that come.
+/// Takes all bytes of the kind that come next: returns the source after them.
 pub(crate) fn take_all<'t, R: LineRule>(rule: &R, source: &'t [u8], kind: ByteKind) -> &'t [u8]
     ensures { Some result.now ≡ after_part (R.skipped rule.now) (all (in_kind kind)) source.now }
 {

@@ -1,4 +1,4 @@
--- So many bytes of the text were passed, and no more than the tag has.
+-- `count` bytes of the text were passed, no more than the tag has.
 use Rattle.std.proofs.Common.{◌≡◌, ◌≤◌, length, unwrap_or}
 use Rattle.markdown_raw_html.specs.HtmlTag.{html_tag}
 use Rattle.markdown_raw_html.specs.TagText.{source_after, text_in}
