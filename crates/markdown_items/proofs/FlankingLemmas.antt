@@ -8,7 +8,7 @@ use Rattle.std.specs.Str.{chars, IsUtf8}
 use Rattle.std.specs.Prelude.{true, false}
 use Rattle.markdown_items.specs.Flanking.{flags_of}
 
--- what follows a text in a text is text
+-- if a text is followed by more bytes in a text, these are text
 rest_is_text : (bytes front rest : List ℕ) → IsUtf8 bytes → IsUtf8 front → bytes ≡ front ++ rest → IsUtf8 rest
 rest_is_text bytes front rest whole text e =
     let n = length front in

@@ -106,7 +106,7 @@ run_end_is text at end stop le whole =
     prefix_len_is (λ b. b == slice_index text at) part (stop - at) 0 (omega (arith, size, within)) first last in
     omega (arith, count, more)
 
--- reading goes on behind what was found
+-- the offset at which to continue is further on in the line's content
 pub goes_on : (text : List ℕ) (end at : ℕ) (found : Found) → at < end → FoundFits text end at found
     → LiesFurther end at (next_after at found)
 goes_on text end at (found.Text next) more fits = fits

@@ -1,4 +1,4 @@
--- Bytes that are looked at together.
+-- Bytes that are tested together.
 use Rattle.std.proofs.Common.{◌≡◌, ℕ, ◌+◌, ◌-◌, ◌<◌, ◌≤◌, List, [], ◌∷◌, Bool, true, false, length, get_or, refl, sym, ap, ◌∙◌}
 use Rattle.std.proofs.Common.{arith, slice_range, slice_index, ⊎_elim, inl, inr}
 use Rattle.std.proofs.lemmas.Bool.{cases_lt}
@@ -12,7 +12,7 @@ both_pass : (x y : Bool) → (x && y) ≡ true → (x ≡ true) × (y ≡ true)
 both_pass true y h = (refl, h)
 both_pass false y h = cc
 
--- a byte that passes a test is none of those that fail it
+-- a byte that passes a test is not one of the bytes that fail it
 never : (test : ℕ → Bool) (marks : List ℕ) (byte : ℕ) → list_all (λ b. not (test b)) marks ≡ true → test byte ≡ true
     → list_any (λ b. b == byte) marks ≡ false
 never test [] byte all h = refl
@@ -37,7 +37,7 @@ none_special (b ∷ bs) h =
     let both = both_pass (is_plain b) (list_all is_plain bs) h in
     none_of_two (is_special b) (list_any is_special bs) (plain_is b both.0) (none_special bs both.1)
 
--- where no byte is special up to a part, and so many of the part are not, none is up to there
+-- if no byte before a slice is special, nor any of the first bytes of the slice, none is up to there
 pub plain_through : (bytes : List ℕ) (from start stop before : ℕ) → start ≤ stop → stop ≤ length bytes
     → ((at : ℕ) → from ≤ at → at < start → is_special (slice_index bytes at) ≡ false)
     → IsFirstSpecial (slice_range bytes start stop) 0 (length (slice_range bytes start stop)) before
@@ -53,7 +53,7 @@ plain_through bytes from start stop before order within earlier first at low hig
     ap is_special (sym same) ∙ here)
     (cases_lt at start)
 
--- what is found in a part, where no byte is special before it, is the first special byte, or the end if it is behind it
+-- if no byte before a slice is special, what is found in it is the first special byte, or `end` if it is after that
 pub first_special_in : (bytes : List ℕ) (from end start stop before found : ℕ) → from ≤ start → start ≤ stop
     → stop ≤ length bytes → start ≤ end
     → ((at : ℕ) → from ≤ at → at < start → is_special (slice_index bytes at) ≡ false)

@@ -14,7 +14,7 @@ use Rattle.markdown_items.specs.declared.found.Line.{Line}
 use Rattle.markdown_items.specs.Flanking.{character_before, character_after}
 use Rattle.markdown_items.specs.LineItems.{run_end, run_flags, math_mark, quote_mark}
 
--- where reading goes on after what was found at a place
+-- the offset at which to continue after what was found at an offset
 abbrev pub next_after : ℕ → Found → ℕ
 next_after at (found.Text next) = next
 next_after at found.Escape = at + 2
@@ -25,15 +25,15 @@ next_after at (found.EscapedBackticks stop) = stop
 next_after at (found.Run stop flags) = stop
 next_after at (found.Entity stop character) = stop
 
--- A backslash before ASCII punctuation stands in no item, and what it escapes begins a text (CommonMark 2.4); backticks
--- after it are an item. Any other backslash is text.
+-- A backslash before ASCII punctuation is in no item, and a text begins with what it escapes (CommonMark 2.4);
+-- backticks after it are an item. Any other backslash is text.
 unfoldable pub escape_at : List ℕ → ℕ → ℕ → Found
 escape_at text end at =
     if (at + 1 == end) || not (is_ascii_punctuation (slice_index text (at + 1))) then found.Text (at + 1)
     else if slice_index text (at + 1) == backtick then found.EscapedBackticks (run_end text (at + 1) end)
     else found.Escape
 
--- what was read as an entity at a place, or nothing
+-- the entity read at an offset, if any, and otherwise text
 abbrev pub entity_found : ℕ → Option (ℕ × ℕ) → Found
 entity_found at None = found.Text (at + 1)
 entity_found at (Some read) = found.Entity (at + read.0) read.1
@@ -42,24 +42,24 @@ entity_found at (Some read) = found.Entity (at + read.0) read.1
 unfoldable pub entity_at : List ℕ → ℕ → ℕ → Found
 entity_at text end at = entity_found at (entity (slice_range text at end))
 
--- a `!` before a `[` begins an image with it, and is text alone
+-- a `!` directly before a `[` begins an image, and is text otherwise
 unfoldable pub image_at : List ℕ → ℕ → ℕ → Found
 image_at text end at =
     if (at + 1 == end) || not (slice_index text (at + 1) == open_bracket) then found.Text (at + 1) else found.Image
 
--- a run up to a place, with its flags if it is a delimiter run
+-- a run up to an offset: a delimiter run with its flags if it has them, and otherwise text
 abbrev pub run_found : ℕ → Option Flags → Found
 run_found stop None = found.Text stop
 run_found stop (Some flags) = found.Run stop flags
 
--- the whole run at a place, a delimiter run or text
+-- the whole run at an offset, a delimiter run or text
 unfoldable pub run_at : Line → List ℕ → ℕ → Found
 run_at line text at =
     let stop = run_end text at line.end in
     run_found stop (run_flags line.extensions (slice_index text at) (stop - at)
     (character_before text line.start at) (character_after text stop))
 
--- a `$` or a quotation mark, where it is more than text
+-- a `$` or a quotation mark, as a mark if its extension is enabled, and otherwise as text
 unfoldable pub mark_at : Line → List ℕ → ℕ → Found
 mark_at line text at =
     let byte = slice_index text at in
@@ -70,7 +70,7 @@ mark_at line text at =
     then found.Mark (quote_mark byte before after)
     else found.Text (at + 1)
 
--- what begins at a place in a line's content, by its byte
+-- what begins at an offset in a line's content, by its byte
 unfoldable pub found_at : Line → List ℕ → ℕ → Found
 found_at line text at =
     let byte = slice_index text at in

@@ -1,4 +1,4 @@
--- For private clauses: what is found in a line's content fits it, and how a builder goes on with it.
+-- For private clauses: what is found in a line's content fits it, and the builder after it is appended.
 use Rattle.std.specs.Prelude.{◌≡◌, ℕ, ◌+◌, ◌<◌, ◌≤◌, true, nat_lt, List, [], ◌∷◌, ◌++◌, Option, Some, None}
 use Rattle.std.specs.Prelude.{slice_index, encode_utf8, if◌then◌else◌}
 use Rattle.std.specs.Str.{IsCharBoundary}
@@ -11,7 +11,7 @@ use Rattle.markdown_items.specs.declared.found.Found.TheVariants as found
 use Rattle.markdown_items.specs.declared.found.Line.{Line}
 use Rattle.markdown_items.specs.LineItems.{is_special}
 
--- a special byte stands at a place in a line's content
+-- there is a special byte at an offset in a line's content
 pub record IsAtSpecial (text : List ℕ) (line : Line) (at : ℕ) : Type 0 where
   pub start : IsCharBoundary text line.start
   pub begun : line.start ≤ at
@@ -19,12 +19,12 @@ pub record IsAtSpecial (text : List ℕ) (line : Line) (at : ℕ) : Type 0 where
   pub end : IsCharBoundary text line.end
   pub special : is_special (slice_index text at) ≡ true
 
--- something goes on from a place up to another, in a line's content that stops before `end`
+-- one offset is after another, in a line's content that ends at `end`
 pub record LiesFurther (end at next : ℕ) : Type 0 where
   pub past : at < next
   pub within : next ≤ end
 
--- what a builder asks of the item that is found at a place in a line's content that stops before `end`
+-- what a builder requires of what is found at an offset in a line's content that ends at `end`
 abbrev pub FoundFits : List ℕ → ℕ → ℕ → Found → Type 0
 FoundFits text end at (found.Text next) = LiesFurther end at next
 FoundFits text end at found.Escape = (at + 1 < end) × IsCharBoundary text (at + 1)
@@ -38,12 +38,12 @@ FoundFits text end at (found.Run stop flags) =
     LiesFurther end at stop × IsRunOf (slice_index text at) text at stop × (is_delimiter (slice_index text at) ≡ true)
 FoundFits text end at (found.Entity stop character) = LiesFurther end at stop × IsCharBoundary text stop
 
--- the run that was appended last, once there is text up to a place: none, if there is any text
+-- the character of the run appended last, after the text up to an offset is appended: none if there is any such text
 abbrev pub run_after_text : BuilderView → ℕ → Option ℕ
 run_after_text view to = if nat_lt view.at to then None else view.run
 
--- The text before a place and the item that is found there are appended. What is left of a run whose first characters
--- were appended last is text.
+-- the builder after the text before an offset and the item found there are appended; a run that directly continues the
+-- one appended last becomes text
 abbrev pub view_after : BuilderView → ℕ → Found → BuilderView
 view_after view at (found.Text next) = view
 view_after view at found.Escape = record view { at = at + 1; run = run_after_text view at }

@@ -1,4 +1,4 @@
--- what is read of a line
+-- what a line is read as
 pub mod Flanking
 pub mod LineItems
 pub mod Found

@@ -1,4 +1,4 @@
--- What the bytes of a line's content may be, apart from text.
+-- What the bytes of a line's content can be other than text.
 use Rattle.std.specs.Prelude.{◌≡◌, ◌≢◌, ℕ, ◌<◌, ◌≤◌, Bool, true, false, not, ◌==◌, ◌&&◌, ◌||◌, nat_le, nat_lt, ◌+◌}
 use Rattle.std.specs.Prelude.{◌-◌, List, Option, Some, None, slice_index, slice_range, codes, if◌then◌else◌}
 use Rattle.markdown_base.specs.EnabledOptions.{math_on, smart_punctuation_on, strikethrough_on, subscript_on}
@@ -13,8 +13,8 @@ use Rattle.markdown_items.specs.declared.extensions.Extensions.{Extensions}
 use Rattle.markdown_items.specs.declared.flanking.Flags.{Flags}
 use Rattle.markdown_items.specs.Flanking.{is_white, flags_of}
 
--- what the options turn on: `~` with strikethrough or subscript, `^` with superscript, quotation marks with smart
--- punctuation, math
+-- what the options enable: `~` with strikethrough or subscript, `^` with superscript, quotation marks with smart
+-- punctuation, `$` with math
 abbrev pub extensions_of : Options → Extensions
 extensions_of options = record {
   tildes = strikethrough_on options || subscript_on options;
@@ -23,39 +23,39 @@ extensions_of options = record {
   math = math_on options;
 }
 
--- a backslash stands before a place in a line's content that begins at `start`, where a text begins
+-- a backslash precedes an offset at which a text begins, in a line's content that begins at `start`
 abbrev pub is_escaped : List ℕ → ℕ → ℕ → Bool
 is_escaped text start at = nat_lt start at && (slice_index text (at - 1) == backslash)
 
--- the bytes that may begin something else than text
+-- the bytes that may begin something other than text
 abbrev pub is_special : ℕ → Bool
 is_special byte = list_any (λ b. b == byte) (codes "!\"$&'*<[\\]^_`~")
 
--- bytes of which most text is made: none of them is special
+-- plain bytes, which most text consists of: none of them is special
 abbrev pub is_plain : ℕ → Bool
 is_plain byte =
     nat_le byte space || (nat_le plus_sign byte && nat_le byte 90 && not (byte == less_than))
     || (nat_le 97 byte && not (byte == tilde))
 
--- `found` is the first place from `from` on whose byte may begin something else than text, or `end`
+-- `found` is the first offset from `from` on whose byte may begin something other than text, or `end`
 pub record IsFirstSpecial (text : List ℕ) (from end found : ℕ) : Type 0 where
   pub low : from ≤ found
   pub high : found ≤ end
   pub plain : (at : ℕ) → from ≤ at → at < found → is_special (slice_index text at) ≡ false
   pub stops : found < end → is_special (slice_index text found) ≡ true
 
--- where the run of the byte at a place stops, in a line's content that stops before `end`
+-- the offset after the run of the byte at `at`, in a line's content that ends at `end`
 abbrev pub run_end : List ℕ → ℕ → ℕ → ℕ
 run_end text at end = at + prefix_len (λ b. b == slice_index text at) (slice_range text at end)
 
--- the whole run of the byte at `at` stops before `stop`, in a line's content that stops before `end`
+-- the whole run of the byte at `at` consists of the bytes up to `stop`, in a line's content that ends at `end`
 pub record IsWholeRun (text : List ℕ) (at end stop : ℕ) : Type 0 where
   pub run : IsRunOf (slice_index text at) text at stop
   pub within : stop ≤ end
   pub whole : stop < end → slice_index text stop ≢ slice_index text at
 
--- so many of a character are a delimiter run, whatever stands around them: any of `*` and `_` (CommonMark 6.2),
--- one or two `~`, any of `^`
+-- `count` of a character can be a delimiter run, regardless of the characters around them: any number of `*` or `_`
+-- (CommonMark 6.2), one or two `~`, any number of `^`
 abbrev pub makes_run : Extensions → ℕ → ℕ → Bool
 makes_run extensions byte count =
     if (byte == asterisk) || (byte == underscore) then true
@@ -63,14 +63,14 @@ makes_run extensions byte count =
     else if byte == caret then extensions.carets
     else false
 
--- the flags of a delimiter run between two characters, where it is one: with neither flag it is text
+-- the flags of a delimiter run between two characters, if it is one: a run that can neither open nor close is text
 abbrev pub run_flags : Extensions → ℕ → ℕ → Option ℕ → Option ℕ → Option Flags
 run_flags extensions byte count before after =
     let flags = flags_of byte before after in
     if makes_run extensions byte count && (flags.opens || flags.closes) then Some flags else None
 
--- a `$` between two characters can open if no white space follows, and close if none precedes; its brace
--- context is 0
+-- a `$` between two characters can open if no white space follows it, and close if none precedes it; its brace context
+-- is 0
 abbrev pub math_mark : Option ℕ → Option ℕ → ItemBody
 math_mark before after = body.MaybeMath (not (is_white after)) (not (is_white before)) 0
 

@@ -3,7 +3,8 @@ ghost use Rattle.std.specs.Prelude.{◌≡◌, ◌≤◌};
 ghost use Rattle.std.specs.Str.{IsCharBoundary};
 ghost use Rattle.markdown_items.specs.Flanking.{character_before, character_after, is_white, is_punctuation};
 
-/// The character before `at` in a line's content that begins at `start`: none at its first byte.
+/// Returns the character before the byte offset `at`, in a line's content that begins at `start`; `None` at its first
+/// byte.
 pub fn character_before(text: &str, start: usize, at: usize) -> Option<char>
     requires ordered { start ≤ at }
     requires start { IsCharBoundary text.now start }
@@ -16,7 +17,7 @@ pub fn character_before(text: &str, start: usize, at: usize) -> Option<char>
     last
 }
 
-/// The character at `at`: none at the text's end. It may stand behind the line's content.
+/// Returns the character at the byte offset `at`, which may be after the line's content; `None` at the text's end.
 pub fn character_after(text: &str, at: usize) -> Option<char>
     requires { IsCharBoundary text.now at }
     ensures { result ≡ character_after text.now at }
@@ -24,7 +25,8 @@ pub fn character_after(text: &str, at: usize) -> Option<char>
     text[at..].chars().next()
 }
 
-/// Whether it is Unicode white space; around a text stand line endings, and before a line's content one.
+/// Returns whether the character is Unicode white space; `None` counts as a line ending, as at the beginning of a
+/// line's content and at the end of the text.
 pub fn is_white(character: Option<char>) -> bool
     ensures { result ≡ is_white character }
 {
@@ -34,7 +36,7 @@ pub fn is_white(character: Option<char>) -> bool
     }
 }
 
-/// Whether it is ASCII punctuation.
+/// Returns whether the character is ASCII punctuation.
 pub fn is_punctuation(character: Option<char>) -> bool
     ensures { result ≡ is_punctuation character }
 {

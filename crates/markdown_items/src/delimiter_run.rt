@@ -5,7 +5,7 @@ ghost use Rattle.markdown_items.specs.LineItems.{IsWholeRun, run_end, makes_run,
 use crate::extensions::Extensions;
 use crate::flanking::{Flags, flags_of};
 
-/// Where the run of the byte at `at` stops, in a line's content that stops before `end`.
+/// Returns the byte offset after the run of the byte at `at`, in a line's content that ends at `end`.
 pub fn run_end(text: &str, at: usize, end: usize) -> usize
     requires more { at < end }
     requires within { end ≤ length text.now }
@@ -21,7 +21,7 @@ pub fn run_end(text: &str, at: usize, end: usize) -> usize
     end
 }
 
-/// Whether so many of a character are a delimiter run, whatever stands around them.
+/// Returns whether `count` of the character can be a delimiter run, regardless of the characters around them.
 fn makes_run(extensions: Extensions, byte: u8, count: usize) -> bool
     ensures { result ≡ makes_run extensions byte count }
 {
@@ -33,7 +33,8 @@ fn makes_run(extensions: Extensions, byte: u8, count: usize) -> bool
     }
 }
 
-/// The flags of a delimiter run between two characters, where it is one. With neither flag it is text.
+/// Returns the flags of a run between two characters; `None` if it is text, either because these are no delimiters or
+/// because it can neither open nor close.
 pub fn run_flags(
     extensions: Extensions,
     byte: u8,

@@ -1,10 +1,10 @@
-//! The options that change which items a line becomes.
+//! The options that affect which items a line consists of.
 ghost use Rattle.std.specs.Prelude.{◌≡◌};
 ghost use Rattle.markdown_items.specs.LineItems.{extensions_of};
 
 use markdown_base::options::Options;
 
-/// What is read beyond CommonMark.
+/// The extensions of CommonMark that are read.
 #[derive(Clone, Copy)]
 pub struct Extensions {
     /// One or two `~` are a delimiter run.
@@ -13,13 +13,13 @@ pub struct Extensions {
     pub carets: bool,
     /// `'` and `"` are quotation marks.
     pub quotes: bool,
-    /// `$` stands around math.
+    /// `$` delimits math.
     pub math: bool,
 }
 
 impl Extensions {
-    /// What a set of options turns on: `~` with strikethrough or subscript, `^` with superscript, quotation
-    /// marks with smart punctuation.
+    /// Returns what a set of options enables: `~` with strikethrough or subscript, `^` with superscript, quotation
+    /// marks with smart punctuation, `$` with math.
     pub fn of(options: Options) -> Extensions
         ensures { result ≡ extensions_of options }
     {

@@ -11,28 +11,28 @@ pub struct Flags {
     pub closes: bool,
 }
 
-/// Whether a run between two characters is left-flanking.
+/// Returns whether a run between two characters is left-flanking.
 fn is_left_flanking(before: Option<char>, after: Option<char>) -> bool
     ensures { result ≡ is_left_flanking before after }
 {
     !is_white(after) && (!is_punctuation(after) || is_white(before) || is_punctuation(before))
 }
 
-/// Whether a run between two characters is right-flanking.
+/// Returns whether a run between two characters is right-flanking.
 fn is_right_flanking(before: Option<char>, after: Option<char>) -> bool
     ensures { result ≡ is_right_flanking before after }
 {
     !is_white(before) && (!is_punctuation(before) || is_white(after) || is_punctuation(after))
 }
 
-/// Whether a delimiter of this byte neither opens nor closes within a word: `_` and quotation marks.
+/// Returns whether delimiters of this byte neither open nor close within a word: `_` and quotation marks.
 fn stays_outside_words(byte: u8) -> bool
     ensures { result ≡ stays_outside_words byte }
 {
     byte == b'_' || byte == b'\'' || byte == b'"'
 }
 
-/// Whether a delimiter of this byte between two characters can open, and can close.
+/// Returns whether a delimiter of this byte between two characters can open, and can close.
 pub fn flags_of(byte: u8, before: Option<char>, after: Option<char>) -> Flags
     ensures { result ≡ flags_of byte before after }
 {

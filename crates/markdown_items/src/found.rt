@@ -13,7 +13,7 @@ use markdown_base::item::ItemBody;
 use markdown_scan::entity::scan_entity;
 use markdown_scan::laws::entity_begins_and_ends;
 
-/// A line's content, from `start` up to `end`, and what is read in it beyond CommonMark.
+/// A line's content, the bytes from `start` up to, but not including, `end`, with the extensions that are read in it.
 #[derive(Clone, Copy)]
 pub struct Line {
     pub start: usize,
@@ -21,29 +21,29 @@ pub struct Line {
     pub extensions: Extensions,
 }
 
-/// What begins at a special byte. All places are byte offsets into the text.
+/// What begins at a special byte. Ends are byte offsets in the text.
 #[derive(Clone, Copy)]
 pub enum Found {
-    /// Text, up to this place at least.
+    /// Text, up to this offset at least.
     Text(usize),
-    /// A backslash that stands in no item: a text begins after it (CommonMark 2.4).
+    /// A backslash that is in no item: a text begins after it (CommonMark 2.4).
     Escape,
     /// An open item of one byte.
     Mark(ItemBody),
     /// A `![`.
     Image,
-    /// Backticks up to this place.
+    /// Backticks up to this offset.
     Backticks(usize),
-    /// A backslash that stands in no item, and backticks up to this place.
+    /// A backslash that is in no item, and backticks up to this offset.
     EscapedBackticks(usize),
-    /// A delimiter run up to this place.
+    /// A delimiter run up to this offset, and its flags.
     Run(usize, Flags),
-    /// An entity up to this place, and the character that it stands for (CommonMark 2.5).
+    /// An entity up to this offset, and its character (CommonMark 2.5).
     Entity(usize, char),
 }
 
 impl Found {
-    /// Where reading goes on, if it was found at `at`.
+    /// Returns the byte offset at which to continue, for what was found at `at`.
     pub fn next(self, at: usize) -> usize
         requires { next_after at self < 2 ^ 64 }
         ensures { result ≡ next_after at self }
@@ -60,7 +60,7 @@ impl Found {
     }
 }
 
-/// What begins at a backslash.
+/// Returns what begins at a backslash.
 #[tactic(auto, unfolding(crate::specs::Found::escape_at))]
 fn find_escape(text: &str, line: Line, at: usize) -> Found
     requires { IsAtSpecial text.now line at }
@@ -77,7 +77,7 @@ fn find_escape(text: &str, line: Line, at: usize) -> Found
     Found::Escape
 }
 
-/// What begins at a `&`.
+/// Returns what begins at a `&`.
 #[tactic(auto, unfolding(crate::specs::Found::entity_at))]
 fn find_entity(text: &str, line: Line, at: usize) -> Found
     requires { IsAtSpecial text.now line at }
@@ -92,7 +92,7 @@ fn find_entity(text: &str, line: Line, at: usize) -> Found
     }
 }
 
-/// What begins at a `!`.
+/// Returns what begins at a `!`.
 #[tactic(auto, unfolding(crate::specs::Found::image_at))]
 fn find_image(text: &str, line: Line, at: usize) -> Found
     requires here { IsAtSpecial text.now line at }
@@ -107,7 +107,7 @@ fn find_image(text: &str, line: Line, at: usize) -> Found
     }
 }
 
-/// What the run at `at` is: a delimiter run, or text.
+/// Returns what the run at `at` is: a delimiter run, or text.
 #[tactic(auto, using(crate::proofs::ItemLemmas::past_run), unfolding(crate::specs::Found::run_at))]
 fn find_run(text: &str, line: Line, at: usize) -> Found
     requires here { IsAtSpecial text.now line at }
@@ -125,7 +125,7 @@ fn find_run(text: &str, line: Line, at: usize) -> Found
     }
 }
 
-/// What begins at a `$` or a quotation mark.
+/// Returns what begins at a `$` or a quotation mark.
 #[tactic(auto, using(crate::proofs::ItemLemmas::past_special), unfolding(crate::specs::Found::mark_at))]
 fn find_mark(text: &str, line: Line, at: usize) -> Found
     requires { IsAtSpecial text.now line at }
@@ -142,7 +142,7 @@ fn find_mark(text: &str, line: Line, at: usize) -> Found
     }
 }
 
-/// What begins at a special byte.
+/// Returns what begins at a special byte.
 #[tactic(auto, unfolding(crate::specs::Found::found_at))]
 pub fn find(text: &str, line: Line, at: usize) -> Found
     requires { IsAtSpecial text.now line at }

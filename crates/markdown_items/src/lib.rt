@@ -1,4 +1,4 @@
-//! The inline items of one line's content, as a block pass appends them to the leaf that it stands in.
+//! The inline items of one line's content, which a block pass appends to the leaf block that contains the line.
 #![tactic(auto)]
 
 mod around;

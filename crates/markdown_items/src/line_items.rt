@@ -1,4 +1,4 @@
-//! The items of a line's content, in one pass over its bytes.
+//! The items of a line's content, read in one pass over its bytes.
 ghost use Rattle.std.specs.Prelude.{◌≡◌, ◌≤◌, true, length, IfOk};
 ghost use Rattle.std.specs.Str.{IsCharBoundary};
 ghost use Rattle.markdown_items.specs.LineItems.{is_escaped};
@@ -14,7 +14,7 @@ use markdown_base::options::Options;
 use markdown_builder::builder::Builder;
 use std::alloc::AllocError;
 
-/// Whether a backslash escapes the byte at `at`, where a text of the line's content begins.
+/// Returns whether a backslash escapes the byte at `at`, at which a text of the line's content begins.
 fn is_escaped(bytes: &[u8], start: usize, at: usize) -> bool
     requires { at ≤ length bytes.now }
     ensures { result ≡ is_escaped bytes.now start at }
@@ -22,7 +22,7 @@ fn is_escaped(bytes: &[u8], start: usize, at: usize) -> bool
     start < at && bytes[at - 1] == b'\\'
 }
 
-/// Appends the text up to `to`, if there is any.
+/// Appends the text up to `to`, if there is any. The error is a refused allocation.
 fn append_text(builder: &mut Builder<'_>, line: Line, to: usize) -> Result<(), AllocError>
     requires inside { builder.old.leaf ≡ true }
     requires low { builder.old.at ≤ to }
@@ -37,8 +37,9 @@ fn append_text(builder: &mut Builder<'_>, line: Line, to: usize) -> Result<(), A
     Ok(())
 }
 
-/// Appends the text before `at`, and the delimiter run from there up to `stop`. What is left of a run whose first
-/// characters were appended last is text: that is where a caller ends a line within a run.
+/// Appends the text before `at`, and the delimiter run from there up to `stop`. A run that directly continues the one
+/// appended last becomes text, which happens where a caller ends a line within a run. The error is a refused
+/// allocation.
 fn append_run(
     builder: &mut Builder<'_>,
     line: Line,
@@ -61,7 +62,7 @@ fn append_run(
     Ok(())
 }
 
-/// Appends the text before `at`, and the item that is found there, if one is.
+/// Appends the text before `at`, and the item that was found there, if any. The error is a refused allocation.
 fn append_found(
     builder: &mut Builder<'_>,
     line: Line,
@@ -97,15 +98,15 @@ fn append_found(
     }
 }
 
-/// Appends the inline items of one line's content, which goes on where the builder stands, up to `end`.
+/// Appends the inline items of one line's content, from the builder's position up to `end`.
 ///
-/// Items are delimiter runs with their flags (CommonMark 6.2), quotation marks with smart punctuation on, `$` with
-/// math on, backticks, `<`, `[`, `![` and `]`, and what entities stand for (2.5). A backslash before ASCII
-/// punctuation stands in no item (2.4). All else is text, one Text for what lies between two of these. For the flags a
-/// line ending stands before the content, and behind it what stands there in the text, as the backslash of a hard
-/// break.
+/// Items are delimiter runs with their flags (CommonMark 6.2), quotation marks with smart punctuation enabled, `$` with
+/// math enabled, backticks, `<`, `[`, `![` and `]`, and the characters of entities (2.5). A backslash before ASCII
+/// punctuation is in no item (2.4). Everything else is text, one `Text` between two of these. For the flags, the
+/// content is preceded by a line ending, and followed by what follows it in the text, such as the backslash of a hard
+/// line break.
 ///
-/// An error says that memory was refused: part of the items may have been appended then.
+/// The error is a refused allocation, after which some of the items may have been appended.
 #[tactic(auto, using(crate::proofs::ItemLemmas::goes_on))]
 pub fn items(builder: &mut Builder<'_>, end: usize, options: Options) -> Result<(), AllocError>
     requires inside { builder.old.leaf ≡ true }

@@ -6,14 +6,14 @@ use crate::around::is_white;
 use crate::flanking::flags_of;
 use markdown_base::item::ItemBody;
 
-/// A `$` between two characters.
+/// Returns the item of a `$` between two characters.
 pub fn math_mark(before: Option<char>, after: Option<char>) -> ItemBody
     ensures { result ≡ math_mark before after }
 {
     ItemBody::MaybeMath(!is_white(after), !is_white(before), 0)
 }
 
-/// A quotation mark between two characters.
+/// Returns the item of a quotation mark between two characters.
 pub fn quote_mark(byte: u8, before: Option<char>, after: Option<char>) -> ItemBody
     ensures { result ≡ quote_mark byte before after }
 {

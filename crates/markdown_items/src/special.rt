@@ -1,4 +1,4 @@
-//! The bytes that may begin something else than text.
+//! The bytes that may begin something other than text.
 ghost use Rattle.std.specs.Prelude.{◌≡◌, ◌≤◌, true, false, length};
 ghost use Rattle.std.specs.List.{list_any};
 ghost use Rattle.markdown_items.specs.LineItems.{is_special, is_plain, IsFirstSpecial};
@@ -7,7 +7,7 @@ const T: bool = true;
 
 const F: bool = false;
 
-// Whether a byte is one of !"$&'*<[\]^_`~, by its code: 32 bytes a line.
+// Whether a byte is one of !"$&'*<[\]^_`~, indexed by the byte: 32 bytes per line.
 static SPECIALS: [bool; 256] = [
     F, F, F, F, F, F, F, F, F, F, F, F, F, F, F, F, F, F, F, F, F, F, F, F, F, F, F, F, F, F, F, F,
     F, T, T, F, T, F, T, T, F, F, T, F, F, F, F, F, F, F, F, F, F, F, F, F, F, F, F, F, T, F, F, F,
@@ -19,10 +19,10 @@ static SPECIALS: [bool; 256] = [
     F, F, F, F, F, F, F, F, F, F, F, F, F, F, F, F, F, F, F, F, F, F, F, F, F, F, F, F, F, F, F, F,
 ];
 
-/// How many bytes are looked at together, where none of them is special: no branch for each.
+/// The number of bytes that are tested together, without a branch for each, as long as none is special.
 const TOGETHER: usize = 16;
 
-/// Whether a byte may begin something else than text.
+/// Returns whether a byte may begin something other than text.
 #[inline(always)]
 fn is_special(byte: u8) -> bool
     ensures { result ≡ is_special byte }
@@ -30,7 +30,7 @@ fn is_special(byte: u8) -> bool
     SPECIALS[byte as usize]
 }
 
-/// Whether a byte is one of those of which most text is made, by few comparisons, without a table.
+/// Returns whether a byte is plain, as most bytes of text are, by a few comparisons and without a table.
 #[inline(always)]
 fn is_plain(byte: u8) -> bool
     ensures { result ≡ is_plain byte }
@@ -40,7 +40,7 @@ fn is_plain(byte: u8) -> bool
         | ((byte >= b'a') & (byte != b'~'))
 }
 
-/// Whether all bytes are of those: then none of them is special.
+/// Returns whether all bytes are plain; none of them is special then.
 #[inline(always)]
 fn are_plain(bytes: &[u8]) -> bool
     ensures { result ≡ true → list_any is_special bytes.now ≡ false }
@@ -52,7 +52,7 @@ fn are_plain(bytes: &[u8]) -> bool
     plain
 }
 
-/// How many of the bytes stand before the first one that may begin something else than text, or how many there are.
+/// Returns the number of bytes before the first special one, or the number of all bytes.
 #[inline(always)]
 fn length_before_special(bytes: &[u8]) -> usize
     ensures { IsFirstSpecial bytes.now 0 (length bytes.now) result }
@@ -65,14 +65,14 @@ fn length_before_special(bytes: &[u8]) -> usize
     bytes.len()
 }
 
-/// The first place from `from` on whose byte may begin something else than text, or `end`. Bytes that are looked at
-/// together may stand behind `end`.
+/// Returns the first byte offset from `from` on whose byte may begin something other than text, or `end`. Bytes after
+/// `end` may be read, since several are tested together.
 pub fn first_special(bytes: &[u8], from: usize, end: usize) -> usize
     requires ordered { from ≤ end }
     requires within { end ≤ length bytes.now }
     ensures { IsFirstSpecial bytes.now from end result }
 {
-    // bytes are looked at together where so many are left
+    // bytes are tested together as long as `TOGETHER` of them are left
     let last = end.min(bytes.len().saturating_sub(TOGETHER - 1));
     let mut start = from;
     'plain: while start < last {

@@ -1,4 +1,4 @@
--- What was found is what the bytes so far are.
+-- `plain` says whether all bytes so far are plain.
 use Rattle.std.proofs.Common.{◌≡◌, take}
 use Rattle.std.specs.List.{list_all}
 use Rattle.markdown_items.specs.LineItems.{is_plain}

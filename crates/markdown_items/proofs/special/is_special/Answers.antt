@@ -15,7 +15,7 @@ is_right : List Bool → ℕ → Bool
 is_right table zero = true
 is_right table (suc byte) = beq (stands table byte) (is_special byte) && is_right table byte
 
--- what is right is right at the last byte, and below it
+-- a table that is right below a number is right at the last byte below it, and below that
 last_and_below : (x y below : Bool) → (beq x y && below) ≡ true → (x ≡ y) × (below ≡ true)
 last_and_below true true below h = (refl, h)
 last_and_below true false below h = cc
