@@ -1,4 +1,4 @@
--- What the definitions that can be found give: the look-ups of all definitions, and no two for one key.
+-- Laws of the definitions that can be found: they give the same look-ups as all definitions, and no key finds two.
 use Rattle.std.proofs.Common.{◌≡◌, ℕ, List, [], ◌∷◌, ◌++◌, true, false, cond, Some, get_or, sym, ◌∙◌, ap, arith, is_some, inl, inr}
 use Rattle.std.proofs.Common.{append_assoc}
 use Rattle.std.specs.Option.{option_map}
@@ -12,7 +12,7 @@ use Rattle.markdown_defs.specs.Definitions.{Labelled, has_folding, first_at, loo
 use Rattle.markdown_defs.specs.Folding.{case_folding}
 use Rattle.markdown_defs.proofs.PlaceLemmas.{find_in_both, none_at}
 
--- to leave out a definition whose folding stands before it changes no look-up
+-- leaving out a definition whose folding occurs earlier changes no look-up
 first_after : (folded : List ℕ) (d : Labelled) (ds kept : List Labelled) → first_at folded (add_first kept d ++ ds)
     ≡ first_at folded (kept ++ d ∷ ds)
 first_after folded d ds kept =

@@ -1,4 +1,4 @@
--- Foldings in UTF-8, which is how they are kept, are equal where the foldings are.
+-- Foldings in UTF-8, which is how they are stored, are equal if and only if the foldings are.
 use Rattle.std.proofs.Common.{◌≡◌, ℕ, List, true, false, sym, ap, ◌∙◌, inl, inr, encode_utf8_all}
 use Rattle.std.proofs.lemmas.Bool.{cases_Bool, false_from_ne_true}
 use Rattle.std.proofs.lemmas.Slice.Eq.{bytes_eq-Decides}

@@ -1,4 +1,4 @@
--- An index from foldings in UTF-8 to the places of definitions: what it says of a key, and how it grows.
+-- An index from foldings in UTF-8 to the positions of definitions: what it contains for a key, and how it grows.
 use Rattle.std.proofs.Common.{◌≡◌, ℕ, ◌+◌, ◌-◌, ◌<◌, List, [], ◌∷◌, ◌++◌, true, false, cond, Option, Some, None, length, get_or}
 use Rattle.std.proofs.Common.{encode_utf8_all, refl, sym, ◌∙◌, ap, arith, find, is_some, inl, inr}
 use Rattle.std.specs.Option.{option_map}
@@ -20,7 +20,7 @@ not_found key ds e = sym (ap (option_map (λ d. d.1)) (find_at_no_place (has_fol
 pub in_range : (folded : List ℕ) (ds : List Labelled) (place : ℕ) → place_of folded ds ≡ Some place → place < length ds
 in_range folded ds place e = omega (arith, (find_at_place (has_folding folded) 0 ds place e).in_range)
 
--- a key whose folding has a place finds what stands there
+-- a key whose folding has a place finds the definition at that place
 pub found_at : (key : List ℕ) (ds : List Labelled) (place : ℕ) (x : Labelled) → place_of (case_folding key) ds ≡ Some place
     → x ≡ get_or ds place x → Some (x.1) ≡ look_up key ds
 found_at key ds place x e here =

@@ -63,14 +63,14 @@ finds_first_match key (d ∷ ds) =
           ≡ false = sym ((bytes_eq-Decides _ _).1 (folding_of_match key (text_of d.0) same)) ∙ miss in cc) (finds_first_match key ds))
     ]
 
--- the test answers whether two texts match
+-- the test returns whether two texts match
 pub tests_matching : TestsMatching
 tests_matching a b = (
   λ passes. match_of_folding a b ((bytes_eq-Decides _ _).0 passes),
   λ same. (bytes_eq-Decides _ _).1 (folding_of_match a b same),
 )
 
--- what holds of an element gives what follows from it
+-- a fact about one of the elements, weakened
 any_map : {X : Type 0} (P Q : X → Type 0) (xs : List X) → ((x : X) → P x → Q x) → Any P xs → Any Q xs
 any_map P Q xs f here = (here.0, here.1, here.2, here.3, f here.1 here.4)
 

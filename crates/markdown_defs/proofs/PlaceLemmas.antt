@@ -51,7 +51,7 @@ find_at_place {X} p i (x ∷ xs) place e =
       | false ↦ λ h. here_later x xs i place p (find_at_place p (i + 1) xs place h)
     ] in let r = by_test e in record { from = r.from; in_range = r.in_range; element = r.element }
 
--- there is a place exactly where there is an element
+-- there is a place if and only if there is an element
 pub same_presence : {X : Type 0} (p : X → Bool) (i : ℕ) (xs : List X) → is_some (position_from p i xs) ≡ is_some (find p xs)
 same_presence p i [] = refl
 same_presence {X} p i (x ∷ xs) =

@@ -1,4 +1,4 @@
--- What allocations hold, by the numbers that are handed out.
+-- What allocations hold, by the numbers that were assigned.
 use Rattle.std.specs.Prelude.{◌≡◌, ℕ, ◌<◌, ◌≤◌, List, [], ◌∷◌, ◌++◌, length, slice_set}
 use Rattle.std.specs.declared.alloc.Global.{Global}
 use Rattle.std.specs.declared.vec.Vec.{Vec}
@@ -21,7 +21,7 @@ use Rattle.markdown_defs.specs.declared.footnotes.FootnoteDefs.{FootnoteDefs}
 abbrev pub LinkParts : Type 0
 LinkParts = LinkType × CowStr × CowStr × CowStr
 
--- what was put in, in order, and what is found by names
+-- what was added, in order, and what is looked up by labels and names
 pub record Allocated : Type 0 where
   -- the definitions that can be found
   pub refdefs : List Labelled
@@ -31,23 +31,23 @@ pub record Allocated : Type 0 where
   pub alignments : List (Vec Alignment Global)
   pub headings : List HeadingAttributes
 
--- the number was handed out
+-- the number was assigned to a text
 abbrev pub HasCow : Allocated → CowIndex → Type 0
 HasCow held ix = ix.0 < length held.cows
 
--- a number that was handed out for a link
+-- the number was assigned to a link
 abbrev pub HasLink : Allocated → LinkIndex → Type 0
 HasLink held ix = ix.0 < length held.links
 
--- a number that was handed out for a table's alignments
+-- the number was assigned to a table's alignments
 abbrev pub HasAlignment : Allocated → AlignmentIndex → Type 0
 HasAlignment held ix = ix.0 < length held.alignments
 
--- attributes are numbered from 1
+-- the number was assigned to the attributes of a heading, counted from 1
 abbrev pub HasHeading : Allocated → HeadingIndex → Type 0
 HasHeading held ix = (1 ≤ ix.0) × (ix.0 ≤ length held.headings)
 
--- what is held with one more
+-- with one more text
 abbrev pub with_cow : Allocated → CowStr → Allocated
 with_cow held cow = record held { cows = held.cows ++ cow ∷ [] }
 
@@ -63,35 +63,35 @@ with_alignment held alignment = record held { alignments = held.alignments ++ al
 abbrev pub with_heading : Allocated → HeadingAttributes → Allocated
 with_heading held heading = record held { headings = held.headings ++ heading ∷ [] }
 
--- nothing is left of a link but a type
+-- a link with three empty texts
 pub record IsEmptyLink (link : LinkParts) : Type 0 where
   pub kind : link.0 ≡ ShortcutUnknown
   pub destination : text_of link.1 ≡ []
   pub title : text_of link.2 ≡ []
   pub id : text_of link.3 ≡ []
 
--- what was held, with an empty value in the place of one
+-- an empty text is in the place of one text, and everything else is unchanged
 pub record LeavesEmptyCow (old new : Allocated) (ix : CowIndex) : Type 0 where
   pub left : CowStr
   pub empty : text_of left ≡ []
   pub others : new ≡ record old { cows = slice_set old.cows ix.0 left }
 
--- a link's place is left empty, and all else as it was
+-- an empty link is in the place of one link, and everything else is unchanged
 pub record LeavesEmptyLink (old new : Allocated) (ix : LinkIndex) : Type 0 where
   pub left : LinkParts
   pub empty : IsEmptyLink left
   pub others : new ≡ record old { links = slice_set old.links ix.0 left }
 
--- a table's place is left empty, and all else as it was
+-- an empty list is in the place of one table's alignments, and everything else is unchanged
 pub record LeavesEmptyAlignment (old new : Allocated) (ix : AlignmentIndex) : Type 0 where
   pub left : Vec Alignment Global
   pub empty : left.items ≡ []
   pub others : new ≡ record old { alignments = slice_set old.alignments ix.0 left }
 
--- what is held at first: the parts of a block result, and no link
+-- what is held initially: the parts of a block result, and no links
 pub record HoldsParts (parts : BlockParts) (held : Allocated) : Type 0 where
   pub definitions : held.refdefs ≡ firsts parts.definitions.items
-  -- so a key finds the first definition of the block result that has its folding
+  -- so a key finds the first definition of the block result with its folding
   pub found : (key : List ℕ) → look_up key held.refdefs ≡ look_up key parts.definitions.items
   pub footnotes : (name : List ℕ) → footnote_at held.footdefs name ≡ unused_at parts.footnotes.items name
   pub cows : held.cows ≡ parts.cows.items

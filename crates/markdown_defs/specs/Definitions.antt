@@ -1,5 +1,5 @@
--- Link reference definitions, found by their labels: of several that match the first takes precedence
--- (CommonMark 4.7).
+-- Link reference definitions, looked up by their labels: the first of several that match takes precedence (CommonMark
+-- 4.7).
 use Rattle.std.specs.Prelude.{◌≢◌, ℕ, List, [], ◌∷◌, ◌++◌, Bool, cond, find, is_some, nat_eq, Option}
 use Rattle.std.specs.Cmp.Lexicographic.{pointwise}
 use Rattle.std.specs.List.{AllPairs, fold}
@@ -13,7 +13,7 @@ use Rattle.markdown_defs.specs.Folding.{case_folding}
 abbrev pub Labelled : Type 0
 Labelled = CowStr × LinkDef
 
--- whether its label has this folding
+-- a definition's label has this folding
 abbrev pub has_folding : List ℕ → Labelled → Bool
 has_folding folded d = pointwise nat_eq folded (case_folding (text_of d.0))
 
@@ -25,18 +25,18 @@ first_at folded definitions = find (has_folding folded) definitions
 abbrev pub look_up : List ℕ → List Labelled → Option LinkDef
 look_up key definitions = option_map (λ d. d.1) (first_at (case_folding key) definitions)
 
--- the definitions so far with one more, unless one of equal folding stands there
+-- the definitions so far with one more, unless they contain one of equal folding
 abbrev pub add_first : List Labelled → Labelled → List Labelled
 add_first kept d = cond (is_some (first_at (case_folding (text_of d.0)) kept)) kept (kept ++ d ∷ [])
 
--- the definitions that can be found: of each folding the first, in their order
+-- the definitions that can be found: the first of each folding, in their order
 unfoldable pub firsts : List Labelled → List Labelled
 firsts definitions = fold add_first [] definitions
 
--- their labels' foldings differ
+-- the labels of two definitions have different foldings
 abbrev pub HasOtherFolding : Labelled → Labelled → Type 0
 HasOtherFolding d e = case_folding (text_of d.0) ≢ case_folding (text_of e.0)
 
--- no key finds two of them
+-- no key finds two of the definitions
 abbrev pub AreDistinct : List Labelled → Type 0
 AreDistinct definitions = AllPairs HasOtherFolding definitions

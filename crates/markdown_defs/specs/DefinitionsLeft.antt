@@ -1,4 +1,4 @@
--- What is left of an iterator over definitions, and what an item of it holds.
+-- The definitions that an iterator has left, and the values of its items.
 use Rattle.std.specs.Prelude.{ℕ, List, map}
 use Rattle.std.specs.Borrow.{Bor}
 use Rattle.std.specs.Slice.Iter.{iter_rest}
@@ -11,10 +11,10 @@ use Rattle.markdown_defs.specs.declared.definitions.RefDefsIter.{RefDefsIter}
 abbrev pub with_text : Labelled → List ℕ × LinkDef
 with_text d = (text_of d.0, d.1)
 
--- what is left, in order
+-- the definitions that are left, in order
 abbrev pub definitions_left : RefDefsIter → List (List ℕ × LinkDef)
 definitions_left it = map with_text (iter_rest it.rest)
 
--- what an item holds
+-- the values that an item refers to
 abbrev pub values_of : Bor (List ℕ) × Bor LinkDef → List ℕ × LinkDef
 values_of item = (item.0.now, item.1.now)

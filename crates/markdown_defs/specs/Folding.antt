@@ -1,5 +1,5 @@
--- Default caseless matching of texts (The Unicode Standard, section 3.13), by which link labels
--- (CommonMark 4.7) and footnote names are compared. White space in them is not collapsed here.
+-- Default caseless matching of texts (The Unicode Standard, section 3.13), by which link labels (CommonMark 4.7) and
+-- footnote names are compared. White space in them is not collapsed here.
 use Rattle.std.specs.Prelude.{ℕ, List, Bool, chars, encode_utf8_all, nat_eq}
 use Rattle.std.specs.Cmp.Lexicographic.{pointwise}
 use Rattle.caseless.specs.Caseless.{default_case_fold, IsDefaultMatch}
@@ -16,6 +16,6 @@ folded_text text = encode_utf8_all (case_folding text)
 abbrev pub Matches : List ℕ → List ℕ → Type 0
 Matches a b = IsDefaultMatch (chars a) (chars b)
 
--- whether they do
+-- whether two texts match
 abbrev pub is_match : List ℕ → List ℕ → Bool
 is_match a b = pointwise nat_eq (case_folding a) (case_folding b)

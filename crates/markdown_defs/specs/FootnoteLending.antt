@@ -14,8 +14,8 @@ use Rattle.markdown_defs.specs.declared.footnotes.Absence.{Absence}
 use Rattle.markdown_defs.specs.declared.footnotes.FootnoteDef.{FootnoteDef}
 use Rattle.markdown_defs.specs.declared.footnotes.FootnoteDefs.{FootnoteDefs}
 
--- the footnote of this folding is the last value behind the reference that was lent, and all others are
--- as before; where none was lent all are
+-- the footnote of this folding is the last value of the reference that was lent, and all others are as before; if no
+-- reference was lent, all are as before
 abbrev pub LendsFolded : MutBor FootnoteDefs → List ℕ → Option (MutBor FootnoteDef) → Fml
 LendsFolded lender folded lent =
     LendsSo footnotes.the_row footnote.the_row lender lent
@@ -24,8 +24,8 @@ LendsFolded lender folded lent =
     (λ after. (bytes : List ℕ) → get_by_text after.by_folding bytes
     ≡ get_by_text lender.now.by_folding bytes)
 
--- each name that matches the key finds the last value behind the reference that was lent, and all others
--- find what they found; where none was lent all do
+-- each name that matches the key finds the last value of the reference that was lent, and all others find what they did
+-- before; if no reference was lent, all do
 abbrev pub LendsDefined : MutBor FootnoteDefs → List ℕ → Result (MutBor FootnoteDef) Absence → Fml
 LendsDefined lender key lent =
     LendsSoOk footnotes.the_row footnote.the_row lender lent
@@ -38,17 +38,17 @@ abbrev pub name_if_lent : Result (Option (MutBor FootnoteDef)) Fault → maybe.O
 name_if_lent (Ok found) = ghost_name_of found
 name_if_lent (Err fault) = maybe.none
 
--- P, where a reference was lent, and where none was
+-- P, if a reference was lent
 abbrev pub OnLent : Result (Option (MutBor FootnoteDef)) Fault → Type 0 → Type 0
 OnLent (Ok found) P = OnSome found P
 OnLent (Err fault) P = ⊤
 
--- where none is lent, or memory was refused
+-- P, if no reference was lent, or an allocation was refused
 abbrev pub OnNoneLent : Result (Option (MutBor FootnoteDef)) Fault → Type 0 → Type 0
 OnNoneLent (Ok found) P = IfNone found P
 OnNoneLent (Err fault) P = P
 
--- the same, where a footnote that is not defined is no error
+-- the same as `LendsDefined`, where an undefined footnote is not an error
 abbrev pub LendsFootnote : MutBor FootnoteDefs → List ℕ → Result (Option (MutBor FootnoteDef)) Fault → Fml
 LendsFootnote lender key lent =
     follows_so footnotes.the_row footnote.the_row lender.ghost_name (name_if_lent lent)
@@ -56,7 +56,7 @@ LendsFootnote lender key lent =
     ≡ (if is_match key name then Some last else footnote_at lender.now name)))
     (λ after. OnNoneLent lent ((name : List ℕ) → footnote_at after name ≡ footnote_at lender.now name))
 
--- what was found, where a footnote that is not defined is no error
+-- what was found, with `None` for a footnote that is not defined
 abbrev pub none_if_undefined : Result (MutBor FootnoteDef) Absence → Result (Option (MutBor FootnoteDef)) Fault
 none_if_undefined (Ok footnote) = Ok (Some footnote)
 none_if_undefined (Err Absence.Undefined) = Ok None

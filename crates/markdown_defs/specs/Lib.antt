@@ -1,4 +1,4 @@
--- definitions and footnotes, found by case folding
+-- definitions and footnotes, looked up by case folding
 pub mod Folding
 pub mod Definitions
 pub mod LookUpLaws
@@ -6,11 +6,11 @@ pub mod DefinitionsLeft
 pub mod DefinitionsIndex
 pub mod Footnotes
 pub mod FootnoteLending
--- what items name by number
+-- what items refer to by number
 pub mod Allocations
--- what is asked about broken links, and what is answered
+-- the questions and answers of callbacks for broken links
 pub mod Callback
--- the words of the lower crates that the clauses here are written in
+-- the definitions of lower crates that clauses here cite
 pub use Rattle.caseless.specs.Caseless
 pub use Rattle.markdown_base.specs.CowText
 pub use Rattle.markdown_base.specs.Questions

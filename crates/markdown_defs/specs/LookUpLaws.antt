@@ -1,4 +1,4 @@
--- What a look-up finds, of definitions and of footnotes, said by default caseless matching alone.
+-- What look-ups of definitions and footnotes find, in terms of default caseless matching only.
 use Rattle.std.specs.Prelude.{◌≡◌, ◌↔◌, ℕ, List, [], ◌∷◌, ◌++◌, Any, IsTrue, MatchOption}
 use Rattle.markdown_base.specs.CowText.{text_of}
 use Rattle.markdown_base.specs.declared.block_parts.LinkDef.{LinkDef}
@@ -13,7 +13,7 @@ abbrev pub NoneMatches : List ℕ → List Labelled → Type 0
 NoneMatches key [] = Unit {0}
 NoneMatches key (d ∷ definitions) = (Matches key (text_of d.0) → ⊥) × NoneMatches key definitions
 
--- found stands in the definitions under a label that matches the key, and no label before it does
+-- `found` is one of the definitions, its label matches the key, and no label before it does
 pub record IsFirstMatch (key : List ℕ) (definitions : List Labelled) (found : LinkDef) : Type 0 where
   pub before : List Labelled
   pub label : CowStr
@@ -22,12 +22,12 @@ pub record IsFirstMatch (key : List ℕ) (definitions : List Labelled) (found : 
   pub matches : Matches key (text_of label)
   pub first : NoneMatches key before
 
--- a key finds the first definition whose label matches it, and nothing where none does
+-- a key finds the first definition whose label matches it, and nothing if none does
 abbrev pub FindsFirstMatch : Type 0
 FindsFirstMatch = (key : List ℕ) (definitions : List Labelled)
     → MatchOption (look_up key definitions) (NoneMatches key definitions) (IsFirstMatch key definitions)
 
--- keys that match find the same
+-- keys that match find the same definition
 abbrev pub MatchingKeysAgree : Type 0
 MatchingKeysAgree = (a b : List ℕ) (definitions : List Labelled)
     → Matches a b → look_up a definitions ≡ look_up b definitions
@@ -40,8 +40,8 @@ TestsMatching = (a b : List ℕ) → IsTrue (is_match a b) ↔ Matches a b
 abbrev pub IsAmongNames : List CowStr → List ℕ → Type 0
 IsAmongNames names name = Any (λ n. Matches (text_of n) name) names
 
--- at first a name finds a footnote that was never used where one of those handed in matches it, and nothing where none
--- does
+-- initially a name finds a footnote that has not been used if it matches one of the names passed in, and nothing
+-- otherwise
 abbrev pub FindsNamed : Type 0
 FindsNamed = (names : List CowStr) (name : List ℕ)
     → MatchOption (unused_at names name) (IsAmongNames names name

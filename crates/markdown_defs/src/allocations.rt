@@ -1,4 +1,5 @@
-//! What the items of a block result name by number, with what resolving a chain adds.
+//! The parts that the items of a block result refer to by number, including those that are added while chains are
+//! resolved.
 ghost use Rattle.std.specs.Prelude.{◌≡◌, ◌+◌, ◌-◌, IfErr, IfOk, OnErr, length, slice_index_or};
 ghost use Rattle.markdown_base.specs.declared.fault.Fault.{Fault};
 ghost use Rattle.markdown_defs.specs.Allocations.{HasAlignment, HasCow, HasHeading, HasLink, HoldsParts};
@@ -17,8 +18,8 @@ use std::marker::Model;
 use std::mem;
 use std::ops::Index;
 
-/// The texts, links, alignments and attributes that items name by number, and the definitions and
-/// footnotes that are found by names.
+/// The texts, links, alignments and attributes that items refer to by number, and the definitions and footnotes, which
+/// are looked up by labels and names.
 #[derive(Drop)]
 pub struct Allocations<'a> {
     pub refdefs: RefDefs<'a>,
@@ -49,8 +50,8 @@ impl<'a> Model for Allocations<'a> {
 }
 
 impl<'a> Allocations<'a> {
-    /// What a block result holds beside its tree, and no links. The only error is `Fault::Memory`;
-    /// then the parts are gone.
+    /// Returns the parts of a block result, without any links. The only error is `Fault::Memory`, in which case the
+    /// parts are dropped.
     pub fn new(alloc: Global, parts: BlockParts<'a>) -> Result<Allocations<'a>, Fault>
         ensures holds { IfOk result (HoldsParts parts.entry) }
         ensures refused { IfErr result (λ fault. fault ≡ Fault.Memory) }
@@ -72,8 +73,8 @@ impl<'a> Allocations<'a> {
         })
     }
 
-    /// Puts in a text, and gives its number. The only error is `Fault::Memory`; then nothing has changed
-    /// and the text is gone.
+    /// Adds a text and returns its number. The only error is `Fault::Memory`, in which case nothing has changed and the
+    /// text is dropped.
     pub fn allocate_cow(&mut self, cow: CowStr<'a>) -> Result<CowIndex, Fault>
         ensures number { IfOk result (λ ix. ix.0 ≡ length self.old.cows) }
         ensures put { IfOk result (λ _. self.new ≡ with_cow self.old cow.entry) }
@@ -85,8 +86,8 @@ impl<'a> Allocations<'a> {
         Ok(CowIndex(ix))
     }
 
-    /// Puts in a link, and gives its number. The only error is `Fault::Memory`; then nothing has changed
-    /// and the texts are gone.
+    /// Adds a link and returns its number. The only error is `Fault::Memory`, in which case nothing has changed and the
+    /// texts are dropped.
     pub fn allocate_link(
         &mut self,
         ty: LinkType,
@@ -105,8 +106,8 @@ impl<'a> Allocations<'a> {
         Ok(LinkIndex(ix))
     }
 
-    /// Puts in the alignments of a table, and gives their number. The only error is `Fault::Memory`;
-    /// then nothing has changed and the alignments are gone.
+    /// Adds the alignments of a table and returns their number. The only error is `Fault::Memory`, in which case
+    /// nothing has changed and the alignments are dropped.
     pub fn allocate_alignment(&mut self, alignment: Vec<Alignment>) -> Result<AlignmentIndex, Fault>
         ensures number { IfOk result (λ ix. ix.0 ≡ length self.old.alignments) }
         ensures put { IfOk result (λ _. self.new ≡ with_alignment self.old alignment) }
@@ -118,8 +119,8 @@ impl<'a> Allocations<'a> {
         Ok(AlignmentIndex(ix))
     }
 
-    /// Puts in the attributes of a heading, and gives their number, from 1 on. The only error is
-    /// `Fault::Memory`; then nothing has changed and the attributes are gone.
+    /// Adds the attributes of a heading and returns their number, counted from 1. The only error is `Fault::Memory`, in
+    /// which case nothing has changed and the attributes are dropped.
     pub fn allocate_heading(
         &mut self,
         heading: HeadingAttributes<'a>,
@@ -133,7 +134,7 @@ impl<'a> Allocations<'a> {
         Ok(HeadingIndex(self.headings.len()))
     }
 
-    /// Takes a text, and leaves the empty one. Takes no memory.
+    /// Takes a text out and returns it; an empty text takes its place. Allocates no memory.
     pub fn take_cow(&mut self, ix: CowIndex) -> CowStr<'a>
         requires { HasCow self.old ix }
         ensures taken { result ≡ slice_index_or self.old.cows ix.0 result }
@@ -142,8 +143,8 @@ impl<'a> Allocations<'a> {
         mem::replace(&mut self.cows[ix.0], CowStr::Borrowed(""))
     }
 
-    /// Takes a link's type, destination, title and id, and leaves `ShortcutUnknown` with three empty
-    /// texts. Takes no memory.
+    /// Takes a link out and returns its type, destination, title and id; `ShortcutUnknown` with three empty texts takes
+    /// its place. Allocates no memory.
     pub fn take_link(&mut self, ix: LinkIndex) -> (LinkType, CowStr<'a>, CowStr<'a>, CowStr<'a>)
         requires { HasLink self.old ix }
         ensures taken { result ≡ slice_index_or self.old.links ix.0 result }
@@ -158,7 +159,7 @@ impl<'a> Allocations<'a> {
         mem::replace(&mut self.links[ix.0], empty)
     }
 
-    /// Takes a table's alignments, and leaves the empty list. Takes no memory.
+    /// Takes a table's alignments out and returns them; an empty list takes their place. Allocates no memory.
     pub fn take_alignment(&mut self, ix: AlignmentIndex) -> Vec<Alignment>
         requires { HasAlignment self.old ix }
         ensures taken { result ≡ slice_index_or self.old.alignments ix.0 result }
@@ -169,7 +170,7 @@ impl<'a> Allocations<'a> {
     }
 }
 
-/// The text of a number that was handed out.
+/// Returns the text of an assigned number.
 impl<'a> Index<CowIndex> for Allocations<'a> {
     type Output = CowStr<'a>;
 
@@ -182,7 +183,7 @@ impl<'a> Index<CowIndex> for Allocations<'a> {
     }
 }
 
-/// The type, destination, title and id of a link whose number was handed out.
+/// Returns the type, destination, title and id of the link of an assigned number.
 impl<'a> Index<LinkIndex> for Allocations<'a> {
     type Output = (LinkType, CowStr<'a>, CowStr<'a>, CowStr<'a>);
 
@@ -195,7 +196,7 @@ impl<'a> Index<LinkIndex> for Allocations<'a> {
     }
 }
 
-/// The alignments of a number that was handed out.
+/// Returns the alignments of an assigned number.
 impl<'a> Index<AlignmentIndex> for Allocations<'a> {
     type Output = Vec<Alignment>;
 
@@ -209,7 +210,7 @@ impl<'a> Index<AlignmentIndex> for Allocations<'a> {
     }
 }
 
-/// The attributes of a number that was handed out, from 1 on.
+/// Returns the attributes of an assigned number, counted from 1.
 impl<'a> Index<HeadingIndex> for Allocations<'a> {
     type Output = HeadingAttributes<'a>;
 

@@ -1,4 +1,4 @@
-//! What is asked where a link label is defined nowhere, and who answers.
+//! Callbacks for references whose link label is not defined.
 ghost use Rattle.std.specs.Prelude.{◌≡◌, ◌≤◌, length, IfOk, IfErr, IsOk, Option};
 ghost use Rattle.markdown_base.specs.CowText.{text_of};
 ghost use Rattle.markdown_base.specs.Questions.{Question, Answer};
@@ -11,10 +11,10 @@ use markdown_base::tag::LinkType;
 use std::alloc::Global;
 use std::ops::Range;
 
-/// A reference whose label no definition has.
+/// A reference whose link label is not defined.
 #[derive(Debug, Drop)]
 pub struct BrokenLink<'a> {
-    /// The bytes of the source that the reference stands over.
+    /// The source range of the reference, in bytes.
     pub span: Range<usize>,
     pub link_type: LinkType,
     /// The link label.
@@ -22,8 +22,8 @@ pub struct BrokenLink<'a> {
 }
 
 impl<'a> BrokenLink<'a> {
-    /// The same broken link, borrowed from nothing. Only a slice of more than 22 bytes takes memory.
-    /// The only error is `Fault::Memory`; then the broken link is gone.
+    /// Returns the same broken link without borrowing from the source. Only a slice of more than 22 bytes allocates
+    /// memory. The only error is `Fault::Memory`, in which case the broken link is dropped.
     pub fn into_static(self, alloc: Global) -> Result<BrokenLink<'static>, Fault>
         ensures same { IfOk result (λ made. question_of made ≡ question_of self.entry) }
         ensures short { length (text_of self.entry.reference) ≤ 22 → IsOk result }
@@ -38,7 +38,8 @@ impl<'a> BrokenLink<'a> {
     }
 }
 
-/// Who is asked about a broken link, by the relation of old state, question, answer and new state.
+/// A callback for broken links. Contracts describe it by a relation of its old state, a question, its answer and its
+/// new state.
 ///
 /// ```
 /// fn page<'a>(link: BrokenLink<'a>) -> Option<(CowStr<'a>, CowStr<'a>)> {
@@ -49,13 +50,13 @@ impl<'a> BrokenLink<'a> {
 /// let parser = Parser::new_with_broken_link_callback(alloc, "[a]", Options::empty(), callback)?;
 /// ```
 pub trait BrokenLinkCallback<'input>: Drop {
-    /// The states in which it may be asked.
+    /// The states in which it may be called.
     ghost can_ask: { Self → Type 0 };
 
-    /// In the first state it may give this answer to this question, and then be in the second.
+    /// In the first state it may return this answer to this question, and then be in the second state.
     ghost answers: { Self → Question → Option Answer → Self → Type 0 };
 
-    /// The destination and the title of a broken link, or None, which leaves it no link.
+    /// Returns the destination and the title of a broken link, or `None` if it is not to become a link.
     fn handle_broken_link(
         &mut self,
         link: BrokenLink<'input>,
@@ -65,7 +66,7 @@ pub trait BrokenLinkCallback<'input>: Drop {
         ensures answered { answers self.old (question_of link.entry) (answer_of result) self.new };
 }
 
-/// Answers None, and keeps its state.
+/// A callback that returns `None` and keeps its state.
 #[derive(Debug, Drop)]
 pub struct DefaultBrokenLinkCallback;
 
@@ -85,15 +86,14 @@ impl<'input> BrokenLinkCallback<'input> for DefaultBrokenLinkCallback {
     }
 }
 
-/// A closure as a callback. It has to be callable with every question, in each state that it
-/// reaches.
+/// A closure as a callback. It must be callable with every question, in each state that it reaches.
 #[derive(Drop)]
 pub struct Closure<F> {
     pub f: F,
 }
 
 impl<F> Closure<F> {
-    /// The closure itself; takes no memory.
+    /// Returns the closure as a callback. Allocates no memory.
     pub fn new(f: F) -> Self
         ensures { result.f ≡ f }
     {
@@ -122,13 +122,13 @@ impl<
     }
 }
 
-/// An object that answers about broken links, and keeps nothing of the source.
+/// A callback for broken links that can be put in a box: it borrows nothing from the source.
 pub trait BoxedCallback: Drop {
-    /// In the first state it may give this answer to this question, and then be in the second.
-    /// An object that does not say may give any.
+    /// In the first state it may return this answer to this question, and then be in the second state. An
+    /// implementation without this relation may return any answer.
     ghost gives: { Self → Question → Option Answer → Self → Type 0 } = { λ old question answer new. Unit {0} };
 
-    /// The destination and the title of a broken link, or None, which leaves it no link.
+    /// Returns the destination and the title of a broken link, or `None` if it is not to become a link.
     fn answer(
         &mut self,
         span: Range<usize>,
@@ -140,13 +140,13 @@ pub trait BoxedCallback: Drop {
             (answer_of result) self.new };
 }
 
-/// A boxed object as a callback, which may always be asked.
+/// A boxed object as a callback, which may always be called.
 impl<'input> BrokenLinkCallback<'input> for Box<dyn BoxedCallback> {
     ghost use Rattle.std.specs.Prelude.{◌≡◌};
 
     ghost can_ask = { λ _. Unit {0} };
 
-    // the object in the box gives the answer, and the box stays
+    // the object in the box returns the answer, and the box itself is unchanged
     ghost answers = { λ old question answer new. (value : _)
         × (BoxedCallback-box old).gives old.value question answer value
         × (new ≡ record old { value = value }) };

@@ -1,4 +1,4 @@
-//! Link reference definitions, found by the case folding of their labels.
+//! Link reference definitions, looked up by the case folding of their labels.
 ghost use Rattle.std.specs.Prelude.{◌≡◌, IfErr, IfOk, OnOk, map};
 ghost use Rattle.std.specs.Option.{option_copied};
 ghost use Rattle.markdown_base.specs.declared.fault.Fault.{Fault};
@@ -16,14 +16,14 @@ use std::fmt;
 use std::marker::Model;
 use std::slice::Iter;
 
-/// The link reference definitions of a text, found by the case folding of their labels
-/// (CommonMark 4.7, but white space in a key is not collapsed).
+/// The link reference definitions of a text, looked up by the case folding of their labels (CommonMark 4.7, except that
+/// white space in a key is not collapsed).
 #[derive(Drop)]
 pub struct RefDefs<'a> {
-    /// Of each folding the first, in the order of the source.
+    /// The first definition of each folding, in the order of the source.
     definitions: Vec<(CowStr<'a>, LinkDef<'a>)>,
-    /// The place of each by its folding, so that no stored label is folded again. The map is ordered, not
-    /// hashed: labels that all have one hash would make every look-up go through all of them.
+    /// The index of each by its folding, so that no stored label is folded again. The map is ordered, not hashed:
+    /// labels that all have one hash would make every look-up go through all of them.
     by_folding: BTreeMap<String, usize>,
 }
 
@@ -41,8 +41,8 @@ impl<'a> Model for RefDefs<'a> {
 }
 
 impl<'a> RefDefs<'a> {
-    /// The definitions that can be found: of several with equal folding the first. The only error is
-    /// `Fault::Memory`.
+    /// Returns the definitions that can be found: the first of those with equal folding. The only error is
+    /// `Fault::Memory`, in which case the definitions are dropped.
     #[tactic(auto, unfolding(crate::specs::Definitions::firsts))]
     pub(super) fn new(
         alloc: Global,
@@ -62,8 +62,8 @@ impl<'a> RefDefs<'a> {
         })
     }
 
-    /// The first definition whose label has the folding of the key. The foldings that it is compared
-    /// with grow as the logarithm of the definitions, whatever their labels. The only error is
+    /// Returns the first definition whose label has the same folding as the key. The number of foldings that it is
+    /// compared with grows as the logarithm of the number of definitions, whatever their labels. The only error is
     /// `Fault::Memory`.
     pub fn get(&self, key: &str) -> Result<Option<&LinkDef<'a>>, Fault>
         ensures found { IfOk result (λ found. option_copied found ≡ look_up key.now self.now) }
@@ -76,8 +76,8 @@ impl<'a> RefDefs<'a> {
         }
     }
 
-    /// Each definition that can be found once, with its label as written, in the order of the source.
-    /// Takes no memory.
+    /// Returns an iterator over the definitions that can be found, each once, with its label as written, in the order
+    /// of the source. Allocates no memory.
     pub fn iter(&self) -> RefDefsIter<'_, 'a>
         ensures left { definitions_left result ≡ map with_text self.now }
         ensures once { AreDistinct self.now }
@@ -88,14 +88,15 @@ impl<'a> RefDefs<'a> {
     }
 }
 
-/// The labels as they are written, with what they define.
+/// Writes the labels as they are written, with their definitions.
 impl<'a> fmt::Debug for RefDefs<'a> {
     fn fmt<W: fmt::Write>(&self, f: &mut fmt::Formatter<W>) -> fmt::Result {
         fmt::Debug::fmt(&self.definitions, f)
     }
 }
 
-/// Keeps a definition, unless one of equal folding stands there.
+/// Keeps a definition, unless one of equal folding is kept already. The only error is `Fault::Memory`, after which the
+/// index may contain a folding whose definition was not kept.
 fn keep_first<'a>(
     kept: &mut Vec<(CowStr<'a>, LinkDef<'a>)>,
     by_folding: &mut BTreeMap<String, usize>,
@@ -116,7 +117,7 @@ fn keep_first<'a>(
     Ok(())
 }
 
-/// The definitions that can be found, each once, in the order of the source.
+/// An iterator over the definitions that can be found, each once, in the order of the source.
 #[derive(Debug, Drop)]
 pub struct RefDefsIter<'r, 'a> {
     rest: Iter<'r, (CowStr<'a>, LinkDef<'a>)>,
@@ -132,12 +133,12 @@ impl<'r, 'a> Iterator for RefDefsIter<'r, 'a> {
 
     ghost remaining = { item_count definitions_left };
 
-    /// How many are left.
+    /// Returns the number of remaining definitions, as both bounds.
     fn size_hint(&self) -> (usize, Option<usize>) {
         self.rest.size_hint()
     }
 
-    /// The next label with its definition. Takes no memory.
+    /// Returns the next label with its definition. Allocates no memory.
     fn next(&mut self) -> Option<(&'r str, &'r LinkDef<'a>)> {
         let (label, definition) = self.rest.next()?;
         Some((label.as_str(), definition))

@@ -7,7 +7,7 @@ use caseless::default_case_fold_str;
 use markdown_base::fault::Fault;
 use std::alloc::Global;
 
-/// The text with full case folding. The only error is `Fault::Memory`.
+/// Returns the text with full case folding. The only error is `Fault::Memory`.
 #[tactic(auto, unfolding(crate::specs::Folding::case_folding))]
 pub fn fold(alloc: Global, text: &str) -> Result<String, Fault>
     ensures folded { IfOk result (λ folded. string_bytes folded ≡ folded_text text.now) }

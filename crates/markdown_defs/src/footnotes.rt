@@ -1,4 +1,4 @@
-//! Footnotes, found by the case folding of their names, with the count of their uses.
+//! Footnotes, looked up by the case folding of their names, with the count of their uses.
 ghost use Rattle.std.specs.Prelude.{◌≡◌, ℕ, List, Some, None, IfErr, IfOk, OnErr, OnOk, encode_utf8_all, if◌then◌else◌};
 ghost use Rattle.std.specs.Prelude.{is_some, nat_eq};
 ghost use Rattle.std.specs.Borrow.{sem};
@@ -22,7 +22,7 @@ use std::fmt;
 /// A footnote that is defined.
 #[derive(Clone, Copy, Debug, PartialEq, Eq, Drop)]
 pub struct FootnoteDef {
-    /// How often it is referred to; stays at `usize::MAX`.
+    /// The number of references to it, at most `usize::MAX`.
     pub use_count: usize,
 }
 
@@ -45,16 +45,16 @@ impl From<Fault> for Absence {
     }
 }
 
-/// The footnotes of a text, found by the case folding of their names.
+/// The footnotes of a text, looked up by the case folding of their names.
 #[derive(Drop)]
 pub struct FootnoteDefs {
     alloc: Global,
-    /// Ordered, not hashed, so that no choice of names makes look-ups slow.
+    /// An ordered map, not a hashed one, so that no choice of names makes look-ups slow.
     by_folding: BTreeMap<String, FootnoteDef>,
 }
 
 impl FootnoteDefs {
-    /// The footnotes of these names, none of which is used yet. The only error is `Fault::Memory`.
+    /// Returns the footnotes of these names, none of them used yet. The only error is `Fault::Memory`.
     pub(super) fn new(alloc: Global, names: Vec<CowStr<'_>>) -> Result<FootnoteDefs, Fault>
         ensures unused { IfOk result (λ made. (name : List ℕ)
             → footnote_at made name ≡ unused_at names.entry.items name) }
@@ -67,7 +67,7 @@ impl FootnoteDefs {
         Ok(FootnoteDefs { alloc, by_folding })
     }
 
-    /// Whether a footnote of this name is defined. The only error is `Fault::Memory`.
+    /// Returns whether a footnote of this name is defined. The only error is `Fault::Memory`.
     pub fn contains(&self, name: &str) -> Result<bool, Fault>
         ensures found { IfOk result (λ found. found ≡ is_some (footnote_at self.now name.now)) }
         ensures refused { IfErr result (λ fault. fault ≡ Fault.Memory) }
@@ -76,9 +76,8 @@ impl FootnoteDefs {
         Ok(self.by_folding.contains_key(folded.as_str()))
     }
 
-    /// Counts one more use of the footnote of this name, and tells whether it is defined; a count stays
-    /// at `usize::MAX`. The only error is `Fault::Memory`. After an error, and where the name is not
-    /// defined, nothing has changed.
+    /// Counts one more use of the footnote of this name, up to `usize::MAX`, and returns whether it is defined. The
+    /// only error is `Fault::Memory`. After an error, or if the name is not defined, nothing has changed.
     pub fn count_use(&mut self, name: &str) -> Result<bool, Fault>
         ensures found { IfOk result (λ found. found ≡ is_some (footnote_at self.old name.now)) }
         ensures counted { OnOk result ((other : List ℕ) → footnote_at self.new other
@@ -97,9 +96,9 @@ impl FootnoteDefs {
         }
     }
 
-    /// The footnote of this name, to be changed in place; none is made. Once the reference ends, each
-    /// name that matches finds what was written behind it, and all others what they found. The only
-    /// error is `Fault::Memory`. After an error, and where the name is not defined, nothing has changed.
+    /// Returns the footnote of this name for changes in place; none is added. Once the reference ends, each name that
+    /// matches finds what was written through it, and all others find what they did before. The only error is
+    /// `Fault::Memory`. After an error, or if the name is not defined, nothing has changed.
     pub fn get_mut(&mut self, key: CowStr<'_>) -> Result<Option<&mut FootnoteDef>, Fault>
         ensures* writes_back { sem 𝓛 (LendsFootnote self.entry (text_of key.entry) result) }
         ensures found { IfOk result (λ found.
@@ -109,8 +108,9 @@ impl FootnoteDefs {
         none_if_undefined(self.find_mut(key))
     }
 
-    /// As `get_mut`, where a footnote that is not defined is an error: a proof about a caller learns
-    /// what a write leaves behind from this form alone. After an error nothing has changed.
+    /// Returns the footnote of this name as `get_mut` does, except that an undefined footnote is the error
+    /// `Absence::Undefined`, and a refused allocation is `Absence::Refused`. Only from this form can the proof of a
+    /// caller conclude what a write leaves. After an error nothing has changed.
     pub fn find_mut(&mut self, key: CowStr<'_>) -> Result<&mut FootnoteDef, Absence>
         ensures* writes_back { sem 𝓛 (LendsDefined self.entry (text_of key.entry) result) }
         ensures found { IfOk result (λ found. Some found.now ≡ footnote_at self.old (text_of key.entry)) }
@@ -124,7 +124,7 @@ impl FootnoteDefs {
         }
     }
 
-    /// The footnote of this folding.
+    /// Returns the footnote of this folding.
     fn lend(&mut self, folded: &str) -> Option<&mut FootnoteDef>
         ensures* writes_back { sem 𝓛 (LendsFolded self.entry folded.now result) }
         ensures found { option_copied_mut result ≡ get_by_text self.old.by_folding folded.now }
@@ -133,7 +133,7 @@ impl FootnoteDefs {
     }
 }
 
-/// What was found, where a footnote that is not defined is no error.
+/// Returns what was found, with `None` for a footnote that is not defined.
 fn none_if_undefined<'a>(
     found: Result<&'a mut FootnoteDef, Absence>,
 ) -> Result<Option<&'a mut FootnoteDef>, Fault>
@@ -146,7 +146,7 @@ fn none_if_undefined<'a>(
     }
 }
 
-/// Adds a footnote that is not used yet.
+/// Adds a footnote that is not used yet. The only error is `Fault::Memory`.
 fn add_unused(
     by_folding: &mut BTreeMap<String, FootnoteDef>,
     alloc: Global,

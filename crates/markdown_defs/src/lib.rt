@@ -1,5 +1,5 @@
-//! What a block result defines, found by names; what its items name by number; and what is asked where a link
-//! label is defined nowhere.
+//! Look-ups of what a block result defines; the parts that its items refer to by number; and callbacks for references
+//! with an undefined link label.
 #![tactic(auto)]
 
 mod allocations;

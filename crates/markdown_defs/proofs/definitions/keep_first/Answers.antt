@@ -1,4 +1,4 @@
--- The folding of the label has a place exactly where the index says so.
+-- The folding of the label has a position if and only if the index contains it.
 use Rattle.std.proofs.Common.{◌≡◌, sym, ◌∙◌, ap, false, string_bytes, is_some, length, refl}
 use Rattle.std.specs.BTreeMap.{get_by_text}
 use Rattle.std.proofs.lemmas.Map.Text.{btree_map_updates_text}

@@ -1,4 +1,4 @@
--- What is kept of the definitions gives the look-ups of all.
+-- The definitions that are kept give the same look-ups as all definitions.
 use Rattle.std.proofs.Common.{refl, ap, ◌∙◌}
 use Rattle.markdown_defs.specs.Definitions.{look_up}
 use Rattle.markdown_defs.proofs.DefinitionsLemmas.{look_up_firsts}

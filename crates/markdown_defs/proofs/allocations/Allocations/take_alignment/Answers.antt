@@ -1,4 +1,4 @@
--- The empty list stands in the place of what was taken.
+-- The empty list is in the place of what was taken out.
 use Rattle.std.proofs.Common.{refl}
 use Rattle.markdown_defs.proofs.allocations.Allocations.take_alignment.Goals as goal
 

@@ -1,4 +1,4 @@
--- The closure is asked what the callback is asked, and its answer is given.
+-- The closure is called with the callback's question, and its answer is returned.
 use Rattle.std.proofs.Common.{refl}
 use Rattle.markdown_defs.proofs.callback.ClosureBrokenLinkCallback.handle_broken_link.Goals as goal
 

@@ -1,4 +1,4 @@
--- The index has the place of what the key finds.
+-- The index contains the position of what the key finds.
 use Rattle.std.proofs.Common.{◌≡◌, sym, ◌∙◌}
 use Rattle.markdown_defs.specs.Folding.{case_folding, folded_text}
 use Rattle.markdown_defs.proofs.IndexLemmas.{not_found, in_range, found_at}

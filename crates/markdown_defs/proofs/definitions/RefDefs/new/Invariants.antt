@@ -1,4 +1,5 @@
--- What was read so far is kept but for what stood there, and the index says where.
+-- The definitions read so far are kept, except those whose folding occurs earlier, and the index contains their
+-- positions.
 use Rattle.std.proofs.Common.{◌≡◌, []}
 use Rattle.std.specs.List.{fold}
 use Rattle.markdown_defs.specs.Definitions.{add_first}

@@ -1,4 +1,4 @@
--- The footnote that was lent has one more use, and so has each name of its folding.
+-- The footnote that was lent has one more use, and so has each name with its folding.
 use Rattle.std.proofs.Common.{◌≡◌, ◌∙◌, ap, Some, cond}
 use Rattle.std.specs.Str.{bytes_eq}
 use Rattle.std.specs.Option.{option_map}

@@ -1,4 +1,4 @@
--- What is written behind the reference stands at the folding, so at each name that matches.
+-- What is written through the reference is found by the folding, and therefore by each name that matches.
 use Rattle.std.proofs.Common.{◌≡◌, ◌∙◌, ap, cond, refl, Some}
 use Rattle.markdown_base.specs.CowText.{text_of}
 use Rattle.markdown_defs.specs.Folding.{case_folding, folded_text}

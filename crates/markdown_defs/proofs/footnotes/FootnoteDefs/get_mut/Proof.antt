@@ -1,4 +1,4 @@
--- `get_mut` calls `find_mut` and turns its answer: what follows the lent reference stays as `find_mut` says it.
+-- `get_mut` calls `find_mut` and converts its result: what holds once the reference ends is what `find_mut` states.
 use mathlib.Core.Path.{◌≡◌, refl, sym, subst}
 use mathlib.Core.List.{List, [], ◌∷◌}
 use Prim.Native.Nat.{ℕ}
@@ -81,7 +81,7 @@ key_slot = plain (λ κs. cow.the_row (named_lft 2 1 tt κs))
 abbrev stayed : Stays f.ended.signature.params f.ended.kept
 stayed = (stay_left self_slot no, (stay_left key_slot yes, tt))
 
--- the laws of what each call answers
+-- the laws of the result of each call
 ref_laws : (ℓ : NamedLft) → Laws (mut_ref_field ℓ footnote.the_row tt).row
 ref_laws ℓ = of_field (mut_ref_field ℓ footnote.the_row tt) (mut_ref_laws ℓ footnote.the_row tt) refl
     (mut_ref_shared ℓ footnote.the_row tt (row_shared footnote.the_row footnote_laws.the_row_laws))
@@ -118,14 +118,14 @@ weaken {𝓤 = 𝓤} 𝓛 R U γ m P P' P₀ P₀' on at_none =
     (follows_by R.Denot U.Denot R.coded.code U.coded.code γ m t.0.0 t.0.1))
     (s.0, (λ w. on w (s.0.0 w) (s.1 w)), at_none s.0.1 s.2))
 
--- what `find_mut` says of the footnotes' last value says it of the turned answer
+-- what `find_mut` states about the last value of the footnotes holds for the converted result
 lends : {M : Type 1} {𝓤 : Ura M} (𝓛 : Logic 𝓤) (lender : MutBor FootnoteDefs) (key : List ℕ) (r : Result (MutBor FootnoteDef) Absence)
     → ent 𝓤 (sem 𝓛 (LendsDefined lender key r)) (sem 𝓛 (LendsFootnote lender key (none_if_undefined r)))
 lends 𝓛 lender key (Ok x) = weaken 𝓛 footnotes.the_row footnote.the_row _ _ _ _ _ _ (λ w n p. p refl) (λ n p. tt)
 lends 𝓛 lender key (Err Absence.Undefined) = weaken 𝓛 footnotes.the_row footnote.the_row _ _ _ _ _ _ (λ w n p. tt) (λ n p. p)
 lends 𝓛 lender key (Err Absence.Refused) = weaken 𝓛 footnotes.the_row footnote.the_row _ _ _ _ _ _ (λ w n p. tt) (λ n p. p)
 
--- and so with what was found
+-- likewise for what was found
 found : (d : FootnoteDefs) (key : List ℕ) (r : Result (MutBor FootnoteDef) Absence) → IfOk r (λ x. Some x.now ≡ footnote_at d key)
     → IfErr r (λ why. why ≡ Absence.Undefined → footnote_at d key ≡ None)
     → IfOk (none_if_undefined r) (λ x. option_copied_mut x ≡ footnote_at d key) × IfErr (none_if_undefined r) (λ fault. fault

@@ -1,11 +1,11 @@
--- What is written behind the reference stands at the folding.
+-- What is written through the reference is found by the folding.
 use Rattle.std.proofs.Common.{◌≡◌, Option, Some, None, IsSome, OnSome, ap, refl}
 use Rattle.std.specs.BTreeMap.{get_by_text}
 use Rattle.std.specs.Option.{option_map}
 use Rattle.std.proofs.lemmas.Map.Text.{btree_map_updates_text}
 use Rattle.markdown_defs.proofs.footnotes.FootnoteDefs.lend.Goals as goal
 
--- a fact that follows where there is a value
+-- a fact that follows if there is a value
 on_some : {A P : Type 0} (o : Option A) → (IsSome o → P) → OnSome o P
 on_some None f = tt
 on_some (Some x) f = f refl
