@@ -1,4 +1,4 @@
--- Numbers that are marked as they are met, and what it is that none is met twice.
+-- Numbers that are marked as they are met, and what it means that none is met twice.
 use Rattle.std.proofs.Common.{◌≡◌, ℕ, suc, zero, ◌<◌, ◌≤◌, List, [], ◌∷◌, Bool, true, false, length, get_or, set, replicate, refl, sym, ap}
 use Rattle.std.proofs.Common.{◌∙◌, arith}
 use Rattle.std.specs.Prelude.{nat_eq, ⊤}
@@ -17,7 +17,7 @@ Fresh seen (x ∷ xs) = (get_or seen x true ≡ false) × Fresh (set seen x true
 abbrev pub unmarked : ℕ → List Bool
 unmarked n = replicate n false
 
--- how many are not set
+-- the number of marks that are not set
 abbrev pub unset : List Bool → ℕ
 unset [] = 0
 unset (true ∷ seen) = unset seen

@@ -9,7 +9,7 @@ use Rattle.markdown_blocks.specs.declared.named.NamedPart.{NamedPart}
 use Rattle.markdown_blocks.specs.NodeRules.{part_named, names_of, AreNamedOnce}
 use Rattle.markdown_blocks.proofs.MarkLemmas.{Fresh, AreNamedOnce-from_Fresh, Fresh-from_AreNamedOnce}
 
--- all numbers are below a size and stand once, just where those to come are fresh
+-- all numbers are below a size and occur once, just where those to come are fresh
 pub record FreshSoFar (size : ℕ) (all : List ℕ) (seen : List Bool) (rest : List ℕ) : Type 0 where
   pub gives : AreNamedOnce size all → Fresh seen rest
   pub makes : Fresh seen rest → AreNamedOnce size all

@@ -40,7 +40,7 @@ opens_at nodes ix l =
 pub trees_at-none : (nodes : List (Node Item)) → trees_at nodes None ≡ nil
 trees_at-none nodes = ap (relabelled (numbered nodes)) (forest_at-none (links_of nodes))
 
--- how many items the chain has that a link begins
+-- the number of items of the chain that a link begins
 abbrev pub chain_length : List (Node Item) → Option ℕ → ℕ
 chain_length nodes link = length (roots (trees_at nodes link))
 
@@ -72,7 +72,7 @@ and-all : (a : Bool) → (a && true) ≡ a
 and-all true = refl
 and-all false = refl
 
--- the next item is told
+-- the next item is counted among the kinds
 pub tells_more : (nodes : List (Node Item)) (first : Option ℕ) (ix : ℕ) (kinds more : ChainKinds) (link : Option ℕ)
     → TellsSoFar nodes first (Some ix) kinds
     → more.any_open ≡ (kinds.any_open || is_open (item_at nodes ix).body)
@@ -97,7 +97,7 @@ chain_falls nodes ix link l e =
     let opened = opens_at nodes ix l in
     rw (e, opened.here) (omega arith)
 
--- at the chain's end all is told
+-- at the chain's end all items are counted among the kinds
 pub tells_all : (nodes : List (Node Item)) (first link : Option ℕ) (kinds : ChainKinds)
     → TellsSoFar nodes first link kinds → link ≡ None → Tells kinds (trees_at nodes first)
 tells_all nodes first link kinds w e =

@@ -1,4 +1,4 @@
--- What contracts see of a `Blocks`, and what it is that one is made of a text.
+-- What contracts see of a `Blocks`, and what it means that it is the block result of a text.
 use Rattle.std.specs.Prelude.{◌≡◌, ℕ, List}
 use Rattle.markdown_base.specs.declared.block_parts.BlockParts.{BlockParts}
 use Rattle.markdown_base.specs.declared.item.Item.{Item}
@@ -20,11 +20,11 @@ block_options b = b.options
 abbrev pub block_tree : Blocks → Arena Item
 block_tree b = b.tree
 
--- the parts that its items name
+-- the parts that its items refer to
 abbrev pub block_parts : Blocks → BlockParts
 block_parts b = b.parts
 
--- b holds a text and options, and is a well-formed block result that covers the text
+-- b has this text and these options, and is a well-formed block result that covers the text
 pub record IsOfText (text : List ℕ) (options : Options) (b : Blocks) : Type 0 where
   pub holds_text : block_text b ≡ text
   pub holds_options : block_options b ≡ options

@@ -1,8 +1,8 @@
--- a checked block result
+-- a well-formed block result
 pub mod Blocks
--- what is tested of one node: private
+-- the tests of one node, for private clauses
 pub mod NodeRules
--- the words of the lower crates that the clauses here are written in
+-- definitions of other crates that the clauses cite
 pub use Rattle.markdown_base.specs.Arena
 pub use Rattle.markdown_base.specs.Coverage
 pub use Rattle.markdown_base.specs.WellFormed

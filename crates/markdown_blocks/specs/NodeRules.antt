@@ -18,27 +18,27 @@ use Rattle.markdown_blocks.specs.declared.named.NamedPart.TheVariants.{Text, Ali
 pub record LeadsOn (nodes : List (Node Item)) (link : Option ℕ) : Type 0 where
   pub spelled : Spells (links_of nodes) link (forest_at (links_of nodes) link)
 
--- a node is there, and finitely many nodes are below it
+-- there is a node with this number, and finitely many nodes are below it
 pub record IsReachable (nodes : List (Node Item)) (ix : ℕ) : Type 0 where
   pub within : ix < length nodes
   pub below : LeadsOn nodes (child_of nodes ix)
 
--- what was found of the items of a chain
+-- these are the kinds of items of a chain
 pub record Tells (kinds : ChainKinds) (chain : Forest Numbered) : Type 0 where
   pub any_open : kinds.any_open ≡ has_open chain
   pub only_inline : kinds.only_inline ≡ all_inline chain
   pub any_tight : kinds.any_tight ≡ has_tight_paragraph chain
 
--- the number by which an item names a text, or a list of alignments
+-- the number by which a body refers to a text, or to a list of alignments
 abbrev pub part_named : NamedPart → ItemBody → Option ℕ
 part_named Text body = text_named body
 part_named Alignments body = alignments_named body
 
--- the numbers by which the nodes name parts of a kind
+-- the numbers by which the nodes of an order refer to parts of a kind
 abbrev pub names_of : NamedPart → List (Node Item) → List ℕ → List ℕ
 names_of part nodes order = filter_map (λ ix. part_named part (item_at nodes ix).body) order
 
--- each number is below a size, and none stands twice
+-- each number is below a size, and none occurs twice
 pub record AreNamedOnce (size : ℕ) (numbers : List ℕ) : Type 0 where
   pub within : AllByRecursion (λ ix. ix < size) numbers
   pub once : IsDistinct nat_eq numbers

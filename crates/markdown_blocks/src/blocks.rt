@@ -1,4 +1,4 @@
-//! A block result that was checked: the text with its tree of items, and the parts that they name.
+//! Well-formed block results: a text with its tree of items, and the parts that the items refer to.
 ghost use Rattle.std.specs.Prelude.{◌≡◌, ◌≢◌, IfOk, IfErr, MatchResult};
 ghost use Rattle.markdown_base.specs.declared.fault.Fault.{Fault};
 ghost use Rattle.markdown_base.specs.OneWay.{IsWellFormed-prop};
@@ -14,7 +14,7 @@ use markdown_base::tree::Tree;
 use std::alloc::Global;
 use std::fmt;
 
-/// A text with its options, its tree of items and the parts that they name: a well-formed block result.
+/// A well-formed block result: a text with its options, its tree of items, and the parts that the items refer to.
 #[derive(Drop)]
 pub struct Blocks<'a> {
     text: &'a str,
@@ -28,25 +28,29 @@ pub struct Blocks<'a> {
 impl<'a> Blocks<'a> {
     ghost use Rattle.markdown_blocks.specs.Blocks.{block_text, block_options, block_tree, block_parts, IsOfText};
 
-    /// A block result that is handed in, if it is well formed; else `Fault::Blocks`. It is well formed if it
-    /// keeps nine rules:
+    /// Returns the block result that is passed in, if it is well formed: if it keeps nine rules.
     ///
     /// 1. Reached once: the tree below the root is finite, and no node is reached twice.
-    /// 2. Ranges lie in: each range lies in the text, between characters.
-    /// 3. Inline in order: of two neighbours that are both inline the first stands before the second, in the
-    ///    text and by its number.
-    /// 4. Chains are kept: inline items and thematic breaks have no children; a chain with an open item holds
-    ///    inline items only, and does not stand directly below the root.
+    /// 2. Ranges lie in: each range lies in the text, and its ends are character boundaries.
+    /// 3. Inline in order: of two neighbours that are both inline, the first precedes the second, in the text and by
+    ///    its number.
+    /// 4. Chains are kept: inline items and thematic breaks have no children; a chain with an open item has only inline
+    ///    items, and is not directly below the root.
     /// 5. Nothing resolved: no item is what an open item becomes.
-    /// 6. Markup is there: brackets, quotes, dollars, backticks and `<` stand over their markup.
-    /// 7. Runs are whole: a delimiter run of n characters is n neighbours that touch, of consecutive numbers
-    ///    and the same flags, counted n, n - 1, .., 1; between two runs of one character stands another item.
-    /// 8. Parts are named: each number that an item names is that of a part; no text and no list of alignments
-    ///    is named twice.
-    /// 9. Blocks are settled: no root and no undecided block stands in the tree, and no tight paragraph directly
-    ///    in another.
+    /// 6. Markup is there: the ranges of brackets, quotes, dollars, backticks and `<` are exactly their markup.
+    /// 7. Runs are whole: a delimiter run of n characters is n neighbours that touch, with consecutive numbers and the
+    ///    same flags, and the counts n, n - 1, .., 1; between two runs of one character there is another item.
+    /// 8. Parts are named: each number by which an item refers to a part is that of a part; no text and no list of
+    ///    alignments is referred to twice.
+    /// 9. Blocks are settled: there is no root and no undecided block in the tree, and no tight paragraph directly in
+    ///    another.
     ///
-    /// Time and memory are linear in the nodes, however deep they lie.
+    /// Time and memory are linear in the number of nodes, however deep the tree is.
+    ///
+    /// # Errors
+    ///
+    /// `Fault::Blocks` where it is not well formed, and `Fault::Memory` where an allocation is refused; the tree and
+    /// the parts are then dropped.
     pub fn checked(
         alloc: Global,
         text: &'a str,
@@ -81,7 +85,7 @@ impl<'a> Blocks<'a> {
         }
     }
 
-    /// Just what is held. Takes no memory.
+    /// Returns the text, the options, the tree and the parts. Allocates nothing.
     pub fn into_parts(self) -> (&'a str, Options, Tree<Item>, BlockParts<'a>)
         ensures parts { (result.0.now ≡ block_text self.entry) × (result.1 ≡ block_options self.entry)
             × (result.2 ≡ block_tree self.entry) × (result.3 ≡ block_parts self.entry) }
@@ -90,12 +94,15 @@ impl<'a> Blocks<'a> {
         (self.text, self.options, self.tree, self.parts)
     }
 
-    /// The block result of a text, which is well formed and covers the text. An error is
-    /// `Fault::Memory`; then nothing is made.
+    /// Returns the block result of a text, which is well formed and covers the text.
+    ///
+    /// # Errors
+    ///
+    /// `Fault::Memory` where an allocation is refused.
     pub fn of_text(alloc: Global, text: &'a str, options: Options) -> Result<Blocks<'a>, Fault>
         ensures { MatchResult result (IsOfText text.now options) (λ fault. fault ≡ Fault.Memory) }
     {
-        // well formed by what the block pass promises, so that nothing is left to check
+        // well formed by the contract of the block pass, so that nothing is left to check
         let (tree, parts) = markdown_plain::blocks(alloc, text, options)?;
         Ok(Blocks {
             text,
@@ -106,7 +113,7 @@ impl<'a> Blocks<'a> {
     }
 }
 
-/// Without the tree and its parts, which may be as long as the text.
+/// Leaves out the tree and its parts, which may be as long as the text.
 impl<'a> fmt::Debug for Blocks<'a> {
     fn fmt<W: fmt::Write>(&self, f: &mut fmt::Formatter<W>) -> fmt::Result {
         f.debug_struct("Blocks")

@@ -1,18 +1,18 @@
-//! What the items of a chain are.
+//! The kinds of items of a chain.
 ghost use Rattle.std.specs.Prelude.{◌≡◌, ◌||◌, ◌&&◌};
 ghost use Rattle.markdown_base.specs.Item.{is_open, is_inline, is_tight_paragraph};
 
 use markdown_base::item::{Item, ItemBody};
 use markdown_base::tree::Tree;
 
-/// What was found of the items of a chain.
+/// Which kinds of items a chain has.
 #[derive(Clone, Copy, Debug, PartialEq, Eq, Drop)]
 pub struct ChainKinds {
-    /// Some item is open.
+    /// Whether some item is open.
     pub any_open: bool,
-    /// All items are inline.
+    /// Whether all items are inline.
     pub only_inline: bool,
-    /// Some item is a tight paragraph.
+    /// Whether some item is a tight paragraph.
     pub any_tight: bool,
 }
 
@@ -20,7 +20,7 @@ impl ChainKinds {
     ghost use Rattle.markdown_base.specs.BlockTree.{trees_at};
     ghost use Rattle.markdown_blocks.specs.NodeRules.{LeadsOn, Tells};
 
-    /// With one more item.
+    /// Returns the kinds with one more item.
     fn with(self, body: ItemBody) -> ChainKinds
         ensures any_open { result.any_open ≡ (self.any_open || is_open body) }
         ensures only_inline { result.only_inline ≡ (self.only_inline && is_inline body) }
@@ -33,7 +33,7 @@ impl ChainKinds {
         }
     }
 
-    /// The items of the chain that a link begins.
+    /// Returns the kinds of items of the chain that begins at a link.
     pub fn of_chain(tree: &Tree<Item>, first: Option<usize>) -> ChainKinds
         requires { LeadsOn tree.now.nodes first }
         ensures { Tells result (trees_at tree.now.nodes first) }

@@ -1,4 +1,4 @@
-//! Block results: the check of one that is handed in, and one of a text.
+//! Block results: the check of one that is passed in, and the one of a text.
 #![tactic(auto)]
 
 mod blocks;

@@ -1,4 +1,4 @@
-//! The parts of a block result that items name by number, none of which two items may name.
+//! The parts of a block result that items refer to by number, of which each may be referred to only once.
 ghost use Rattle.std.specs.Prelude.{◌≡◌, ◌↔◌, ◌<◌, length, IfOk, IsTrue};
 ghost use Rattle.std.specs.List.{AllByRecursion};
 
@@ -8,7 +8,7 @@ use markdown_base::item::{Item, ItemBody};
 use markdown_base::tree::Tree;
 use std::alloc::{AllocError, Global};
 
-/// A kind of parts, each of which one item may name.
+/// A kind of parts that at most one item may refer to.
 #[derive(Clone, Copy, Debug, PartialEq, Eq, Drop)]
 pub enum NamedPart {
     Text,
@@ -18,7 +18,7 @@ pub enum NamedPart {
 impl NamedPart {
     ghost use Rattle.markdown_blocks.specs.NodeRules.{part_named, names_of, AreNamedOnce};
 
-    /// The number by which a body names a part of this kind.
+    /// Returns the number by which a body refers to a part of this kind, if it does.
     pub fn number(self, body: ItemBody) -> Option<usize>
         ensures { result ≡ part_named self body }
     {
@@ -34,8 +34,8 @@ impl NamedPart {
         }
     }
 
-    /// Rule 8, parts are named: whether the nodes of an order name parts of this kind that are there, none of
-    /// them twice.
+    /// Returns whether the nodes of an order keep rule 8, parts are named, for parts of this kind, of which there are
+    /// `size`: the parts that they refer to exist, and none is referred to twice. Fails where memory is refused.
     pub fn named_once(
         self,
         alloc: Global,

@@ -1,4 +1,4 @@
-//! Rule 1 of a block result: the nodes that the links below the root lead to.
+//! Rule 1 of a block result, reached once: the nodes that the links below the root lead to.
 ghost use Rattle.std.specs.Prelude.{◌≡◌, ◌<◌, length, IfOk, MatchOption};
 ghost use Rattle.markdown_base.specs.ArenaForest.{numbers_below};
 ghost use Rattle.markdown_base.specs.Forest.{preorder};
@@ -9,8 +9,8 @@ use markdown_base::item::Item;
 use markdown_base::tree::Tree;
 use std::alloc::{AllocError, Global};
 
-/// Rule 1, reached once: the numbers of the nodes below the root in preorder; none where the tree does not
-/// end, or a node is reached twice.
+/// Returns the numbers of the nodes below the root in preorder, where the tree keeps rule 1, reached once; `None` where
+/// it is not finite, or a node is reached twice. Fails where memory is refused.
 pub fn reached_once(alloc: Global, tree: &Tree<Item>) -> Result<Option<Vec<usize>>, AllocError>
     ensures rooted { IfOk result (λ _. 0 < length tree.now.nodes) }
     ensures found { IfOk result (λ found. MatchOption found

@@ -1,4 +1,4 @@
-//! The rules of a block result, each with a function that tests it at a node whose number is given.
+//! The rules of a block result, each with a function that tests it at the node with a given number.
 ghost use Rattle.std.specs.Prelude.{◌≡◌, ◌↔◌, ◌<◌, ◌≤◌, false, length, IfOk, IfSome, IsTrue};
 ghost use Rattle.std.specs.List.{AllByRecursion};
 ghost use Rattle.markdown_base.specs.Arena.{child_of};
@@ -22,14 +22,15 @@ use markdown_base::item::{Item, ItemBody};
 use markdown_base::tree::Tree;
 use std::alloc::{AllocError, Global};
 
-/// Rule 2, ranges lie in: whether an item's range lies in the text, between characters.
+/// Returns whether an item keeps rule 2, ranges lie in: its range lies in the text, and its ends are character
+/// boundaries.
 fn ranges_lie_in(text: &str, item: &Item) -> bool
     ensures { IsTrue result ↔ RangesLieIn text.now item.now }
 {
     item.start <= item.end && text.is_char_boundary(item.start) && text.is_char_boundary(item.end)
 }
 
-/// Whether a node stands before another: in the text, and by its number.
+/// Returns whether a node precedes another: in the text, and by its number.
 fn precedes(tree: &Tree<Item>, ix: usize, after: usize) -> bool
     requires first { ix < length tree.now.nodes }
     requires second { after < length tree.now.nodes }
@@ -39,7 +40,8 @@ fn precedes(tree: &Tree<Item>, ix: usize, after: usize) -> bool
     tree.item(ix).end <= tree.item(after).start && ix < after
 }
 
-/// Rule 3, inline in order: whether an inline node stands before the one after it, if that is inline too.
+/// Returns whether a node keeps rule 3, inline in order: an inline node precedes its next sibling, where that is inline
+/// too.
 fn inline_in_order(tree: &Tree<Item>, ix: usize) -> bool
     requires { ix < length tree.now.nodes }
     ensures { IsTrue result ↔
@@ -55,14 +57,14 @@ fn inline_in_order(tree: &Tree<Item>, ix: usize) -> bool
     }
 }
 
-/// Whether the second holds if the first does.
+/// Returns whether the second is true if the first is.
 fn implies(first: bool, second: bool) -> bool
     ensures { IsTrue result ↔ (IsTrue first → IsTrue second) }
 {
     !first || second
 }
 
-/// Whether a node has no children, if its body has none.
+/// Returns whether a node has no children where its body may not have any.
 fn is_kept_childless(tree: &Tree<Item>, ix: usize) -> bool
     requires { IsReachable tree.now.nodes ix }
     ensures { IsTrue result ↔
@@ -72,8 +74,8 @@ fn is_kept_childless(tree: &Tree<Item>, ix: usize) -> bool
     implies(tree.item(ix).body.is_childless(), tree.child(ix).is_none())
 }
 
-/// Rule 4, chains are kept: whether a node has no children if it is inline or a thematic break, and the
-/// chain below it, of which `below` tells, holds inline items only if one is open.
+/// Returns whether a node keeps rule 4, chains are kept: it has no children if it is inline or a thematic break, and
+/// the chain below it, which has the kinds of items `below`, has only inline items if one is open.
 fn chains_are_kept(tree: &Tree<Item>, ix: usize, below: ChainKinds) -> bool
     requires there { IsReachable tree.now.nodes ix }
     requires below { Tells below (trees_at tree.now.nodes (child_of tree.now.nodes ix)) }
@@ -84,7 +86,7 @@ fn chains_are_kept(tree: &Tree<Item>, ix: usize, below: ChainKinds) -> bool
     is_kept_childless(tree, ix) && implies(below.any_open, below.only_inline)
 }
 
-/// Rule 4 at the top: whether nothing is open directly below the root.
+/// Returns whether the tree keeps rule 4 at its top: no item directly below the root is open.
 fn top_is_closed(tree: &Tree<Item>) -> bool
     requires rooted { 0 < length tree.now.nodes }
     requires once { IsReachedOnce tree.now.nodes }
@@ -93,14 +95,14 @@ fn top_is_closed(tree: &Tree<Item>) -> bool
     !ChainKinds::of_chain(tree, tree.child(0)).any_open
 }
 
-/// Rule 5, nothing resolved: whether a body is not what an open item becomes.
+/// Returns whether a body keeps rule 5, nothing resolved: it is not what an open item becomes.
 fn nothing_resolved(body: ItemBody) -> bool
     ensures { IsTrue result ↔ NothingResolved body }
 {
     !body.is_resolved()
 }
 
-/// Whether a number, if there is one, is that of one of so many parts.
+/// Returns whether a number, if there is one, is that of one of `count` parts, from 0.
 fn is_of_part(name: Option<usize>, count: usize) -> bool
     ensures { IsTrue result ↔ IfSome name (λ ix. ix < count) }
 {
@@ -110,7 +112,7 @@ fn is_of_part(name: Option<usize>, count: usize) -> bool
     }
 }
 
-/// Whether a number, if there is one, is that of one of so many heading attributes, counted from 1.
+/// Returns whether a number, if there is one, is that of one of `count` heading attributes, from 1.
 fn is_of_attributes(name: Option<HeadingIndex>, count: usize) -> bool
     ensures { IsTrue result ↔ IfSome name (λ ix. (1 ≤ ix.0) × (ix.0 ≤ count)) }
 {
@@ -120,7 +122,7 @@ fn is_of_attributes(name: Option<HeadingIndex>, count: usize) -> bool
     }
 }
 
-/// Rule 8, parts are named: whether the numbers that a body names are those of parts.
+/// Returns whether a body keeps rule 8, parts are named: the parts that it refers to exist.
 fn parts_are_named(body: ItemBody, parts: &BlockParts) -> bool
     ensures { IsTrue result ↔ PartsAreNamed (counts_of parts.now) body }
 {
@@ -129,8 +131,8 @@ fn parts_are_named(body: ItemBody, parts: &BlockParts) -> bool
         && is_of_attributes(body.attributes_named(), parts.headings.len())
 }
 
-/// Rule 9, blocks are settled: whether a node is no root and no undecided block, and holds no tight
-/// paragraph if it is one, by what `below` tells of the chain below it.
+/// Returns whether a node keeps rule 9, blocks are settled: it is not a root or an undecided block, and if it is a
+/// tight paragraph, the chain below it, which has the kinds of items `below`, has none.
 fn blocks_are_settled(tree: &Tree<Item>, ix: usize, below: ChainKinds) -> bool
     requires there { ix < length tree.now.nodes }
     requires below { Tells below (trees_at tree.now.nodes (child_of tree.now.nodes ix)) }
@@ -142,7 +144,7 @@ fn blocks_are_settled(tree: &Tree<Item>, ix: usize, below: ChainKinds) -> bool
     !body.is_unplaced() && implies(body.is_tight_paragraph(), !below.any_tight)
 }
 
-/// Whether a node keeps rules 2 to 9.
+/// Returns whether a node keeps rules 2 to 9.
 fn node_keeps_rules(text: &str, tree: &Tree<Item>, parts: &BlockParts, ix: usize) -> bool
     requires { IsReachable tree.now.nodes ix }
     ensures { IsTrue result ↔ NodeKeepsRules text.now (counts_of parts.now) tree.now.nodes ix }
@@ -159,7 +161,7 @@ fn node_keeps_rules(text: &str, tree: &Tree<Item>, parts: &BlockParts, ix: usize
         && blocks_are_settled(tree, ix, below)
 }
 
-/// Whether each node of an order keeps rules 2 to 9.
+/// Returns whether each node of an order keeps rules 2 to 9.
 fn all_keep_rules(text: &str, tree: &Tree<Item>, parts: &BlockParts, order: &[usize]) -> bool
     requires { AllByRecursion (IsReachable tree.now.nodes) order.now }
     ensures { IsTrue result ↔
@@ -173,7 +175,8 @@ fn all_keep_rules(text: &str, tree: &Tree<Item>, parts: &BlockParts, order: &[us
     true
 }
 
-/// Whether a tree that keeps rule 1, so that its nodes stand in `order`, is well formed.
+/// Returns whether a tree that keeps rule 1, with its nodes below the root in preorder in `order`, is well formed.
+/// Fails where memory is refused.
 pub fn is_well_formed(
     alloc: Global,
     text: &str,

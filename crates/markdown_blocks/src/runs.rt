@@ -1,4 +1,4 @@
-//! Rule 7 of a block result.
+//! Rule 7 of a block result: runs are whole.
 ghost use Rattle.std.specs.Prelude.{◌≡◌, ◌↔◌, ◌<◌, suc, IsTrue, Some, length, slice_index};
 ghost use Rattle.markdown_base.specs.ArenaRules.{next_at};
 ghost use Rattle.markdown_base.specs.BlockTree.{numbered};
@@ -8,7 +8,7 @@ ghost use Rattle.markdown_base.specs.WellFormed.{RunsAreWhole};
 use markdown_base::item::{Item, ItemBody};
 use markdown_base::tree::Tree;
 
-/// The byte at a place, or 0 where the text has none.
+/// Returns the byte at an offset, or 0 outside the text.
 fn byte_at(text: &str, at: usize) -> u8
     ensures { result ≡ slice_index text.now at }
 {
@@ -18,14 +18,14 @@ fn byte_at(text: &str, at: usize) -> u8
     }
 }
 
-/// Whether it is one of the characters of delimiter runs.
+/// Returns whether a byte is a character of delimiter runs.
 fn is_delimiter(byte: u8) -> bool
     ensures { result ≡ is_delimiter byte }
 {
     byte == b'*' || byte == b'_' || byte == b'~' || byte == b'^'
 }
 
-/// Whether a body is a run's character with this count and these flags.
+/// Returns whether a body is a character of a delimiter run with this count and these flags.
 fn is_character(body: ItemBody, count: usize, can_open: bool, can_close: bool) -> bool
     ensures { IsTrue result ↔
         (run_character body ≡ Some (record { count = count; can_open = can_open; can_close = can_close })) }
@@ -38,7 +38,7 @@ fn is_character(body: ItemBody, count: usize, can_open: bool, can_close: bool) -
     }
 }
 
-/// Whether two nodes begin with the same byte.
+/// Returns whether two nodes begin with the same byte.
 fn begin_alike(text: &str, tree: &Tree<Item>, ix: usize, after: usize) -> bool
     requires first { ix < length tree.now.nodes }
     requires second { after < length tree.now.nodes }
@@ -49,7 +49,7 @@ fn begin_alike(text: &str, tree: &Tree<Item>, ix: usize, after: usize) -> bool
     byte_at(text, tree.item(after).start) == byte_at(text, tree.item(ix).start)
 }
 
-/// Whether a node is the character after another in one run, with this count and these flags.
+/// Returns whether a node is the character after another in one delimiter run, with this count and these flags.
 fn goes_on(
     text: &str,
     tree: &Tree<Item>,
@@ -72,7 +72,7 @@ fn goes_on(
         && after - ix == 1
 }
 
-/// Whether no character of the same kind follows a node.
+/// Returns whether a node is not followed by a character of a delimiter run of the same kind.
 fn ends_run(text: &str, tree: &Tree<Item>, ix: usize) -> bool
     requires { ix < length tree.now.nodes }
     ensures { IsTrue result ↔
@@ -87,7 +87,8 @@ fn ends_run(text: &str, tree: &Tree<Item>, ix: usize) -> bool
     }
 }
 
-/// Whether a run goes on after a node as its count says.
+/// Returns whether a delimiter run continues after a node as its count says: with a character of the count less one,
+/// or, after a count of 1, not at all.
 fn run_goes_on(
     text: &str,
     tree: &Tree<Item>,
@@ -109,7 +110,7 @@ fn run_goes_on(
     }
 }
 
-/// Whether an item is one byte of those that make runs.
+/// Returns whether an item is one byte that is a character of delimiter runs.
 fn is_run_byte(text: &str, item: &Item) -> bool
     ensures { IsTrue result ↔
         (item.now.end ≡ suc item.now.start) × IsTrue (is_delimiter (byte_of text.now item.now)) }
@@ -117,8 +118,8 @@ fn is_run_byte(text: &str, item: &Item) -> bool
     item.start < item.end && item.end - item.start == 1 && is_delimiter(byte_at(text, item.start))
 }
 
-/// Rule 7, runs are whole: whether a run's character is followed by as many as its count says, and by no
-/// other of its kind.
+/// Returns whether a node keeps rule 7, runs are whole: a character of a delimiter run is followed by as many as its
+/// count says, and by no other of its kind.
 pub fn runs_are_whole(text: &str, tree: &Tree<Item>, ix: usize) -> bool
     requires { ix < length tree.now.nodes }
     ensures { IsTrue result ↔

@@ -5,7 +5,7 @@ use Rattle.markdown_base.specs.declared.item.ItemBody.{ItemBody}
 use Rattle.markdown_base.specs.declared.item.ItemBody.TheVariants as body
 use Rattle.markdown_document.specs.Document.{block_of}
 
--- an open item is no block
+-- an open item is not a block
 pub block-open : (b : ItemBody) → is_open b ≡ true → block_of b ≡ None
 block-open body.Paragraph h = cc h
 block-open other h = cc h

@@ -1,4 +1,4 @@
--- A forest that is spelled, and in which no number stands twice, is the one that is found.
+-- A forest that is spelled, and in which no number occurs twice, is the one that is found.
 use Rattle.std.proofs.Common.{◌≡◌, ℕ, zero, suc, ◌+◌, ◌<◌, ◌≤◌, Bool, true, false, ◌||◌, eqb, List, [], ◌∷◌, ◌++◌, length, Option, ◌⊎◌, inl}
 use Rattle.std.proofs.Common.{inr, ⊎_elim, refl, sym, ap, subst, arith}
 use Rattle.std.specs.Prelude.{nat_eq}
@@ -33,7 +33,7 @@ same-other zero (suc m) h = refl
 same-other (suc n) zero h = refl
 same-other (suc n) (suc m) h = same-other n m (λ e. h (ap suc e))
 
--- a number stands once at most in a list of distinct ones
+-- a number occurs at most once in a list of distinct ones
 none_listed : (n : ℕ) (xs : List ℕ) → AllByRecursion (λ y. nat_eq n y ≡ false) xs → listed (same n) xs ≡ 0
 none_listed n [] h = refl
 none_listed n (x ∷ xs) h = omega (arith, same-other n x (eqb-false n x h.0), none_listed n xs h.1)
@@ -48,7 +48,7 @@ listed_once n (x ∷ xs) d =
     (λ other. omega (arith, same-other n x other, listed_once n xs d.1))
     (cases_eq n x)
 
--- numbers of which each stands once at most are distinct
+-- numbers of which each occurs at most once are distinct
 apart : (x : ℕ) (xs : List ℕ) → listed (same x) xs ≡ 0 → AllByRecursion (λ y. nat_eq x y ≡ false) xs
 apart x [] h = tt
 apart x (y ∷ ys) h = (

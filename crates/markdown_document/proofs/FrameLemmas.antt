@@ -1,4 +1,4 @@
--- What an arena says from a link on, where the nodes and the entries that it leads to stay: the same.
+-- What an arena says from a link on stays the same where the nodes and the entries that the link leads to stay.
 use Rattle.markdown_base.specs.declared.item.ItemBody.TheVariants as body
 use Rattle.std.proofs.Common.{◌≡◌, ℕ, ◌<◌, ◌≤◌, List, Option, length, refl, ap, arith}
 use Rattle.std.specs.Prelude.{slice_range}
@@ -72,7 +72,7 @@ label-same source tables tables' nodes nodes' n h =
     (shape-same tables tables' (slice_range source (item_at nodes n).start (item_at nodes n).end) (item_at nodes n).body h.entries
     h.headings))
 
--- where all that stand in a forest do
+-- where all nodes of a forest stay, with the entries that they name
 pub stay_throughout : (tables tables' : Tables) (nodes nodes' : List (Node Item)) (f : Forest ℕ) → tables'.headings ≡ tables.headings
     → ((n : ℕ) → 0 < total (same n) f → IsSameAt nodes nodes' n) → ((n : Named) → 0 < total (naming nodes n) f
     → IsSameEntry tables tables' n) → Each (Stays tables tables' nodes nodes') f

@@ -7,7 +7,7 @@ use Rattle.markdown_base.specs.declared.item.ItemBody.{ItemBody}
 use Rattle.markdown_base.specs.declared.item.ItemBody.TheVariants as body
 use Rattle.markdown_document.specs.ItemRules.{StandsBefore, KeepsItemRules}
 
--- what is not open is no run's character, and no markup is asked of it
+-- what is not open is not a character of a delimiter run, and needs no markup
 run-closed : (b : ItemBody) → is_open b ≡ false → run_character b ≡ None
 run-closed (body.MaybeEmphasis count opens closes) h = cc h
 run-closed other h = refl
@@ -22,7 +22,7 @@ markup-closed source (body.MaybeLinkClose reference) h = absurd (cc h)
 markup-closed source body.MaybeImage h = absurd (cc h)
 markup-closed source other h = tt
 
--- so it keeps the rules wherever it stands before what follows it
+-- so it keeps the rules wherever it precedes what follows it
 pub keeps-closed : (text : List ℕ) (a : Numbered) (child : Option ℕ) (next : Option Numbered) → is_open a.item.body ≡ false
     → StandsBefore a next → KeepsItemRules text a child next
 keeps-closed text a child next h before = record {

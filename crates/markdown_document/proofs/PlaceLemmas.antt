@@ -14,7 +14,7 @@ use Rattle.markdown_document.specs.Totals.{total, same, naming, times_named, wei
 use Rattle.markdown_document.specs.Tables.{Tables, Named, some_text, some_link, link_named, number_of, size_for}
 use Rattle.markdown_document.proofs.TablesLemmas.{same-refl, same-apart, named-apart}
 
--- numbers that no node has stand nowhere
+-- numbers that no node has occur nowhere
 pub times-past : (k : Links) (l : Option ℕ) (f : Forest ℕ) (n : ℕ) → Spells k l f → k.size ≤ n → total (same n) f ≡ 0
 times-past k l nil n s z = refl
 times-past k l (node ix below after) n s z =
@@ -34,7 +34,7 @@ named-past source tables nodes (node ix below after) n h z =
           tables nodes after n h.2 z,
     )
 
--- what names no text and no link has no slice to be
+-- what refers to no text and no link has no slice
 pub slices-unnamed : (source : List ℕ) (tables : Tables) (b : ItemBody) → text_named b ≡ None → link_named b ≡ None
     → HasSlices source tables b
 slices-unnamed source tables (body.Code ix) h e = cc h
@@ -63,7 +63,7 @@ open-unresolved tables source (body.HardBreak true) h = cc h
 open-unresolved tables source (body.HardBreak false) h = cc h
 open-unresolved tables source other h = cc h
 
--- a node weighs two at least
+-- the weight of a node is at least two
 pub some_weight : (is_open : Bool) → 2 ≤ weight_if is_open
 some_weight true = omega arith
 some_weight false = omega arith

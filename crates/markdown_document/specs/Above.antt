@@ -1,4 +1,4 @@
--- The blocks that stand open above a chain: what its rules read of them.
+-- The blocks that are open above a chain: what its rules read of them.
 use Rattle.std.specs.Prelude.{ℕ, Bool, true, false, List, [], ◌∷◌, ◌++◌, Option, Some, None, length}
 use Rattle.std.specs.declared.ops.Range.{Range}
 use Rattle.markdown_base.specs.Arena.{Arena}
@@ -9,18 +9,18 @@ use Rattle.markdown_base.specs.declared.item.ItemBody.{ItemBody}
 use Rattle.markdown_base.specs.declared.node.Node.{Node}
 use Rattle.markdown_document.specs.Document.{Label, block_of}
 
--- where no scan goes further, which is the end of the innermost block; whether that block is a cell of a table;
--- and the bodies of the blocks, the outermost first, which tell what prefix a line has
+-- the end of the innermost block, past which nothing is scanned; whether that block is a cell of a table; and the
+-- bodies of the blocks, the outermost first, which determine the prefix of a line
 pub record Above : Type 0 where
   pub block_end : ℕ
   pub in_table : Bool
   pub bodies : List ItemBody
 
--- no block is open: the text ends
+-- no block is open: scans stop at the end of the text
 abbrev pub no_blocks : List ℕ → Above
 no_blocks source = record { block_end = length source; in_table = false; bodies = [] }
 
--- inside a tree over a range: only a block counts, and nothing else that is gone into, as a link or an emphasis
+-- inside a tree over a range: only a block counts, and not inline markup such as a link or emphasis
 abbrev pub inside : Option ItemBody → Range ℕ → Above → Above
 inside None range above = above
 inside (Some block) range above = record {
@@ -29,23 +29,23 @@ inside (Some block) range above = record {
   bodies = above.bodies ++ block ∷ [];
 }
 
--- the blocks above what is below a tree
+-- the blocks above the children of a label
 abbrev pub inside_label : {A : Type 0} → Label A → Above → Above
 inside_label a above = inside a.part.block a.part.range above
 
--- inside an item
+-- the blocks above the children of an item
 abbrev pub inside_item : Item → Above → Above
 inside_item item above = inside (block_of item.body) (range_of item) above
 
--- inside the nodes of a spine, the outermost first
+-- the blocks above the children of the last node of a spine, which has the outermost node first
 abbrev pub inside_all : List (Node Item) → List ℕ → Above → Above
 inside_all nodes [] above = above
 inside_all nodes (ix ∷ deeper) above = inside_all nodes deeper (inside_item (item_at nodes ix) above)
 
--- the blocks above the chain at hand of a tree
+-- the blocks above the chain below a spine
 abbrev pub above_at : List ℕ → List (Node Item) → List ℕ → Above
 above_at source nodes spine = inside_all nodes spine (no_blocks source)
 
--- the blocks above the cursor of a tree
+-- the blocks above the chain at the cursor of a tree
 abbrev pub above_cursor : List ℕ → Arena Item → Above
 above_cursor source tree = above_at source tree.nodes tree.spine

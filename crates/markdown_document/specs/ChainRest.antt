@@ -1,5 +1,5 @@
--- A chain of labels as the rules read it: each label as an item, and what is left of a chain past a byte, where
--- something that was found ends there.
+-- A chain of labels as the rules read it: each label as an item, and what is left of a chain past a byte offset where
+-- something that was found ends.
 use Rattle.std.specs.Prelude.{ℕ, ◌-◌, Bool, false, ◌==◌, max, List, ◌∷◌, drop, Option, Some, None}
 use Rattle.std.specs.Prelude.{if◌then◌else◌, nat_le}
 use Rattle.markdown_base.specs.Event.{EventView, text, html, inline_html}
@@ -9,7 +9,7 @@ use Rattle.markdown_base.specs.declared.item.ItemBody.{ItemBody}
 use Rattle.markdown_base.specs.declared.item.ItemBody.TheVariants as body
 use Rattle.markdown_document.specs.Document.{Origin, sliced, Shape, leaf, unresolved, Label}
 
--- where the bytes of a label start, and end
+-- where a label's range starts
 abbrev pub start_of : {A : Type 0} → Label A → ℕ
 start_of a = a.part.range.start
 
@@ -17,12 +17,12 @@ start_of a = a.part.range.start
 abbrev pub end_of : {A : Type 0} → Label A → ℕ
 end_of a = a.part.range.end
 
--- two chains side by side
+-- one chain after another
 abbrev pub joined : {A : Type 0} → Forest A → Forest A → Forest A
 joined nil others = others
 joined (node a below after) others = node a below (joined after others)
 
--- a label as an item: what is not open is like a Text
+-- the body of a shape as the rules read it: what is not open counts as a Text
 abbrev pub open_body : Shape → ItemBody
 open_body (unresolved b) = b
 open_body other = body.Text false
@@ -31,29 +31,29 @@ open_body other = body.Text false
 abbrev pub as_item : {A : Type 0} → Label A → Item
 as_item a = record { start = start_of a; end = end_of a; body = open_body a.part.shape }
 
--- there is a next item, and it starts at a byte
+-- there is a next item, and it starts at byte offset i
 abbrev pub next_starts_at : {A : Type 0} → ℕ → Forest (Label A) → Bool
 next_starts_at i nil = false
 next_starts_at i (node a below after) = start_of a == i
 
--- an event of a slice of the source, without its first n bytes; a text that may have been made stays as it is
+-- an event whose text is a slice of the source, without its first n bytes; other events stay as they are
 abbrev pub without_first : ℕ → EventView → EventView
 without_first n (text bytes) = text (drop n bytes)
 without_first n (html bytes) = html (drop n bytes)
 without_first n (inline_html bytes) = inline_html (drop n bytes)
 without_first n other = other
 
--- an event whose text stands in the source, without its first bytes
+-- an event without the first n bytes of its text, where that is a slice of the source
 abbrev pub cut_event : ℕ → EventView → List Origin → EventView
 cut_event n e (sliced ∷ origins) = without_first n e
 cut_event n e other = e
 
--- a shape without its first bytes
+-- a shape without its first n bytes
 abbrev pub cut_shape : ℕ → Shape → Shape
 cut_shape n (leaf e origins) = leaf (cut_event n e origins) origins
 cut_shape n other = other
 
--- a label that begins at byte i at the earliest
+-- a label without its bytes before byte offset i
 abbrev pub begun_at : {A : Type 0} → ℕ → Label A → Label A
 begun_at i a = record {
   tag = a.tag;
@@ -64,13 +64,13 @@ begun_at i a = record {
   };
 }
 
--- what is left of a chain past byte i: what ends there or before leaves, and the first that is left begins there at
--- the earliest
+-- what is left of a chain past byte offset i: labels that end there or before are left out, and the first that is left
+-- loses its bytes before it
 abbrev pub past_byte : {A : Type 0} → ℕ → Forest (Label A) → Forest (Label A)
 past_byte i nil = nil
 past_byte i (node a below after) = if nat_le (end_of a) i then past_byte i after else node (begun_at i a) below after
 
--- all is left where nothing was found
+-- what is left of a chain past the offset where what was found ends; where nothing was found, the whole chain
 abbrev pub past : {A : Type 0} → Option ℕ → Forest (Label A) → Forest (Label A)
 past None chain = chain
 past (Some i) chain = past_byte i chain

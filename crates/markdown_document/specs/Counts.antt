@@ -2,39 +2,39 @@
 use Rattle.std.specs.Prelude.{◌≡◌, ℕ, zero, suc, ◌+◌, ◌-◌, ◌*◌, ◌^◌, ◌≤◌, min}
 use Rattle.markdown_document.specs.declared.work.Work.{Work}
 
--- the items of a chain from its first open one on, the delimiter characters that are left of it when pairing begins,
--- and the searches for an opener that find one then
+-- the numbers of items of a chain from its first open item on, of delimiter characters that are left in it when pairing
+-- begins, and of searches for an opener that find one then
 pub record ChainCounts : Type 0 where
   pub items : ℕ
   pub delimiters : ℕ
   pub found : ℕ
 
--- those of no chain
+-- the counts where no chain was resolved
 abbrev pub no_counts : ChainCounts
 no_counts = record { items = 0; delimiters = 0; found = 0 }
 
--- a count with n more, up to the greatest count
+-- a count raised by n, at most to 2^128 - 1
 abbrev pub risen : ℕ → ℕ → ℕ
 risen zero count = count
 risen (suc n) count = min (count + suc n) (2 ^ 128 - 1)
 
--- a count rose by so much at most
+-- a count rose by at most this much
 pub record RisesAtMost (most old new : ℕ) : Type 0 where
   pub more : ℕ
   pub within : more ≤ most
   pub counted : new ≡ risen more old
 
--- or at least, as far as it can grow
+-- a count rose by at least this much, or to its maximum
 abbrev pub RisesAtLeast : (least old new : ℕ) → Type 0
 RisesAtLeast least old new = min (old + least) (2 ^ 128 - 1) ≤ new
 
--- how many open runs are compared with closers, at most, for each delimiter character
+-- the maximum number of open runs that are compared with closers for each delimiter character
 abbrev pub comparisons_per_delimiter : ℕ
 comparisons_per_delimiter = 11
 
--- the counts after a chain with these was resolved, or none was: open runs are compared at most so often for each
--- delimiter character, and one at least for each search that finds; and searches for the ends of code look at no more items than
--- there are, and so do those for the ends of math
+-- the counts of work after a chain with these counts was resolved, or none was: each delimiter character costs at most
+-- `comparisons_per_delimiter` comparisons of open runs, each search that finds an opener at least one, and the searches
+-- for the ends of code, and those for the ends of math, examine at most as many items as there are
 pub record WorkRises (n : ChainCounts) (old new : Work) : Type 0 where
   pub items : new.items ≡ risen n.items old.items
   pub delimiters : new.delimiters ≡ risen n.delimiters old.delimiters

@@ -1,4 +1,4 @@
--- The tree of a document, as its items read. Chains of inline items in it may be open.
+-- The tree of a document: how its items read as events. Its chains of inline items may be open.
 use Rattle.markdown_base.specs.declared.item.ItemBody.TheVariants as body
 use Rattle.std.specs.Prelude.{ℕ, Bool, true, false, ◌||◌, if◌then◌else◌, nat_eq, Option, Some, None, List, [], ◌∷◌}
 use Rattle.std.specs.Prelude.{encode_utf8, slice_range}
@@ -19,9 +19,9 @@ use Rattle.markdown_base.specs.declared.node.Node.{Node}
 pub use Rattle.markdown_document.specs.Origins.{Origin, sliced, made, origin_at}
 use Rattle.markdown_document.specs.Tables.{Tables, text_at, link_at, alignments_at, attributes_for, heading_with}
 
--- how a tree reads: as one event, with the origins of its texts, what is below it not being read; as a Start,
--- what is below it and the End that belongs to the Start; as what is below it alone; as a hard break that a backslash
--- makes, which is a Text where it ends a chain that is paired; not before its chain is resolved
+-- how a tree reads: as one event, with the origins of its texts, while what is below it is not read; as a Start, what
+-- is below it, and the matching End; as only what is below it; as a hard break by a backslash, which is a Text where it
+-- ends a paired chain; or, where it is open, not before its chain is resolved
 pub data Shape : Type 0 where
   leaf : EventView → List Origin → Shape
   enclosed : TagView → Shape
@@ -29,7 +29,7 @@ pub data Shape : Type 0 where
   backslash_break : Shape
   unresolved : ItemBody → Shape
 
--- it is open
+-- a shape is open
 abbrev pub is_unresolved : Shape → Bool
 is_unresolved (leaf e origins) = false
 is_unresolved (enclosed tag) = false
@@ -37,19 +37,19 @@ is_unresolved plain = false
 is_unresolved backslash_break = false
 is_unresolved (unresolved b) = true
 
--- the event that a tree reads as, with the origins of its texts, where it reads as one
+-- the event that a tree reads as, with the origins of its texts, where it reads as one event
 abbrev pub event_of_shape : Shape → Option (EventView × List Origin)
 event_of_shape (leaf e origins) = Some (e, origins)
 event_of_shape backslash_break = Some (hard_break, [])
 event_of_shape other = None
 
--- a shape over a range of bytes; and of a block its body
+-- a shape with its range of bytes, and the body where it is a block
 pub record Part : Type 0 where
   pub shape : Shape
   pub range : Range ℕ
   pub block : Option ItemBody
 
--- a label of a document's tree: a part, with a tag at which no rule looks
+-- a label of a document's tree: a part, with a tag that no rule reads
 pub record Label (A : Type 0) : Type 0 where
   pub tag : A
   pub part : Part
@@ -58,7 +58,7 @@ pub record Label (A : Type 0) : Type 0 where
 abbrev pub shaped : {A : Type 0} → Shape → Label A → Label A
 shaped shape a = record { tag = a.tag; part = record { shape = shape; range = a.part.range; block = a.part.block } }
 
--- a Text that is these bytes of the source
+-- a Text of these bytes of the source
 abbrev pub text_over : List ℕ → Shape
 text_over source = leaf (text source) (sliced ∷ [])
 
@@ -66,11 +66,11 @@ text_over source = leaf (text source) (sliced ∷ [])
 abbrev pub as_text : {A : Type 0} → List ℕ → Label A → Label A
 as_text source a = shaped (text_over (slice_range source a.part.range.start a.part.range.end)) a
 
--- the byte at the end of an ordered list's marker (CommonMark 5.2)
+-- the marker is that of an ordered list: it ends with `.` or `)` (CommonMark 5.2)
 abbrev pub is_ordered : (marker : ℕ) → Bool
 is_ordered marker = nat_eq marker full_stop || nat_eq marker close_parenthesis
 
--- what its Start opens, of a body that names nothing
+-- the tag of a body that reads as a Start and an End and refers to nothing
 abbrev pub container_of : ItemBody → Option TagView
 container_of body.Paragraph = Some paragraph
 container_of (body.BlockQuote kind) = Some (block_quote kind)
@@ -92,13 +92,13 @@ container_of body.Superscript = Some superscript
 container_of body.Subscript = Some subscript
 container_of other = None
 
--- what its Start opens, of a heading, with what stands in braces behind it
+-- the tag of a heading, with the attributes that follow it in braces
 abbrev pub heading_of : Tables → ItemBody → Option TagView
 heading_of tables (body.Heading level named) =
     Some (heading (heading_with level (attributes_for tables.headings named)))
 heading_of tables other = None
 
--- math, in a line or on lines of its own
+-- inline math, or display math
 abbrev pub math : (display : Bool) → List ℕ → EventView
 math false t = inline_math t
 math true t = display_math t
@@ -108,12 +108,12 @@ abbrev pub break_shape : (backslash : Bool) → Shape
 break_shape true = backslash_break
 break_shape false = leaf hard_break []
 
--- what gives no event: it is not read before its chain is resolved, or what is below it is read alone
+-- a body without an event of its own: not read before its chain is resolved where it is open, and otherwise plain
 abbrev pub unless_open : (is_open : Bool) → ItemBody → Shape
 unless_open true b = unresolved b
 unless_open false b = plain
 
--- how the other bodies read, over the bytes that they stand over, by what they name
+-- how the other bodies read, from the bytes of their ranges and from what they refer to
 abbrev pub other_shape : Tables → List ℕ → ItemBody → Shape
 other_shape tables source (body.Text escaped) = text_over source
 other_shape tables source (body.SynthesizeText ix) = leaf (text (text_at tables.cows ix.0)) (made ∷ [])
@@ -136,21 +136,21 @@ other_shape tables source (body.Link ix) = enclosed (link (link_at tables.links 
 other_shape tables source (body.Image ix) = enclosed (image (link_at tables.links ix.0))
 other_shape tables source b = unless_open (is_open b) b
 
--- a tree where there is a tag, and else as it reads without
+-- a Start and an End of the tag where there is one, and otherwise another shape
 abbrev pub enclosed_or : Option TagView → Shape → Shape
 enclosed_or (Some tag) other = enclosed tag
 enclosed_or None other = other
 
--- how a body reads over the bytes that it stands over, by what items name
+-- how a body reads, from the bytes of its range and from what items refer to
 abbrev pub shape_of : Tables → List ℕ → ItemBody → Shape
 shape_of tables source b = enclosed_or (container_of b)
     (enclosed_or (heading_of tables b) (other_shape tables source b))
 
--- a body that is a block's
+-- the body, where it is that of a block
 abbrev pub block_of : ItemBody → Option ItemBody
 block_of b = if is_block b then Some b else None
 
--- what an item says, by its shape, range and block
+-- the part of an item: its shape, its range, and its body where it is a block
 abbrev pub part_of : List ℕ → Tables → Item → Part
 part_of source tables item = record {
   shape = shape_of tables (slice_range source item.start item.end) item.body;
@@ -158,7 +158,7 @@ part_of source tables item = record {
   block = block_of item.body;
 }
 
--- a label that says nothing but what is read
+-- a label without a tag
 abbrev pub Plain : Type 0
 Plain = Label (Unit {0})
 
@@ -166,7 +166,7 @@ Plain = Label (Unit {0})
 abbrev pub label_of : List ℕ → Tables → Item → Plain
 label_of source tables item = record { tag = tt; part = part_of source tables item }
 
--- the tags of what is made: the first, the second, and so on
+-- the tags of the nodes that are made: of the first, the second, and so on
 pub record Tags (A : Type 0) : Type 0 where
   pub fresh : ℕ → A
 

@@ -1,5 +1,5 @@
--- What each item keeps from the block result on, also where chains are resolved: of the rules of a block result those
--- that stay true of all its items, and that resolving rests on.
+-- What is true of each item of a block result, and remains so while chains are resolved: the rules of a block result
+-- that resolving relies on.
 use Rattle.std.specs.Prelude.{◌≡◌, ℕ, true, false, List, Option, None, IfSome}
 use Rattle.std.proofs.Props.{props}
 use Rattle.markdown_base.specs.ArenaForest.{link-set}
@@ -8,19 +8,19 @@ use Rattle.markdown_base.specs.Item.{is_block, is_open}
 use Rattle.markdown_base.specs.OneWay.{StandsOverMarkup-prop, StandsInRun-prop}
 use Rattle.markdown_base.specs.WellFormed.{Precedes, MarkupIsThere, RunsAreWhole, source_of}
 
--- of two neighbours that are no blocks the first stands before the second, in the text and by its number
+-- of two neighbours that are not blocks, the first precedes the second, in the text and by its number
 abbrev pub StandsBefore : Numbered → Option Numbered → Type 0
 StandsBefore a next = IfSome next (λ b. is_block a.item.body ≡ false → is_block b.item.body ≡ false → Precedes a b)
 
--- of an item, with its first child and the item after it
+-- the rules of an item, with its first child and the item after it
 pub record KeepsItemRules (text : List ℕ) (a : Numbered) (child : Option ℕ) (next : Option Numbered) : Type 0 where
   pub in_order : StandsBefore a next
   pub markup_is_there : MarkupIsThere text a.item
   pub runs_are_whole : RunsAreWhole text a next
-  -- what is open has no children
+  -- an open item has no children
   pub childless : is_open a.item.body ≡ true → child ≡ None
 
--- that an item keeps the rules has one proof at most
+-- that an item keeps the rules has at most one proof
 pub KeepsItemRules-prop : (text : List ℕ) (a : Numbered) (child : Option ℕ) (next : Option Numbered)
     → IsProp (KeepsItemRules text a child next)
 KeepsItemRules-prop text a child next =

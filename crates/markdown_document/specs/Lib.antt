@@ -1,4 +1,4 @@
--- what chains are resolved by, and how items read
+-- what resolving chains depends on, and how items read
 pub mod Setting
 pub mod Origins
 pub mod Tables
@@ -6,10 +6,10 @@ pub mod Document
 pub mod Above
 pub mod Waiting
 pub mod Counts
--- what laws say of labels
+-- the terms of laws on labels
 pub mod Labels
 pub mod ChainRest
--- facts of the representation: an arena's items, by their numbers
+-- the representation: the items of an arena, by the numbers of its nodes
 pub mod Totals
 pub mod ItemRules
 pub mod Places

@@ -1,4 +1,4 @@
--- The items of an arena, by the numbers of its nodes: how they read, and what is asked of each.
+-- The items of an arena, by the numbers of its nodes: how they read, and what is required of each.
 use Rattle.markdown_base.specs.declared.item.ItemBody.TheVariants as body
 use Rattle.markdown_base.specs.Arena.{child_of, sibling_of}
 use Rattle.markdown_base.specs.ArenaForest.{links_of, forest_at}
@@ -17,7 +17,7 @@ use Rattle.std.proofs.Props.{props}
 use Rattle.std.specs.Prelude.{ℕ, List, Option, ◌≡◌, ⊤}
 use Rattle.std.specs.Coded.{Unit-prop}
 
--- the node of a number, as it reads
+-- the label of the node with this number
 abbrev pub label_at : List ℕ → Tables → List (Node Item) → ℕ → Plain
 label_at source tables nodes ix = label_of source tables (item_at nodes ix)
 
@@ -25,12 +25,12 @@ label_at source tables nodes ix = label_of source tables (item_at nodes ix)
 abbrev pub trees_from : List ℕ → Tables → List (Node Item) → Option ℕ → Forest Plain
 trees_from source tables nodes link = relabelled (label_at source tables nodes) (forest_at (links_of nodes) link)
 
--- the link of a number leads to what stands in the source, if it is of such a type
+-- the link with this number leads to a slice of the source if it is an autolink or a wikilink
 abbrev pub HasSliceLink : List ℕ → Tables → ℕ → Type 0
 HasSliceLink source tables n = IsLinkFrom source (link_origin_at tables.links n) (link_at tables.links n)
 
--- the text that code or math names, where it is borrowed, is a slice of the source; so is the destination of the link
--- that a link or an image names, where its type says so
+-- the text that code or math refers to is a slice of the source where it is borrowed; so is the destination that a link
+-- or an image refers to, where its type says so
 abbrev pub HasSlices : List ℕ → Tables → ItemBody → Type 0
 HasSlices source tables (body.Code ix) = IsSlicedOf source (origin_at tables.cows ix.0) (text_at tables.cows ix.0)
 HasSlices source tables (body.Math ix display) =
@@ -39,21 +39,21 @@ HasSlices source tables (body.Link ix) = HasSliceLink source tables ix.0
 HasSlices source tables (body.Image ix) = HasSliceLink source tables ix.0
 HasSlices source tables other = ⊤
 
--- the item of a number lies in the text, what it names is there, a slice where it has to be one, and it keeps the rules
--- of items
+-- the item of the node with this number lies in the text, refers to entries that exist, with slices where they have to
+-- be slices, and keeps the rules of items
 pub record IsPlaced (source : List ℕ) (tables : Tables) (nodes : List (Node Item)) (ix : ℕ) : Type 0 where
   pub lies : LiesIn source (item_at nodes ix)
   pub named : NamesEntries tables (item_at nodes ix).body
   pub slices : HasSlices source tables (item_at nodes ix).body
   pub keeps : KeepsItemRules source (numbered nodes ix) (child_of nodes ix) (next_at nodes ix)
 
--- a node is as it was
+-- the node with this number is the same in both arenas
 pub record IsSameAt (nodes nodes' : List (Node Item)) (n : ℕ) : Type 0 where
   pub child : child_of nodes' n ≡ child_of nodes n
   pub next : sibling_of nodes' n ≡ sibling_of nodes n
   pub item : item_at nodes' n ≡ item_at nodes n
 
--- it has one proof at most
+-- `HasSlices` has at most one proof
 pub HasSlices-prop : (source : List ℕ) (tables : Tables) (b : ItemBody) → IsProp (HasSlices source tables b)
 HasSlices-prop source tables (body.Code ix) =
     IsSlicedOf-prop source (origin_at tables.cows ix.0) (text_at tables.cows ix.0)
@@ -65,7 +65,7 @@ HasSlices-prop source tables (body.Image ix) =
     IsLinkFrom-prop source (link_origin_at tables.links ix.0) (link_at tables.links ix.0)
 HasSlices-prop source tables other = Unit-prop
 
--- so has this
+-- `IsPlaced` has at most one proof
 pub IsPlaced-prop : (source : List ℕ) (tables : Tables) (nodes : List (Node Item)) (ix : ℕ)
     → IsProp (IsPlaced source tables nodes ix)
 IsPlaced-prop source tables nodes ix =

@@ -1,5 +1,5 @@
--- What the rules of a chain go by: what stays the same over a whole document, and what passes from one chain to
--- the next.
+-- What resolving a chain depends on: what stays the same over a whole document, and what passes from one chain to the
+-- next.
 use Rattle.std.specs.Prelude.{ℕ, Bool, List, Option, Some, None, is_some}
 use Rattle.markdown_base.specs.Questions.{Answers}
 use Rattle.markdown_base.specs.declared.options.Options.{Options}
@@ -9,15 +9,15 @@ use Rattle.markdown_defs.specs.Footnotes.{footnote_at}
 use Rattle.markdown_defs.specs.declared.footnotes.FootnoteDef.{FootnoteDef}
 use Rattle.markdown_defs.specs.declared.footnotes.FootnoteDefs.{FootnoteDefs}
 
--- the options, the definitions that can be found, which names are those of footnotes, and whether there is
--- somebody to ask
+-- the options, the reference definitions that can be found, which names are those of footnotes, and whether there is a
+-- callback
 pub record Rules : Type 0 where
   pub options : Options
   pub definitions : List Labelled
   pub is_footnote : List ℕ → Bool
   pub asks : Bool
 
--- the rules of a chain, where the definitions and the footnotes are these
+-- the rules of a chain with these options, reference definitions and footnotes
 abbrev pub rules_from : Options → Allocated → Bool → Rules
 rules_from options held asks = record {
   options = options;
@@ -26,26 +26,26 @@ rules_from options held asks = record {
   asks = asks;
 }
 
--- a text with its rules
+-- a text, and the rules by which its chains are resolved
 pub record Setting : Type 0 where
   pub text : List ℕ
   pub rules : Rules
 
--- a text, and the rules by which its chains are resolved
+-- a setting from its two parts
 abbrev pub setting_of : List ℕ → Rules → Setting
 setting_of source rules = record { text = source; rules = rules }
 
--- how often a footnote was used, if there is one
+-- how often a footnote was used; 0 where there is none
 abbrev pub use_count : Option FootnoteDef → ℕ
 use_count None = 0
 use_count (Some footnote) = footnote.use_count
 
--- how often each was, by its name
+-- how often each footnote was used, by its name
 abbrev pub uses_of : FootnoteDefs → List ℕ → ℕ
 uses_of footnotes name = use_count (footnote_at footnotes name)
 
--- how many bytes references may still expand to, the answers that are still to be given, and how often each
--- footnote was used, by its name
+-- what is known when a chain is reached: how many bytes references may still expand to, the answers of the callback
+-- that are still to come, and how often each footnote was used, by its name
 pub record Known : Type 0 where
   pub limit : ℕ
   pub answers : Answers

@@ -21,7 +21,7 @@ pub record Stage (C : Type 0) : Type 0 where
   pub uses : List ℕ → ℕ
   pub callback : Option C
 
--- what is known at a stage, where these answers are to come
+-- what is known at a stage, where these answers of the callback are still to come
 abbrev pub known_at : {C : Type 0} → Stage C → Answers → Known
 known_at stage answers = record { limit = stage.limit; answers = answers; uses = stage.uses }
 
@@ -29,19 +29,19 @@ known_at stage answers = record { limit = stage.limit; answers = answers; uses =
 abbrev pub chain_at : {C : Type 0} → List ℕ → Stage C → Option ℕ → Forest Plain
 chain_at source stage l = trees_from source stage.tables stage.nodes l
 
--- how often a number stands in the chain from a link on; how often an entry is named there; what it weighs
+-- how often a number occurs in the chain from a link on, and below it
 abbrev pub times_in : List (Node Item) → Option ℕ → ℕ → ℕ
 times_in nodes l n = total (same n) (forest_at (links_of nodes) l)
 
--- how often a part is named in a chain and below it
+-- how often an entry is referred to in a chain and below it
 abbrev pub named_in : List (Node Item) → Option ℕ → Named → ℕ
 named_in nodes l n = total (naming nodes n) (forest_at (links_of nodes) l)
 
--- how heavy a chain is, with what is below it
+-- the weight of a chain, with what is below it
 abbrev pub weight_in : List (Node Item) → Option ℕ → ℕ
 weight_in nodes l = total (weight_at nodes) (forest_at (links_of nodes) l)
 
--- a tree with what its items name, where a chain is resolved
+-- the stage of a tree, with what its items refer to
 abbrev pub stage : {C : Type 0} → Arena Item → Allocated → ℕ → Option C → Stage C
 stage tree held limit callback = record {
   nodes = tree.nodes;
@@ -51,6 +51,6 @@ stage tree held limit callback = record {
   callback = callback;
 }
 
--- how many items a chain has from a link on
+-- the number of items of the chain from a link on
 abbrev pub items_from : List (Node Item) → Option ℕ → ℕ
 items_from nodes l = length (roots (forest_at (links_of nodes) l))

@@ -1,4 +1,4 @@
-//! Where a chain stands: what its rules read of the text, the options and the blocks that are open above it.
+//! The place of a chain: what its rules read of the text, of the options and of the blocks that are open above it.
 ghost use Rattle.std.specs.Prelude.{◌≡◌};
 ghost use Rattle.markdown_base.specs.EnabledOptions.{gfm_footnotes_on};
 
@@ -9,7 +9,7 @@ use markdown_base::options::Options;
 pub struct ChainPlace<'a> {
     /// The whole text.
     pub text: &'a str,
-    /// The byte past which no scan goes: the end of the innermost block.
+    /// The byte offset past which nothing is scanned: the end of the innermost block.
     pub block_end: usize,
     /// Whether that block is a cell of a table.
     pub in_table: bool,
@@ -17,7 +17,7 @@ pub struct ChainPlace<'a> {
 }
 
 impl<'a> ChainPlace<'a> {
-    /// Whether footnotes are on, and in GFM style.
+    /// Returns whether footnotes are enabled, in GitHub's style (`ENABLE_FOOTNOTES` without `ENABLE_OLD_FOOTNOTES`).
     pub fn gfm_footnotes(&self) -> bool
         ensures { result ≡ gfm_footnotes_on self.now.options }
     {

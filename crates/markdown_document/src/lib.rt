@@ -1,5 +1,5 @@
-//! What the rules of chains speak of: how the items of a document read, by what its chains are resolved, and counts
-//! of the work that this takes.
+//! The definitions that the rules of chains use: how the items of a document read, what resolving its chains depends
+//! on, and counts of the work that this takes.
 #![tactic(auto)]
 
 pub mod chain_place;

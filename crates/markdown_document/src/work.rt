@@ -1,25 +1,25 @@
-//! Counts of the work that resolving chains took.
+//! Counts of the work that resolving chains has taken.
 ghost use Rattle.std.specs.Prelude.{◌≡◌, ◌+◌, ◌-◌, ◌^◌, min};
 
-/// How much was done, since a parser was made.
+/// The work that has been done since a parser was made. A count that overflows stays at `u128::MAX`.
 #[derive(Clone, Copy, Debug, Default, PartialEq, Eq, Drop)]
 pub struct Work {
-    /// Characters of delimiter runs that pairing met.
+    /// The delimiter characters that were left in chains when pairing began.
     pub delimiters: u128,
-    /// Open runs that were compared with a closer.
+    /// The open delimiter runs that were compared with a closer.
     pub examined: u128,
-    /// Items of the chains that were resolved, from the first open one on.
+    /// The items of the chains that were resolved, from the first open item of each.
     pub items: u128,
-    /// Items that a walk for the closer of a code span looked at.
+    /// The items that searches for the closer of a code span examined.
     pub code_visits: u128,
-    /// Items that a walk for the closer of a math span looked at.
+    /// The items that searches for the closer of a math span examined.
     pub math_visits: u128,
 }
 
 impl Work {
     ghost use Rattle.std.specs.Prelude.{◌≡◌, ◌+◌, ◌-◌, ◌^◌, min};
 
-    /// Nothing was done.
+    /// Returns counts of 0.
     pub fn none() -> Work
         ensures { result ≡ record { delimiters = 0; examined = 0; items = 0; code_visits = 0; math_visits = 0 } }
     {
@@ -32,7 +32,7 @@ impl Work {
         }
     }
 
-    /// One more item. The count stays where it can grow no more.
+    /// Counts one more item.
     pub fn count_item(&mut self)
         ensures { self.new ≡ record self.old { items = min (self.old.items + 1) (2 ^ 128 - 1) } }
     {

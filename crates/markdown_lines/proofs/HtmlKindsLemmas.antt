@@ -6,7 +6,7 @@ not_first : (byte : ℕ) (bytes others : List ℕ) → begins_with (byte ∷ byt
     → holds (byte ∷ bytes) others ≡ holds bytes others
 not_first byte bytes others h = rw h refl
 
--- where they do not stand at a place, they stand behind it if at all
+-- where bytes do not begin with others at an offset, they contain them after it, if at all
 pub not_here : (bytes others : List ℕ) (at : ℕ) → at < length bytes → begins_with (drop at bytes) others ≡ false
     → holds (drop at bytes) others ≡ holds (drop (at + 1) bytes) others
 not_here bytes others at more none =

@@ -42,7 +42,7 @@ pub past_ascii : (text : List ℕ) (at : ℕ) → IsUtf8 text → at < length te
     → IsCharBoundary text (at + 1)
 past_ascii text at u l a = IsCharBoundary-after_ascii text at u l a
 
--- a byte is behind the carriage return in the order of codes
+-- a byte is greater than the carriage return
 abbrev pub is_behind_endings : ℕ → Bool
 is_behind_endings byte = nat_lt 13 byte
 
@@ -56,14 +56,14 @@ behind_is_none byte h = grind (arith, nat_tests)
 none_of_two : (x y : Bool) → x ≡ false → y ≡ false → (x || y) ≡ false
 none_of_two x y p q = rw (p, q) refl
 
--- among bytes that are all behind the carriage return none begins a line ending
+-- among bytes that are all greater than the carriage return none begins a line ending
 pub none_ends : (bytes : List ℕ) → list_all is_behind_endings bytes ≡ true → list_any is_line_ending bytes ≡ false
 none_ends [] h = refl
 none_ends (byte ∷ bytes) h =
     let both = both_pass (is_behind_endings byte) (list_all is_behind_endings bytes) h in
     none_of_two (is_line_ending byte) (list_any is_line_ending bytes) (behind_is_none byte both.0) (none_ends bytes both.1)
 
--- where no byte ends the line up to a part, and so many of the part do not, none does up to there
+-- where no byte ends the line up to a part, and none of the first bytes of the part does, none does up to there
 pub content_through : (bytes : List ℕ) (from start stop before : ℕ) → start ≤ stop → stop ≤ length bytes
     → ((at : ℕ) → from ≤ at → at < start → is_line_ending (slice_index bytes at) ≡ false)
     → IsLineEnd (slice_range bytes start stop) 0 before

@@ -14,7 +14,7 @@ pub decimal_more : (digits : List ℕ) (i : ℕ) → i < length digits
     → decimal (take (i + 1) digits) ≡ decimal (take i digits) * 10 + (get_or digits i 0 - 48)
 decimal_more digits i more = grind (arith, common_steps)
 
--- so many tens
+-- the powers of ten up to the eighth
 pub tens : (i : ℕ) → i ≤ 8 → 10 ^ i ≤ 100000000
 tens zero h = omega arith
 tens (suc zero) h = omega arith

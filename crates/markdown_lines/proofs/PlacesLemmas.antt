@@ -13,7 +13,7 @@ use Rattle.markdown_lines.specs.declared.space.Space.{Space}
 use Rattle.markdown_lines.specs.Lines.{is_space_or_tab}
 use Rattle.markdown_lines.specs.Places.{left_from, IsSpaceAt}
 
--- a byte of a part of a text stands in the text
+-- a byte of a part of a text is a byte of the text
 pub record StandsIn (text part : List ℕ) (at stop i : ℕ) : Type 0 where
   pub low : at + i < stop
   pub within : at + i < length text
@@ -30,7 +30,7 @@ in_part text part at stop i e less =
       byte = ap (λ xs. get_or xs i 0) e ∙ byte_of_part text at stop i inside;
     }
 
--- the part from a place on is the byte there, and the part behind it
+-- the part from a place on is the byte there, and the part after it
 part_next : (text : List ℕ) (at stop : ℕ) → at < stop → at < length text
     → slice_range text at stop ≡ get_or text at 0 ∷ slice_range text (at + 1) stop
 part_next text at stop before within =

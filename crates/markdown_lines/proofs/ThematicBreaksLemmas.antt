@@ -53,7 +53,7 @@ break_is (x ∷ xs) mark first kind all many =
     (break_from mark xs kind (subst (λ m. AllOf mark (m ∷ xs)) e all)
     (subst (λ m. 3 ≤ count_by (λ b. b == mark) (m ∷ xs)) e many))
 
--- and fewer are none
+-- and fewer are not
 pub few_marks : (content : List ℕ) (mark : ℕ) → Some mark ≡ slice_get content 0 → is_break_mark mark ≡ true
     → prefix_len (is_of_break mark) content ≡ length content → count_by (λ b. b == mark) content < 3
     → IsBrokenOff content 0
@@ -70,7 +70,7 @@ setext_from : (first : ℕ) (xs rest : List ℕ) (count : ℕ) (white : Bool) �
     → (if white then underline_level first else None) ≡ setext_level (first ∷ xs)
 setext_from first xs rest count white r n w = rw (← n, ← r, w) refl
 
--- an underline, by what stands behind the run of its first character
+-- an underline, by what follows the run of its first character
 pub setext_is : (content rest : List ℕ) (first count : ℕ) (white : Bool) → Some first ≡ slice_get content 0
     → rest ≡ drop count content → count ≡ prefix_len (λ b. b == first) content → list_all is_space_or_tab rest ≡ white
     → (if white then underline_level first else None) ≡ setext_level content

@@ -13,8 +13,8 @@ use Rattle.markdown_lines.specs.LineBytes.{without_end, is_parted}
 abbrev pub is_hash : ℕ → Bool
 is_hash byte = byte == number_sign
 
--- What is content of what follows the opening `#` and white space: no white space at the end, and no closing
--- sequence, which is a run of `#` behind white space or nothing.
+-- The content of a heading, from what follows the opening `#` and white space: without white space at the end, and
+-- without a closing sequence, which is a run of `#` after white space or at the beginning.
 abbrev pub heading_content : List ℕ → List ℕ
 heading_content bytes =
     let trimmed = without_end is_space_or_tab bytes in
@@ -22,13 +22,13 @@ heading_content bytes =
     let before = without_end is_space_or_tab unclosed in
     if nat_lt (length before) (length unclosed) || (length unclosed == 0) then before else trimmed
 
--- the heading of a level, if it is one, whose content begins at a place
+-- the heading of a level, where there is a level, whose content begins at byte offset `from`
 abbrev pub heading_from : Option HeadingLevel → ℕ → List ℕ → Option AtxHeading
 heading_from None from content = None
 heading_from (Some l) from content = Some (record { level = l; from = from; to = from + length content })
 
--- the heading that begins at `at` in a line, of which the content stops before `stop`: one to six `#`, and white
--- space or nothing behind them
+-- the heading that begins at byte offset `at` in a line whose content ends before `stop`: one to six `#`, and white
+-- space or nothing after them
 abbrev pub atx_heading_at : List ℕ → ℕ → ℕ → Option AtxHeading
 atx_heading_at text at stop =
     let line = slice_range text at stop in

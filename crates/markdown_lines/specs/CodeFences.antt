@@ -8,7 +8,7 @@ use Rattle.markdown_lines.specs.declared.fence.OpeningFence.{OpeningFence}
 use Rattle.markdown_lines.specs.Lines.{is_space_or_tab}
 use Rattle.markdown_lines.specs.LineBytes.{without_end}
 
--- how many bytes from the first on are a given one
+-- the length of the run of a byte that bytes begin with
 abbrev pub run_of : ℕ → List ℕ → ℕ
 run_of byte bytes = prefix_len (λ b. b == byte) bytes
 
@@ -16,12 +16,12 @@ run_of byte bytes = prefix_len (λ b. b == byte) bytes
 abbrev pub is_backtick : ℕ → Bool
 is_backtick byte = byte == backtick
 
--- so many of a character open a fence before the rest of a line: three or more, and behind backticks no backtick
+-- `count` of a character are an opening fence before the rest of a line: three or more, and no backtick after backticks
 abbrev pub opens_fence : ℕ → ℕ → List ℕ → Bool
 opens_fence byte count rest = nat_le 3 count && (not (is_backtick byte) || not (list_any is_backtick rest))
 
--- the opening fence of a character at `at` in a line, of which the content stops before `stop`, behind so many columns.
--- What follows, without white space around it, is the info string.
+-- the opening fence of a character at byte offset `at` in a line whose content ends before `stop`, after `indent`
+-- columns. What follows, without white space around it, is the info string.
 abbrev pub opening_fence_at : List ℕ → ℕ → ℕ → ℕ → ℕ → Option OpeningFence
 opening_fence_at text at stop byte indent =
     let line = slice_range text at stop in
@@ -34,8 +34,8 @@ opening_fence_at text at stop byte indent =
       to = at + count + white + length (without_end is_space_or_tab (drop white rest));
     }) else None
 
--- a fence that closes a code block stands at `at` in a line: at least as long as the opening one, and white space
--- behind it
+-- a fence that closes a code block is at byte offset `at` in a line: at least as long as the opening one, and with only
+-- white space after it
 abbrev pub closes_fence : List ℕ → ℕ → ℕ → Fence → Bool
 closes_fence text at stop opening =
     let line = slice_range text at stop in

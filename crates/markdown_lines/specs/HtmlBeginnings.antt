@@ -12,11 +12,11 @@ use Rattle.markdown_lines.specs.declared.html_kind.HtmlKind.{HtmlKind}
 use Rattle.markdown_lines.specs.declared.html_kind.HtmlKind.TheVariants as kind
 use Rattle.markdown_lines.specs.Lines.{is_space_or_tab}
 
--- the tags of the first start condition
+-- the names of the tags of the first start condition
 unfoldable pub verbatim_tags : List (List ℕ)
 verbatim_tags = codes "pre" ∷ codes "script" ∷ codes "style" ∷ codes "textarea" ∷ []
 
--- the tags of the sixth
+-- the names of the tags of the sixth start condition
 unfoldable pub block_tags : List (List ℕ)
 block_tags =
     codes "address" ∷ codes "article" ∷ codes "aside" ∷ codes "base" ∷ codes "basefont" ∷
@@ -31,15 +31,15 @@ block_tags =
     codes "td" ∷ codes "tfoot" ∷ codes "th" ∷ codes "thead" ∷ codes "title" ∷ codes "tr" ∷ codes "track" ∷
     codes "ul" ∷ []
 
--- two names are the same, the case of letters aside
+-- two names are equal, ignoring the case of letters
 unfoldable pub is_same_name : List ℕ → List ℕ → Bool
 is_same_name name known = bytes_eq (map to_ascii_lowercase name) (map to_ascii_lowercase known)
 
--- a name is one of some
+-- a name is in a list, ignoring the case of letters
 abbrev pub is_one_of : List ℕ → List (List ℕ) → Bool
 is_one_of name names = list_any (is_same_name name) names
 
--- the name that bytes begin with: letters and digits
+-- the name that bytes begin with: ASCII letters and digits
 abbrev pub tag_name : List ℕ → List ℕ
 tag_name bytes = take (prefix_len is_ascii_alphanumeric bytes) bytes
 
@@ -48,34 +48,34 @@ abbrev pub is_after_name : List ℕ → Bool
 is_after_name [] = true
 is_after_name (byte ∷ bytes) = is_space_or_tab byte || (byte == greater_than)
 
--- bytes without the slash that they begin with, if they do
+-- the bytes after a slash at their beginning, or all bytes where there is none
 abbrev pub behind_slash : List ℕ → List ℕ
 behind_slash [] = []
 behind_slash (byte ∷ bytes) = if byte == slash then bytes else byte ∷ bytes
 
--- what follows that name
+-- what follows the name that bytes begin with
 abbrev pub behind_name : List ℕ → List ℕ
 behind_name bytes = drop (length (tag_name bytes)) bytes
 
--- the first condition, by what follows the `<`: such a tag is opened
+-- the first start condition, from what follows the `<`: an opening tag with such a name
 abbrev pub begins_verbatim : List ℕ → Bool
 begins_verbatim rest = is_one_of (tag_name rest) verbatim_tags && is_after_name (behind_name rest)
 
--- what may follow the name of a tag of the sixth condition: also `/>`
+-- what may follow the name of a tag of the sixth start condition: also `/>`
 abbrev pub is_after_block_name : List ℕ → Bool
 is_after_block_name bytes = is_after_name bytes || begins_with (codes "/>") bytes
 
--- the sixth: such a tag is opened or closed
+-- the sixth start condition, from what follows the `<`: an opening or closing tag with such a name
 abbrev pub begins_block_tag : List ℕ → Bool
 begins_block_tag rest =
     is_one_of (tag_name (behind_slash rest)) block_tags && is_after_block_name (behind_name (behind_slash rest))
 
--- the first and the sixth, which go by the name of the tag that follows the `<`
+-- the first and the sixth start condition, which depend on the name of the tag
 abbrev pub named_kind : List ℕ → Option HtmlKind
 named_kind rest =
     if begins_verbatim rest then Some kind.Verbatim else if begins_block_tag rest then Some kind.BlockTag else None
 
--- the second, the fifth and the fourth, by what follows a `<!`: two hyphens, `[CDATA[`, or a letter
+-- the second, the fifth and the fourth start condition, from what follows a `<!`: two hyphens, `[CDATA[`, or a letter
 abbrev pub declared_kind : List ℕ → Option HtmlKind
 declared_kind rest =
     if begins_with (codes "--") rest then Some kind.Comment
@@ -83,7 +83,7 @@ declared_kind rest =
     else if begins_with_letter rest then Some kind.Declaration
     else None
 
--- all but the seventh, by what follows the `<`; the third is a `?`
+-- all start conditions but the seventh, from what follows the `<`; the third is a `?`
 abbrev pub known_kind : List ℕ → Option HtmlKind
 known_kind [] = named_kind []
 known_kind (byte ∷ bytes) =
@@ -91,17 +91,17 @@ known_kind (byte ∷ bytes) =
     else if byte == exclamation_mark then declared_kind bytes
     else named_kind (byte ∷ bytes)
 
--- a tag goes on in no other line
+-- a tag does not continue in another line
 abbrev pub in_one_line : List ℕ → Option ℕ
 in_one_line rest = None
 
--- the seventh: a tag, but for those of the first, and only white space behind it
+-- the seventh start condition: a tag whose name is not one of the first, and only white space after it
 abbrev pub is_lone_tag : List ℕ → Bool
 is_lone_tag line =
     option_map_or (λ tag. not (is_one_of (tag_name (behind_slash (drop 1 line))) verbatim_tags)
     && list_all is_space_or_tab (drop tag.0 line)) (tag_at in_one_line line 0) false
 
--- the kind of the HTML block that begins with a line's content; a block of the last kind interrupts no paragraph
+-- the kind of the HTML block that begins with a line's content; one of the seventh cannot interrupt a paragraph
 abbrev pub html_kind_of : List ℕ → Bool → Option HtmlKind
 html_kind_of line in_paragraph =
     option_or (known_kind (drop 1 line))

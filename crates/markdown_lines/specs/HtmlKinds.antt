@@ -5,24 +5,24 @@ use Rattle.std.specs.Str.{bytes_eq}
 use Rattle.markdown_lines.specs.declared.html_kind.HtmlKind.{HtmlKind}
 use Rattle.markdown_lines.specs.declared.html_kind.HtmlKind.TheVariants as kind
 
--- bytes begin with others, the case of letters aside
+-- bytes begin with others, ignoring the case of letters
 abbrev pub begins_with : List ℕ → List ℕ → Bool
 begins_with bytes beginning =
     nat_le (length beginning) (length bytes)
     && bytes_eq (map to_ascii_lowercase (take (length beginning) bytes)) (map to_ascii_lowercase beginning)
 
--- bytes hold others, the case of letters aside
+-- bytes contain others, ignoring the case of letters
 abbrev pub holds : List ℕ → List ℕ → Bool
 holds [] others = false
 holds (byte ∷ bytes) others = begins_with (byte ∷ bytes) others || holds bytes others
 
--- a block of a kind ends before a blank line
+-- a block of this kind ends before a blank line
 abbrev pub ends_at_blank : HtmlKind → Bool
 ends_at_blank kind.BlockTag = true
 ends_at_blank kind.LoneTag = true
 ends_at_blank other = false
 
--- a block of a kind ends with a line that holds these bytes
+-- a block of this kind ends with a line that has these bytes
 abbrev pub ends_in : HtmlKind → List ℕ → Bool
 ends_in kind.Verbatim line =
     holds line (codes "</pre>") || holds line (codes "</script>") || holds line (codes "</style>")

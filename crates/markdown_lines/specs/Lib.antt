@@ -3,7 +3,7 @@ pub mod Lines
 pub mod LineBytes
 pub mod LineBreaks
 pub mod Places
--- what a line's content begins
+-- which block a line's content begins
 pub mod AtxHeadings
 pub mod CodeFences
 pub mod HtmlBeginnings

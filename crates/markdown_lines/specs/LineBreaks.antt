@@ -1,12 +1,12 @@
--- What stands between two lines of a paragraph, by the bytes at the first one's end.
+-- The break between two lines of a paragraph (CommonMark 6.7, 6.8), by the bytes at the end of the first.
 use Rattle.std.specs.Prelude.{◌≡◌, ℕ, ◌-◌, ◌%◌, true, false, cond, ◌==◌, List, nat_lt}
 use Rattle.markdown_base.specs.Bytes.{backslash, space}
 use Rattle.markdown_base.specs.declared.item.ItemBody.TheVariants as body
 use Rattle.markdown_lines.specs.declared.line_break.LineBreak.{LineBreak}
 use Rattle.markdown_lines.specs.Lines.{is_space_or_tab, IsRunBefore}
 
--- The break by where the backslashes and the spaces before a line ending begin: a hard one from the last of
--- an odd number of backslashes on, or from two or more spaces on, else a soft one. Before spaces the text
+-- The break, from where the backslashes and the spaces before a line ending begin: a hard break, which begins at the
+-- last of an odd number of backslashes, or at two or more spaces, and otherwise a soft break. Before spaces the text
 -- ends at `content`.
 abbrev pub break_after : ℕ → ℕ → ℕ → ℕ → LineBreak
 break_after stop backslashes spaces content =
@@ -16,7 +16,7 @@ break_after stop backslashes spaces content =
     (record { text_end = content; start = stop; body = body.SoftBreak })
     (record { text_end = content; start = spaces; body = body.HardBreak false }))
 
--- the break after a line whose content stands from `from` up to `stop`
+-- the break after a line whose content is from byte offset `from` up to `stop`
 pub record IsLineBreak (text : List ℕ) (from stop : ℕ) (between : LineBreak) : Type 0 where
   pub backslashes : ℕ
   pub backslash_run : IsRunBefore (λ byte. byte == backslash) text from stop backslashes

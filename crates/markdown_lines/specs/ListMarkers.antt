@@ -8,7 +8,7 @@ use Rattle.markdown_lines.specs.declared.list_marker.ListMarker.{ListMarker}
 use Rattle.markdown_lines.specs.Lines.{is_space_or_tab}
 use Rattle.markdown_lines.specs.LineBytes.{is_parted}
 
--- the number that digits are
+-- the number that digits spell
 abbrev pub decimal : List ℕ → ℕ
 decimal digits = fold (λ number digit. number * 10 + (digit - 48)) 0 digits
 
@@ -20,14 +20,14 @@ is_bullet byte = (byte == hyphen) || (byte == plus_sign) || (byte == asterisk)
 abbrev pub ends_number : ℕ → Bool
 ends_number byte = (byte == full_stop) || (byte == close_parenthesis)
 
--- the marker of an ordered list, of digits and what follows them: one to nine, and a `.` or `)`
+-- the marker of an ordered list, from `count` digits and what follows them: one to nine digits, and a `.` or `)`
 abbrev pub ordered_marker_of : List ℕ → List ℕ → ℕ → Option ListMarker
 ordered_marker_of digits [] count = None
 ordered_marker_of digits (byte ∷ rest) count =
     if (count == 0) || nat_lt 9 count || not (ends_number byte) then None
     else Some (record { character = byte; first = decimal digits; width = count + 1 })
 
--- that of the digits with which bytes begin
+-- the marker of an ordered list that bytes begin with
 abbrev pub ordered_marker : List ℕ → Option ListMarker
 ordered_marker bytes =
     let count = prefix_len is_ascii_digit bytes in ordered_marker_of (take count bytes) (drop count bytes) count
@@ -38,23 +38,23 @@ marker_of [] = None
 marker_of (byte ∷ bytes) =
     if is_bullet byte then Some (record { character = byte; first = 0; width = 1 }) else ordered_marker (byte ∷ bytes)
 
--- a marker that may interrupt a paragraph: that of a bullet list, or 1 of an ordered list
+-- a marker that may interrupt a paragraph: that of a bullet list, or the number 1 of an ordered list
 abbrev pub may_interrupt : ListMarker → Bool
 may_interrupt marker = not (ends_number marker.character) || (marker.first == 1)
 
--- what stands behind it is white space or nothing, and where it interrupts a paragraph it may do so, and its item is
--- not blank
+-- white space or nothing follows the marker, and where it interrupts a paragraph, it may do so, and its item is not
+-- blank
 abbrev pub stands_before : ListMarker → List ℕ → Bool → Bool
 stands_before marker behind interrupts =
     is_parted behind && (not interrupts || (may_interrupt marker && not (list_all is_space_or_tab behind)))
 
--- a marker, if it may stand here
+-- the marker, where what follows it in a line's content allows it
 abbrev pub if_it_stands : Option ListMarker → List ℕ → Bool → Option ListMarker
 if_it_stands None content interrupts = None
 if_it_stands (Some marker) content interrupts =
     if stands_before marker (drop marker.width content) interrupts then Some marker else None
 
--- the list marker at `at` in a line, of which the content stops before `stop`
+-- the list marker at byte offset `at` in a line whose content ends before `stop`
 abbrev pub list_marker_at : List ℕ → ℕ → ℕ → Bool → Option ListMarker
 list_marker_at text at stop interrupts =
     let content = slice_range text at stop in if_it_stands (marker_of content) content interrupts

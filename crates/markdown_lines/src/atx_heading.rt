@@ -10,7 +10,7 @@ use crate::line::is_space_or_tab;
 use markdown_base::tag::HeadingLevel;
 use std::convert::TryFrom;
 
-/// An ATX heading: its level, and the bytes from `from` up to `to` that are its content.
+/// An ATX heading: its level, and its content, from byte offset `from` up to `to`.
 #[derive(Clone, Copy, Drop)]
 pub struct AtxHeading {
     pub level: HeadingLevel,
@@ -18,14 +18,14 @@ pub struct AtxHeading {
     pub to: usize,
 }
 
-/// Returns the level of an opening sequence of `count` characters.
+/// Returns the level of an opening sequence of `count` characters, or `None` where there are none or more than six.
 fn heading_level(count: usize) -> Option<HeadingLevel>
     ensures { result ≡ level_of count }
 {
     HeadingLevel::try_from(count).ok()
 }
 
-/// How many bytes stand before the white space at the end of some.
+/// Returns the length of the bytes without the spaces and tabs at their end.
 pub fn trimmed_length(content: &[u8]) -> usize
     ensures value { result ≡ length content.now - suffix_len is_space_or_tab content.now }
     ensures within { result ≤ length content.now }
@@ -37,7 +37,7 @@ pub fn trimmed_length(content: &[u8]) -> usize
     end
 }
 
-/// How many bytes stand before the run of `#` at the end of some.
+/// Returns the length of the bytes without the run of `#` at their end.
 fn unclosed_length(content: &[u8]) -> usize
     ensures value { result ≡ length content.now - suffix_len is_hash content.now }
     ensures within { result ≤ length content.now }
@@ -49,8 +49,8 @@ fn unclosed_length(content: &[u8]) -> usize
     end
 }
 
-/// How many bytes of a heading's content stand before the white space at its end, and before a closing sequence
-/// of `#` behind white space or nothing.
+/// Returns the length of a heading's content without the white space at its end, and without a closing sequence: a run
+/// of `#` after white space or at the beginning.
 fn content_length(content: &[u8]) -> usize
     ensures value { result ≡ length (heading_content content.now) }
     ensures within { result ≤ length content.now }
@@ -65,7 +65,7 @@ fn content_length(content: &[u8]) -> usize
     }
 }
 
-/// The ATX heading whose `#` stands at `at` in a line, of which the content stops before `stop`.
+/// Returns the ATX heading whose first `#` is at byte offset `at`, in a line whose content ends before `stop`.
 pub fn atx_heading(text: &str, at: usize, stop: usize) -> Option<AtxHeading>
     ensures { result ≡ atx_heading_at text.now at stop }
 {

@@ -1,4 +1,4 @@
-//! The bytes of a text, by place: what stands outside the text is nothing.
+//! The bytes of a text, by byte offset. There are none outside the text.
 ghost use Rattle.std.specs.Prelude.{◌≡◌, ◌≤◌, ◌+◌, ◌==◌, length, drop, slice_get, slice_range};
 ghost use Rattle.std.specs.List.{list_all, prefix_len};
 ghost use Rattle.markdown_lines.specs.LineBytes.{IsPartOf, is_parted};
@@ -6,7 +6,7 @@ ghost use Rattle.markdown_lines.specs.Lines.{is_space_or_tab};
 
 use crate::line::is_space_or_tab;
 
-/// The byte at a place, if one stands there.
+/// Returns the byte at an offset, or `None` outside the text.
 pub fn byte_at(text: &str, at: usize) -> Option<u8>
     ensures { result ≡ slice_get text.now at }
 {
@@ -16,7 +16,7 @@ pub fn byte_at(text: &str, at: usize) -> Option<u8>
     }
 }
 
-/// The bytes from one place up to another.
+/// Returns the bytes from one offset up to another; none where these are out of order.
 pub fn bytes_of(text: &str, from: usize, to: usize) -> &[u8]
     ensures { result.now ≡ slice_range text.now from to }
 {
@@ -26,7 +26,7 @@ pub fn bytes_of(text: &str, from: usize, to: usize) -> &[u8]
     &bytes[start..end]
 }
 
-/// The bytes from a number on.
+/// Returns the bytes from an index on.
 pub fn bytes_from(bytes: &[u8], from: usize) -> &[u8]
     ensures { result.now ≡ drop from bytes.now }
 {
@@ -37,7 +37,8 @@ pub fn bytes_from(bytes: &[u8], from: usize) -> &[u8]
     }
 }
 
-/// The text from one place up to another, both between characters.
+/// Returns the text from one byte offset up to another; an empty one where these are out of order, or not character
+/// boundaries.
 pub fn part_of(text: &str, from: usize, to: usize) -> &str
     ensures { IsPartOf text.now from to result.now }
 {
@@ -48,7 +49,7 @@ pub fn part_of(text: &str, from: usize, to: usize) -> &str
     }
 }
 
-/// How many bytes are spaces and tabs before the first other one.
+/// Returns the number of spaces and tabs that the bytes begin with.
 pub fn white_length(bytes: &[u8]) -> usize
     ensures value { result ≡ prefix_len is_space_or_tab bytes.now }
     ensures within { result ≤ length bytes.now }
@@ -61,7 +62,7 @@ pub fn white_length(bytes: &[u8]) -> usize
     bytes.len()
 }
 
-/// Whether bytes are spaces and tabs.
+/// Returns whether all bytes are spaces and tabs.
 pub fn is_white(bytes: &[u8]) -> bool
     ensures { result ≡ list_all is_space_or_tab bytes.now }
 {
@@ -73,7 +74,7 @@ pub fn is_white(bytes: &[u8]) -> bool
     true
 }
 
-/// Whether nothing comes first, or a space or a tab.
+/// Returns whether the bytes begin with a space or a tab, or are empty.
 pub fn is_parted(bytes: &[u8]) -> bool
     ensures { result ≡ is_parted bytes.now }
 {
@@ -83,7 +84,7 @@ pub fn is_parted(bytes: &[u8]) -> bool
     }
 }
 
-/// How many bytes are a given one before the first other one.
+/// Returns the length of the run of a byte that the bytes begin with.
 pub fn run_length(bytes: &[u8], byte: u8) -> usize
     ensures value { result ≡ prefix_len (λ b. b == byte) bytes.now }
     ensures within { result ≤ length bytes.now }
@@ -96,7 +97,8 @@ pub fn run_length(bytes: &[u8], byte: u8) -> usize
     bytes.len()
 }
 
-/// The first byte from `from` on, before `to`, that is no space and no tab, or else `to`.
+/// Returns the offset of the first byte from `from` up to `to` that is neither a space nor a tab, or the end of these
+/// bytes.
 pub fn content_start(text: &str, from: usize, to: usize) -> usize
     ensures { result ≡ from + prefix_len is_space_or_tab (slice_range text.now from to) }
 {

@@ -1,4 +1,5 @@
-//! Link reference definitions (CommonMark 4.7), read from the lines of a paragraph.
+//! Link reference definitions (CommonMark 4.7), read from the lines of a paragraph. The functions that return a
+//! `Result` fail only where memory is refused.
 
 use crate::bytes::{byte_at, bytes_of, content_start, is_white, part_of};
 use crate::held_line::HeldLine;
@@ -9,7 +10,7 @@ use markdown_scan::line_rule::{NoPrefix, OneLine};
 use markdown_scan::unescape::unescape;
 use std::alloc::{AllocError, Global};
 
-/// A link reference definition: where it ends, and how many lines it takes.
+/// A link reference definition, with the byte offset at which it ends and its number of lines.
 #[derive(Drop)]
 pub struct Definition<'a> {
     pub label: CowStr<'a>,
@@ -19,21 +20,21 @@ pub struct Definition<'a> {
     pub lines: usize,
 }
 
-/// A place in the lines of a paragraph: the number of a line, and a byte in it.
+/// A place in the lines of a paragraph: the number of a line, from 0, and a byte offset of the text.
 #[derive(Clone, Copy, Drop)]
 struct Spot {
     line: usize,
     at: usize,
 }
 
-/// What follows a destination: the end of the definition, and the place of its title's marks, if it has one.
+/// What follows a destination: the end of the definition, and the opening mark of its title, if it has one.
 #[derive(Clone, Copy, Drop)]
 struct Tail {
     end: Spot,
     title: Option<Spot>,
 }
 
-/// Behind spaces and tabs and at most one line ending.
+/// Returns the spot after spaces, tabs and at most one line ending, or `None` after the last line.
 fn past_space(text: &str, lines: &[HeldLine], spot: Spot) -> Option<Spot> {
     let line = lines.get(spot.line)?;
     let at = content_start(text, spot.at, line.stop);
@@ -50,7 +51,7 @@ fn past_space(text: &str, lines: &[HeldLine], spot: Spot) -> Option<Spot> {
     })
 }
 
-/// Whether nothing but spaces and tabs stands in the line behind a spot.
+/// Returns whether the rest of the line after a spot is spaces and tabs.
 fn is_at_end(text: &str, lines: &[HeldLine], spot: Spot) -> bool {
     match lines.get(spot.line) {
         Some(line) => is_white(bytes_of(text, spot.at, line.stop)),
@@ -58,14 +59,15 @@ fn is_at_end(text: &str, lines: &[HeldLine], spot: Spot) -> bool {
     }
 }
 
-/// A label, and how many bytes it takes behind its `[`, the prefixes of lines left out.
+/// A link label, and its length in bytes from after the `[` through the `]`, without the prefixes of lines.
 #[derive(Drop)]
 struct Label<'a> {
     text: CowStr<'a>,
     length: usize,
 }
 
-/// Where a line's bytes begin behind the `[` of a label at `at`, which stands in the first line.
+/// Returns the byte offset at which the bytes of a line begin that may belong to a label: in the first line, after the
+/// label's `[` at `at`.
 fn part_start(number: usize, line: HeldLine, at: usize) -> usize {
     if number == 0 {
         at.saturating_add(1)
@@ -74,7 +76,7 @@ fn part_start(number: usize, line: HeldLine, at: usize) -> usize {
     }
 }
 
-/// Whether a bracket that is not escaped closes a label in a line.
+/// Returns whether a line has a `]` that is not escaped.
 fn closes_label(content: &[u8]) -> bool {
     let mut escaped = false;
     for byte in content {
@@ -86,8 +88,8 @@ fn closes_label(content: &[u8]) -> bool {
     false
 }
 
-/// The lines behind the `[` of a label up to one that closes it, the prefixes of lines left out: no more than a
-/// label of 999 characters can take.
+/// Returns the lines after the `[` of a label up to one that closes it, without their prefixes; at most up to the line
+/// with which they exceed 4000 bytes, more than a label of 999 characters can have.
 fn joined_lines(
     alloc: Global,
     text: &str,
@@ -105,7 +107,7 @@ fn joined_lines(
     Ok(joined)
 }
 
-/// The label whose `[` stands at `at`, where it goes on in other lines.
+/// Returns the link label whose `[` is at `at`, where it continues in other lines.
 fn long_label(
     alloc: Global,
     text: &str,
@@ -122,7 +124,7 @@ fn long_label(
     }
 }
 
-/// The label whose `[` stands at `at`.
+/// Returns the link label whose `[` is at `at`.
 fn any_label<'a>(
     alloc: Global,
     text: &'a str,
@@ -142,7 +144,7 @@ fn any_label<'a>(
     long_label(alloc, text, lines, at)
 }
 
-/// The spot so many bytes behind the `[` of a label at `at`, the prefixes of lines left out.
+/// Returns the spot `length` bytes after the `[` of a label at `at`, not counting the prefixes of lines.
 fn spot_behind(lines: &[HeldLine], at: usize, length: usize) -> Option<Spot> {
     let mut left = length;
     for (number, line) in lines.iter().enumerate() {
@@ -159,7 +161,7 @@ fn spot_behind(lines: &[HeldLine], at: usize, length: usize) -> Option<Spot> {
     None
 }
 
-/// The spot behind the colon that follows a label.
+/// Returns the spot after the colon that follows a label, if one does.
 fn past_colon(text: &str, lines: &[HeldLine], at: usize, length: usize) -> Option<Spot> {
     let colon = spot_behind(lines, at, length)?;
     if byte_at(text, colon.at) != Some(b':') {
@@ -171,7 +173,7 @@ fn past_colon(text: &str, lines: &[HeldLine], at: usize, length: usize) -> Optio
     })
 }
 
-/// The byte that closes a title, by the one that opens it.
+/// Returns the byte that closes a title, from the one that opens it.
 fn closing_mark(open: u8) -> Option<u8> {
     match open {
         b'"' => Some(b'"'),
@@ -181,18 +183,18 @@ fn closing_mark(open: u8) -> Option<u8> {
     }
 }
 
-/// What a line of a title tells of where the title ends.
+/// What a line of a title says about the title's end.
 #[derive(Clone, Copy, Drop)]
 enum Mark {
-    /// the mark that closes it stands here
+    /// the closing mark is at this offset in the line
     Closes(usize),
-    /// an opening parenthesis stands in it
+    /// there is a `(` in a title between parentheses, so it is not a title
     Breaks,
-    /// it goes on
+    /// the title continues in the next line
     None,
 }
 
-/// Whether a title ends in a line's bytes, and how many stand before its end.
+/// Returns whether the title that is closed by `close` ends in these bytes of a line, and where.
 fn title_mark(content: &[u8], close: u8) -> Mark {
     let mut escaped = false;
     for (at, found) in content.iter().enumerate() {
@@ -210,7 +212,7 @@ fn title_mark(content: &[u8], close: u8) -> Mark {
     Mark::None
 }
 
-/// The spot behind the title whose first mark stands at a spot.
+/// Returns the spot after the title whose opening mark is at a spot.
 fn title_end(text: &str, lines: &[HeldLine], spot: Spot) -> Option<Spot> {
     let close = closing_mark(byte_at(text, spot.at)?)?;
     let mut from = spot.at.saturating_add(1);
@@ -235,7 +237,7 @@ fn title_end(text: &str, lines: &[HeldLine], spot: Spot) -> Option<Spot> {
     None
 }
 
-/// The title behind a destination, where one stands there and nothing behind it.
+/// Returns what follows a destination that ends before a spot, where it is a title and the line then ends.
 fn title_tail(text: &str, lines: &[HeldLine], behind: Spot) -> Option<Tail> {
     let title = past_space(text, lines, behind)?;
     if title.at == behind.at {
@@ -251,7 +253,7 @@ fn title_tail(text: &str, lines: &[HeldLine], behind: Spot) -> Option<Tail> {
     })
 }
 
-/// What follows a destination that stops before a spot: a title, or nothing in its line.
+/// Returns what follows a destination that ends before a spot: a title, or nothing in its line.
 fn tail_behind(text: &str, lines: &[HeldLine], behind: Spot) -> Option<Tail> {
     match title_tail(text, lines, behind) {
         Some(found) => Some(found),
@@ -263,7 +265,7 @@ fn tail_behind(text: &str, lines: &[HeldLine], behind: Spot) -> Option<Tail> {
     }
 }
 
-/// The bytes of a title in the line with a number, of the lines from its first mark to its last.
+/// Returns the part of a title between its marks that is in the line with this number.
 fn title_part<'a>(text: &'a str, number: usize, line: HeldLine, title: Spot, end: Spot) -> &'a str {
     let from = if number == title.line {
         title.at.saturating_add(1)
@@ -282,7 +284,7 @@ fn title_part<'a>(text: &'a str, number: usize, line: HeldLine, title: Spot, end
     }
 }
 
-/// The text between the marks of a title that goes on in other lines, their prefixes left out.
+/// Returns the text between the marks of a title that continues in other lines, without their prefixes, unescaped.
 fn joined_title(
     alloc: Global,
     text: &str,
@@ -300,7 +302,7 @@ fn joined_title(
     unescape(alloc, joined.as_str(), false)?.into_static(alloc)
 }
 
-/// The text between the marks of a title.
+/// Returns the text between the marks of a title, unescaped.
 fn title_text<'a>(
     alloc: Global,
     text: &'a str,
@@ -315,7 +317,7 @@ fn title_text<'a>(
     joined_title(alloc, text, lines, title, end)
 }
 
-/// The destination that stands at a spot, and the spot behind it.
+/// Returns the destination at a spot, and the spot after it.
 fn destination_at<'a>(text: &'a str, start: Spot) -> Option<(&'a str, Spot)> {
     if !text.is_char_boundary(start.at) {
         return None;
@@ -331,7 +333,7 @@ fn destination_at<'a>(text: &'a str, start: Spot) -> Option<(&'a str, Spot)> {
     Some((destination, behind))
 }
 
-/// What follows a label at `at`, and its colon: the destination, and what follows it.
+/// Returns what follows a label at `at` of this length, and its colon: the destination, and what follows that.
 fn after_label<'a>(
     text: &'a str,
     lines: &[HeldLine],
@@ -345,7 +347,8 @@ fn after_label<'a>(
     Some((destination, tail))
 }
 
-/// The link reference definition whose `[` stands at `at`, in the first of the lines.
+/// Returns the link reference definition whose `[` is at byte offset `at`, in the first of the lines, or `None` where
+/// there is none. Escapes and entities are replaced in its destination and title, and stay in its label.
 pub fn read_definition<'a>(
     alloc: Global,
     text: &'a str,

@@ -6,7 +6,7 @@ ghost use Rattle.markdown_lines.specs.CodeFences.{is_backtick, opens_fence, open
 use crate::atx_heading::trimmed_length;
 use crate::bytes::{bytes_of, is_white, run_length, white_length};
 
-/// An opening code fence: its character, its length, the columns before it.
+/// An opening code fence: its character, its length in bytes, and the columns of space before it.
 #[derive(Clone, Copy, Drop)]
 pub struct Fence {
     pub byte: u8,
@@ -14,7 +14,7 @@ pub struct Fence {
     pub indent: usize,
 }
 
-/// An opening code fence, and the bytes from `from` up to `to` that are its info string.
+/// An opening code fence, and its info string, from byte offset `from` up to `to`.
 #[derive(Clone, Copy, Drop)]
 pub struct OpeningFence {
     pub fence: Fence,
@@ -22,7 +22,7 @@ pub struct OpeningFence {
     pub to: usize,
 }
 
-/// Whether bytes hold a backtick.
+/// Returns whether there is a backtick among the bytes.
 fn holds_backtick(bytes: &[u8]) -> bool
     ensures { result ≡ list_any is_backtick bytes.now }
 {
@@ -34,15 +34,16 @@ fn holds_backtick(bytes: &[u8]) -> bool
     false
 }
 
-/// Whether so many of a character open a fence before the rest of a line.
+/// Returns whether `length` bytes of a character are an opening fence before this rest of their line.
 fn opens_fence(byte: u8, length: usize, rest: &[u8]) -> bool
     ensures { result ≡ opens_fence byte length rest.now }
 {
     length >= 3 && (byte != b'`' || !holds_backtick(rest))
 }
 
-/// The opening fence of `byte`, a backtick or a tilde, that stands in a line at `at`, behind so many columns of
-/// space: three bytes at least. No backtick stands in the info string of a fence of backticks.
+/// Returns the opening fence of `byte`, a backtick or a tilde, at byte offset `at` in a line whose content ends before
+/// `stop`: at least three of these bytes. The info string of a fence of backticks must not contain a backtick. `indent`
+/// is the number of columns of space before the fence, and is only stored.
 pub fn opening_fence(
     text: &str,
     at: usize,
@@ -71,8 +72,8 @@ pub fn opening_fence(
     })
 }
 
-/// Whether a fence stands in a line at `at` that closes the code block of an opening one: at least as long,
-/// and with nothing but white space behind it.
+/// Returns whether there is a closing fence of the opening one's code block at byte offset `at` in a line whose content
+/// ends before `stop`: a run of the same character, at least as long, with only spaces and tabs after it.
 pub fn is_closing_fence(text: &str, at: usize, stop: usize, opening: Fence) -> bool
     ensures { result ≡ closes_fence text.now at stop opening }
 {

@@ -1,8 +1,8 @@
-//! Lines that are held back: those of a paragraph until it ends, and blank ones of an indented code block until
-//! it goes on.
+//! Lines that are held back: those of a paragraph until it ends, and the blank lines of an indented code block until it
+//! continues.
 
-/// A line's content, from its first byte that is no prefix up to its line ending, which stops before `next`;
-/// the columns that a tab before it owes.
+/// The content of a line, by byte offsets: from the first byte after its prefix up to its line ending, which ends
+/// before `next`; and the columns that are still owed of a tab before it.
 #[derive(Clone, Copy, Drop)]
 pub struct HeldLine {
     pub start: usize,

@@ -10,7 +10,7 @@ use markdown_raw_html::html_tag::scan_html_tag;
 use markdown_scan::line_rule::OneLine;
 use std::alloc::{AllocError, Global};
 
-/// A kind of HTML block, in the order of CommonMark.
+/// The kinds of HTML blocks, in the order of CommonMark's start conditions.
 #[derive(Clone, Copy, PartialEq, Eq, Drop)]
 pub enum HtmlKind {
     /// `<pre`, `<script`, `<style` or `<textarea`, up to a line with such a closing tag
@@ -30,7 +30,7 @@ pub enum HtmlKind {
 }
 
 impl HtmlKind {
-    /// Whether a block of this kind ends before a blank line.
+    /// Returns whether a block of this kind ends before a blank line.
     pub fn ends_at_blank(self) -> bool
         ensures { result ≡ ends_at_blank self }
     {
@@ -40,7 +40,7 @@ impl HtmlKind {
         }
     }
 
-    /// Whether a block of this kind ends with a line that holds these bytes.
+    /// Returns whether a block of this kind ends with a line that has these bytes.
     pub fn ends_in(self, line: &[u8]) -> bool
         ensures { result ≡ ends_in self line.now }
     {
@@ -60,14 +60,14 @@ impl HtmlKind {
     }
 }
 
-/// Whether bytes begin with others, the case of letters aside.
+/// Returns whether bytes begin with others, ignoring the case of letters.
 fn begins_with(bytes: &[u8], beginning: &[u8]) -> bool
     ensures { result ≡ begins_with bytes.now beginning.now }
 {
     beginning.len() <= bytes.len() && bytes[..beginning.len()].eq_ignore_ascii_case(beginning)
 }
 
-/// Whether bytes hold others, the case of letters aside.
+/// Returns whether bytes contain others, ignoring the case of letters.
 fn holds(bytes: &[u8], others: &[u8]) -> bool
     ensures { result ≡ holds bytes.now others.now }
 {
@@ -79,10 +79,10 @@ fn holds(bytes: &[u8], others: &[u8]) -> bool
     false
 }
 
-/// The tags whose blocks end with a line that holds one of their closing tags.
+/// The names of the tags of the first start condition, whose blocks end with a line that has one of their closing tags.
 const VERBATIM: [&str; 4] = ["pre", "script", "style", "textarea"];
 
-/// The tags of blocks.
+/// The names of the tags of the sixth start condition.
 const BLOCK_TAGS: [&str; 62] = [
     "address",
     "article",
@@ -148,7 +148,7 @@ const BLOCK_TAGS: [&str; 62] = [
     "ul",
 ];
 
-/// Whether two names are the same, the case of letters aside.
+/// Returns whether two names are equal, ignoring the case of letters.
 #[tactic(auto, unfolding(crate::specs::HtmlBeginnings::is_same_name))]
 fn is_same_name(name: &[u8], known: &str) -> bool
     ensures { result ≡ spec.is_same_name name.now known.now }
@@ -156,7 +156,7 @@ fn is_same_name(name: &[u8], known: &str) -> bool
     name.eq_ignore_ascii_case(known.as_bytes())
 }
 
-/// Whether a name is one of some, the case of letters aside.
+/// Returns whether a name is in a list, ignoring the case of letters.
 fn is_one_of(name: &[u8], names: &[&str]) -> bool
     ensures { result ≡ list_any (λ known. spec.is_same_name name.now known.now) names.now }
 {
@@ -168,21 +168,21 @@ fn is_one_of(name: &[u8], names: &[&str]) -> bool
     false
 }
 
-/// Whether a block that begins with a tag of this name ends with a line that holds such a closing tag.
+/// Returns whether a name is that of a tag of the first start condition.
 fn is_verbatim_tag(name: &[u8]) -> bool
     ensures { result ≡ spec.is_one_of name.now spec.verbatim_tags }
 {
     is_one_of(name, &VERBATIM)
 }
 
-/// Whether a name is that of a block's tag.
+/// Returns whether a name is that of a tag of the sixth start condition.
 fn is_block_tag(name: &[u8]) -> bool
     ensures { result ≡ spec.is_one_of name.now spec.block_tags }
 {
     is_one_of(name, &BLOCK_TAGS)
 }
 
-/// The name that bytes begin with: letters and digits.
+/// Returns the name that bytes begin with: ASCII letters and digits.
 fn tag_name(bytes: &[u8]) -> &[u8]
     ensures value { result.now ≡ spec.tag_name bytes.now }
     ensures within { length result.now ≤ length bytes.now }
@@ -195,7 +195,7 @@ fn tag_name(bytes: &[u8]) -> &[u8]
     bytes
 }
 
-/// Whether a space, a tab, a `>` or nothing comes next.
+/// Returns whether a space, a tab, a `>` or nothing comes next.
 fn is_after_name(rest: &[u8]) -> bool
     ensures { result ≡ spec.is_after_name rest.now }
 {
@@ -205,14 +205,14 @@ fn is_after_name(rest: &[u8]) -> bool
     }
 }
 
-/// Whether a space, a tab, a `>`, a `/>` or nothing comes next.
+/// Returns whether a space, a tab, a `>`, a `/>` or nothing comes next.
 fn is_after_block_name(rest: &[u8]) -> bool
     ensures { result ≡ spec.is_after_block_name rest.now }
 {
     is_after_name(rest) || rest.starts_with(b"/>")
 }
 
-/// The kind of a block that begins with `<!`, by what follows.
+/// Returns the kind of the block that begins with `<!`, from what follows.
 fn declared_kind(rest: &[u8]) -> Option<HtmlKind>
     ensures { result ≡ spec.declared_kind rest.now }
 {
@@ -228,7 +228,7 @@ fn declared_kind(rest: &[u8]) -> Option<HtmlKind>
     }
 }
 
-/// Whether a block of the first kind begins, by what follows the `<`.
+/// Returns whether a block of the first kind begins, from what follows the `<`.
 fn begins_verbatim(rest: &[u8]) -> bool
     ensures { result ≡ spec.begins_verbatim rest.now }
 {
@@ -236,7 +236,7 @@ fn begins_verbatim(rest: &[u8]) -> bool
     is_verbatim_tag(name) && is_after_name(bytes_from(rest, name.len()))
 }
 
-/// Whether a block begins with a block's tag, by what follows the `<`.
+/// Returns whether a block of the sixth kind begins, from what follows the `<`.
 fn begins_block_tag(rest: &[u8]) -> bool
     ensures { result ≡ spec.begins_block_tag rest.now }
 {
@@ -245,7 +245,7 @@ fn begins_block_tag(rest: &[u8]) -> bool
     is_block_tag(name) && is_after_block_name(bytes_from(named, name.len()))
 }
 
-/// The kind of a block that begins with a tag of a known name, by what follows the `<`.
+/// Returns the kind of the block that begins with a tag of a known name, from what follows the `<`.
 fn named_kind(rest: &[u8]) -> Option<HtmlKind>
     ensures { result ≡ spec.named_kind rest.now }
 {
@@ -258,7 +258,7 @@ fn named_kind(rest: &[u8]) -> Option<HtmlKind>
     }
 }
 
-/// Bytes without the slash that they begin with, if they do.
+/// Returns the bytes after a slash at their beginning, or all bytes where there is none.
 fn behind_slash(bytes: &[u8]) -> &[u8]
     ensures { result.now ≡ spec.behind_slash bytes.now }
 {
@@ -268,7 +268,7 @@ fn behind_slash(bytes: &[u8]) -> &[u8]
     }
 }
 
-/// The kind of a block, but for the last kind, by what follows the `<`.
+/// Returns the kind of the block, of all kinds but the seventh, from what follows the `<`.
 fn known_kind(rest: &[u8]) -> Option<HtmlKind>
     ensures { result ≡ spec.known_kind rest.now }
 {
@@ -279,8 +279,8 @@ fn known_kind(rest: &[u8]) -> Option<HtmlKind>
     }
 }
 
-/// Whether a tag stands alone in a line's content, which is no tag of a name that begins a block of the first
-/// kind.
+/// Returns whether a line's content is a tag and white space after it, and the tag's name is not one of the first kind.
+/// Fails where memory is refused.
 fn is_lone_tag(alloc: Global, line: &str) -> Result<bool, AllocError>
     ensures { IfOk result (λ lone. lone ≡ spec.is_lone_tag line.now) }
 {
@@ -292,8 +292,8 @@ fn is_lone_tag(alloc: Global, line: &str) -> Result<bool, AllocError>
     Ok(!is_verbatim_tag(name) && is_white(bytes_from(bytes, tag.end)))
 }
 
-/// The kind of the HTML block that begins with a line's content, whose first byte is a `<`. A block of the last
-/// kind interrupts no paragraph.
+/// Returns the kind of the HTML block that begins with a line's content, whose first byte is a `<`. A block of the
+/// seventh kind cannot interrupt a paragraph. Fails where memory is refused.
 pub fn html_kind(
     alloc: Global,
     line: &str,

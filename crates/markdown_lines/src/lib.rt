@@ -1,5 +1,5 @@
-//! What stands in a line: where it ends, its columns, and which block its content begins; and what a paragraph's lines
-//! hold, link reference definitions and breaks. Block passes stand on it.
+//! What a line contains: where it ends, its columns, and which block its content begins; and what the lines of a
+//! paragraph contain: link reference definitions and breaks. The block pass uses it.
 #![tactic(auto)]
 
 pub mod atx_heading;

@@ -7,7 +7,8 @@ ghost use Rattle.markdown_lines.specs.Lines.{IsRunBefore, IsNextContent, IsLineE
 
 use markdown_scan::line_end::scan_line_ending;
 
-/// A line: it begins at `start`, its content stops before `stop`, and its line ending stops before `next`.
+/// A line, by byte offsets: it begins at `start`, its content ends before `stop`, and its line ending ends before
+/// `next`.
 #[derive(Clone, Copy, Drop)]
 pub struct Line {
     pub start: usize,
@@ -15,24 +16,24 @@ pub struct Line {
     pub next: usize,
 }
 
-/// Whether a byte is a space or a tab.
+/// Returns whether a byte is a space or a tab.
 pub fn is_space_or_tab(byte: u8) -> bool
     ensures { result ≡ is_space_or_tab byte }
 {
     byte == b' ' || byte == b'\t'
 }
 
-/// Whether a byte is one of those that blank lines are made of.
+/// Returns whether a byte may be in a blank line: a space, a tab or part of a line ending.
 fn is_in_blank_line(byte: u8) -> bool
     ensures { result ≡ is_in_blank_line byte }
 {
     is_space_or_tab(byte) || begins_line_ending(byte)
 }
 
-/// How many bytes are looked at together, where none of them ends a line: no branch for each.
+/// The number of bytes that are tested together, without a branch for each.
 const TOGETHER: usize = 16;
 
-/// Whether a byte begins a line ending.
+/// Returns whether a byte begins a line ending.
 #[inline(always)]
 fn begins_line_ending(byte: u8) -> bool
     ensures { result ≡ is_line_ending byte }
@@ -40,8 +41,8 @@ fn begins_line_ending(byte: u8) -> bool
     byte == b'\n' || byte == b'\r'
 }
 
-/// Whether all bytes are behind the carriage return in the order of codes, as those of most lines are: one comparison
-/// for each, and then none of them begins a line ending.
+/// Returns whether all bytes are greater than the carriage return, as they are in most lines: then none of them begins
+/// a line ending. This is one comparison for each byte.
 #[inline(always)]
 fn are_behind_endings(bytes: &[u8]) -> bool
     ensures { result ≡ true → list_any is_line_ending bytes.now ≡ false }
@@ -53,7 +54,7 @@ fn are_behind_endings(bytes: &[u8]) -> bool
     behind
 }
 
-/// How many of the bytes stand before the first one that begins a line ending, or how many there are.
+/// Returns the number of bytes before the first one that begins a line ending, or of all bytes where none does.
 #[inline(always)]
 fn length_before_ending(bytes: &[u8]) -> usize
     ensures { IsLineEnd bytes.now 0 result }
@@ -67,7 +68,7 @@ fn length_before_ending(bytes: &[u8]) -> usize
     bytes.len()
 }
 
-/// The first place from `from` on whose byte begins a line ending, or the end.
+/// Returns the offset of the first byte from `from` on that begins a line ending, or the length.
 fn first_line_ending(bytes: &[u8], from: usize) -> usize
     requires { from ≤ length bytes.now }
     ensures { IsLineEnd bytes.now from result }
@@ -86,7 +87,7 @@ fn first_line_ending(bytes: &[u8], from: usize) -> usize
     start + length_before_ending(&bytes[start..bytes.len()])
 }
 
-/// How many bytes the line ending takes that some bytes begin with: none where they begin with none.
+/// Returns the length of the line ending that the bytes begin with; 0 where they begin with none.
 fn ending_length(bytes: &[u8]) -> usize
     ensures value { result ≡ ending_length bytes.now }
     ensures within { result ≤ length bytes.now }
@@ -97,7 +98,8 @@ fn ending_length(bytes: &[u8]) -> usize
     }
 }
 
-/// The line that begins at `start`, up to its line ending or the end of the text; behind the text an empty one.
+/// Returns the line that begins at byte offset `start`, up to its line ending or the end of the text; past the end of
+/// the text, an empty line there.
 pub fn line_from(text: &str, start: usize) -> Line
     ensures value { start ≤ length text.now → IsLineFrom text.now start result }
     ensures longer { start < length text.now → start < result.next }
@@ -112,7 +114,7 @@ pub fn line_from(text: &str, start: usize) -> Line
     }
 }
 
-/// The first byte from `from` on that stands in no blank line, where there is one.
+/// Returns the byte offset of the first byte from `from` on that is not a space, a tab or part of a line ending.
 pub fn next_content(text: &str, from: usize) -> Option<usize>
     requires { IsCharBoundary text.now from }
     ensures { IsNextContent text.now from result }
@@ -126,7 +128,7 @@ pub fn next_content(text: &str, from: usize) -> Option<usize>
     None
 }
 
-/// Where the spaces and tabs before `stop` begin, no further back than `from`.
+/// Returns the byte offset at which the spaces and tabs before `stop` begin, not before `from`.
 pub fn content_end(text: &str, from: usize, stop: usize) -> usize
     requires ordered { from ≤ stop }
     requires boundary { IsCharBoundary text.now stop }
@@ -140,7 +142,7 @@ pub fn content_end(text: &str, from: usize, stop: usize) -> usize
     end
 }
 
-/// Where the run of one ASCII byte before `stop` begins, no further back than `from`.
+/// Returns the byte offset at which the run of an ASCII byte before `stop` begins, not before `from`.
 pub fn run_start(text: &str, from: usize, stop: usize, byte: u8) -> usize
     requires ordered { from ≤ stop }
     requires boundary { IsCharBoundary text.now stop }

@@ -1,4 +1,4 @@
-//! What stands between two lines of a paragraph (CommonMark 6.7, 6.8).
+//! The breaks between two lines of a paragraph (CommonMark 6.7, 6.8).
 ghost use Rattle.std.specs.Prelude.{◌≡◌, ◌≤◌, true};
 ghost use Rattle.std.specs.Str.{IsCharBoundary};
 ghost use Rattle.markdown_builder.specs.Bodies.{is_settled};
@@ -7,7 +7,7 @@ ghost use Rattle.markdown_lines.specs.LineBreaks.{IsLineBreak};
 use crate::line::{content_end, run_start};
 use markdown_base::item::ItemBody;
 
-/// What ends a line before a next line of its paragraph: the line's text stops before `text_end`, and the
+/// What ends a line that another line of its paragraph follows: its text ends before byte offset `text_end`, and the
 /// break begins at `start`.
 #[derive(Clone, Copy, Drop)]
 pub struct LineBreak {
@@ -16,8 +16,8 @@ pub struct LineBreak {
     pub body: ItemBody,
 }
 
-/// The break after the line whose content stands from `from` up to `stop`: a hard one where an odd number
-/// of backslashes or two or more spaces stand before `stop`, else a soft one.
+/// Returns the break after a line whose content is from byte offset `from` up to `stop`: a hard break where it ends
+/// with an odd number of backslashes or with two or more spaces, and otherwise a soft break.
 pub fn line_break(text: &str, from: usize, stop: usize) -> LineBreak
     requires ordered { from ≤ stop }
     requires boundary { IsCharBoundary text.now stop }

@@ -7,7 +7,8 @@ ghost use Rattle.markdown_lines.specs.ListMarkers.{ordered_marker};
 
 use crate::bytes::{bytes_of, is_parted, is_white};
 
-/// A list marker: its character, a `.` or `)` of an ordered list; its number; its length in bytes.
+/// A list marker: its character, which in an ordered list is the `.` or `)`; its number, 0 in a bullet list; its length
+/// in bytes.
 #[derive(Clone, Copy, Drop)]
 pub struct ListMarker {
     pub character: u8,
@@ -15,7 +16,7 @@ pub struct ListMarker {
     pub width: usize,
 }
 
-/// Whether a byte ends the marker of an ordered list.
+/// Returns whether a byte ends the marker of an ordered list.
 fn ends_number(byte: u8) -> bool
     ensures { result ≡ ends_number byte }
 {
@@ -23,14 +24,14 @@ fn ends_number(byte: u8) -> bool
 }
 
 impl ListMarker {
-    /// Whether it is that of an item in an ordered list.
+    /// Returns whether it is the marker of an ordered list.
     fn is_ordered(self) -> bool
         ensures { result ≡ ends_number self.character }
     {
         ends_number(self.character)
     }
 
-    /// Whether such an item may interrupt a paragraph: one of an ordered list has to be numbered 1.
+    /// Returns whether its item may interrupt a paragraph: in an ordered list its number has to be 1.
     fn may_interrupt(self) -> bool
         ensures { result ≡ may_interrupt self }
     {
@@ -38,7 +39,7 @@ impl ListMarker {
     }
 }
 
-/// The number that a run of at most nine digits is.
+/// Returns the number that a run of at most nine digits spells.
 fn number_of(digits: &[u8]) -> u64
     ensures { length digits.now ≤ 9 → list_all is_ascii_digit digits.now ≡ true → result ≡ decimal digits.now }
 {
@@ -51,7 +52,7 @@ fn number_of(digits: &[u8]) -> u64
     number
 }
 
-/// How many digits bytes begin with.
+/// Returns the number of digits that the bytes begin with.
 fn digit_count(bytes: &[u8]) -> usize
     ensures value { result ≡ prefix_len is_ascii_digit bytes.now }
     ensures within { result ≤ length bytes.now }
@@ -64,7 +65,7 @@ fn digit_count(bytes: &[u8]) -> usize
     bytes.len()
 }
 
-/// The marker of an ordered list that stands here: one to nine digits, and a `.` or `)`.
+/// Returns the marker of an ordered list that the bytes begin with: one to nine digits, and a `.` or `)`.
 fn ordered_marker(bytes: &[u8]) -> Option<ListMarker>
     ensures value { result ≡ ordered_marker bytes.now }
     ensures within { IfSome result (λ marker. marker.width ≤ length bytes.now) }
@@ -84,7 +85,7 @@ fn ordered_marker(bytes: &[u8]) -> Option<ListMarker>
     })
 }
 
-/// The marker that stands here, whatever follows it.
+/// Returns the marker that the bytes begin with, whatever follows it.
 fn any_marker(bytes: &[u8]) -> Option<ListMarker>
     ensures value { result ≡ marker_of bytes.now }
     ensures within { IfSome result (λ marker. marker.width ≤ length bytes.now) }
@@ -99,9 +100,9 @@ fn any_marker(bytes: &[u8]) -> Option<ListMarker>
     }
 }
 
-/// The list marker that stands in a line at `at`, which a space, a tab or the end of the line's content
-/// follows. One that interrupts a paragraph begins an item that is not blank, and not with another number
-/// than 1.
+/// Returns the list marker at byte offset `at` in a line whose content ends before `stop`. A space, a tab or the end of
+/// the content has to follow it. An item that interrupts a paragraph must not be blank, and in an ordered list its
+/// number has to be 1.
 pub fn list_marker(text: &str, at: usize, stop: usize, interrupts: bool) -> Option<ListMarker>
     ensures { result ≡ list_marker_at text.now at stop interrupts }
 {

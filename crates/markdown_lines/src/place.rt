@@ -1,8 +1,9 @@
 //! A place in a line, by bytes and by columns (CommonMark 2.2).
 ghost use Rattle.std.specs.Prelude.{◌≡◌, ◌<◌, ◌+◌, ◌%◌, ◌^◌};
 
-/// A place in a line, and the columns between the last tab stop and it. A tab goes to the next multiple of 4 columns;
-/// where only some of its columns are read, the place is behind it, and it owes the others.
+/// A place in a line: its byte offset, and the columns between the last tab stop and it. A tab extends to the next
+/// multiple of 4 columns; where only some of its columns have been read, the place is after it, and the others are
+/// owed.
 #[derive(Clone, Copy, Drop)]
 pub struct Place {
     pub at: usize,
@@ -12,7 +13,7 @@ pub struct Place {
 }
 
 impl Place {
-    /// The beginning of a line.
+    /// Returns the place at the beginning of a line.
     pub fn new(at: usize) -> Place
         ensures at { result.at ≡ at }
         ensures column { result.column ≡ 0 }
@@ -25,7 +26,7 @@ impl Place {
         }
     }
 
-    /// Behind so many bytes of one column each.
+    /// Returns the place after `bytes` bytes of one column each.
     pub fn past(self, bytes: usize) -> Place
         ensures at { self.at + bytes < 2 ^ 64 → result.at ≡ self.at + bytes }
         ensures column { result.column ≡ (self.column + bytes) % 4 }

@@ -1,4 +1,4 @@
-//! White space that is read from a place in a line on, by columns (CommonMark 2.2).
+//! White space that is read from a place in a line, by columns (CommonMark 2.2).
 ghost use Rattle.std.specs.Prelude.{◌≡◌, ◌≤◌, ◌<◌, ◌+◌, ◌-◌, ◌^◌, min, true};
 ghost use Rattle.markdown_lines.specs.Lines.{is_space_or_tab};
 ghost use Rattle.markdown_lines.specs.Places.{IsSpaceAt};
@@ -8,14 +8,14 @@ use crate::bytes::bytes_of;
 use crate::line::is_space_or_tab;
 use crate::place::Place;
 
-/// White space that was read: its columns, and the place behind it.
+/// White space that was read: its columns, and the place after it.
 #[derive(Clone, Copy, Drop)]
 pub struct Space {
     pub columns: usize,
     pub behind: Place,
 }
 
-/// Behind a space or tab that stands at a place, of which at most so many columns are used.
+/// Returns the white space of a space or tab at a place, of which at most `most` columns are read.
 fn past_white(place: Place, byte: u8, most: usize) -> Space
     requires white { is_space_or_tab byte ≡ true }
     requires room { place.at + 1 < 2 ^ 64 }
@@ -42,8 +42,8 @@ fn past_white(place: Place, byte: u8, most: usize) -> Space
     }
 }
 
-/// The white space that is read from a place on, at most so many columns of it, in a line of which the content
-/// stops before `stop`.
+/// Returns the white space that is read from a place on, at most `most` columns, in a line whose content ends before
+/// byte offset `stop`.
 pub fn read_space(text: &str, place: Place, stop: usize, most: usize) -> Space
     ensures value { IsSpaceAt text.now place stop most result }
     ensures few { result.columns ≤ most }

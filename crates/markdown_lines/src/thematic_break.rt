@@ -8,14 +8,14 @@ use crate::bytes::{is_white, run_length};
 use crate::line::is_space_or_tab;
 use markdown_base::tag::HeadingLevel;
 
-/// Whether a byte is a character of thematic breaks.
+/// Returns whether a byte is a character of thematic breaks.
 fn is_break_mark(byte: u8) -> bool
     ensures { result ≡ is_break_mark byte }
 {
     byte == b'*' || byte == b'-' || byte == b'_'
 }
 
-/// How many bytes from the first on are a mark, a space or a tab.
+/// Returns the number of bytes before the first one that is neither the mark nor a space or a tab.
 fn break_length(content: &[u8], mark: u8) -> usize
     ensures value { result ≡ prefix_len (is_of_break mark) content.now }
     ensures within { result ≤ length content.now }
@@ -28,7 +28,7 @@ fn break_length(content: &[u8], mark: u8) -> usize
     content.len()
 }
 
-/// How many bytes are a given one.
+/// Returns how often a byte occurs.
 fn count_of(bytes: &[u8], byte: u8) -> usize
     ensures { result ≡ count_by (λ b. b == byte) bytes.now }
 {
@@ -41,9 +41,10 @@ fn count_of(bytes: &[u8], byte: u8) -> usize
     count
 }
 
-/// Whether a line's content is a thematic break: three or more of one character of `*`, `-` and `_`, with
-/// spaces and tabs between and behind them. Else how many bytes from its beginning on are of that kind: no
-/// thematic break begins at any of them.
+/// Returns whether a line's content is a thematic break: three or more of one of the characters `*`, `-` and `_`, with
+/// spaces and tabs between and after them. The error is the number of bytes before the first one that cannot belong to
+/// the break, so that no thematic break begins at any of them; 0 where there is no such byte, or no break can begin
+/// here.
 pub fn thematic_break(content: &[u8]) -> Result<(), usize>
     ensures { MatchResult result
         (λ _. is_thematic_break content.now ≡ true)
@@ -67,7 +68,7 @@ pub fn thematic_break(content: &[u8]) -> Result<(), usize>
     }
 }
 
-/// The level of a setext heading, by the character of its underline.
+/// Returns the level of a setext heading, from the character of its underline.
 fn underline_level(byte: u8) -> Option<HeadingLevel>
     ensures { result ≡ underline_level byte }
 {
@@ -78,8 +79,8 @@ fn underline_level(byte: u8) -> Option<HeadingLevel>
     }
 }
 
-/// The level of the setext heading whose underline a line's content is: a run of `=` or of `-`, with spaces
-/// and tabs behind it.
+/// Returns the level of the setext heading whose underline a line's content is: a run of `=` or of `-`, and spaces and
+/// tabs after it.
 pub fn setext_underline(content: &[u8]) -> Option<HeadingLevel>
     ensures { result ≡ setext_level content.now }
 {

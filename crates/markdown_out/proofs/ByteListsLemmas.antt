@@ -57,7 +57,7 @@ joined-flat_map [] = refl
 joined-flat_map (part ∷ []) = append-nil part
 joined-flat_map (part ∷ next ∷ parts) = ap (λ x. part ++ x) (joined-flat_map (next ∷ parts))
 
--- the bytes of the first n of these stand behind the old text
+-- the old text is followed by the bytes of the first n of these
 pub record StandsTo {A : Type 0} (bytes_of : A → List ℕ) (out old : List ℕ) (xs : List A)
     (n : ℕ) : Type 0 where
   pub is : out ≡ old ++ flat_map bytes_of (take n xs)
@@ -135,7 +135,7 @@ pub fresh_behind-none : (bytes : List ℕ) (start : ℕ) (before : Bool) → len
     → before ≡ fresh_after_bytes before (drop start bytes)
 fresh_behind-none bytes start before h = sym (ap (fresh_after_bytes before) (drop_of_length-le bytes h))
 
--- what stands behind the old text is what was appended
+-- what follows the old text is what was appended
 pub fresh_behind-appended : (fresh before : Bool) (first last old out bytes : List ℕ) → first ≡ old → last ≡ out
     → out ≡ old ++ bytes → fresh ≡ fresh_after_bytes before (drop (length first) last) → fresh ≡ fresh_after_bytes before bytes
 fresh_behind-appended fresh before first last old out bytes f l e h =
@@ -153,7 +153,7 @@ prefix-first old new bytes whole rest f w = record {
   whole = sym (append_assoc f.prefix f.missing rest) ∙ (ap (λ x. x ++ rest) f.whole ∙ w);
 }
 
--- bytes behind bytes
+-- bytes appended after bytes
 pub append-more : (old mid new first bytes : List ℕ) → mid ≡ old ++ first → new ≡ mid ++ bytes
     → new ≡ old ++ (first ++ bytes)
 append-more old mid new first bytes e n = n ∙ (ap (λ x. x ++ bytes) e

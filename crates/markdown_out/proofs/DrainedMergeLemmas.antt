@@ -84,7 +84,7 @@ prefix-of (x ∷ a) (y ∷ b) q r n e =
 -- ---- what a merge answers of these
 
 module _ {P : Type 0} (through : P → P → P) where
-  -- a stretch of items, and a None behind it
+  -- a stretch of items, and a None after it
   abbrev stretch : List (Item P) → List (Option (Item P)) → List (Option (Item P))
   stretch [] later = None ∷ merge_answers through [] later
   stretch (x ∷ xs) later = map (λ i. Some i) (merged through (x ∷ xs)) ++ merge_answers through [] later

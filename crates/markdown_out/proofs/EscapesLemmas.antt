@@ -42,7 +42,7 @@ pub replaced_more : (f : ℕ → List ℕ) (bytes : List ℕ) (to : ℕ) → to 
 replaced_more f bytes to h = ap (flat_map f) (take_more bytes to 0 h)
     ∙ sym (flat_map_more f [] (take to bytes) (get_or bytes to 0))
 
--- a byte that stands for itself waits
+-- a byte that is not replaced waits
 pub Copied-keep : (f : ℕ → List ℕ) (out old bytes : List ℕ) (from to : ℕ) → from ≤ to
     → to < length bytes → f (get_or bytes to 0) ≡ get_or bytes to 0 ∷ []
     → Copied f out old bytes from to → Copied f out old bytes from (to + 1)

@@ -1,5 +1,5 @@
--- Where the parts of an event are written one by one: what stands there when one of them is
--- refused.
+-- Where the parts of an event are written one by one: what has been appended when memory is refused
+-- at one of them.
 use Rattle.std.proofs.Common.{◌≡◌, ◌<◌, ◌++◌, ℕ, Bool, false, List, [], ◌∷◌, length, codes, refl}
 use Rattle.std.proofs.Common.{arith, append_assoc}
 use Rattle.std.specs.List.{flat_map}

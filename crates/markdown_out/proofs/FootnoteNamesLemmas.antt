@@ -39,7 +39,7 @@ position_from-is t i (x ∷ xs) =
           ∙ ap (λ n. cond (list_any t xs) (Some n) None) (add-one-more i (position_or_len t xs))
     ]
 
--- where nothing passes, the place is behind all
+-- where nothing passes, the place is after all
 pub position_or_len-none : {A : Type 0} (t : A → Bool) (xs : List A) → list_any t xs ≡ false
     → position_or_len t xs ≡ length xs
 position_or_len-none t [] h = refl
@@ -169,7 +169,7 @@ first_names-inserted k v es h (suc n) l =
     (first_names-inserted k v es h n (omega arith))
     ∙ ap (λ x. first_names n es ++ x ∷ []) (name_at-other k v n es h other)
 
--- the names, and the new one behind them
+-- the names, and the new one after them
 pub names_in-inserted : (k : Name) (es : Entries) → IsNumbered es → IsAbsent k es
     → names_in (insert_entry name_cmp es k (length es)) ≡ names_in es ++ text_of k.text ∷ []
 names_in-inserted k es s h =
@@ -257,7 +257,7 @@ prefix_len-≤ p (x ∷ xs) =
 pub length-names_in : (es : Entries) → length (names_in es) ≡ length es
 length-names_in es = length-first_names (length es) es
 
--- a name that is known adds nothing, and a new one goes behind all
+-- a name that is known adds nothing, and a new one is added after all
 pub with_known : (name : List ℕ) (names : List (List ℕ)) → list_any (is_same_name name) names ≡ true → with_name name names ≡ names
 with_known name names e = ap (λ b. if b then names else names ++ name ∷ []) e
 
@@ -286,7 +286,7 @@ known_name k es p s h =
       small = omega (arith, within, count, parts.1, plain);
     }
 
--- a name is new, and its place is behind all
+-- a name is new, and its place is after all
 pub record IsNew (k : Name) (es : Entries) : Type 0 where
   pub new : list_any (is_same_name (text_of k.text)) (names_in es) ≡ false
   pub place : length es ≡ position_or_len (is_same_name (text_of k.text)) (names_in es)

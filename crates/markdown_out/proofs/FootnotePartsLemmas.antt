@@ -1,4 +1,4 @@
--- A footnote's event is what comes before its number, the number, and what comes behind it.
+-- The HTML of a footnote's event is what precedes its number, the number, and what follows it.
 use Rattle.std.proofs.Common.{◌≡◌, ◌++◌, ℕ, Bool, List, [], ◌∷◌, None, codes, refl, ap, ◌∙◌, append-nil}
 use Rattle.std.proofs.Common.{append_assoc}
 use Rattle.markdown_base.specs.Event.{start, footnote_reference, footnote_definition}
@@ -24,7 +24,7 @@ definition_whole : (fresh : Bool) (name number : List ℕ)
     (joined (definition_parts fresh name number))
 definition_whole fresh name number = simp append_assoc
 
--- a prefix of the second part, behind the first
+-- a prefix of the second part, after the first
 prefix_of_last : (old mid new first last whole : List ℕ) → AreBoth first last whole → mid ≡ old ++ first → AppendsPrefix mid new last
     → AppendsPrefix old new whole
 prefix_of_last old mid new first last whole w e f = prefix-after old mid new first last whole [] e f (ap (λ x. first ++ x) (append-nil last)
@@ -46,7 +46,7 @@ reference_last old mid new name number e f =
     (joined (reference_parts name number))
     (reference_whole name number) e f
 
--- what is remembered behind it
+-- what the writer keeps after it
 pub after_reference : (past : Past) (name : List ℕ) → past.open_image ≡ None
     → after_number past name (codes "</a></sup>") ≡ view_after past (footnote_reference name)
 after_reference past name none =

@@ -11,7 +11,7 @@ use Rattle.markdown_out.specs.TakenAnswers.{answer_items, IsNoText, answer_count
 use Rattle.markdown_out.proofs.MergeLemmas.{merged-alone, merged-one, merged-lone_text, merged-two_texts, merged-three_texts}
 use Rattle.markdown_out.proofs.MergeLemmas.{merged-run_end, merged-run_last, answers-prefix, answers-alike}
 
--- an answer stays one, behind a function
+-- a function over an answer does not change its count
 pub answer_count-mapped : {A B : Type 0} (f : A → B) (answer : Option A)
     → answer_count (option_map f answer) ≡ answer_count answer
 answer_count-mapped f None = refl

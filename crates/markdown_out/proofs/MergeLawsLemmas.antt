@@ -8,7 +8,7 @@ use Rattle.markdown_out.specs.Merge.{unless_empty, run_items, merged}
 use Rattle.markdown_out.specs.OutLaws.{AreApart, HasNoNeighbours}
 use Rattle.markdown_out.proofs.MergeLemmas.{merged-alone, merged-one, merged-lone_text}
 
--- an item is a Text, or it is none
+-- an item is a Text, or it is not
 pub record IsText {P : Type 0} (x : Item P) : Type 0 where
   pub t : PlacedText P
   pub is : x ≡ text_item t

@@ -64,7 +64,7 @@ module _ {P : Type 0} (through : P → P → P) where
           ap (λ bytes. unless_empty bytes (through t.place (last_text v vs).place) ++ flat_map (run_items through) rs)
           (sym (append_assoc t.bytes u.bytes (flat_map (λ x. x.bytes) (v ∷ vs))))
 
-  -- a third Text behind two whose last is empty
+  -- a third Text after two whose last is empty
   pub merged-three_texts : (t l u : PlacedText P) (rest : List (Item P)) → l.bytes ≡ []
       → merged through (text_item t ∷ text_item l ∷ text_item u ∷ rest)
       ≡ merged through (text_item (record { bytes = t.bytes ++ u.bytes; place = t.place }) ∷ text_item

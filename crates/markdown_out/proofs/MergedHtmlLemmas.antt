@@ -16,7 +16,7 @@ use Rattle.markdown_out.specs.OutLaws.{event_item, item_events, merged_events, I
 use Rattle.markdown_out.specs.Places.{nowhere}
 use Rattle.markdown_out.proofs.ByteListsLemmas.{fresh_after_bytes-append}
 
--- what is told after one more event
+-- what the writer keeps after one more event
 abbrev pub past_after : Past → EventView → Past
 past_after past e = record {
   fresh = fresh_after past e;
@@ -28,12 +28,12 @@ past_after past e = record {
   open_image = image_after past.open_image e;
 }
 
--- what is told after events
+-- what the writer keeps after events
 abbrev pub past_through : Past → List EventView → Past
 past_through past [] = past
 past_through past (e ∷ events) = past_through (past_after past e) events
 
--- the bytes of events, after those that told this
+-- the bytes of events, written after what led to this state
 abbrev pub bytes_from : Past → List EventView → List ℕ
 bytes_from past [] = []
 bytes_from past (e ∷ events) = event_bytes past e ++ bytes_from (past_after past e) events

@@ -200,7 +200,7 @@ error_cut (Ok e ∷ xs) = more (error_cut xs)
     more (inl a) = inl (events-more e xs a)
     more (inr c) = inr (record { events = e ∷ c.events; fault = c.fault; after = c.after; is = ap (λ ys. Ok e ∷ ys) c.is })
 
--- items whose merge has this error behind these events begin with events of that merge, and the error
+-- items whose merge has this error after these events begin with events of that merge, and the error
 record IsStopped (xs : List Raw) (views : List EventView) (fault : Fault) : Type 0 where
   pub events : List Event
   pub after : List Raw

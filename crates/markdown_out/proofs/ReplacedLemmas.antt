@@ -41,12 +41,12 @@ kept_to_end bytes from start few before room near none = record {
       (λ p l h. before.kept p l (omega (arith, h, near))) none;
 }
 
--- a byte that no escape replaces stands for itself
+-- a byte that no escape replaces is written as it is
 pub kept_byte : (escape : Escape) (byte : ℕ) → may_be_replaced byte ≡ false → escaped_byte escape byte ≡ byte ∷ []
 kept_byte escape.Text byte h = search rules
 kept_byte escape.Attribute byte h = search rules
 
--- bytes that stand for themselves wait
+-- bytes that are written as they are wait
 pub copied_further : (f : ℕ → List ℕ) (out old bytes : List ℕ) (from at more : ℕ) → from ≤ at → at + more ≤ length bytes
     → ((p : ℕ) → at ≤ p → p < at + more → f (get_or bytes p 0) ≡ get_or bytes p 0 ∷ [])
     → Copied f out old bytes from at → Copied f out old bytes from (at + more)

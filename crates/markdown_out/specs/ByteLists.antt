@@ -1,4 +1,4 @@
--- Bytes: parts one after another, bytes that were appended whole or in part, and whether a line is fresh after them.
+-- Lists of bytes: parts one after another, bytes appended whole or in part, and whether a line is fresh after them.
 use Rattle.std.specs.Prelude.{◌≡◌, ℕ, Bool, List, [], ◌∷◌, ◌++◌, ◌==◌}
 use Rattle.std.specs.Prelude.{String, string_bytes}
 use Rattle.markdown_base.specs.Bytes.{line_feed}
@@ -9,7 +9,7 @@ joined [] = []
 joined (part ∷ []) = part
 joined (part ∷ next ∷ parts) = part ++ joined (next ∷ parts)
 
--- a prefix of these bytes, and no more, stands behind the old text
+-- the old text is followed by a prefix of these bytes, and nothing else
 pub record AppendsPrefix (old new bytes : List ℕ) : Type 0 where
   pub prefix : List ℕ
   pub missing : List ℕ
@@ -20,11 +20,11 @@ pub record AppendsPrefix (old new bytes : List ℕ) : Type 0 where
 abbrev pub Appends : {A : Type 0} → String A → String A → List ℕ → Type 0
 Appends old new bytes = string_bytes new ≡ string_bytes old ++ bytes
 
--- a prefix of these bytes was appended, and no more
+-- a prefix of these bytes was appended, and nothing else
 abbrev pub AppendsPart : {A : Type 0} → String A → String A → List ℕ → Type 0
 AppendsPart old new bytes = AppendsPrefix (string_bytes old) (string_bytes new) bytes
 
--- whether a line is fresh after these bytes: the last is a newline (10); where there are none, what was so before
+-- whether a line is fresh after these bytes: the last is a newline, or there are none, and it was fresh before
 abbrev pub fresh_after_bytes : Bool → List ℕ → Bool
 fresh_after_bytes before [] = before
 fresh_after_bytes before (b ∷ bytes) = fresh_after_bytes (b == line_feed) bytes

@@ -1,5 +1,5 @@
--- The HTML of a list of events: the bytes of each event by what the events before it tell, and
--- these one after another.
+-- The HTML of a list of events: the bytes of each event, which depend on the events before it, one
+-- after another.
 use Rattle.std.specs.Prelude.{ℕ, zero, suc, Bool, true, false, List, [], ◌∷◌, ◌++◌, codes}
 use Rattle.std.specs.Prelude.{if◌then◌else◌, reverse, Option, Some, None}
 use Rattle.markdown_base.specs.Event.{EventView, start, end, text, code, inline_math, display_math}
@@ -13,7 +13,7 @@ use Rattle.markdown_out.specs.LookBacks.{metadata_before, head_before, cell_colu
 use Rattle.markdown_out.specs.LookBacks.{alignments_before, names_before}
 use Rattle.markdown_out.specs.TagHtml.{new_line, start_parts, end_parts, image_end}
 
--- a footnote's reference, by its name and its number
+-- a footnote reference, from its name and its number
 abbrev pub reference_parts : List ℕ → List ℕ → List (List ℕ)
 reference_parts name number =
     codes "<sup class=\"footnote-reference\"><a href=\"#" ∷ attribute_escaped name
@@ -40,15 +40,15 @@ outside_parts past (task_list_marker true) =
 outside_parts past (task_list_marker false) =
     codes "<input disabled=\"\" type=\"checkbox\"/>\n" ∷ []
 
--- what an event writes inside an image: its part of the alt text; the End that matches the image's
--- Start closes it
+-- what an event writes inside an image: its part of the alt text, or what closes the image where the
+-- event is the End that matches the image's Start
 abbrev pub inside_bytes : Past → ℕ → List ℕ → EventView → List ℕ
 inside_bytes past starts title (start tag) = []
 inside_bytes past zero title (end tag) = image_end title
 inside_bytes past (suc starts) title (end tag) = []
 inside_bytes past starts title e = joined (alt_parts past e)
 
--- the bytes of an event, inside an image or outside
+-- the bytes of an event inside the image that is open, or outside images
 abbrev pub bytes_by_image : Option OpenImageView → Past → EventView → List ℕ
 bytes_by_image None past e = joined (outside_parts past e)
 bytes_by_image (Some i) past e = inside_bytes past i.starts i.title e
@@ -57,18 +57,18 @@ bytes_by_image (Some i) past e = inside_bytes past i.starts i.title e
 abbrev pub event_bytes : Past → EventView → List ℕ
 event_bytes past e = bytes_by_image past.open_image past e
 
--- whether a line begins after an empty Text
+-- whether the line is fresh after an empty Text
 abbrev pub fresh_after_empty : Option OpenImageView → Past → Bool
 fresh_after_empty None past = if past.in_metadata then past.fresh else false
 fresh_after_empty (Some i) past = past.fresh
 
--- whether a line begins after an event: where the last byte written is a newline, but not after an
+-- whether the line is fresh after an event: where the last byte written is a newline, but not after an
 -- empty Text outside metadata and images
 abbrev pub fresh_after : Past → EventView → Bool
 fresh_after past (text []) = fresh_after_empty past.open_image past
 fresh_after past e = fresh_after_bytes past.fresh (event_bytes past e)
 
--- whether a line begins after these events
+-- whether the line is fresh after these events
 abbrev pub fresh_before : List EventView → Bool
 fresh_before [] = true
 fresh_before (e ∷ before) = fresh_after (record {
@@ -81,7 +81,7 @@ fresh_before (e ∷ before) = fresh_after (record {
   open_image = image_before before;
 }) e
 
--- what these events tell
+-- what the HTML of an event after these events depends on
 abbrev pub past_of : List EventView → Past
 past_of before = record {
   fresh = fresh_before before;
@@ -98,11 +98,11 @@ abbrev pub bytes_before : List EventView → List ℕ
 bytes_before [] = []
 bytes_before (e ∷ before) = bytes_before before ++ event_bytes (past_of before) e
 
--- the bytes of an event after these
+-- the bytes of an event after these events
 abbrev pub bytes_after : List EventView → EventView → List ℕ
 bytes_after events e = event_bytes (past_of (reverse events)) e
 
--- what closes an image that is open
+-- what closes the image that is open, if there is one
 abbrev pub closing : Option OpenImageView → List ℕ
 closing None = []
 closing (Some i) = image_end i.title

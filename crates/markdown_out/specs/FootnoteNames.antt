@@ -1,5 +1,5 @@
--- The names of footnotes as an ordered map from each name to its place holds them. Only private
--- clauses cite this.
+-- The names of footnotes, held in an ordered map from each name to its position. Only private clauses
+-- cite this.
 use Rattle.std.specs.Prelude.{◌≡◌, ℕ, zero, suc, List, [], ◌∷◌, ◌++◌, ◌==◌, IsTrue, length}
 use Rattle.std.specs.Prelude.{if◌then◌else◌, nat_lt}
 use Rattle.std.specs.BTreeMap.{is_at}
@@ -16,21 +16,21 @@ use Rattle.markdown_out.specs.declared.html.names.Name.{Name}
 abbrev pub name_cmp : Name → Name → Ordering
 name_cmp x y = slice_cmp nat_cmp (text_of x.text) (text_of y.text)
 
--- the name whose place this is, if there is one
+-- the name at this position, or no bytes where there is none
 abbrev pub name_at : ℕ → List (Name × ℕ) → List ℕ
 name_at i [] = []
 name_at i (e ∷ es) = if e.1 == i then text_of e.0.text else name_at i es
 
--- the names of the first places, in their order
+-- the names at the first `n` positions, in their order
 abbrev pub first_names : ℕ → List (Name × ℕ) → List (List ℕ)
 first_names zero es = []
 first_names (suc n) es = first_names n es ++ name_at n es ∷ []
 
--- the names, in the order of their places
+-- the names, in the order of their positions
 abbrev pub names_in : List (Name × ℕ) → List (List ℕ)
 names_in es = first_names (length es) es
 
--- each name is at its place
+-- each name is found at its position, and every position is less than the number of names
 pub record IsNumbered (es : List (Name × ℕ)) : Type 0 where
   pub small : IsTrue (list_all (λ e. nat_lt e.1 (length es)) es)
   pub found : (name : Name) → lookup (is_at (name_cmp name)) es

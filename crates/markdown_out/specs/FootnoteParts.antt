@@ -1,4 +1,4 @@
--- A footnote's number among the bytes of its event: what comes before it, and what the writer remembers behind it. Only
+-- The number of a footnote among the bytes of its event: what precedes it, and what the writer keeps after it. Only
 -- private clauses cite this.
 use Rattle.std.specs.Prelude.{ℕ, Bool, List, [], ◌∷◌, codes}
 use Rattle.markdown_out.specs.ByteLists.{joined, fresh_after_bytes}
@@ -6,18 +6,18 @@ use Rattle.markdown_out.specs.Escapes.{attribute_escaped}
 use Rattle.markdown_out.specs.LookBacks.{Past, footnote_number, with_name}
 use Rattle.markdown_out.specs.TagHtml.{new_line}
 
--- a reference up to its number, and a definition
+-- what is written before the number of a footnote reference
 abbrev pub to_reference_number : List ℕ → List (List ℕ)
 to_reference_number name = codes "<sup class=\"footnote-reference\"><a href=\"#" ∷ attribute_escaped name ∷ codes "\">"
     ∷ []
 
--- what is written before the number of a footnote's definition
+-- what is written before the number of a footnote definition
 abbrev pub to_definition_number : Bool → List ℕ → List (List ℕ)
 to_definition_number fresh name =
     new_line fresh ∷ codes "<div class=\"footnote-definition\" id=\"" ∷ attribute_escaped name
     ∷ codes "\"><sup class=\"footnote-definition-label\">" ∷ []
 
--- what the writer remembers after the number of a name and what comes behind it
+-- what the writer keeps after the number of a name and the text that follows the number
 abbrev pub after_number : Past → List ℕ → List ℕ → Past
 after_number past name after = record past {
   fresh = fresh_after_bytes past.fresh (joined (footnote_number past name ∷ after ∷ []));

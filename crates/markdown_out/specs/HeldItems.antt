@@ -1,4 +1,4 @@
--- What a merge holds, as items that were read and not given yet.
+-- What a merge holds, as items that have been read and not returned yet.
 use Rattle.std.specs.Prelude.{List, [], ◌∷◌, Result, string_bytes}
 use Rattle.markdown_base.specs.declared.event.Event.{Event}
 use Rattle.markdown_base.specs.declared.fault.Fault.{Fault}
@@ -7,12 +7,12 @@ use Rattle.markdown_out.specs.MergeNext.{item_view}
 use Rattle.markdown_out.specs.declared.merge.held.Held.{Held}
 use Rattle.markdown_out.specs.declared.merge.held.Held.TheVariants as held
 
--- an event with its place, or an error, as the merge of it is defined
+-- an event with its place, or an error, in the form in which the merge is defined
 abbrev pub placed_view : {P : Type 0} → Result (Event × P) Fault → Item P
 placed_view x = item_view (λ placed. placed) x
 
--- the items that are held: joined texts count as one of all bytes at the first place, and an empty
--- one at the last
+-- the items that are held: joined texts count as one text of all their bytes at the first place, and
+-- an empty one at the last place
 abbrev pub held_items : {P : Type 0} → Held P → List (Item P)
 held_items held.Nothing = []
 held_items (held.Item x) = placed_view x ∷ []

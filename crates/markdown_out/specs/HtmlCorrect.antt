@@ -1,5 +1,5 @@
--- What `push_html` read of an iterator and what it left in the string: at its end, at an error
--- among the items, and at a fault of its own.
+-- What `push_html` has read of an iterator and what the string then holds: at the end, at an error
+-- among the items, and at an error of its own.
 use Rattle.std.specs.Prelude.{◌≡◌, ◌⊎◌, ℕ, List, [], ◌∷◌, ◌++◌, map, Ok, Err, Result, Option}
 use Rattle.std.specs.Iterator.{Yields, Drains}
 use Rattle.markdown_base.specs.Event.{event_view}
@@ -16,21 +16,21 @@ items events = map (λ e. Ok e) events
 
 module _ {S : Type 0} (steps : S → Option (Result Event Fault) → S → Type 0)
     (it : S) (old new : List ℕ) where
-  -- these are all events up to the first None, and their HTML stands behind the old text
+  -- these are all events up to the first None, and the old text is followed by their HTML
   pub record IsRendered : Type 0 where
     pub events : List Event
     pub read : Drains steps it (items events)
     pub stands : new ≡ old ++ html_of (map event_view events)
 
-  -- the item after these events is this error, and their open HTML stands behind the old text
+  -- the item after these events is this error, and the old text is followed by their open HTML
   pub record StopsAtError (fault : Fault) : Type 0 where
     pub events : List Event
     pub left : S
     pub read : Yields steps it (items events ++ Err fault ∷ []) left
     pub stands : new ≡ old ++ open_html (map event_view events)
 
-  -- memory was refused at the last event read: the open HTML of those before it stands, and behind
-  -- it a prefix of its own bytes
+  -- an allocation was refused at the last event read: the old text is followed by the open HTML of the
+  -- events before it, and then by a prefix of its own bytes
   pub record IsCutShort : Type 0 where
     pub events : List Event
     pub last : Event
@@ -39,15 +39,15 @@ module _ {S : Type 0} (steps : S → Option (Result Event Fault) → S → Type 
     pub stands : AppendsPrefix (old ++ open_html (map event_view events)) new
         (bytes_after (map event_view events) (event_view last))
 
-  -- memory was refused behind all events, where an image was to be closed: their open HTML stands,
-  -- and behind it a prefix of what closes the image
+  -- an allocation was refused after the last event, where an image was to be closed: the old text is
+  -- followed by the open HTML of all events, and then by a prefix of what closes the image
   pub record IsCutAtEnd : Type 0 where
     pub events : List Event
     pub read : Drains steps it (items events)
     pub stands : AppendsPrefix (old ++ open_html (map event_view events)) new
         (closing_after (map event_view events))
 
-  -- more Starts are open in an image than can be counted; the open HTML of the events read stands
+  -- more Starts are open in an image than can be counted; the old text is followed by the open HTML of the events read
   pub record GoesTooDeep : Type 0 where
     pub events : List Event
     pub left : S
@@ -55,7 +55,7 @@ module _ {S : Type 0} (steps : S → Option (Result Event Fault) → S → Type 
     pub stands : new ≡ old ++ open_html (map event_view events)
     pub deep : IsTooDeep (map event_view events)
 
-  -- a fault of the call's own
+  -- an error of the function's own
   abbrev pub IsOwnFault : Fault → Type 0
   IsOwnFault Memory = IsCutShort ⊎ IsCutAtEnd
   IsOwnFault Depth = GoesTooDeep

@@ -1,4 +1,4 @@
--- What the HTML of events is, and what `push_html` leaves.
+-- The HTML of events, what `push_html` leaves in the string, and the merge of neighbouring Texts.
 pub mod Escapes
 pub mod LookBacks
 pub mod AltText
@@ -20,6 +20,6 @@ pub mod FootnoteNames
 pub mod FootnoteParts
 pub mod TakenAnswers
 pub mod AdvanceSteps
--- Words of other crates that the clauses stand on.
+-- Definitions of other crates that the clauses cite.
 pub use Rattle.markdown_base.specs.Event
 pub use Rattle.percent_encoding.specs.Percent

@@ -1,6 +1,6 @@
--- What the events before an event tell about its HTML. Each look-back goes through the earlier
--- events, the last one first; events inside an image count for none but the footnote numbers.
--- Whether a line is fresh depends on what was written, so `EventHtml` says that.
+-- What the HTML of an event depends on in the events before it. Each look-back goes through these, of
+-- which the latest is first. Events inside an image count only for the numbers of footnotes, and for
+-- where the image ends. Whether a line is fresh depends on the bytes written: `EventHtml` defines it.
 use Rattle.std.specs.Prelude.{◌≤◌, ℕ, zero, suc, ◌+◌, ◌^◌, Bool, true, false, List, [], ◌∷◌}
 use Rattle.std.specs.Prelude.{◌++◌, if◌then◌else◌, reverse, Option, Some, None, nat_eq, IsSomeAnd}
 use Rattle.std.specs.List.{list_any, position_or_len}
@@ -12,12 +12,12 @@ use Rattle.markdown_base.specs.Event.{metadata_block}
 use Rattle.markdown_base.specs.declared.tag.Alignment.{Alignment}
 use Rattle.markdown_base.specs.declared.tag.TagEnd.TheVariants as closes
 
--- an image whose End has not come: the Starts inside it that have no End yet, and its title
+-- an image whose End has not come: the number of Starts inside it that have no End yet, and its title
 pub record OpenImageView : Type 0 where
   pub starts : ℕ
   pub title : List ℕ
 
--- an End inside an image is that of the last Start inside, and where there is none, the image's
+-- an End inside an image ends the last open Start inside it, or, where there is none, the image
 abbrev pub image_after_end : ℕ → List ℕ → Option OpenImageView
 image_after_end zero title = None
 image_after_end (suc starts) title = Some (record { starts = starts; title = title })
@@ -41,25 +41,25 @@ abbrev pub unless_inside : {A : Type 0}
 unless_inside after None told e = after told e
 unless_inside after (Some i) told e = told
 
--- whether metadata goes on after an event
+-- whether a metadata block is open after an event
 abbrev pub metadata_after : Bool → EventView → Bool
 metadata_after inside (start (metadata_block kind)) = true
 metadata_after inside (end (closes.MetadataBlock kind)) = false
 metadata_after inside e = inside
 
--- whether a metadata block was started and not ended since
+-- whether a metadata block is open after these events
 abbrev pub metadata_before : List EventView → Bool
 metadata_before [] = false
 metadata_before (e ∷ before) =
     unless_inside metadata_after (image_before before) (metadata_before before) e
 
--- whether cells are those of a head after an event
+-- whether table cells belong to a head after an event
 abbrev pub head_after : Bool → EventView → Bool
 head_after head (start table_head) = true
 head_after head (end closes.TableHead) = false
 head_after head e = head
 
--- whether the last Start of a table's head came after the last End of one, or there was neither
+-- whether the last Start of a table's head came after the last End of one, or neither has come
 abbrev pub head_before : List EventView → Bool
 head_before [] = true
 head_before (e ∷ before) = unless_inside head_after (image_before before) (head_before before) e
@@ -71,65 +71,65 @@ cell_column_after column (start table_row) = 0
 cell_column_after column (end closes.TableCell) = column + 1
 cell_column_after column e = column
 
--- how many cells ended since the head or the row was started
+-- the number of cells that have ended since the last Start of a head or a row
 abbrev pub cell_column_before : List EventView → ℕ
 cell_column_before [] = 0
 cell_column_before (e ∷ before) =
     unless_inside cell_column_after (image_before before) (cell_column_before before) e
 
--- the last table's alignments after an event
+-- the alignments of the last table after an event
 abbrev pub alignments_after : List Alignment → EventView → List Alignment
 alignments_after last (start (table alignments)) = alignments
 alignments_after last e = last
 
--- the alignments of the last table
+-- the alignments of the last table among these events
 abbrev pub alignments_before : List EventView → List Alignment
 alignments_before [] = []
 alignments_before (e ∷ before) =
     unless_inside alignments_after (image_before before) (alignments_before before) e
 
--- one name is the other
+-- two names are equal
 abbrev pub is_same_name : List ℕ → List ℕ → Bool
 is_same_name = pointwise nat_eq
 
--- the place of a name among the names, or after them
+-- the position of a name among the names, or their number where it is new
 abbrev pub place : List ℕ → List (List ℕ) → ℕ
 place name names = position_or_len (is_same_name name) names
 
--- the names, and this one behind them where it is new
+-- the names, followed by this one where it is new
 abbrev pub with_name : List ℕ → List (List ℕ) → List (List ℕ)
 with_name name names =
     if list_any (is_same_name name) names then names else names ++ name ∷ []
 
--- the names after an event, which may stand inside an image
+-- the names after an event, which may be inside an image
 abbrev pub names_after : Option OpenImageView → List (List ℕ) → EventView → List (List ℕ)
 names_after within names (footnote_reference name) = with_name name names
 names_after None names (start (footnote_definition name)) = with_name name names
 names_after within names e = names
 
--- the different names of footnotes, in the order in which each came first
+-- the different names of footnotes, in the order of their first occurrence
 abbrev pub names_before : List EventView → List (List ℕ)
 names_before [] = []
 names_before (e ∷ before) = names_after (image_before before) (names_before before) e
 
--- what the events before an event tell
+-- what the HTML of an event depends on in the events before it
 pub record Past : Type 0 where
-  -- whether a line begins here
+  -- whether the line is fresh: what is written next counts as its beginning
   pub fresh : Bool
-  -- whether a metadata block goes on
+  -- whether a metadata block is open
   pub in_metadata : Bool
-  -- whether cells are those of a table's head
+  -- whether table cells belong to a head
   pub in_head : Bool
-  -- how many cells of the row ended
+  -- the number of cells of the row that have ended
   pub column : ℕ
-  -- those of the last table
+  -- the alignments of the last table's columns
   pub alignments : List Alignment
-  -- those of footnotes, in the order in which each came first
+  -- the names of footnotes, in the order of their first occurrence
   pub names : List (List ℕ)
-  -- the image whose End did not come
+  -- the image whose End has not come, if there is one
   pub open_image : Option OpenImageView
 
--- the number of a footnote: one more than the names that came before its own
+-- the number of a footnote, in decimal: one more than the position of its name
 abbrev pub footnote_number : Past → List ℕ → List ℕ
 footnote_number past name = decimal (place name past.names + 1)
 

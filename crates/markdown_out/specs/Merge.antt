@@ -1,4 +1,4 @@
--- The merge of neighbouring Texts: of a list of events and errors, and of what an iterator answers.
+-- The merge of neighbouring Texts: in a list of events and errors, and in the results of an iterator.
 use Rattle.std.specs.Prelude.{ℕ, List, [], ◌∷◌, ◌++◌, map, Ok, Result, Option, Some, None}
 use Rattle.std.specs.List.{flat_map}
 use Rattle.markdown_base.specs.Event.{EventView, text}
@@ -17,17 +17,17 @@ pub record PlacedText (P : Type 0) : Type 0 where
 abbrev pub text_item : {P : Type 0} → PlacedText P → Item P
 text_item t = Ok (text t.bytes, t.place)
 
--- the Text that an item is
+-- the Text that an item is, if it is one
 abbrev pub text_of_item : {P : Type 0} → Item P → Option (PlacedText P)
 text_of_item (Ok (text t, place)) = Some (record { bytes = t; place = place })
 text_of_item item = None
 
--- an item that is no Text, or a maximal run of neighbouring Texts: the first, and those after it
+-- an item that is not a Text, or a maximal run of neighbouring Texts: the first, and those after it
 pub data Run (P : Type 0) : Type 0 where
   alone : Item P → Run P
   texts : PlacedText P → List (PlacedText P) → Run P
 
--- an item before these runs: a Text joins a run of Texts that begins directly after it
+-- these runs with an item before them: a Text joins a run of Texts that begins directly after it
 abbrev pub before_runs : {P : Type 0} → Item P → Option (PlacedText P) → List (Run P) → List (Run P)
 before_runs item None rest = alone item ∷ rest
 before_runs item (Some t) (texts u us ∷ rest) = texts t (u ∷ us) ∷ rest
@@ -38,7 +38,7 @@ abbrev pub runs : {P : Type 0} → List (Item P) → List (Run P)
 runs [] = []
 runs (item ∷ items) = before_runs item (text_of_item item) (runs items)
 
--- the last of some Texts
+-- the last of a run of Texts
 abbrev pub last_text : {P : Type 0} → PlacedText P → List (PlacedText P) → PlacedText P
 last_text t [] = t
 last_text t (u ∷ us) = last_text u us
@@ -49,8 +49,8 @@ unless_empty [] place = []
 unless_empty (b ∷ bytes) place = Ok (text (b ∷ bytes), place) ∷ []
 
 module _ {P : Type 0} (through : P → P → P) where
-  -- what a run gives: an item or a single Text stays as it is; two or more Texts give one of their
-  -- bytes, from the first to the last, or nothing where that is empty
+  -- what a run becomes: an item or a single Text stays as it is; two or more Texts become one Text of
+  -- their bytes, from the place of the first to that of the last, or nothing where it would be empty
   abbrev pub run_items : Run P → List (Item P)
   run_items (alone item) = item ∷ []
   run_items (texts t []) = text_item t ∷ []
@@ -61,8 +61,8 @@ module _ {P : Type 0} (through : P → P → P) where
   abbrev pub merged : List (Item P) → List (Item P)
   merged items = flat_map run_items (runs items)
 
-  -- What a merge answers, of items that it holds and the answers to come. Each stretch of items
-  -- between two Nones is merged by itself, and a None is passed on only where no item came before it.
+  -- What a merge returns, for the items that it holds and the results to come. Each stretch of items
+  -- between two Nones is merged by itself, and a None is passed on only where its stretch has no item.
   abbrev pub merge_answers : List (Item P) → List (Option (Item P)) → List (Option (Item P))
   merge_answers held [] = map (λ x. Some x) (merged held)
   merge_answers held (Some x ∷ answers) = merge_answers (held ++ x ∷ []) answers

@@ -13,7 +13,7 @@ use Rattle.markdown_out.specs.Merge.{Item, text_of_item, merged}
 use Rattle.markdown_out.specs.MergeNext.{Gave, MergeState, CallsMerge, item_view}
 use Rattle.markdown_out.specs.Places.{bare, nowhere, through_ranges}
 
--- not both are Texts
+-- at most one of the two is a Text
 abbrev pub AreApart : {P : Type 0} → Item P → Item P → Type 0
 AreApart x y = (text_of_item x ≡ None) ⊎ (text_of_item y ≡ None)
 
@@ -40,7 +40,7 @@ merged_events events = flat_map item_events (merged nowhere (map event_item even
 abbrev pub RangedEvent : Type 0
 RangedEvent = EventView × Range ℕ
 
--- as an item
+-- an event with its range, as an item
 abbrev pub ranged_item : RangedEvent → Item (Range ℕ)
 ranged_item placed = Ok placed
 
@@ -53,7 +53,7 @@ item_ranged (Err fault) = []
 abbrev pub merged_ranged : List RangedEvent → List RangedEvent
 merged_ranged events = flat_map item_ranged (merged through_ranges (map ranged_item events))
 
--- an event is no empty Text
+-- an event is not an empty Text
 abbrev pub IsNoEmptyText : EventView → Type 0
 IsNoEmptyText (text []) = ⊥
 IsNoEmptyText e = Unit {0}
@@ -63,20 +63,20 @@ abbrev pub MergingKeepsHtml : Type 0
 MergingKeepsHtml = (events : List EventView) → AllByRecursion IsNoEmptyText events
     → html_of (merged_events events) ≡ html_of events
 
--- wherever calls of the iterator lead, after None comes nothing but None
+-- in every state that calls of the iterator lead to, None is followed only by None
 abbrev pub StaysEnded : {S A : Type 0} → (S → Option A → S → Type 0) → S → Type 0
 StaysEnded {S} {A} steps it = (answers : List (Option A)) (s t u : S) (r : Option A)
     → Gave steps it answers s → steps s None t → steps t r u → r ≡ None
 
 module _ {S T P : Type 0} (through : P → P → P) (view : Result T Fault → Item P)
     (steps : S → Option (Result T Fault) → S → Type 0) (it : S) (given : List (Result T Fault)) where
-  -- these are all items of the iterator up to its first None, and those given are their merge
+  -- these are all items of the iterator up to its first None, and those returned are their merge
   pub record IsMergeOfAll : Type 0 where
     pub all : List (Result T Fault)
     pub read : Drains steps it all
     pub merges : merged through (map view all) ≡ map view given
 
-  -- these items of the iterator were read, and those given are a prefix of their merge
+  -- these items of the iterator were read, and those returned are a prefix of their merge
   pub record IsMergeSoFar : Type 0 where
     pub so_far : List (Result T Fault)
     pub left : S
@@ -91,8 +91,8 @@ module _ {M S T P : Type 0} (through : P → P → P) (view : Result T Fault →
   abbrev pub merge_steps : M → Option (Result T Fault) → M → Type 0
   merge_steps m r t = CallsMerge through view steps can rest (state m) r (state t)
 
-  -- over an iterator that stays ended, where no growth was refused: up to its first None a new merge
-  -- gives the merge of all items, and at any moment it gave a prefix of the merge of those read
+  -- over an iterator that stays ended, where no allocation was refused: up to its first None a new merge
+  -- returns the merge of all items, and at all times it has returned a prefix of the merge of those read
   pub record GivesTheMerge (m : M) : Type 0 where
     pub all : (given : List (Result T Fault)) (t u : M) → Yields merge_steps m given t
         → merge_steps t None u → (state u).over ≡ false
@@ -100,34 +100,34 @@ module _ {M S T P : Type 0} (through : P → P → P) (view : Result T Fault →
     pub so_far : (given : List (Result T Fault)) (t : M) → Yields merge_steps m given t
         → (state t).over ≡ false → IsMergeSoFar through view steps (state m).iter given
 
--- nothing was read for a merge yet
+-- a merge has read nothing yet, and no allocation has been refused
 pub record IsNewMerge {S P : Type 0} (m : MergeState S P) : Type 0 where
   pub holds : m.held ≡ []
   pub goes_on : m.over ≡ false
 
 module _ {S : Type 0} (steps : S → Option (Result Event Fault) → S → Type 0) (it : S)
     (old new : List ℕ) where
-  -- these are all events up to the first None, and the HTML of their merge stands behind the old text
+  -- these are all events up to the first None, and the old text is followed by the HTML of their merge
   pub record IsRenderedMerged : Type 0 where
     pub events : List Event
     pub read : Drains steps it (items events)
     pub stands : new ≡ old ++ html_of (merged_events (map event_view events))
 
-  -- the item after these events is this error, and the open HTML of their merge stands
+  -- the item after these events is this error, and the old text is followed by the open HTML of their merge
   pub record StopsAtErrorMerged (fault : Fault) : Type 0 where
     pub events : List Event
     pub left : S
     pub read : Yields steps it (items events ++ Err fault ∷ []) left
     pub stands : new ≡ old ++ open_html (merged_events (map event_view events))
 
-  -- the merge was refused memory, and the open HTML of a prefix of the merge of what was read stands
+  -- the merge was refused memory; the old text is followed by the open HTML of a prefix of the merge of the events read
   pub record IsRefusedMerged : Type 0 where
     pub events : List Event
     pub prefix : IsMergeSoFar nowhere (item_view bare) steps it (items events)
     pub stands : new ≡ old ++ open_html (map event_view events)
 
   -- more Starts are open in an image than can be counted, in a prefix of the merge of the events read,
-  -- and the open HTML of that prefix stands
+  -- and the old text is followed by the open HTML of that prefix
   pub record GoesTooDeepMerged : Type 0 where
     pub events : List Event
     pub left : S

@@ -1,13 +1,13 @@
--- Where events stand: nowhere, or in a range of the source.
+-- The places of events: none, or a range of the source.
 use Rattle.std.specs.Prelude.{ℕ}
 use Rattle.std.specs.declared.ops.Range.{Range}
 use Rattle.markdown_base.specs.declared.event.Event.{Event}
 
--- an event without a range stands nowhere
+-- an event without a place
 abbrev pub bare : Event → Event × Unit {0}
 bare event = (event, tt)
 
--- where events stand nowhere, there is no way from one to another
+-- from the beginning of the first to the end of the last, where events have no place
 abbrev pub nowhere : Unit {0} → Unit {0} → Unit {0}
 nowhere first last = first
 

@@ -1,5 +1,5 @@
 -- The HTML of tags: what the Start and the End of a block or of inline markup write outside images, in
--- parts, as `joined` puts them together.
+-- parts, which `joined` puts together.
 use Rattle.std.specs.Prelude.{ℕ, Bool, true, false, List, [], ◌∷◌, ◌++◌, ◌==◌, codes}
 use Rattle.std.specs.Prelude.{if◌then◌else◌, slice_get, Option, Some, None}
 use Rattle.std.specs.Option.{option_map_or}
@@ -39,27 +39,27 @@ level_digit level.H4 = codes "4"
 level_digit level.H5 = codes "5"
 level_digit level.H6 = codes "6"
 
--- an attribute in a tag, from the blank before it on
+-- an attribute in a tag, from the space before it to the closing quote
 abbrev pub attribute_html : List ℕ → List ℕ → List ℕ
 attribute_html lead value = joined (lead ∷ attribute_escaped value ∷ codes "\"" ∷ [])
 
--- a heading's id
+-- the `id` attribute of a heading
 abbrev pub id_attribute : Option (List ℕ) → List ℕ
 id_attribute None = []
 id_attribute (Some id) = attribute_html (codes " id=\"") id
 
--- a class behind another
+-- a class after another
 abbrev pub further_class : List ℕ → List ℕ
 further_class class = codes " " ++ attribute_escaped class
 
--- a heading's classes
+-- the `class` attribute of a heading
 abbrev pub class_attribute : List (List ℕ) → List ℕ
 class_attribute [] = []
 class_attribute (first ∷ others) =
     joined (codes " class=\"" ∷ attribute_escaped first
     ∷ flat_map further_class others ∷ codes "\"" ∷ [])
 
--- another attribute of a heading; one without a value has an empty one
+-- another attribute of a heading; without a value, its value is empty
 abbrev pub other_attribute : List ℕ × Option (List ℕ) → List ℕ
 other_attribute a = joined (codes " " ∷ attribute_escaped a.0 ∷ codes "=\""
     ∷ option_map_or attribute_escaped a.1 [] ∷ codes "\"" ∷ [])
@@ -69,7 +69,7 @@ abbrev pub heading_parts : Bool → HeadingView → List (List ℕ)
 heading_parts fresh h = new_line fresh ∷ codes "<h" ∷ level_digit h.level ∷ id_attribute h.id
     ∷ class_attribute h.classes ∷ flat_map other_attribute h.attributes ∷ codes ">" ∷ []
 
--- the class of a block quote
+-- the `class` attribute of a block quote
 abbrev pub quote_class : Option BlockQuoteKind → List ℕ
 quote_class None = []
 quote_class (Some quote.Note) = codes " class=\"markdown-alert-note\""
@@ -78,29 +78,29 @@ quote_class (Some quote.Important) = codes " class=\"markdown-alert-important\""
 quote_class (Some quote.Warning) = codes " class=\"markdown-alert-warning\""
 quote_class (Some quote.Caution) = codes " class=\"markdown-alert-caution\""
 
--- the language that an info string names: what stands before its first space (32)
+-- the language of an info string: the text before its first space
 abbrev pub language : List ℕ → List ℕ
 language info = before_first (λ b. b == space) info
 
--- a code block's Start, by its language
+-- a code block's Start, from its language
 abbrev pub code_block_parts : Bool → List ℕ → List (List ℕ)
 code_block_parts fresh [] = new_line fresh ∷ codes "<pre><code>" ∷ []
 code_block_parts fresh (b ∷ name) = new_line fresh ∷ codes "<pre><code class=\"language-"
     ∷ attribute_escaped (b ∷ name) ∷ codes "\">" ∷ []
 
--- the Start of a list that begins with another number than 1
+-- the Start of an ordered list whose first number is not 1
 abbrev pub numbered_list_parts : Bool → List ℕ → List (List ℕ)
 numbered_list_parts fresh number =
     new_line fresh ∷ codes "<ol start=\"" ∷ number ∷ codes "\">\n" ∷ []
 
--- a list's Start, by its first number
+-- a list's Start, from its first number, which only an ordered list has
 abbrev pub list_parts : Bool → Option ℕ → List (List ℕ)
 list_parts fresh None = new_line fresh ∷ codes "<ul>\n" ∷ []
 list_parts fresh (Some first) =
     if first == 1 then new_line fresh ∷ codes "<ol>\n" ∷ []
     else numbered_list_parts fresh (decimal first)
 
--- how a cell is aligned, to the end of its tag
+-- the alignment of a cell, and the end of its tag
 abbrev pub cell_style : Option Alignment → List ℕ
 cell_style None = codes ">"
 cell_style (Some align.None) = codes ">"
@@ -108,12 +108,12 @@ cell_style (Some align.Left) = codes " style=\"text-align: left\">"
 cell_style (Some align.Center) = codes " style=\"text-align: center\">"
 cell_style (Some align.Right) = codes " style=\"text-align: right\">"
 
--- what stands before a link's destination
+-- the scheme that is written before a link's destination
 abbrev pub link_scheme : LinkType → List ℕ
 link_scheme written.Email = codes "mailto:"
 link_scheme kind = []
 
--- the title of a link or an image, where it is not empty
+-- the `title` attribute of a link or an image, where the title is not empty
 abbrev pub title_parts : List ℕ → List (List ℕ)
 title_parts [] = []
 title_parts (b ∷ title) = codes " title=\"" ∷ attribute_escaped (b ∷ title) ∷ codes "\"" ∷ []
@@ -129,11 +129,11 @@ abbrev pub image_parts : List ℕ → List (List ℕ)
 image_parts destination =
     codes "<img src=\"" ∷ destination_escaped destination ∷ codes "\" alt=\"" ∷ []
 
--- what closes an image
+-- what closes an image, from the quote after its alt text on
 abbrev pub image_end : List ℕ → List ℕ
 image_end title = joined (codes "\"" ∷ (title_parts title ++ codes " />" ∷ []))
 
--- a footnote's Start, by its name and its number
+-- the Start of a footnote definition, from its name and its number
 abbrev pub definition_parts : Bool → List ℕ → List ℕ → List (List ℕ)
 definition_parts fresh name number =
     new_line fresh ∷ codes "<div class=\"footnote-definition\" id=\"" ∷ attribute_escaped name

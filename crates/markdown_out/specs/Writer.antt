@@ -1,4 +1,4 @@
--- What the writer of HTML holds, as its own calls speak of it. Only private clauses cite this.
+-- What the writer of HTML holds, in the terms of its own clauses. Only private clauses cite this.
 use Rattle.std.specs.Prelude.{◌≤◌, ℕ, ◌+◌, ◌-◌, ◌^◌, List, Option, Some}
 use Rattle.std.specs.Prelude.{map, min}
 use Rattle.std.specs.Option.{option_map}
@@ -36,11 +36,11 @@ piece_bytes (piece.Destination s) = destination_escaped s.now
 abbrev pub spelled : List Piece → List ℕ
 spelled pieces = joined (map piece_bytes pieces)
 
--- the image that is open
+-- an open image, with its title as bytes
 abbrev pub image_view : OpenImage → OpenImageView
 image_view i = record { starts = i.starts; title = text_of i.title }
 
--- what the writer remembers of the events so far
+-- what the writer keeps of the events so far
 abbrev pub view : Writer → Past
 view w = record {
   fresh = w.fresh;
@@ -52,7 +52,7 @@ view w = record {
   open_image = option_map image_view w.image;
 }
 
--- what the writer remembers, with this image open
+-- what the writer keeps, with this image open
 abbrev pub view_in : Writer → OpenImage → Past
 view_in w i = record (view w) { open_image = Some (image_view i) }
 
@@ -64,14 +64,14 @@ after_bytes w bytes = record w { fresh = fresh_after_bytes w.fresh bytes }
 abbrev pub with_image : Writer → OpenImage → Writer
 with_image w i = record w { image = Some i }
 
--- a column as the writer counts it: it stops at the highest number
+-- the column of the next cell after an event, as the writer counts it: at most 2^64 - 1
 abbrev pub counted_after : ℕ → EventView → ℕ
 counted_after column (start table_head) = 0
 counted_after column (start table_row) = 0
 counted_after column (end closes.TableCell) = min (column + 1) (2 ^ 64 - 1)
 counted_after column e = column
 
--- what the writer remembers after one more event
+-- what the writer keeps after one more event
 abbrev pub view_after : Past → EventView → Past
 view_after past e = record {
   fresh = fresh_after past e;
@@ -83,19 +83,19 @@ view_after past e = record {
   open_image = image_after past.open_image e;
 }
 
--- what the writer remembers after a footnote's reference in an image
+-- what the writer keeps after a footnote reference in an image
 abbrev pub after_alt_reference : Past → List ℕ → Past
 after_alt_reference past name = record past {
   fresh = fresh_after_bytes past.fresh (joined (alt_parts past (footnote_reference name)));
   names = with_name name past.names;
 }
 
--- more Starts than can be counted would be open in the image
+-- with this event, more Starts would be open in the image than can be counted
 abbrev pub IsFull : Option OpenImageView → EventView → Type 0
 IsFull (Some i) (start tag) = 2 ^ 64 ≤ i.starts + 1
 IsFull within e = ⊥
 
--- why the writer may refuse an event
+-- the errors that the writer may return for an event
 abbrev pub MayRefuse : Past → EventView → Fault → Type 0
 MayRefuse past e Memory = Unit {0}
 MayRefuse past e Depth = IsFull past.open_image e
@@ -111,7 +111,7 @@ heading_view level id classes attributes = record {
   attributes = map attribute_view attributes;
 }
 
--- an event that adds to an alt text by itself: no Start, no End, and no reference to a footnote
+-- an event that adds only its own text to an alt text: not a Start, an End or a footnote reference
 abbrev pub AddsAlt : EventView → Type 0
 AddsAlt (start tag) = ⊥
 AddsAlt (end tag) = ⊥
@@ -124,19 +124,19 @@ IsRarer (text t) = ⊥
 IsRarer (end tag) = ⊥
 IsRarer e = Unit {0}
 
--- an event that is written outside images by itself: neither is it a Text
+-- an event that is not a Start, an End, a footnote reference or a Text
 abbrev pub IsSingle : EventView → Type 0
 IsSingle (text t) = ⊥
 IsSingle e = AddsAlt e
 
--- an event that is written as it is: neither is it code, nor math
+-- such an event that is written without an escape: it is neither code nor math
 abbrev pub IsVerbatim : EventView → Type 0
 IsVerbatim (code t) = ⊥
 IsVerbatim (inline_math t) = ⊥
 IsVerbatim (display_math t) = ⊥
 IsVerbatim e = IsSingle e
 
--- a tag that is no paragraph, no list item, and neither emphasis nor strong emphasis
+-- a tag that is not a paragraph, a list item, emphasis or strong emphasis
 abbrev pub IsRarerTag : TagView → Type 0
 IsRarerTag paragraph = ⊥
 IsRarerTag list_item = ⊥
@@ -144,14 +144,14 @@ IsRarerTag emphasis = ⊥
 IsRarerTag strong = ⊥
 IsRarerTag tag = Unit {0}
 
--- such a tag that the writer keeps nothing of: no image, no table, and no definition of a footnote
+-- such a tag of which the writer keeps no part: not an image, a table or a footnote definition
 abbrev pub IsReleased : TagView → Type 0
 IsReleased (image i) = ⊥
 IsReleased (table alignments) = ⊥
 IsReleased (footnote_definition name) = ⊥
 IsReleased tag = IsRarerTag tag
 
--- a tag that is the same in all texts, but for the line's beginning: neither does it hold anything, nor is it a cell
+-- such a tag whose HTML depends at most on whether the line is fresh: it has no content to write, and is not a cell
 abbrev pub IsFixed : TagView → Type 0
 IsFixed (heading h) = ⊥
 IsFixed (block_quote kind) = ⊥

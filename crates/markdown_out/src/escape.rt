@@ -1,4 +1,4 @@
-//! The escapes of HTML. Each copies the longest slices that need none.
+//! The escapes of HTML. Between two replaced bytes, the text is copied as one slice.
 ghost use Rattle.std.specs.Prelude.{◌≡◌, ◌++◌, ◌<◌, ◌≤◌, ◌-◌, OnOk, OnErr, MatchOption, [], ◌∷◌};
 ghost use Rattle.std.specs.Prelude.{take, drop, length};
 ghost use Rattle.std.specs.List.{flat_map, list_any};
@@ -11,7 +11,7 @@ ghost use Rattle.markdown_out.specs.Escapes.{destination_byte, destination_escap
 use percent_encoding::percent_encode_byte;
 use std::alloc::AllocError;
 
-/// Where a text stands, which decides the bytes that are replaced.
+/// The context of a text, which decides which bytes are replaced.
 #[derive(Clone, Copy, Drop)]
 pub(crate) enum Escape {
     /// Between tags.
@@ -20,7 +20,7 @@ pub(crate) enum Escape {
     Attribute,
 }
 
-/// Appends a text, where there is any.
+/// Appends a text, and allocates nothing where it is empty. Where memory is refused, nothing has been appended.
 pub(crate) fn push_any(out: &mut String, text: &str) -> Result<(), AllocError>
     ensures ok { OnOk result (Appends out.old out.new text.now) }
     ensures err { OnErr result (string_bytes out.new ≡ string_bytes out.old) }
@@ -31,7 +31,7 @@ pub(crate) fn push_any(out: &mut String, text: &str) -> Result<(), AllocError>
     out.push_str(text)
 }
 
-/// What stands for a byte, where it is not the byte itself.
+/// Returns what replaces a byte, or `None` where the byte is kept.
 fn replacement(escape: Escape, byte: u8) -> Option<&'static str>
     ensures { MatchOption result (escaped_byte escape byte ≡ byte ∷ [])
         (λ by. (by.now ≡ escaped_byte escape byte) × (byte < 128)) }
@@ -45,13 +45,13 @@ fn replacement(escape: Escape, byte: u8) -> Option<&'static str>
     }
 }
 
-/// How many bytes are looked at together, where none of them is replaced: no branch for each.
+/// The number of bytes that are tested together, without a branch for each.
 const TOGETHER: usize = 32;
 
-/// The same, where fewer are left.
+/// The same number where fewer bytes are left.
 const FEW: usize = 16;
 
-/// Whether some escape replaces a byte.
+/// Returns whether some escape replaces a byte.
 #[inline(always)]
 fn may_be_replaced(byte: u8) -> bool
     ensures { result ≡ may_be_replaced byte }
@@ -59,7 +59,7 @@ fn may_be_replaced(byte: u8) -> bool
     byte == b'&' || byte == b'<' || byte == b'>' || byte == b'"'
 }
 
-/// Whether some escape replaces one of the bytes.
+/// Returns whether some escape replaces one of the bytes.
 #[inline(always)]
 fn holds_replaced(bytes: &[u8]) -> bool
     ensures { result ≡ list_any may_be_replaced bytes.now }
@@ -71,7 +71,7 @@ fn holds_replaced(bytes: &[u8]) -> bool
     found
 }
 
-/// A place up to which no escape replaces a byte, looking at `count` of them together.
+/// Returns an offset such that no escape replaces a byte from `from` up to it. Tests `count` bytes at a time.
 #[inline(always)]
 fn past_kept(bytes: &[u8], from: usize, count: usize) -> usize
     requires some { 0 < count }
@@ -85,8 +85,8 @@ fn past_kept(bytes: &[u8], from: usize, count: usize) -> usize
     start
 }
 
-/// The first place from `from` on whose byte some escape replaces, or the end. The last few bytes are looked at
-/// together with some of those before them.
+/// Returns the offset of the first byte from `from` on that some escape replaces, or the length. The last few bytes are
+/// tested together with some of those before them.
 fn first_replaced(bytes: &[u8], from: usize) -> usize
     requires { from ≤ length bytes.now }
     ensures { IsBeforeReplaced bytes.now from result }
@@ -105,7 +105,7 @@ fn first_replaced(bytes: &[u8], from: usize) -> usize
     end
 }
 
-/// Appends a text, escaped. Where memory runs out, a prefix of it was appended.
+/// Appends a text, escaped. Where memory is refused, a prefix of the escaped text has been appended.
 pub(crate) fn push_escaped(out: &mut String, escape: Escape, text: &str) -> Result<(), AllocError>
     ensures ok { OnOk result (Appends out.old out.new (flat_map (escaped_byte escape) text.now)) }
     ensures err { OnErr result (AppendsPart out.old out.new (flat_map (escaped_byte escape)
@@ -125,7 +125,7 @@ pub(crate) fn push_escaped(out: &mut String, escape: Escape, text: &str) -> Resu
     push_any(out, &text[from..])
 }
 
-/// Each byte that a destination keeps stands at its own place, and a caret at every other place.
+/// A table of all bytes: at its own index each byte that a destination keeps, and a caret elsewhere.
 static KEPT: [u8; 256] = *b"\
     ^^^^^^^^^^^^^^^^^^^^^^^^^^^^^^^^\
     ^!^#$%^^()*+,-./0123456789:;^=^?\
@@ -136,14 +136,14 @@ static KEPT: [u8; 256] = *b"\
     ^^^^^^^^^^^^^^^^^^^^^^^^^^^^^^^^\
     ^^^^^^^^^^^^^^^^^^^^^^^^^^^^^^^^";
 
-/// Whether a destination keeps the byte.
+/// Returns whether a destination keeps the byte.
 fn is_kept(byte: u8) -> bool
     ensures { result ≡ is_kept_byte byte }
 {
     KEPT[byte as usize] != b'^'
 }
 
-/// What stands for a byte of a destination, where it is not the byte itself.
+/// Returns what replaces a byte of a destination, or `None` where the byte is kept.
 fn destination_replacement(byte: u8) -> Option<&'static str>
     ensures { MatchOption result ((destination_byte byte ≡ byte ∷ []) × (byte < 128))
         (λ by. by.now ≡ destination_byte byte) }
@@ -156,7 +156,7 @@ fn destination_replacement(byte: u8) -> Option<&'static str>
     }
 }
 
-/// The text between two places, which are only looked at where there is any.
+/// Returns the text between two byte offsets, which need not be character boundaries where they are equal.
 fn between(text: &str, from: usize, to: usize) -> &str
     requires order { from ≤ to }
     requires within { to ≤ length text.now }
@@ -167,7 +167,7 @@ fn between(text: &str, from: usize, to: usize) -> &str
     if from < to { &text[from..to] } else { "" }
 }
 
-/// Appends a link's destination, escaped. Where memory runs out, a prefix of it was appended.
+/// Appends a link's destination, escaped. Where memory is refused, a prefix of the escaped text has been appended.
 pub(crate) fn push_destination(out: &mut String, destination: &str) -> Result<(), AllocError>
     ensures ok { OnOk result (Appends out.old out.new (destination_escaped destination.now)) }
     ensures err { OnErr result (AppendsPart out.old out.new (destination_escaped destination.now)) }

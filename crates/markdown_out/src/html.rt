@@ -1,4 +1,6 @@
-//! Events as HTML: the writer, which remembers what the events so far tell, and its parts.
+//! The writer of HTML, which keeps what the HTML of later events depends on, and its parts.
+//!
+//! A function that appends returns an error where an allocation is refused; it has then appended a prefix of its bytes.
 use markdown_base::cow_str::CowStr;
 use markdown_base::tag::Alignment;
 
@@ -18,7 +20,7 @@ mod tables;
 use names::FootnoteNames;
 pub use push::push_html;
 
-/// A part of what is written: as it is, or escaped for where it stands.
+/// A piece of HTML: a text that is written as it is, or escaped for its context.
 #[derive(Clone, Copy, Drop)]
 enum Piece<'x> {
     Raw(&'x str),
@@ -30,24 +32,24 @@ enum Piece<'x> {
 /// An image whose alt text is being written.
 #[derive(Drop)]
 struct OpenImage<'a> {
-    /// How many Starts inside it have no End yet.
+    /// The number of Starts inside it that have no End yet.
     starts: usize,
     title: CowStr<'a>,
 }
 
-/// Writes events one after another, and remembers what they tell about those to come.
+/// Writes events one after another, and keeps what the HTML of later events depends on.
 #[derive(Drop)]
 struct Writer<'a> {
-    /// Whether a line begins here.
+    /// Whether the line is fresh: what is written next counts as its beginning.
     fresh: bool,
     in_metadata: bool,
-    /// Whether cells are those of a table's head.
+    /// Whether table cells belong to a head.
     in_head: bool,
-    /// How many cells of the row came, as far as a `usize` counts.
+    /// The number of cells of the row that have ended, at most `usize::MAX`.
     column: usize,
-    /// Those of the last table.
+    /// The alignments of the last table's columns.
     alignments: Vec<Alignment>,
-    /// Those of footnotes, in the order in which each came first.
+    /// The names of footnotes, in the order of their first occurrence.
     names: FootnoteNames<'a>,
     image: Option<OpenImage<'a>>,
 }

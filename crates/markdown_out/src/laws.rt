@@ -1,5 +1,5 @@
-//! Laws of the definitions that this crate's contracts cite: functions without code, whose clauses
-//! say them.
+//! Laws of the definitions that this crate's contracts cite. Each is a function without code, whose clauses state the
+//! law.
 ghost use Rattle.std.specs.Prelude.{◌≡◌, ◌⊎◌, ℕ, List};
 ghost use Rattle.std.specs.Iterator.{CallableOnAll};
 ghost use Rattle.std.specs.Iterator.Adapters.{map_source, map_callee, map_steps};
@@ -22,32 +22,32 @@ use markdown_base::fault::Fault;
 use std::iter::Map;
 use std::ops::Range;
 
-/// The HTML of an image is that of its parts: what stands up to the alt text, what each event up to the
-/// matching End adds to it, and what closes the image.
+/// States that the HTML of an image consists of what precedes the alt text, what each event up to the matching End adds
+/// to the alt text, and what closes the image.
 pub fn an_image_has_the_html_of_its_parts()
     ensures { ImagesHaveParts }
 {}
 
-/// No two merged texts are neighbours.
+/// States that no two merged texts are neighbours.
 pub fn merged_texts_are_no_neighbours()
     ensures events { (items : List (Item (Unit {0}))) → HasNoNeighbours (merged nowhere items) }
     ensures ranged { (items : List (Item (Range ℕ))) → HasNoNeighbours (merged through_ranges items) }
 {}
 
-/// Merging twice is merging once.
+/// States that merging twice is merging once.
 pub fn merging_twice_is_merging_once()
     ensures events { (items : List (Item (Unit {0}))) → merged nowhere (merged nowhere items) ≡ merged nowhere items }
     ensures ranged { (items : List (Item (Range ℕ))) →
         merged through_ranges (merged through_ranges items) ≡ merged through_ranges items }
 {}
 
-/// Where no text is empty, merging changes no byte of the HTML.
+/// States that merging changes no byte of the HTML where no text is empty.
 pub fn merging_keeps_the_html()
     ensures { MergingKeepsHtml }
 {}
 
-/// What a merge gives that nothing was read for yet, over an iterator that stays ended: the merge of
-/// the items.
+/// States that a new merge over an iterator that stays ended returns the merge of the items, where no allocation is
+/// refused.
 pub fn a_stream_gives_the_merge<'a, I: Iterator<Item = Result<Event<'a>, Fault>>>(
     merge: &TextMergeStream<'a, I>,
 )
@@ -55,7 +55,7 @@ pub fn a_stream_gives_the_merge<'a, I: Iterator<Item = Result<Event<'a>, Fault>>
         → GivesTheMerge nowhere (item_view bare) I.next_gives I.can_next I.remaining stream_state merge.now }
 {}
 
-/// The same, of events with their ranges.
+/// States for events with their ranges what `a_stream_gives_the_merge` states for events.
 pub fn a_stream_with_offsets_gives_the_merge<
     'a,
     I: Iterator<Item = Result<(Event<'a>, Range<usize>), Fault>>,
@@ -64,8 +64,8 @@ pub fn a_stream_with_offsets_gives_the_merge<
         → GivesTheMerge through_ranges (item_view ranged) I.next_gives I.can_next I.remaining offset_state merge.now }
 {}
 
-/// A mapped iterator can be merged where its source stays ended and can be merged, and the closure may
-/// be called at each item that may come.
+/// States that a mapped iterator can be merged where its source stays ended and can be merged, and the closure may be
+/// called on each item that the source may return.
 pub fn a_mapped_iterator_can_be_merged<I: Iterator, B, F: FnMut(I::Item) -> B>(mapped: &Map<I, F>)
     ensures { StaysEnded I.next_gives (map_source mapped.now)
         → CanMerge I.next_gives I.can_next I.remaining (map_source mapped.now)
@@ -75,9 +75,9 @@ pub fn a_mapped_iterator_can_be_merged<I: Iterator, B, F: FnMut(I::Item) -> B>(m
         (λ m. I.remaining (map_source m)) mapped.now }
 {}
 
-/// What `push_html` makes of such a merge of events: the HTML of the merge of the events; and at an
-/// error, the open HTML of the merge of the events before it, or, where the merge itself was refused
-/// memory, of a prefix of the merge of those read; so too where too many Starts are open in an image.
+/// States what `push_html` writes for a new merge of events over an iterator that stays ended: the HTML of the merge of
+/// the events; at an error, the open HTML of the merge of the events before it; and where the merge itself is refused
+/// memory, or too many Starts are open in an image, the open HTML of a prefix of the merge of the events read.
 pub fn html_of_a_merge_is_that_of_the_merged_events<
     'a,
     I: Iterator<Item = Result<Event<'a>, Fault>>,

@@ -1,4 +1,4 @@
-//! Events written as HTML: the escapes of text, attributes and destinations, and `push_html`.
+//! The HTML of events, which `push_html` writes, and the merge of neighbouring texts.
 #![tactic(auto)]
 
 mod escape;

@@ -1,10 +1,9 @@
-//! Neighbouring texts as one: the merges of events, and of events with their ranges.
+//! The merges of neighbouring texts: of events, and of events with their ranges.
 //!
-//! A maximal run of two or more texts becomes one owned text, from the first start to the last end,
-//! and nothing where it is empty; all else stays as it is, a single text too, also an empty one. An
-//! error item passes and ends a run. If the iterator gives items after a `None`, each stretch
-//! between its `None`s is merged by itself, and a `None` is passed on only where no item came
-//! before it in its stretch.
+//! A maximal run of two or more texts becomes one owned text, whose range is from the start of the first to the end of
+//! the last; where all of them are empty, it becomes nothing. Everything else is unchanged, also a single text that is
+//! empty. An error item is passed on, and ends a run. If the iterator returns items after a `None`, each stretch
+//! between two `None`s is merged by itself, and a `None` is passed on only where its stretch has no item.
 ghost use Rattle.std.specs.Prelude.{◌≡◌, ◌+◌, [], false, None, IfSome, MatchOption};
 ghost use Rattle.markdown_out.specs.MergeState.{stream_state, offset_state};
 
@@ -19,7 +18,7 @@ use std::alloc::Global;
 use std::fmt;
 use std::ops::Range;
 
-/// A bound that is one greater, where it can be.
+/// Returns a bound that is one greater, or `None` where there is none or it overflows.
 fn one_more(bound: Option<usize>) -> Option<usize>
     ensures { MatchOption bound (result ≡ None) (λ most. IfSome result (λ more. more ≡ most + 1)) }
 {
@@ -29,7 +28,7 @@ fn one_more(bound: Option<usize>) -> Option<usize>
     }
 }
 
-/// The events of an iterator, with neighbouring texts as one.
+/// The events of an iterator, with each run of neighbouring texts as one.
 ///
 /// ```
 /// let merged = TextMergeStream::new(alloc, Parser::new(alloc, "a [b")?);
@@ -41,7 +40,7 @@ pub struct TextMergeStream<'a, I> {
 }
 
 impl<'a, I> TextMergeStream<'a, I> {
-    /// A merge of what the iterator gives from here on. Takes no memory.
+    /// Returns a merge of the items that the iterator returns from now on. Allocates nothing.
     pub fn new(alloc: Global, iter: I) -> Self
         ensures { stream_state result ≡ record { iter = iter; held = []; over = false } }
     {
@@ -66,27 +65,31 @@ impl<'a, I: Iterator<Item = Result<Event<'a>, Fault>>> Iterator for TextMergeStr
 
     ghost remaining = { λ m. at_most (left_count I.remaining (stream_state m)) };
 
-    /// At most one event more than the iterator has left.
+    /// Returns bounds on the number of items left: 0, and one more than the iterator's upper bound.
     fn size_hint(&self) -> (usize, Option<usize>) {
         let (_, most) = self.merging.iter.size_hint();
         (0, one_more(most))
     }
 
-    /// The next event; an error where the iterator gives one, or where memory is refused, after
-    /// which nothing comes.
+    /// Returns the next event of the merge.
+    ///
+    /// # Errors
+    ///
+    /// The item is an error where the iterator returns one, and `Fault::Memory` where an allocation is refused: then
+    /// every later call returns `None`.
     fn next(&mut self) -> Option<Result<Event<'a>, Fault>> {
         next_item(&mut self.merging)
     }
 }
 
-/// The events of an iterator with their ranges, with neighbouring texts as one.
+/// The events of an iterator with their ranges, with each run of neighbouring texts as one.
 #[derive(Drop)]
 pub struct TextMergeWithOffset<'a, I> {
     merging: Merging<'a, I, Range<usize>>,
 }
 
 impl<'a, I> TextMergeWithOffset<'a, I> {
-    /// A merge of what the iterator gives from here on. Takes no memory.
+    /// Returns a merge of the items that the iterator returns from now on. Allocates nothing.
     pub fn new(alloc: Global, iter: I) -> Self
         ensures { offset_state result ≡ record { iter = iter; held = []; over = false } }
     {
@@ -112,14 +115,18 @@ impl<'a, I: Iterator<Item = Result<(Event<'a>, Range<usize>), Fault>>> Iterator
 
     ghost remaining = { λ m. at_most (left_count I.remaining (offset_state m)) };
 
-    /// At most one event more than the iterator has left.
+    /// Returns bounds on the number of items left: 0, and one more than the iterator's upper bound.
     fn size_hint(&self) -> (usize, Option<usize>) {
         let (_, most) = self.merging.iter.size_hint();
         (0, one_more(most))
     }
 
-    /// The next event with its range; an error where the iterator gives one, or where memory is
-    /// refused, after which nothing comes.
+    /// Returns the next event of the merge with its range, in byte offsets.
+    ///
+    /// # Errors
+    ///
+    /// The item is an error where the iterator returns one, and `Fault::Memory` where an allocation is refused: then
+    /// every later call returns `None`.
     fn next(&mut self) -> Option<Result<(Event<'a>, Range<usize>), Fault>> {
         next_item(&mut self.merging)
     }

@@ -1,4 +1,4 @@
--- What `push_html` makes of a merge over a parser is the HTML of the merge of the events that were left.
+-- What `push_html` writes for a merge over a parser is the HTML of the merge of the events that were left.
 use Rattle.std.proofs.Common.{◌≡◌, ◌⊎◌, ℕ, List, [], map, Option, Result, false, ap, inl, inr, refl, subst}
 use Rattle.std.specs.Iterator.{Count}
 use Rattle.markdown_base.specs.Event.{event_view}
@@ -32,7 +32,7 @@ of_events step p old html empty r = record {
   merged = rw empty at r.stands;
 }
 
--- a merge for which nothing was read yet
+-- a merge that has read nothing yet
 begun_of : {F : Type 0} (m : TextMergeStream (Parser F)) (p : Parser F)
     → stream_state m ≡ record { iter = p; held = []; over = false } → IsNewMerge (stream_state m)
 begun_of {F} m p new = record {

@@ -140,7 +140,7 @@ module _ {F : Type 0} (step : F → Question → Option Answer → F → Type 0)
         },
       )
 
-  -- which stands alone where nothing stood before, for the callback that the parser was given
+  -- which is all of the string where that was empty before, for the callback that the parser was given
   pub rendering : (text old new : List ℕ) (options : Options) (callback : Option F) (p : Parser F) → old ≡ []
       → parser_callback p ≡ callback
       → (html : List ℕ) × (new ≡ old ++ html) × IsRenderingFor step (parser_callback p) text options html
@@ -188,14 +188,14 @@ module _ {F : Type 0} (step : F → Question → Option Answer → F → Type 0)
   faults text old new options callback p fault of holds (inl s) = inl (memory_alone p s.left s.events fault s.read)
   faults text old new options callback p fault of holds (inr own) = own_faults text old new options callback p fault of holds own
 
-  -- where nobody is asked, nothing is answered
+  -- without a callback there are no answers
   unasked : (questions : List Question) (answers : Answers) (after : Option F) → Asks step None questions answers after → answers ≡ []
   unasked [] [] after a = refl
   unasked [] (x ∷ answers) after a = absurd a
   unasked (q ∷ questions) [] after a = absurd a
   unasked (q ∷ questions) (x ∷ answers) after a = absurd a
 
-  -- so the rendering is the same whatever would be answered
+  -- so the rendering is the same for all answers
   pub rendering_alone : (text html : List ℕ) (options : Options) → IsUtf8 text → IsRenderingFor step None text options html
       → IsRenderingOf text options html
   rendering_alone text html options utf8 r =

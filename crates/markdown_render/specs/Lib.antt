@@ -1,4 +1,4 @@
--- what contracts speak of
+-- the definitions that contracts cite
 pub mod Rendering
 pub mod Words
 pub mod Outcome

@@ -1,4 +1,4 @@
--- The HTML of what is left of a parser, neighbouring texts as one.
+-- The HTML of what is left of a parser, with neighbouring texts merged.
 use Rattle.std.specs.Prelude.{◌≡◌, ℕ, List, ◌++◌, Option}
 use Rattle.markdown_base.specs.Event.{EventView}
 use Rattle.markdown_base.specs.Questions.{Question, Answer}

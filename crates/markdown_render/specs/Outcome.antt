@@ -1,4 +1,4 @@
--- What a run of the program leaves, by what came of it.
+-- What a run of the program has read and written, for each outcome.
 use Rattle.std.specs.Prelude.{◌≡◌, ◌⊎◌, ℕ, List, ◌++◌, Option, Result, Ok, Err, IfSome}
 use Rattle.std.specs.Str.{IsUtf8}
 use Rattle.std.specs.Io.KnownBytes.{Appends, IsAtEnd}
@@ -13,25 +13,25 @@ abbrev pub status_of : Result (Unit {0}) Failure → ℕ
 status_of (Ok done) = 0
 status_of (Err failure) = 1
 
--- a prefix of these bytes, and no more, stands behind what was held, where that is known
+-- what was held is followed by a prefix of these bytes, and nothing else, where it is known what is held
 pub record AppendsKnownPrefix (old new : Option (List ℕ)) (bytes : List ℕ) : Type 0 where
   pub prefix : List ℕ
   pub missing : List ℕ
   pub stands : Appends old new prefix
   pub whole : prefix ++ missing ≡ bytes
 
--- what is left of the reader before a run and after it, and the writer before and after, of which it is known what it
--- holds
+-- what is left of the reader before a run and after it, where that is known; and the writer before and after, with what
+-- it holds, where that is known
 module _ {W : Type 0} (contents : W → Option (List ℕ)) (options : Options) (unread left : Option (List ℕ)) (old new : W)
   where
-    -- all was read, and its HTML with these options stands behind what the writer held, whole or in part
+    -- everything was read, and what the writer held is followed by its HTML with these options, whole or in part
     pub record IsWritten (stands : Option (List ℕ) → Option (List ℕ) → List ℕ → Type 0) : Type 0 where
       pub all_read : IsAtEnd left
       pub written : IfSome unread (λ bytes. (html : List ℕ) × IsRenderingOf bytes options html
           × stands (contents old) (contents new) html)
 
-    -- Where nothing failed all is written. Nothing is written before all was read and rendered; where memory was refused,
-    -- it may have been before that or in writing.
+    -- Where nothing failed, the whole HTML has been written. Nothing is written before everything has been read and
+    -- rendered; where an allocation was refused, it may have been before that, or while writing.
     abbrev pub Leaves : Result (Unit {0}) Failure → Type 0
     Leaves (Ok done) = IsWritten Appends
     Leaves (Err ReadFailed) = new ≡ old

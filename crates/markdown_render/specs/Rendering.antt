@@ -1,4 +1,4 @@
--- What rendering gives: the HTML of the reading of a text, for the answers that a callback gave.
+-- What rendering returns: the HTML of the reading of a text, for the answers that a callback gave.
 use Rattle.std.specs.Prelude.{◌≡◌, ℕ, false, List, ◌++◌, map, Option, is_some}
 use Rattle.std.specs.Str.{IsUtf8}
 use Rattle.markdown_base.specs.Questions.{Question, Answer, Answers}
@@ -17,7 +17,7 @@ abbrev pub views_of : List Element → List EventView
 views_of elements = map (λ e. e.0) (events_of elements)
 
 -- These are the events of what is read, for the answers that the callback, if there is one, gave to exactly the
--- questions in it, in order; whatever answers would follow.
+-- questions in it, in order. Answers that would follow change nothing.
 pub record AreEventsFor {F : Type 0} (step : F → Question → Option Answer → F → Type 0) (callback : Option F)
     (read : Answers → List Element) (events : List EventView) : Type 0 where
   pub answers : Answers
@@ -26,7 +26,7 @@ pub record AreEventsFor {F : Type 0} (step : F → Question → Option Answer �
   pub are : (later : Answers) → views_of (read (answers ++ later)) ≡ events
 
 -- These are the first events of what is read, for the answers that the callback, if there is one, gave to the first
--- questions in it, in order; whatever answers would follow.
+-- questions in it, in order. Answers that would follow change nothing in them.
 pub record AreFirstEventsFor {F : Type 0} (step : F → Question → Option Answer → F → Type 0) (callback : Option F)
     (read : Answers → List Element) (events : List EventView) : Type 0 where
   pub questions : List Question
@@ -46,7 +46,7 @@ pub record IsRenderingFor {F : Type 0} (step : F → Question → Option Answer 
   pub read : AreEventsFor step callback (reading_of blocks (is_some callback)) events
   pub rendered : html ≡ html_of events
 
--- among the first events of such a block result more Starts are open in an image than can be counted
+-- among the first events of such a block result, more Starts are open in an image than can be counted
 pub record IsTooDeepFor {F : Type 0} (step : F → Question → Option Answer → F → Type 0) (callback : Option F)
     (text : List ℕ) (options : Options) : Type 0 where
   pub blocks : Blocks
@@ -55,15 +55,15 @@ pub record IsTooDeepFor {F : Type 0} (step : F → Question → Option Answer �
   pub read : AreFirstEventsFor step callback (reading_of blocks (is_some callback)) events
   pub deep : IsTooDeep events
 
--- the input is text, and this is the HTML of the events of a block result of it with these options, read with nobody
--- to ask
+-- the input is UTF-8, and this is the HTML of the events of a block result of it with these options, read without a
+-- callback
 pub record IsRenderingOf (bytes : List ℕ) (options : Options) (html : List ℕ) : Type 0 where
   pub is_text : IsUtf8 bytes
   pub blocks : Blocks
   pub of_text : IsOfText bytes options blocks
   pub rendered : (answers : Answers) → html ≡ html_of (views_of (reading_of blocks false answers))
 
--- the input is text, and among the first events of such a block result more Starts are open in an image than can be
+-- the input is UTF-8, and among the first events of such a block result, more Starts are open in an image than can be
 -- counted
 pub record IsTooDeepOf (bytes : List ℕ) (options : Options) : Type 0 where
   pub is_text : IsUtf8 bytes

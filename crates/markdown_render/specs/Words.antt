@@ -1,4 +1,4 @@
--- The words of the program, each with the option that it turns on.
+-- The words of the program's command line, each with the option that it enables.
 use Rattle.std.specs.Prelude.{ℕ, List, [], ◌∷◌, Option, Some, None, if◌then◌else◌, codes}
 use Rattle.std.specs.Int.RustNames.{bit_or}
 use Rattle.std.specs.Str.{bytes_eq}
@@ -16,7 +16,7 @@ option_words =
 abbrev pub of_bits : ℕ → Options
 of_bits bits = record { 0 = bits }
 
--- the option that stands beside a word
+-- the option of a word in a list of words, each with its bits; None where it is not in the list
 abbrev pub option_beside : List (List ℕ × ℕ) → List ℕ → Option Options
 option_beside [] word = None
 option_beside ((name, bits) ∷ more) word = if bytes_eq word name then Some (of_bits bits) else option_beside more word
@@ -25,12 +25,12 @@ option_beside ((name, bits) ∷ more) word = if bytes_eq word name then Some (of
 abbrev pub option_of : List ℕ → Option Options
 option_of word = option_beside option_words word
 
--- a word's option, and then those of the words after it
+-- the options with a word's option, and then with those of the words after it; None where one of these is unknown
 abbrev pub then_on : Option Options → (Options → Option Options) → Options → Option Options
 then_on None rest on = None
 then_on (Some option) rest on = rest (of_bits (bit_or on.0 option.0))
 
--- what words turn on beside what is on already, each in its turn; None where one of them is unknown
+-- the options with those that the words enable, one after another; None where one of the words is unknown
 abbrev pub turned_on : List (List ℕ) → Options → Option Options
 turned_on [] on = Some on
 turned_on (word ∷ words) on = then_on (option_of word) (turned_on words) on

@@ -1,4 +1,5 @@
-//! Laws of the definitions that this crate's contracts cite: functions without code, whose clauses say them.
+//! Laws of the definitions that this crate's contracts cite. Each is a function without code, whose clauses state the
+//! law.
 ghost use Rattle.std.specs.Prelude.{◌≡◌, ◌++◌, ℕ, List};
 ghost use Rattle.markdown_base.specs.Event.{EventView};
 ghost use Rattle.markdown_base.specs.declared.fault.Fault.{Fault};
@@ -14,9 +15,9 @@ ghost use Rattle.markdown_render.specs.Rendering.{IsRenderingFor};
 use markdown_defs::BrokenLinkCallback;
 use markdown_inline::walk::Parser;
 
-/// What `push_html` makes of a parser: the HTML of all events that were left, and so of a document's reading, where all
-/// of it was left. At an error item, which is one of memory, the open HTML of the first of these events; so too where
-/// too many Starts are open in an image among them.
+/// States what `push_html` writes for a parser: the HTML of all events that were left, which is the HTML of a text's
+/// reading where all of that was left. At an error item, which is `Memory`, it is the open HTML of the first of these
+/// events; likewise where too many Starts are open in an image among them.
 pub fn html_of_a_parser_is_that_of_its_reading<'input, F: BrokenLinkCallback<'input>>(
     parser: &Parser<'input, F>,
 )

@@ -1,4 +1,5 @@
-//! Text rendered: what a parser gives, merged or not, written as HTML; and the program over any reader and two writers.
+//! Rendering: the HTML of a text or of what is left of a parser, with neighbouring texts merged or not; and the program
+//! over any reader and two writers.
 #![tactic(auto)]
 
 pub mod laws;

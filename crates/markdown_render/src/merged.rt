@@ -1,4 +1,4 @@
-//! Parsers under merges: neighbouring texts as one.
+//! Parsers under merges, which join neighbouring texts.
 ghost use Rattle.std.specs.Prelude.{◌≡◌, ◌⊎◌, IfOk, IfErr, IfSome, string_bytes};
 ghost use Rattle.std.specs.Iterator.{at_most};
 ghost use Rattle.markdown_inline.specs.NextGives.{NextGives, IsEventOf, IsPlacedOf};
@@ -14,8 +14,8 @@ use markdown_inline::walk::{OffsetIter, Parser};
 use markdown_out::merge::TextMergeStream;
 use std::alloc::Global;
 
-/// A parser may be merged: it stays ended, and after `None` it may be called again and has no more items left. So, by
-/// `a_mapped_iterator_can_be_merged`, may a mapped one.
+/// States that a parser can be merged: it stays ended, and after `None` it may be called again and has no more items
+/// left. By `a_mapped_iterator_can_be_merged`, a mapped parser can be merged too.
 pub fn parsers_can_be_merged<'input, F: BrokenLinkCallback<'input>>(parser: &Parser<'input, F>)
     requires { IfSome (parser_callback parser.now) F.can_ask }
     ensures stays_ended { StaysEnded (NextGives F.answers IsEventOf) parser.now }
@@ -23,7 +23,7 @@ pub fn parsers_can_be_merged<'input, F: BrokenLinkCallback<'input>>(parser: &Par
         (λ p. at_most (parser_steps p)) parser.now }
 {}
 
-/// So may its events with their ranges.
+/// States for a parser's events with their ranges what `parsers_can_be_merged` states for a parser.
 pub fn offsets_can_be_merged<'input, F: BrokenLinkCallback<'input>>(iter: &OffsetIter<'input, F>)
     requires { IfSome (parser_callback (offset_parser iter.now)) F.can_ask }
     ensures stays_ended { StaysEnded (λ o r t. NextGives F.answers IsPlacedOf (offset_parser o) r (offset_parser t))
@@ -33,7 +33,7 @@ pub fn offsets_can_be_merged<'input, F: BrokenLinkCallback<'input>>(iter: &Offse
         iter.now }
 {}
 
-/// The HTML of what is left of a parser, neighbouring texts as one.
+/// Returns the HTML of what is left of a parser, with neighbouring texts merged.
 ///
 /// # Errors
 ///

@@ -1,5 +1,5 @@
-//! `push_html` for callers with a callback of any type, whose bound names the lifetime of the text. Where the callee
-//! has a lifetime of its own beside that bound the borrow checker writes no proof of the call; here it has none.
+//! `push_html` for callers with a callback of any type, whose bound names the lifetime of the text. The borrow checker
+//! writes no proof of a call whose callee has a lifetime of its own beside such a bound; `push_items` has none.
 ghost use Rattle.std.specs.Prelude.{OnOk, IfErr, string_bytes};
 ghost use Rattle.std.specs.Iterator.{IsFinite};
 
@@ -8,15 +8,15 @@ use markdown_base::fault::Fault;
 use markdown_out::html::push_html;
 use std::alloc::Global;
 
-/// What is written as HTML where an iterator gives it: an event, whatever the lifetime of its texts.
+/// An item that is written as HTML where an iterator returns it: an event, whatever the lifetime of its texts.
 pub trait Pushed<I: Iterator> {
     ghost use Rattle.std.specs.Prelude.{ℕ, List};
     ghost use Rattle.markdown_base.specs.declared.fault.Fault.{Fault};
 
-    /// The HTML of all that the iterator gives stands behind the old text.
+    /// The old text is followed by the HTML of everything that the iterator returns.
     ghost is_pushed: { I → List ℕ → List ℕ → Type 0 };
 
-    /// Writing ends by this fault: what stands behind the old text then.
+    /// Writing ends with this error: what then follows the old text.
     ghost is_stopped: { I → List ℕ → List ℕ → Fault → Type 0 };
 
     fn push_all(alloc: Global, s: &mut String, iter: I) -> Result<(), Fault>
@@ -40,7 +40,7 @@ impl<'a, I: Iterator<Item = Result<Event<'a>, Fault>>> Pushed<I> for Event<'a> {
     }
 }
 
-/// Appends the HTML of the items up to the first `None`, as `push_html` does.
+/// Appends the HTML of the items up to the first `None`, as `push_html` does, with the same errors.
 pub fn push_items<E: Pushed<I>, I: Iterator<Item = Result<E, Fault>>>(
     alloc: Global,
     s: &mut String,

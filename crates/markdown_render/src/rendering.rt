@@ -1,4 +1,4 @@
-//! A text rendered: the HTML of what a new parser of it gives.
+//! Rendering a text: the HTML of what a new parser of it returns.
 ghost use Rattle.std.specs.Prelude.{◌≡◌, ◌⊎◌, IfOk, IfErr, IfSome, string_bytes};
 ghost use Rattle.markdown_render.specs.Rendering.{IsRenderingFor, IsTooDeepFor};
 
@@ -10,7 +10,7 @@ use markdown_defs::BrokenLinkCallback;
 use markdown_inline::walk::Parser;
 use std::alloc::Global;
 
-/// The HTML of a text. `callback`, where there is one, is asked about each link label that is defined nowhere.
+/// Returns the HTML of a text. The callback, where there is one, is called for each link label that has no definition.
 ///
 /// # Errors
 ///

@@ -25,14 +25,14 @@ pub enum Failure {
     ReadFailed,
     /// The input is not UTF-8.
     NotText,
-    /// Rendering, or memory was refused wherever it was.
+    /// Rendering; or an allocation was refused, in whatever call.
     Fault(Fault),
     /// A call of the output writer.
     WriteFailed,
 }
 
 impl Failure {
-    /// What is said on the error writer.
+    /// Returns the message for the error writer.
     fn text(&self) -> &'static str {
         match self {
             Failure::ReadFailed => "read failed",
@@ -55,7 +55,8 @@ impl From<Fault> for Failure {
     }
 }
 
-/// A failed call of the reader or the writer, unless memory was refused in it.
+/// Returns the failure of a call of the reader or the writer: `Fault(Memory)` where an allocation was refused in it,
+/// otherwise `attempted`.
 fn failure_of(error: io::Error, attempted: Failure) -> Failure
     ensures memory { error_kind error ≡ ErrorKind.OutOfMemory → result ≡ Failure.Fault Fault.Memory }
     ensures other { error_kind error ≢ ErrorKind.OutOfMemory → result ≡ attempted }
@@ -67,7 +68,12 @@ fn failure_of(error: io::Error, attempted: Failure) -> Failure
     }
 }
 
-/// All of the input, as text.
+/// Reads all of the input, and returns it as text.
+///
+/// # Errors
+///
+/// `ReadFailed` where a call of the reader fails, `NotText` where the input is not UTF-8, and `Fault(Memory)`
+/// where an allocation is refused.
 pub fn read_text<R: Read>(alloc: Global, input: &mut R) -> Result<String, Failure>
     ensures text { IfOk result (λ text. IfSome (R.remaining input.old) (λ bytes. string_bytes text ≡ bytes)) }
     ensures all_read { OnOk result (IsAtEnd (R.remaining input.new)) }
@@ -83,7 +89,7 @@ pub fn read_text<R: Read>(alloc: Global, input: &mut R) -> Result<String, Failur
     }
 }
 
-/// The HTML of a text with these options, where nobody is asked.
+/// Returns the HTML of a text with these options, without a callback.
 fn rendered(alloc: Global, text: &str, options: Options) -> Result<String, Failure>
     ensures html { IfOk result (λ html. IsRenderingOf text.now options (string_bytes html)) }
     ensures failed { IfErr result (λ failure. (failure ≡ Failure.Fault Fault.Memory)
@@ -92,7 +98,8 @@ fn rendered(alloc: Global, text: &str, options: Options) -> Result<String, Failu
     Ok(render(alloc, text, options, None::<DefaultBrokenLinkCallback>)?)
 }
 
-/// Writes all of it. `write_all` says nothing of what it wrote before it failed, so this is its loop.
+/// Writes all of the bytes; where it fails, a prefix of them has been written. `write_all` does not tell what it wrote
+/// before it failed, so this is its loop.
 fn write_whole<W: Write>(out: &mut W, bytes: &[u8]) -> Result<(), Failure>
     ensures written { OnOk result (Appends (W.contents out.old) (W.contents out.new) bytes.now) }
     ensures cut { OnErr result (AppendsKnownPrefix (W.contents out.old) (W.contents out.new) bytes.now) }
@@ -100,7 +107,7 @@ fn write_whole<W: Write>(out: &mut W, bytes: &[u8]) -> Result<(), Failure>
         (failure ≡ Failure.WriteFailed) ⊎ (failure ≡ Failure.Fault Fault.Memory)) }
 {
     let mut rest = bytes;
-    // It ends where every call is interrupted, too.
+    // The bound makes it end where every call is interrupted.
     'writing: for _ in 0..u64::MAX {
         if rest.is_empty() {
             return Ok(());
@@ -118,7 +125,12 @@ fn write_whole<W: Write>(out: &mut W, bytes: &[u8]) -> Result<(), Failure>
     Err(Failure::WriteFailed)
 }
 
-/// Writes all of it, and what the writer holds back of it.
+/// Writes all of the HTML, and flushes the writer.
+///
+/// # Errors
+///
+/// `WriteFailed` where a call of the writer fails, and `Fault(Memory)` where an allocation is refused. A prefix of the
+/// HTML, or all of it, has then been written.
 pub fn print<W: Write>(out: &mut W, html: &str) -> Result<(), Failure>
     ensures written { OnOk result (Appends (W.contents out.old) (W.contents out.new) html.now) }
     ensures cut { OnErr result (AppendsKnownPrefix (W.contents out.old) (W.contents out.new) html.now) }
@@ -134,7 +146,7 @@ pub fn print<W: Write>(out: &mut W, html: &str) -> Result<(), Failure>
 ///
 /// # Errors
 ///
-/// What failed first. Where writing failed, a beginning of the HTML was written; where it had not begun, nothing.
+/// What failed first. Where writing failed, a prefix of the HTML has been written; where it had not begun, nothing.
 pub fn convert<R: Read, W: Write>(
     alloc: Global,
     options: Options,
@@ -150,8 +162,8 @@ pub fn convert<R: Read, W: Write>(
     print(out, html.as_str())
 }
 
-/// Says on `err`, in one line, what failed, and answers the exit status: 0 where nothing failed, else 1. Where that
-/// can't be written the status is the same.
+/// Writes to `err`, in one line, what failed, and returns the exit status: 0 where nothing failed, otherwise 1, whether
+/// or not the line can be written.
 pub fn report<E: Write>(outcome: Result<(), Failure>, err: &mut E) -> u8
     ensures status { result ≡ status_of outcome }
     ensures quiet { OnOk outcome (err.new ≡ err.old) }
@@ -166,10 +178,9 @@ pub fn report<E: Write>(outcome: Result<(), Failure>, err: &mut E) -> u8
     }
 }
 
-/// Reads all of `input` as Markdown and writes its HTML to `out`: what `convert` does, whose outcome `report` tells.
-/// Each word turns on an option. Answers the exit status: 0 where all was written; 2 where a word is unknown, and
-/// nothing is read or written then; else 1. What failed is said on `err`, in one line. Where that can't be written the
-/// status is the same.
+/// Reads all of `input` as Markdown and writes its HTML to `out`, as `convert` does. Each word enables an option.
+/// Writes to `err`, in one line, what failed, and returns the exit status, whether or not that line can be written: 0
+/// where everything was written; 2 where a word is unknown, and then `input` and `out` are not used; otherwise 1.
 pub fn run<R: Read, W: Write, E: Write>(
     alloc: Global,
     words: &[String],
@@ -181,8 +192,8 @@ pub fn run<R: Read, W: Write, E: Write>(
     ensures words { turned_on (map string_bytes words.now) no_options ≡ None
         → (result ≡ 2) × (out.new ≡ out.old) × (input.new ≡ input.old) }
 
-    // Without one the status follows from what came of reading, rendering and writing; and nothing was written but a
-    // beginning of the HTML, and that only where all was read.
+    // Without one, the status follows from the outcome of reading, rendering and writing; and nothing is written but a
+    // prefix of the HTML, and that only where everything was read.
     ensures outcome { IfSome (turned_on (map string_bytes words.now) no_options)
         (λ options. (outcome : Result (Unit {0}) Failure)
         × (result ≡ status_of outcome)

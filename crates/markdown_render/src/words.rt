@@ -1,11 +1,11 @@
-//! The words of the program, each of which turns an option on.
+//! The words of the program's command line, each of which enables an option.
 ghost use Rattle.std.specs.Prelude.{◌≡◌, IfOk, IfErr, map, Some, None, string_bytes};
 ghost use Rattle.markdown_base.specs.EnabledOptions.{no_options};
 ghost use Rattle.markdown_render.specs.Words.{option_of, turned_on};
 
 use markdown_base::options::Options;
 
-/// The option that a word turns on; None where the word is unknown.
+/// Returns the option that a word enables, or `None` where the word is unknown.
 fn option_of(word: &str) -> Option<Options>
     ensures { result ≡ option_of word.now }
 {
@@ -29,7 +29,7 @@ fn option_of(word: &str) -> Option<Options>
     })
 }
 
-/// What words turn on, each in its turn; they may repeat.
+/// Returns the options that the words enable. Words may repeat.
 ///
 /// # Errors
 ///

@@ -1,4 +1,4 @@
-//! The Starts of blocks: headings, block quotes, code blocks and lists.
+//! The Starts of block quotes, code blocks and lists.
 ghost use Rattle.std.specs.Prelude.{◌≡◌, OnOk, OnErr};
 ghost use Rattle.markdown_base.specs.Event.{code_block_view, block_quote, list};
 ghost use Rattle.markdown_out.specs.ByteLists.{Appends, AppendsPart, fresh_after_bytes, joined};
@@ -11,7 +11,7 @@ use itoa::Buffer;
 use markdown_base::tag::{BlockQuoteKind, CodeBlockKind};
 use std::alloc::AllocError;
 
-/// The class of a block quote.
+/// Returns the class attribute of a block quote, with the space before it; without a kind, nothing.
 fn class_of(kind: Option<BlockQuoteKind>) -> &'static str
     ensures { result.now ≡ quote_class kind }
 {
@@ -25,7 +25,7 @@ fn class_of(kind: Option<BlockQuoteKind>) -> &'static str
     }
 }
 
-/// The language that an info string names: what stands before its first space.
+/// Returns the language of an info string: the text before its first space.
 fn language_of(info: &str) -> &str
     ensures { result.now ≡ language info.now }
 {
@@ -35,7 +35,7 @@ fn language_of(info: &str) -> &str
     }
 }
 
-/// Appends a code block's Start.
+/// Appends the Start of a code block, with a class for its language where that is not empty.
 fn put_code_block(s: &mut String, fresh: &mut bool, name: &str) -> Result<(), AllocError>
     ensures ok { OnOk result (Appends s.old s.new (joined (code_block_parts fresh.old name.now))) }
     ensures fresh { OnOk result (fresh.new ≡ fresh_after_bytes fresh.old
@@ -59,7 +59,7 @@ fn put_code_block(s: &mut String, fresh: &mut bool, name: &str) -> Result<(), Al
     )
 }
 
-/// Appends the Start of a list that begins with another number than 1.
+/// Appends the Start of an ordered list whose first number is not 1.
 fn put_numbered_list(s: &mut String, fresh: &mut bool, digits: &str) -> Result<(), AllocError>
     ensures ok { OnOk result (Appends s.old s.new
         (joined (numbered_list_parts fresh.old digits.now))) }
@@ -84,7 +84,7 @@ fn put_numbered_list(s: &mut String, fresh: &mut bool, digits: &str) -> Result<(
 impl<'a> Writer<'a> {
     ghost use Rattle.markdown_out.specs.Writer.{view, after_bytes};
 
-    /// A block quote.
+    /// Appends the Start of a block quote.
     pub(super) fn block_quote(
         &mut self,
         s: &mut String,
@@ -111,7 +111,7 @@ impl<'a> Writer<'a> {
         )
     }
 
-    /// A code block.
+    /// Appends the Start of a code block.
     pub(super) fn code_block(
         &mut self,
         s: &mut String,
@@ -133,7 +133,7 @@ impl<'a> Writer<'a> {
         }
     }
 
-    /// A list.
+    /// Appends the Start of a list: an ordered one, where there is a first number.
     pub(super) fn list(&mut self, s: &mut String, first: Option<u64>) -> Result<(), AllocError>
         ensures ok { OnOk result (Appends s.old s.new (joined (start_parts (view self.old)
             (list first)))) }

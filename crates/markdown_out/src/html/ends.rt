@@ -1,4 +1,4 @@
-//! What an End outside images writes.
+//! The HTML of an End outside images.
 ghost use Rattle.std.specs.Prelude.{◌≡◌, [], ◌∷◌, None, OnOk, OnErr, codes};
 ghost use Rattle.markdown_base.specs.Event.{end as end_event};
 ghost use Rattle.markdown_out.specs.ByteLists.{Appends, AppendsPart, joined};
@@ -8,7 +8,7 @@ use super::Writer;
 use markdown_base::tag::{HeadingLevel, TagEnd};
 use std::alloc::AllocError;
 
-/// What ends a heading.
+/// Returns the end tag of a heading, with the newline after it.
 fn heading_end(level: HeadingLevel) -> &'static str
     ensures { result.now ≡ joined (codes "</h" ∷ level_digit level ∷ codes ">\n" ∷ []) }
 {
@@ -25,7 +25,7 @@ fn heading_end(level: HeadingLevel) -> &'static str
 impl<'a> Writer<'a> {
     ghost use Rattle.markdown_out.specs.Writer.{view, view_after};
 
-    /// What an End outside images writes.
+    /// Returns what an End outside images writes.
     fn end_text(&self, tag: TagEnd) -> &'static str
         ensures { result.now ≡ joined (end_parts (view self.now) tag) }
     {
@@ -56,7 +56,7 @@ impl<'a> Writer<'a> {
         }
     }
 
-    /// Remembers what an End outside images tells, but for the bytes that it writes.
+    /// Updates the state for an End outside images, except `fresh`, which depends on the bytes that it writes.
     fn note_end(&mut self, tag: TagEnd)
         requires { self.old.image ≡ None }
         ensures view { view self.new
@@ -71,7 +71,7 @@ impl<'a> Writer<'a> {
         }
     }
 
-    /// An End outside images.
+    /// Appends the HTML of an End outside images.
     pub(super) fn end(&mut self, s: &mut String, tag: TagEnd) -> Result<(), AllocError>
         requires { self.old.image ≡ None }
         ensures ok { OnOk result (Appends s.old s.new (joined (end_parts (view self.old) tag))) }

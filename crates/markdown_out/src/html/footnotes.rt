@@ -1,4 +1,4 @@
-//! The numbers of footnotes, their references and their definitions.
+//! The HTML of footnotes: references and definitions, with their numbers.
 ghost use Rattle.std.specs.Prelude.{◌≡◌, ◌++◌, ◌∷◌, [], OnOk, OnErr, IfErr};
 ghost use Rattle.std.specs.Prelude.{None};
 ghost use Rattle.std.specs.String.{string_bytes};
@@ -21,7 +21,7 @@ use markdown_base::cow_str::CowStr;
 use markdown_base::fault::Fault;
 use std::alloc::AllocError;
 
-/// Appends what comes before the number of a reference.
+/// Appends what precedes the number in a footnote reference.
 fn push_reference(s: &mut String, name: &str) -> Result<(), AllocError>
     ensures ok { OnOk result (Appends s.old s.new (joined (to_reference_number name.now))) }
     ensures err { OnErr result (AppendsPart s.old s.new (joined (to_reference_number name.now))) }
@@ -36,7 +36,7 @@ fn push_reference(s: &mut String, name: &str) -> Result<(), AllocError>
     )
 }
 
-/// Appends what comes before the number of a definition.
+/// Appends what precedes the number in the Start of a footnote definition.
 fn push_definition(s: &mut String, fresh: bool, name: &str) -> Result<(), AllocError>
     ensures ok { OnOk result (Appends s.old s.new (joined (to_definition_number fresh name.now))) }
     ensures err { OnErr result (AppendsPart s.old s.new (joined (to_definition_number fresh name.now))) }
@@ -57,7 +57,7 @@ impl<'a> Writer<'a> {
     ghost use Rattle.markdown_out.specs.FootnoteParts.{after_number};
     ghost use Rattle.markdown_out.specs.Writer.{view, view_in, view_after, after_alt_reference};
 
-    /// Appends the number of a name, which is known from now on, and what comes after it.
+    /// Appends the number of a footnote's name, and the text `after` it. A new name gets the next number.
     fn put_number(
         &mut self,
         s: &mut String,
@@ -80,7 +80,7 @@ impl<'a> Writer<'a> {
         )
     }
 
-    /// A footnote's definition.
+    /// Appends the Start of a footnote definition outside images.
     pub(super) fn footnote_definition(
         &mut self,
         s: &mut String,
@@ -99,7 +99,7 @@ impl<'a> Writer<'a> {
         self.put_number(s, name, "</sup>")
     }
 
-    /// A footnote's reference outside images.
+    /// Appends a footnote reference outside images.
     pub(super) fn footnote_reference(
         &mut self,
         s: &mut String,
@@ -118,7 +118,7 @@ impl<'a> Writer<'a> {
         self.put_number(s, name, "</a></sup>")
     }
 
-    /// A footnote's reference in an image.
+    /// Appends a footnote reference to an alt text: its number in brackets.
     pub(super) fn alt_reference(
         &mut self,
         s: &mut String,
@@ -135,7 +135,7 @@ impl<'a> Writer<'a> {
         self.put_number(s, Name { text: name }, "]")
     }
 
-    /// The same, where the image stays open.
+    /// Appends a footnote reference to the alt text of an image, and keeps the image open.
     pub(super) fn add_reference(
         &mut self,
         s: &mut String,

@@ -1,4 +1,4 @@
-//! A heading's Start, with its id, classes and other attributes.
+//! The Start of a heading, with its id, classes and other attributes.
 ghost use Rattle.std.specs.Prelude.{◌≡◌, ◌++◌, OnOk, OnErr, map};
 ghost use Rattle.std.specs.List.{flat_map};
 ghost use Rattle.std.specs.Option.{option_map};
@@ -16,7 +16,7 @@ use markdown_base::cow_str::CowStr;
 use markdown_base::tag::HeadingLevel;
 use std::alloc::AllocError;
 
-/// The digit of a level.
+/// Returns the digit of a heading's level.
 pub(super) fn digit(level: HeadingLevel) -> &'static str
     ensures { result.now ≡ level_digit level }
 {
@@ -30,7 +30,7 @@ pub(super) fn digit(level: HeadingLevel) -> &'static str
     }
 }
 
-/// Appends the id, where there is one.
+/// Appends the `id` attribute, where there is an id.
 fn push_id(s: &mut String, id: &Option<CowStr<'_>>) -> Result<(), AllocError>
     ensures ok { OnOk result (Appends s.old s.new (id_attribute (option_map text_of id.now))) }
     ensures err { OnErr result
@@ -49,7 +49,7 @@ fn push_id(s: &mut String, id: &Option<CowStr<'_>>) -> Result<(), AllocError>
     }
 }
 
-/// Appends classes, each behind a space.
+/// Appends classes, each after a space.
 fn push_further_classes(s: &mut String, classes: &[CowStr<'_>]) -> Result<(), AllocError>
     ensures ok { OnOk result (Appends s.old s.new (flat_map further_class
         (map text_of classes.now))) }
@@ -62,7 +62,7 @@ fn push_further_classes(s: &mut String, classes: &[CowStr<'_>]) -> Result<(), Al
     Ok(())
 }
 
-/// Appends the classes, where there are any.
+/// Appends the `class` attribute, where there are classes.
 fn push_classes(s: &mut String, classes: &[CowStr<'_>]) -> Result<(), AllocError>
     ensures ok { OnOk result (Appends s.old s.new (class_attribute (map text_of classes.now))) }
     ensures err { OnErr result
@@ -79,7 +79,7 @@ fn push_classes(s: &mut String, classes: &[CowStr<'_>]) -> Result<(), AllocError
     push_pieces(s, &[Piece::Raw("\"")])
 }
 
-/// Appends one more attribute.
+/// Appends an attribute that is neither id nor class. Without a value, its value is empty.
 fn push_attribute(
     s: &mut String,
     attribute: &(CowStr<'_>, Option<CowStr<'_>>),
@@ -106,7 +106,7 @@ fn push_attribute(
     )
 }
 
-/// Appends the other attributes.
+/// Appends the attributes that are neither id nor class.
 fn push_attributes(
     s: &mut String,
     attributes: &[(CowStr<'_>, Option<CowStr<'_>>)],
@@ -122,7 +122,7 @@ fn push_attributes(
     Ok(())
 }
 
-/// Appends a heading's Start.
+/// Appends the Start of a heading.
 pub(super) fn put_heading(
     s: &mut String,
     fresh: &mut bool,

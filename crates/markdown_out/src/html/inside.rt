@@ -1,4 +1,4 @@
-//! What an event inside an image adds to its alt text, and the image's end.
+//! What an event inside an image adds to its alt text, and what closes the image.
 ghost use Rattle.std.specs.Prelude.{◌≡◌, ◌≤◌, ◌+◌, ◌^◌, ◌∷◌, [], None, Some, OnOk, IfErr};
 ghost use Rattle.markdown_base.specs.Event.{event_view, end as end_event};
 ghost use Rattle.markdown_base.specs.declared.fault.Fault.TheVariants.{Memory, Depth};
@@ -16,14 +16,14 @@ use markdown_base::event::Event;
 use markdown_base::fault::Fault;
 use markdown_base::tag::TagEnd;
 
-/// A text that stands alone in an attribute.
+/// Returns a text as three pieces, two of them empty. It is escaped for an attribute's value.
 fn escaped(text: &str) -> [Piece<'_>; 3]
     ensures { spelled result ≡ attribute_escaped text.now }
 {
     [Piece::Raw(""), Piece::Raw(""), Piece::Attribute(text)]
 }
 
-/// Math, between two marks.
+/// Returns the pieces of math in an attribute's value, between two marks.
 fn marked<'x>(mark: &'x str, text: &'x str) -> [Piece<'x>; 3]
     ensures { spelled result ≡ joined (mark.now ∷ attribute_escaped text.now ∷ mark.now ∷ []) }
 {
@@ -39,7 +39,7 @@ impl<'a> Writer<'a> {
     ghost use Rattle.markdown_out.specs.Writer.{view, view_in, view_after, after_bytes, with_image};
     ghost use Rattle.markdown_out.specs.Writer.{AddsAlt, MayRefuse};
 
-    /// Adds pieces to the alt text of an image that stays open.
+    /// Appends pieces to the alt text of an image, and keeps the image open.
     fn add(
         &mut self,
         s: &mut String,
@@ -59,7 +59,7 @@ impl<'a> Writer<'a> {
         }
     }
 
-    /// What an event that adds to an alt text by itself is spelled by there.
+    /// Returns the pieces that an event adds to an alt text, which is not a Start, an End or a footnote reference.
     fn alt_pieces<'x>(&self, event: &'x Event<'a>) -> [Piece<'x>; 3]
         requires { AddsAlt (event_view event.now) }
         ensures { spelled result ≡ joined (alt_parts (view self.now) (event_view event.now)) }
@@ -78,7 +78,8 @@ impl<'a> Writer<'a> {
         }
     }
 
-    /// An event that adds to the alt text by itself.
+    /// Appends what an event other than a Start, an End or a footnote reference adds to the alt text, and keeps the
+    /// image open.
     fn single_inside(
         &mut self,
         s: &mut String,
@@ -97,7 +98,7 @@ impl<'a> Writer<'a> {
         self.add(s, image, &pieces)
     }
 
-    /// A Start inside an image.
+    /// Counts a Start inside an image, which writes nothing. Returns `Depth` where the count overflows.
     fn start_inside(&mut self, image: OpenImage<'a>) -> Result<(), Fault>
         ensures ok { OnOk result (self.new ≡ with_image self.old
             (record { starts = image.entry.starts + 1; title = image.entry.title })) }
@@ -113,7 +114,7 @@ impl<'a> Writer<'a> {
         Ok(())
     }
 
-    /// An End inside an image: that of a Start inside, or the image's own.
+    /// Handles an End inside an image: it ends a Start inside, or, where none is open, closes the image.
     fn end_inside(&mut self, s: &mut String, image: OpenImage<'a>, tag: TagEnd) -> Result<(), Fault>
         requires { self.old.image ≡ None }
         ensures ok { OnOk result (Appends s.old s.new
@@ -134,7 +135,7 @@ impl<'a> Writer<'a> {
         self.finish_image(s, image.title.as_str())
     }
 
-    /// An event inside an image.
+    /// Appends what an event writes inside an image.
     pub(super) fn inside(
         &mut self,
         s: &mut String,
@@ -166,7 +167,7 @@ impl<'a> Writer<'a> {
         }
     }
 
-    /// What closes an image.
+    /// Appends what closes an image.
     pub(super) fn finish_image(&mut self, s: &mut String, title: &str) -> Result<(), Fault>
         ensures ok { OnOk result (Appends s.old s.new (image_end title.now)) }
         ensures state { OnOk result (self.new ≡ after_bytes self.old (image_end title.now)) }

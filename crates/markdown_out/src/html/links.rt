@@ -1,4 +1,4 @@
-//! Links, and the Start and the end of an image.
+//! The Start of a link, and the Start and the end of an image.
 ghost use Rattle.std.specs.Prelude.{◌≡◌, ◌++◌, OnOk, OnErr, codes};
 ghost use Rattle.std.specs.String.{string_bytes};
 ghost use Rattle.markdown_out.specs.ByteLists.{Appends, AppendsPart, fresh_after_bytes, joined};
@@ -9,7 +9,7 @@ use super::pieces::{put, put_raw};
 use markdown_base::tag::LinkType;
 use std::alloc::AllocError;
 
-/// What stands before a link's destination.
+/// Returns what precedes a link's destination, which includes `mailto:` for an email autolink.
 fn link_lead(kind: LinkType) -> &'static str
     ensures { result.now ≡ codes "<a href=\"" ++ link_scheme kind }
 {
@@ -19,7 +19,7 @@ fn link_lead(kind: LinkType) -> &'static str
     }
 }
 
-/// Appends a link's Start.
+/// Appends the Start of a link.
 pub(super) fn put_link<'x>(
     s: &mut String,
     fresh: &mut bool,
@@ -59,7 +59,7 @@ pub(super) fn put_link<'x>(
     )
 }
 
-/// Appends an image's Start, up to its alt text.
+/// Appends the Start of an image, up to its alt text.
 pub(super) fn put_image(
     s: &mut String,
     fresh: &mut bool,
@@ -81,7 +81,7 @@ pub(super) fn put_image(
     )
 }
 
-/// Appends what closes an image.
+/// Appends what closes an image, from the quote after its alt text on.
 pub(super) fn put_image_end(s: &mut String, fresh: &mut bool, title: &str) -> Result<(), AllocError>
     ensures ok { OnOk result (Appends s.old s.new (image_end title.now)) }
     ensures fresh { OnOk result (fresh.new ≡ fresh_after_bytes fresh.old (image_end title.now)) }

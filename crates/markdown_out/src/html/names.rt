@@ -1,5 +1,5 @@
-//! The names of footnotes, each at its place among the names as they first came. An ordered map keeps
-//! them, so that no choice of names makes a look-up slow.
+//! The names of footnotes, numbered in the order of their first occurrence. They are kept in an ordered map, so that no
+//! choice of names makes a look-up slow.
 ghost use Rattle.std.specs.Prelude.{◌≡◌, ◌+◌, [], IfOk, OnOk};
 ghost use Rattle.markdown_base.specs.CowText.{text_of};
 ghost use Rattle.markdown_out.specs.LookBacks.{place, with_name};
@@ -11,7 +11,7 @@ use std::collections::BTreeMap;
 use std::collections::btree_map::Entry;
 use std::marker::Model;
 
-/// A footnote's name, ordered by its bytes.
+/// The name of a footnote, ordered by its bytes.
 #[derive(Drop)]
 pub(super) struct Name<'a> {
     pub text: CowStr<'a>,
@@ -72,7 +72,7 @@ impl<'a> Ord for Name<'a> {
     }
 }
 
-/// The names so far.
+/// The names so far, each with its position, from 0.
 #[derive(Drop)]
 pub(super) struct FootnoteNames<'a> {
     places: BTreeMap<Name<'a>, usize>,
@@ -90,7 +90,7 @@ impl<'a> Model for FootnoteNames<'a> {
 }
 
 impl<'a> FootnoteNames<'a> {
-    /// No name came yet.
+    /// Returns an empty set of names.
     pub(super) fn new(alloc: Global) -> Self
         ensures { result ≡ [] }
     {
@@ -99,7 +99,7 @@ impl<'a> FootnoteNames<'a> {
         }
     }
 
-    /// The number of a name: one more than its place among the names, of which it is the last where it is new. The map
+    /// Returns the number of a name, which is one more than its position; a new name is added after the others. The map
     /// is searched once.
     pub(super) fn number_of(&mut self, name: Name<'a>) -> Result<usize, AllocError>
         ensures number { IfOk result (λ number. number ≡ place (text_of name.entry.text) self.old + 1) }

@@ -1,4 +1,4 @@
-//! What an event outside images writes.
+//! The HTML of an event outside images.
 ghost use Rattle.std.specs.Prelude.{◌≡◌, None, OnOk, OnErr};
 ghost use Rattle.markdown_base.specs.CowText.{text_of};
 ghost use Rattle.markdown_base.specs.Event.{event_view, text};
@@ -14,7 +14,7 @@ use std::alloc::AllocError;
 impl<'a> Writer<'a> {
     ghost use Rattle.markdown_out.specs.Writer.{view, view_after, IsRarer, IsSingle, IsVerbatim};
 
-    /// A Text outside images; in metadata it writes nothing.
+    /// Appends a Text outside images; in metadata it writes nothing.
     fn text(&mut self, s: &mut String, words: &str) -> Result<(), AllocError>
         requires { self.old.image ≡ None }
         ensures ok { OnOk result (Appends s.old s.new (joined (outside_parts (view self.old)
@@ -32,7 +32,7 @@ impl<'a> Writer<'a> {
         put_text(s, &mut self.fresh, words)
     }
 
-    /// What an event writes that is written as it is.
+    /// Returns what an event writes that needs no escape: HTML, a break, a rule or a task list marker.
     fn verbatim<'x>(&self, event: &'x Event<'a>) -> &'x str
         requires { IsVerbatim (event_view event.now) }
         ensures { result.now ≡ joined (outside_parts (view self.now) (event_view event.now)) }
@@ -52,7 +52,7 @@ impl<'a> Writer<'a> {
         }
     }
 
-    /// Such an event.
+    /// Appends an event outside images that needs no escape.
     fn put_verbatim(&mut self, s: &mut String, event: &Event<'a>) -> Result<(), AllocError>
         requires outside { self.old.image ≡ None }
         requires verbatim { IsVerbatim (event_view event.now) }
@@ -67,7 +67,7 @@ impl<'a> Writer<'a> {
         self.raw(s, text)
     }
 
-    /// An event outside images that is written by itself.
+    /// Appends an event outside images that is neither a Start, an End, a Text nor a footnote reference.
     fn single(&mut self, s: &mut String, event: &Event<'a>) -> Result<(), AllocError>
         requires outside { self.old.image ≡ None }
         requires single { IsSingle (event_view event.now) }
@@ -99,7 +99,7 @@ impl<'a> Writer<'a> {
         put(s, &mut self.fresh, &pieces)
     }
 
-    /// A Text outside images, held in any way. Mostly it is a slice of the source, which is written where it stands.
+    /// Appends a Text outside images, however it is held. Most are slices of the source, which need not be dropped.
     fn any_text(&mut self, s: &mut String, words: CowStr<'a>) -> Result<(), AllocError>
         requires { self.old.image ≡ None }
         ensures ok { OnOk result (Appends s.old s.new (joined (outside_parts (view self.old)
@@ -119,7 +119,7 @@ impl<'a> Writer<'a> {
         }
     }
 
-    /// An event outside images that is none of the most frequent ones.
+    /// Appends an event outside images that is neither a Text nor an End.
     fn rarer(&mut self, s: &mut String, event: Event<'a>) -> Result<(), AllocError>
         requires outside { self.old.image ≡ None }
         requires rarer { IsRarer (event_view event) }
@@ -141,8 +141,8 @@ impl<'a> Writer<'a> {
         }
     }
 
-    /// An event outside images. The most frequent ones are taken apart at once, so that only others are moved as a
-    /// whole.
+    /// Appends the HTML of an event outside images. The most frequent events are taken apart here, so that only the
+    /// others are moved as a whole.
     pub(super) fn outside(&mut self, s: &mut String, event: Event<'a>) -> Result<(), AllocError>
         requires { self.old.image ≡ None }
         ensures ok { OnOk result (Appends s.old s.new (joined (outside_parts (view self.old)

@@ -1,4 +1,4 @@
-//! Pieces of HTML, written one after another.
+//! Pieces of HTML, which are written one after another.
 ghost use Rattle.std.specs.Prelude.{◌≡◌, ◌++◌, OnOk, OnErr, drop};
 ghost use Rattle.std.specs.String.{string_bytes};
 ghost use Rattle.markdown_out.specs.ByteLists.{Appends, AppendsPart, fresh_after_bytes};
@@ -10,14 +10,14 @@ use super::Piece;
 use crate::escape::{Escape, push_any, push_destination, push_escaped};
 use std::alloc::AllocError;
 
-/// What begins a line.
+/// Returns a newline, or nothing where the line is fresh.
 pub(super) fn line_break(fresh: bool) -> &'static str
     ensures { result.now ≡ new_line fresh }
 {
     if fresh { "" } else { "\n" }
 }
 
-/// A text that stands alone among pieces.
+/// Returns a text as three pieces, two of them empty. It is written as it is.
 pub(super) fn alone(text: &str) -> [Piece<'_>; 3]
     ensures { spelled result ≡ text.now }
 {
@@ -37,7 +37,7 @@ fn push_piece(s: &mut String, piece: Piece<'_>) -> Result<(), AllocError>
     }
 }
 
-/// Appends the pieces.
+/// Appends the pieces in their order.
 pub(super) fn push_pieces(s: &mut String, pieces: &[Piece<'_>]) -> Result<(), AllocError>
     ensures ok { OnOk result (Appends s.old s.new (spelled pieces.now)) }
     ensures err { OnErr result (AppendsPart s.old s.new (spelled pieces.now)) }
@@ -48,7 +48,8 @@ pub(super) fn push_pieces(s: &mut String, pieces: &[Piece<'_>]) -> Result<(), Al
     Ok(())
 }
 
-/// Whether a line is fresh after the bytes from `start` on; where there are none, what was so before.
+/// Returns whether the line is fresh after the bytes from `start` on: whether they end with a newline, and `before`
+/// where there are none.
 fn fresh_behind(bytes: &[u8], start: usize, before: bool) -> bool
     ensures { result ≡ fresh_after_bytes before (drop start bytes.now) }
 {
@@ -59,7 +60,7 @@ fn fresh_behind(bytes: &[u8], start: usize, before: bool) -> bool
     }
 }
 
-/// Appends the pieces, and tells whether a line is fresh then.
+/// Appends the pieces, and updates `fresh`.
 pub(super) fn put(s: &mut String, fresh: &mut bool, pieces: &[Piece<'_>]) -> Result<(), AllocError>
     ensures ok { OnOk result (Appends s.old s.new (spelled pieces.now)) }
     ensures fresh { OnOk result (fresh.new ≡ fresh_after_bytes fresh.old (spelled pieces.now)) }
@@ -71,7 +72,7 @@ pub(super) fn put(s: &mut String, fresh: &mut bool, pieces: &[Piece<'_>]) -> Res
     Ok(())
 }
 
-/// Appends a text as it is, and tells whether a line is fresh then.
+/// Appends a text as it is, and updates `fresh`.
 pub(super) fn put_raw(s: &mut String, fresh: &mut bool, text: &str) -> Result<(), AllocError>
     ensures ok { OnOk result (Appends s.old s.new text.now) }
     ensures fresh { OnOk result (fresh.new ≡ fresh_after_bytes fresh.old text.now) }
@@ -82,7 +83,7 @@ pub(super) fn put_raw(s: &mut String, fresh: &mut bool, text: &str) -> Result<()
     Ok(())
 }
 
-/// Appends running text, escaped, and tells whether a line is fresh then.
+/// Appends running text, escaped, and updates `fresh`.
 pub(super) fn put_text(s: &mut String, fresh: &mut bool, text: &str) -> Result<(), AllocError>
     ensures ok { OnOk result (Appends s.old s.new (text_escaped text.now)) }
     ensures fresh { OnOk result (fresh.new ≡ fresh_after_bytes fresh.old (text_escaped text.now)) }

@@ -1,4 +1,4 @@
-//! The whole: events up to the first `None`, written one after another.
+//! `push_html`, which writes the events of an iterator up to its first `None`.
 ghost use Rattle.std.specs.Prelude.{◌≡◌, ◌⊎◌, ◌++◌, [], OnOk, IfErr};
 ghost use Rattle.std.specs.Iterator.{IsFinite};
 ghost use Rattle.std.specs.String.{string_bytes};
@@ -17,7 +17,7 @@ use std::alloc::Global;
 impl<'a> Writer<'a> {
     ghost use Rattle.markdown_out.specs.Writer.{view, view_after, MayRefuse};
 
-    /// A writer that no event was given yet.
+    /// Returns a writer that has read no event. Allocates nothing.
     fn new(alloc: Global) -> Self
         ensures { view result ≡ past_of [] }
     {
@@ -32,7 +32,7 @@ impl<'a> Writer<'a> {
         }
     }
 
-    /// Appends what stands for an event.
+    /// Appends the HTML of an event.
     fn event(&mut self, s: &mut String, event: Event<'a>) -> Result<(), Fault>
         ensures ok { OnOk result
             (Appends s.old s.new (event_bytes (view self.old) (event_view event.entry))) }
@@ -54,7 +54,7 @@ impl<'a> Writer<'a> {
         }
     }
 
-    /// Closes an image that is open at the end of the events.
+    /// Closes the image that is open at the end of the events, if there is one.
     fn finish(self, s: &mut String) -> Result<(), Fault>
         ensures ok { OnOk result (Appends s.old s.new (closing (view self.entry).open_image)) }
         ensures err { IfErr result (λ fault. (fault ≡ Memory) × AppendsPart s.old s.new
@@ -68,8 +68,8 @@ impl<'a> Writer<'a> {
     }
 }
 
-/// Appends the HTML of the events up to the first `None`. The line counts as fresh at the
-/// beginning, whatever the string holds. Nothing is appended but this HTML.
+/// Appends the HTML of the events up to the first `None`, and nothing else. It starts as at the beginning of a line,
+/// whatever the string holds.
 ///
 /// ```
 /// let mut html = String::new(alloc);
@@ -79,23 +79,23 @@ impl<'a> Writer<'a> {
 ///
 /// # Errors
 ///
-/// - The fault of an item that is one: the HTML of the events before it stands appended, without
-///   what closes an image whose End did not come.
-/// - `Memory`, where an allocation is refused: the same, of the events before the one that was being
-///   written, and a prefix of its bytes; or, where an image was to be closed behind all events, of
-///   them all, and a prefix of what closes it.
-/// - `Depth`, where more than 2^64 - 1 Starts in one image have no End yet: the same, of the events
-///   read.
+/// After each of them the *open* HTML of some events has been appended: without what closes an image that has no End.
+///
+/// - The error of the first item that is one: the open HTML of the events before it.
+/// - `Memory`, where an allocation is refused: the open HTML of the events before the one that was being written, and a
+///   prefix of its bytes; or, where an image was to be closed after the last event, the open HTML of all events, and a
+///   prefix of what closes the image.
+/// - `Depth`, where more than 2^64 - 1 Starts in one image have no End yet: the open HTML of the events read.
 pub fn push_html<'a, I>(alloc: Global, s: &mut String, iter: I) -> Result<(), Fault>
 where
     I: Iterator<Item = Result<Event<'a>, Fault>>,
     requires can { I.can_next iter }
     requires ends { IsFinite (I.remaining iter) }
-    // The old text, and then the HTML of all events.
+    // The old text is followed by the HTML of all events.
     ensures ok { OnOk result
         (IsRendered I.next_gives iter (string_bytes s.old) (string_bytes s.new)) }
 
-    // The first item that is an error, or a fault of the call's own.
+    // The first item that is an error, or an error of this function's own.
     ensures err { IfErr result (λ fault.
         StopsAtError I.next_gives iter (string_bytes s.old) (string_bytes s.new) fault
         ⊎ IsOwnFault I.next_gives iter (string_bytes s.old) (string_bytes s.new) fault) }

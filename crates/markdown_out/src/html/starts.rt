@@ -1,4 +1,4 @@
-//! What a Start outside images writes.
+//! The HTML of a Start outside images.
 ghost use Rattle.std.specs.Prelude.{◌≡◌, ◌++◌, [], ◌∷◌, None, OnOk, OnErr};
 ghost use Rattle.markdown_base.specs.Event.{tag_view, start as start_event};
 ghost use Rattle.markdown_out.specs.ByteLists.{Appends, AppendsPart, joined};
@@ -25,7 +25,7 @@ impl<'a> Writer<'a> {
         put_raw(s, &mut self.fresh, text)
     }
 
-    /// Appends a text at the beginning of a line.
+    /// Appends a text at the beginning of a line, after a newline where the line is not fresh.
     pub(super) fn line(&mut self, s: &mut String, text: &'static str) -> Result<(), AllocError>
         ensures ok { OnOk result (Appends s.old s.new (joined (new_line self.old.fresh ∷ text.now ∷
             []))) }
@@ -38,7 +38,7 @@ impl<'a> Writer<'a> {
         put(s, &mut self.fresh, &[Piece::Raw(first), Piece::Raw(text)])
     }
 
-    /// What the Start of a tag that is the same in all texts writes outside images.
+    /// Returns what a Start outside images writes whose HTML depends at most on `fresh` (`IsFixed`).
     fn fixed_start(&self, tag: &Tag<'a>) -> &'static str
         requires { IsFixed (tag_view tag.now) }
         ensures { result.now ≡ joined (start_parts (view self.now) (tag_view tag.now)) }
@@ -60,7 +60,8 @@ impl<'a> Writer<'a> {
         }
     }
 
-    /// Remembers what such a Start outside images tells, but for the bytes that it writes.
+    /// Updates the state for a Start outside images that is fixed (`IsFixed`), except `fresh`, which depends on the
+    /// bytes that it writes.
     fn note_start(&mut self, tag: &Tag<'a>)
         requires outside { self.old.image ≡ None }
         requires fixed { IsFixed (tag_view tag.now) }
@@ -79,7 +80,7 @@ impl<'a> Writer<'a> {
         }
     }
 
-    /// Such a Start outside images.
+    /// Appends the HTML of a Start outside images that is fixed (`IsFixed`).
     fn start_fixed(&mut self, s: &mut String, tag: &Tag<'a>) -> Result<(), AllocError>
         requires outside { self.old.image ≡ None }
         requires fixed { IsFixed (tag_view tag.now) }
@@ -95,7 +96,8 @@ impl<'a> Writer<'a> {
         self.raw(s, text)
     }
 
-    /// A Start outside images of which nothing is kept.
+    /// Appends the HTML of a Start outside images whose tag need not be kept: not an image, a table or a footnote
+    /// definition.
     fn start_released(&mut self, s: &mut String, tag: &Tag<'a>) -> Result<(), AllocError>
         requires outside { self.old.image ≡ None }
         requires released { IsReleased (tag_view tag.now) }
@@ -133,7 +135,7 @@ impl<'a> Writer<'a> {
         }
     }
 
-    /// An image's Start outside images: its title is kept for its end.
+    /// Appends the Start of an image outside images, and keeps its title for its end.
     fn open_image(
         &mut self,
         s: &mut String,
@@ -150,7 +152,7 @@ impl<'a> Writer<'a> {
         put_image(s, &mut self.fresh, destination)
     }
 
-    /// A Start outside images whose tag is none of the most frequent ones.
+    /// Appends the HTML of a Start outside images whose tag is none of the most frequent ones.
     fn rarer_start(&mut self, s: &mut String, tag: Tag<'a>) -> Result<(), AllocError>
         requires outside { self.old.image ≡ None }
         requires rarer { IsRarerTag (tag_view tag) }
@@ -177,8 +179,8 @@ impl<'a> Writer<'a> {
         }
     }
 
-    /// A Start outside images. What the most frequent ones write is found at once, so that only others are moved as a
-    /// whole, and dropped.
+    /// Appends the HTML of a Start outside images. The most frequent tags are handled here, so that only the others are
+    /// moved as a whole, and dropped.
     pub(super) fn start(&mut self, s: &mut String, tag: Tag<'a>) -> Result<(), AllocError>
         requires { self.old.image ≡ None }
         ensures ok { OnOk result (Appends s.old s.new (joined (start_parts (view self.old)

@@ -1,4 +1,4 @@
-//! What the Starts of tables, of their heads and rows and of cells write.
+//! The Starts of tables and of their cells.
 ghost use Rattle.std.specs.Prelude.{◌≡◌, ◌++◌, None, OnOk, OnErr};
 ghost use Rattle.std.specs.Option.{option_copied};
 ghost use Rattle.markdown_base.specs.Event.{start as start_event, table, table_cell};
@@ -10,7 +10,7 @@ use super::{Piece, Writer};
 use markdown_base::tag::Alignment;
 use std::alloc::AllocError;
 
-/// How a cell is aligned, to the end of its tag.
+/// Returns the rest of a cell's tag: its alignment, and the `>`.
 fn style_of(alignment: Option<&Alignment>) -> &'static str
     ensures { result.now ≡ cell_style (option_copied alignment.entry) }
 {
@@ -25,7 +25,7 @@ fn style_of(alignment: Option<&Alignment>) -> &'static str
 impl<'a> Writer<'a> {
     ghost use Rattle.markdown_out.specs.Writer.{view, view_after, after_bytes};
 
-    /// A table's Start outside images.
+    /// Appends the Start of a table outside images, and keeps the alignments of its columns.
     pub(super) fn table(
         &mut self,
         s: &mut String,
@@ -43,7 +43,8 @@ impl<'a> Writer<'a> {
         self.raw(s, "<table>")
     }
 
-    /// How a cell begins: by whether it is one of a head, and by its column.
+    /// Returns the tag of a cell, in two parts: its name, which depends on whether the cell belongs to a head, and the
+    /// rest, which depends on its column.
     fn cell_start(&self) -> (&'static str, &'static str)
         ensures { result.0.now ++ result.1.now ≡ joined (start_parts (view self.now) table_cell) }
     {
@@ -51,7 +52,7 @@ impl<'a> Writer<'a> {
         (name, style_of(self.alignments.as_slice().get(self.column)))
     }
 
-    /// A cell's Start.
+    /// Appends the Start of a cell.
     pub(super) fn cell(&mut self, s: &mut String) -> Result<(), AllocError>
         ensures ok { OnOk result (Appends s.old s.new
             (joined (start_parts (view self.old) table_cell))) }

@@ -1,4 +1,4 @@
-//! What a merge holds between two answers of its iterator, and what it does at an answer.
+//! What a merge holds between two calls of its iterator, and what it does with the result of a call.
 ghost use Rattle.std.specs.Prelude.{◌≡◌, ◌++◌, ◌≤◌, Some, None, IfOk, IfErr, MatchResult, map, string_bytes};
 ghost use Rattle.std.specs.Option.{option_map};
 ghost use Rattle.markdown_base.specs.CowText.{text_of};
@@ -16,7 +16,7 @@ use std::alloc::{AllocError, Global};
 /// An event with its place, or an error.
 pub type Placed<'a, P> = Result<(Event<'a>, P), Fault>;
 
-/// Two or more texts that were joined.
+/// Two or more texts that have been joined.
 #[derive(Drop)]
 pub struct JoinedTexts<P> {
     pub bytes: String,
@@ -24,7 +24,7 @@ pub struct JoinedTexts<P> {
     pub last: P,
 }
 
-/// What was read and not given yet.
+/// What has been read and not returned yet.
 #[derive(Drop)]
 pub enum Held<'a, P> {
     Nothing,
@@ -32,14 +32,14 @@ pub enum Held<'a, P> {
     Texts(JoinedTexts<P>),
 }
 
-/// What comes after an answer was taken in: the next one is needed, or this one is given.
+/// What a merge does next: it calls its iterator again, or returns this.
 #[derive(Drop)]
 pub enum Step<'a, P> {
     Again,
     Give(Option<Placed<'a, P>>),
 }
 
-/// The text of an event, or the event that is no text.
+/// Returns the text and its place where the item is a text, and otherwise the item as an `Err`.
 fn into_text<'a, P: Place>(item: Placed<'a, P>) -> Result<(CowStr<'a>, P), Placed<'a, P>>
     ensures { MatchResult result (λ t. placed_view item.entry ≡ text_item (placed_text t))
         (λ x. (x ≡ item.entry) × (text_of_item (placed_view item.entry) ≡ None)) }
@@ -53,7 +53,7 @@ fn into_text<'a, P: Place>(item: Placed<'a, P>) -> Result<(CowStr<'a>, P), Place
     }
 }
 
-/// The text of an answer, or the answer that is none.
+/// Returns the text and its place where the iterator's result is a text, and otherwise the result as an `Err`.
 fn text_or<'a, P: Place>(
     answer: Option<Placed<'a, P>>,
 ) -> Result<(CowStr<'a>, P), Option<Placed<'a, P>>>
@@ -69,7 +69,7 @@ fn text_or<'a, P: Place>(
     }
 }
 
-/// An answer is held until the next one is read.
+/// Returns what a merge holds of the iterator's result until the next one is read.
 fn hold<'a, P: Place>(answer: Option<Placed<'a, P>>) -> Held<'a, P>
     ensures items { held_items result ≡ answer_items answer.entry }
     ensures count { held_count result ≡ answer_count answer.entry }
@@ -80,7 +80,7 @@ fn hold<'a, P: Place>(answer: Option<Placed<'a, P>>) -> Held<'a, P>
     }
 }
 
-/// Two texts as one. The first is not copied where it is boxed.
+/// Joins two texts. The bytes of the first are not copied where it is boxed.
 fn join<'a, P: Place>(
     alloc: Global,
     first: (CowStr<'a>, P),
@@ -100,7 +100,7 @@ fn join<'a, P: Place>(
     })
 }
 
-/// One more text behind those that were joined.
+/// Appends another text to joined ones.
 fn append<'a, P: Place>(
     texts: JoinedTexts<P>,
     last: (CowStr<'a>, P),
@@ -118,7 +118,7 @@ fn append<'a, P: Place>(
     })
 }
 
-/// Joined texts at their end: one text, or none where it is empty.
+/// Ends a run of joined texts: returns them as one text, or calls for the next item where all of them are empty.
 fn close<'a, P: Place>(texts: JoinedTexts<P>) -> Step<'a, P>
     ensures count { given_count result ≤ 1 }
     ensures given { given_answers result
@@ -131,7 +131,7 @@ fn close<'a, P: Place>(texts: JoinedTexts<P>) -> Step<'a, P>
     Step::Give(Some(Ok((Event::Text(CowStr::from(texts.bytes)), place))))
 }
 
-/// An answer after an item.
+/// Takes the iterator's next result where a single item is held.
 fn after_item<'a, P: Place>(
     alloc: Global,
     item: Placed<'a, P>,
@@ -155,7 +155,7 @@ fn after_item<'a, P: Place>(
     }
 }
 
-/// An answer after joined texts.
+/// Takes the iterator's next result where joined texts are held.
 fn after_texts<'a, P: Place>(
     texts: JoinedTexts<P>,
     answer: Option<Placed<'a, P>>,
@@ -172,7 +172,8 @@ fn after_texts<'a, P: Place>(
     }
 }
 
-/// What an answer of the iterator makes of what is held: what is given, and what is held then.
+/// Takes the iterator's next result, and returns what the merge does next and what it then holds. Joining texts fails
+/// where memory is refused; then what was held is dropped.
 pub fn take_in<'a, P: Place>(
     alloc: Global,
     held: Held<'a, P>,

@@ -1,4 +1,4 @@
-//! The merge over any iterator, with places or without.
+//! The merge over any iterator, of events with ranges or without.
 ghost use Rattle.std.specs.Prelude.{◌≡◌, ◌+◌, ◌≤◌, ◌∷◌, [], IfOk, IfErr};
 ghost use Rattle.std.specs.Option.{option_map};
 ghost use Rattle.std.specs.Iterator.{size};
@@ -20,11 +20,11 @@ pub struct Merging<'a, I, P> {
     pub alloc: Global,
     pub iter: I,
     pub held: Held<'a, P>,
-    /// A growth was refused, so nothing more comes.
+    /// Whether an allocation has been refused; then `next` returns `None`.
     pub over: bool,
 }
 
-/// An answer with the event and its place apart.
+/// Splits the item of an iterator's result into event and place.
 fn parted<'a, T: MergeItem<'a>>(answer: Option<Result<T, Fault>>) -> Option<Placed<'a, T::At>>
     ensures view { option_map placed_view result ≡ option_map (item_view T.parts) answer }
     ensures count { answer_count result ≡ answer_count answer }
@@ -36,7 +36,7 @@ fn parted<'a, T: MergeItem<'a>>(answer: Option<Result<T, Fault>>) -> Option<Plac
     }
 }
 
-/// An answer with the event at its place.
+/// Puts event and place together again as the item of a result.
 fn rebuilt<'a, T: MergeItem<'a>>(answer: Option<Placed<'a, T::At>>) -> Option<Result<T, Fault>>
     ensures view { option_map (item_view T.parts) result ≡ option_map placed_view answer.entry }
     ensures count { answer_count result ≡ answer_count answer.entry }
@@ -48,8 +48,8 @@ fn rebuilt<'a, T: MergeItem<'a>>(answer: Option<Placed<'a, T::At>>) -> Option<Re
     }
 }
 
-/// The next answer of a merge, of what it holds and what the iterator answers, and what it holds
-/// then.
+/// Calls the iterator until the merge has a result to return; returns this, and what the merge then holds. Fails where
+/// memory is refused; then what was held is dropped.
 fn advance<'a, T: MergeItem<'a>, I: Iterator<Item = Result<T, Fault>>>(
     alloc: Global,
     iter: &mut I,
@@ -79,7 +79,7 @@ impl<'a, I, P: Place> Merging<'a, I, P> {
     ghost use Rattle.std.specs.Prelude.{◌≡◌, [], false};
     ghost use Rattle.markdown_out.specs.MergeState.{merging_state};
 
-    /// A merge that nothing was read for yet. Takes no memory.
+    /// Returns a merge that has read nothing yet. Allocates nothing.
     pub fn new(alloc: Global, iter: I) -> Self
         ensures { merging_state result ≡ record { iter = iter; held = []; over = false } }
     {
@@ -92,7 +92,8 @@ impl<'a, I, P: Place> Merging<'a, I, P> {
     }
 }
 
-/// What `next` of a merge answers.
+/// Returns the next item of a merge. Where an allocation is refused it is the error `Memory`, and every later call
+/// returns `None`.
 pub fn next_item<'a, T: MergeItem<'a>, I: Iterator<Item = Result<T, Fault>>>(
     merging: &mut Merging<'a, I, T::At>,
 ) -> Option<Result<T, Fault>>

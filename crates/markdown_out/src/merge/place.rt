@@ -1,4 +1,4 @@
-//! What a merge takes: events, with their places in the source or without.
+//! The items of a merge: events, with their ranges in the source or without.
 ghost use Rattle.std.specs.Prelude.{◌≡◌};
 ghost use Rattle.markdown_base.specs.declared.event.Event as declared;
 ghost use Rattle.markdown_out.specs.Places.{bare, nowhere, ranged, through_ranges};
@@ -6,17 +6,17 @@ ghost use Rattle.markdown_out.specs.Places.{bare, nowhere, ranged, through_range
 use markdown_base::event::Event;
 use std::ops::Range;
 
-/// Where an event stands, if anywhere.
+/// The place of an event: a range of the source, or nothing.
 pub trait Place: Drop {
-    /// From the beginning of one place to the end of another.
+    /// The place from the beginning of one place to the end of another.
     ghost through: { Self → Self → Self };
 
-    /// From the beginning of this place to the end of the last.
+    /// Returns the place from the beginning of this place to the end of the last.
     fn through(self, last: Self) -> Self
         ensures { result ≡ through self last };
 }
 
-/// An event without a range stands nowhere.
+/// The place of an event without a range.
 impl Place for () {
     ghost through = { nowhere };
 
@@ -34,18 +34,18 @@ impl Place for Range<usize> {
     }
 }
 
-/// An event, and its place.
+/// An item that is an event, and its place.
 pub trait MergeItem<'a>: Drop {
     type At: Place;
 
     /// The event and its place.
     ghost parts: { Self → declared.Event × Self.At };
 
-    /// The event and its place.
+    /// Returns the event and its place.
     fn into_parts(self) -> (Event<'a>, Self::At)
         ensures { result ≡ parts self };
 
-    /// An event at a place.
+    /// Returns the item of an event at a place.
     fn at(event: Event<'a>, place: Self::At) -> Self
         ensures { parts result ≡ (event.entry, place) };
 }

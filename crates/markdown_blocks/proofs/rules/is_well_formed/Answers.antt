@@ -1,4 +1,4 @@
--- What is tested, is what the rules ask.
+-- What is tested is what the rules require.
 use Rattle.markdown_blocks.proofs.rules.is_well_formed.Goals.{then-not-top_is_closed-via-then-not-top_is_closed}
 use Rattle.markdown_blocks.proofs.rules.is_well_formed.Goals.{
   then-not-top_is_closed-via-else-not-top_is_closed+then-not-all_keep_rules,

@@ -1,4 +1,4 @@
--- Behind all bytes there are none.
+-- After all bytes there are none.
 use Rattle.std.proofs.Common.{sym}
 use Rattle.std.proofs.Math.ListN.{drop_of_length-le}
 use Rattle.markdown_lines.proofs.bytes.bytes_from.Goals as goal

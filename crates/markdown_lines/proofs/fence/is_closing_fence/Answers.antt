@@ -1,4 +1,4 @@
--- What stands behind the fence decides, where it is long enough.
+-- Where the fence is long enough, what follows it decides.
 use Rattle.markdown_lines.proofs.CodeFencesLemmas.{closes_is}
 use Rattle.markdown_lines.proofs.LineBytesLemmas.{tail_of}
 use Rattle.markdown_lines.proofs.fence.is_closing_fence.Goals as goal

@@ -1,4 +1,4 @@
--- Where they do not stand at a place, they stand behind it if at all.
+-- Where the bytes do not begin with them at an offset, they contain them after it, if at all.
 use Rattle.std.proofs.Common.{◌≡◌, false, sym, subst, ◌∙◌}
 use Rattle.markdown_lines.specs.HtmlKinds.{begins_with}
 use Rattle.markdown_lines.proofs.HtmlKindsLemmas.{not_here}

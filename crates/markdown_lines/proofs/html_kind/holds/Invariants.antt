@@ -1,4 +1,4 @@
--- At no place so far do they stand.
+-- At no offset so far do the bytes begin with them.
 use Rattle.std.proofs.Common.{◌≡◌, drop}
 use Rattle.markdown_lines.specs.HtmlKinds.{holds}
 use Rattle.markdown_lines.proofs.html_kind.holds.Given as goal

@@ -1,4 +1,4 @@
--- None of bytes that are all behind the carriage return ends a line.
+-- None of bytes that are all greater than the carriage return ends a line.
 use Rattle.std.proofs.Common.{sym, ap, ◌∙◌, arith}
 use Rattle.std.proofs.lemmas.List.{take_all}
 use Rattle.std.specs.List.{list_all}

@@ -1,4 +1,4 @@
--- Digits so far make a number of so many digits.
+-- The digits so far make a number with as many digits.
 use Rattle.std.proofs.Common.{◌≡◌, ◌<◌, ◌≤◌, ◌^◌, true, take, length}
 use Rattle.std.specs.Char.{is_ascii_digit}
 use Rattle.std.specs.List.{list_all}

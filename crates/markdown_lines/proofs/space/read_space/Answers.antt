@@ -1,4 +1,4 @@
--- One space or tab more; and nothing more is read where so many columns are, or another byte comes.
+-- One space or tab more; and nothing more is read once `most` columns have been read, or another byte comes.
 use Rattle.std.proofs.Common.{◌-◌, ◌<◌, length, min, get_or, sym, ◌∙◌, ap, arith}
 use Rattle.markdown_scan.specs.LineStart.{space}
 use Rattle.markdown_scan.specs.LineSteps.{width_next, past_white}

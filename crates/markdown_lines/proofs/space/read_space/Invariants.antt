@@ -1,4 +1,4 @@
--- What is read is what was read so far, and what is read behind it.
+-- What is read is what was read so far, and what is read after it.
 use Rattle.std.proofs.Common.{◌≡◌, ◌+◌, ◌-◌, ◌<◌, ◌≤◌}
 use Rattle.markdown_scan.specs.LineStart.{space, wider}
 use Rattle.markdown_lines.specs.Places.{left_from}

@@ -1,4 +1,4 @@
--- The bytes so far may stand in a break.
+-- The bytes so far may be part of a break.
 use Rattle.std.proofs.Common.{◌≡◌, ◌+◌, drop}
 use Rattle.std.specs.List.{prefix_len}
 use Rattle.markdown_lines.specs.ThematicBreaks.{is_of_break}

@@ -1,4 +1,4 @@
--- What stands behind the run of the first character decides.
+-- What follows the run of the first character decides.
 use Rattle.std.proofs.Common.{true, false, sym, ◌∙◌}
 use Rattle.markdown_lines.proofs.LineBytesLemmas.{tail_of}
 use Rattle.markdown_lines.proofs.ThematicBreaksLemmas.{setext_is}

@@ -1,4 +1,4 @@
--- All of it stands in the writer where its last call fails.
+-- The writer has all of it where its last call fails.
 use Rattle.std.proofs.Common.{subst}
 use Rattle.std.specs.Io.KnownBytes.{Appends}
 use Rattle.markdown_render.proofs.OutcomeLemmas.{at_any_error, kept_prefix, whole_prefix}

@@ -1,4 +1,4 @@
--- The rendering with nobody to ask.
+-- The rendering without a callback.
 use Rattle.std.proofs.lemmas.Result.{err_from_is_err_and}
 use Rattle.markdown_render.proofs.RenderingLemmas.{failed_alone, rendering_alone}
 use Rattle.markdown_render.proofs.run.rendered.Goals as goal

@@ -1,4 +1,4 @@
--- What a write took of the rest stands behind what stood before, and an interrupted one took nothing.
+-- What a write took of the rest follows what the writer held before, and an interrupted one took nothing.
 use Rattle.std.proofs.Common.{◌++◌, take}
 use Rattle.std.proofs.KnownBytes.{Appends-kept, Appends-trans}
 use Rattle.markdown_render.proofs.OutcomeLemmas.{front_moves}

@@ -1,4 +1,4 @@
--- What is gone from `rest` stands behind what the writer held.
+-- What the writer held is followed by what is gone from `rest`.
 use Rattle.std.proofs.Common.{◌≡◌, ℕ, List, ◌++◌}
 use Rattle.std.specs.Io.KnownBytes.{Appends}
 use Rattle.markdown_render.proofs.run.write_whole.Given as goal

@@ -1,4 +1,4 @@
--- What the words read so far turn on: with the words left they turn on what all of them do.
+-- What the words read so far enable: with the words left, it is what all of them enable.
 use Rattle.std.proofs.Common.{◌≡◌, map, string_bytes}
 use Rattle.std.proofs.Math.ListN.{drop}
 use Rattle.markdown_base.specs.EnabledOptions.{no_options}

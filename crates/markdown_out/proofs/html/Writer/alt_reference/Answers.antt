@@ -1,4 +1,4 @@
--- What is remembered behind the number is what is remembered after the reference.
+-- What the writer keeps after the number is what it keeps after the whole reference.
 use Rattle.std.proofs.Common.{◌≡◌, OnOk, subst}
 use Rattle.markdown_base.specs.CowText.{text_of}
 use Rattle.markdown_out.specs.LookBacks.{Past}

@@ -1,4 +1,4 @@
--- The definition's Start stands there in its two parts, or a prefix of the one at which memory was refused.
+-- Both parts of the definition's Start were appended, or a prefix of the one at which memory was refused.
 use Rattle.std.proofs.Common.{◌≡◌, OnOk, subst, ap}
 use Rattle.std.specs.Option.{option_map}
 use Rattle.std.proofs.lemmas.Result.{err_from_is_err_and, on_err_weaker, on_ok_weaker}

@@ -1,4 +1,4 @@
--- Where the loop is left: at an error item, at a fault of the writer's, and at the end.
+-- Where the loop is left: at an error item, at an error of the writer's, and at the end.
 use Rattle.std.proofs.Common.{◌≤◌, length, arith, refl, inl, inr}
 use Rattle.std.specs.String.{string_bytes}
 use Rattle.std.proofs.lemmas.Result.{err_from_is_err_and, IfOk-weaker, IfErr-weaker}

@@ -1,4 +1,4 @@
--- The items so far are events, and their bytes stand behind the old text.
+-- The items so far are events, and the old text is followed by their bytes.
 use Rattle.std.specs.String.{string_bytes}
 use Rattle.markdown_out.specs.Writer.{view}
 use Rattle.markdown_out.proofs.HtmlCorrectLemmas.{Wrote}

@@ -1,4 +1,4 @@
--- A name that is known is at its place, and its entry stays as it was; a new one goes behind all.
+-- A known name is at its position, and its entry stays as it was; a new one is added after all others.
 use Rattle.std.proofs.Common.{rules, ◌≡◌, ◌+◌, ◌++◌, ◌∷◌, [], length, None, Some, sym, ap, ◌∙◌, arith}
 use Rattle.std.proofs.lemmas.Grind.{common_steps}
 use Rattle.std.specs.BTreeMap.{get, insert_entry, Updates}
