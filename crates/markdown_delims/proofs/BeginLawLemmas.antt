@@ -30,7 +30,7 @@ some-long (unresolved other) d = tt
 some-long other d = tt
 
 module _ {A : Type 0} where
-  -- what is read begins so too where it begins with what is put for its end
+  -- what was read begins with an event before one end if it does before another, and the same for Texts
   texts_begin : (xs : List (Label A)) (f g : Forest (Label A)) → (Begins f → Begins g) → Begins (texts_before xs f)
       → Begins (texts_before xs g)
   texts_begin [] f g h k = h k

@@ -246,7 +246,7 @@ within_character closer d stack b h =
     cond_both (both closer) (remainder_bound (closer.length % 3) b) (min (remainder_bound (closer.length % 3) b) b.cannot_open)
     (λ m. m ≤ length stack) (λ _. w) (λ _. omega arith)
 
--- the bound of a closer stands within the stack
+-- the bound of a closer lies within the stack
 pub bound_at-within : (d : Delimiter) (closer : Run) (stack : List Characters) (b : LowerBounds) → BoundStack stack b
     → bound_at d closer b ≤ length stack
 bound_at-within Star closer stack b h = within_character closer Star stack b.star h.star
@@ -263,7 +263,7 @@ below_bound_fails Underscore closer stack b e q h = NonePairs-below closer stack
 below_bound_fails Tilde closer stack b e q h = cc
 below_bound_fails Caret closer stack b e q h = cc
 
--- so does each bound below which runs are dropped
+-- each bound below which runs are dropped lies within the stack
 pub drop_bound-within : (d : Delimiter) (stack : List Characters) (b : LowerBounds) → BoundStack stack b → drop_bound d b ≤ length stack
 drop_bound-within Star stack b h = omega arith
 drop_bound-within Underscore stack b h = omega arith

@@ -28,7 +28,7 @@ use Rattle.markdown_delims.proofs.PairLemmas.{CutSomewhere}
 abbrev pub numbers_of : Forest Numbered → Forest ℕ
 numbers_of f = relabelled (λ a. a.number) f
 
--- what is spelled stands with its items
+-- a chain that the links represent holds with its items
 pub holds_spelled : (nodes : List (Node Item)) (l : Option ℕ) (f : Forest ℕ) → Spells (links_of nodes) l f
     → Holds (view_of nodes) l (chain_of nodes f)
 holds_spelled nodes l nil s = s
@@ -41,7 +41,7 @@ holds_spelled nodes l (node ix below after) s = (
       (sibling_of nodes ix) after s.3,
 )
 
--- what stands with its items is spelled by its numbers
+-- the links represent a chain that holds with its items, by its numbers
 pub spelled_holds : (nodes : List (Node Item)) (l : Option ℕ) (f : Forest Numbered) → Holds (view_of nodes) l f
     → Spells (links_of nodes) l (numbers_of f)
 spelled_holds nodes l nil h = h
@@ -62,7 +62,7 @@ labels_hold nodes l (node a below after) h =
     ∙ ap (λ f. node a f (chain_of nodes (numbers_of after))) (labels_hold nodes (child_of nodes a.number) below h.3)
     ∙ ap (λ f. node a below f) (labels_hold nodes (sibling_of nodes a.number) after h.4)
 
--- what has no number of the chain may stand anywhere below
+-- a forest without numbers of the chain may occur anywhere below
 Between-none : (own : ℕ → Bool) (nodes : List (Node Item)) (lo : ℕ) (f : Forest ℕ) (hi : ℕ) → Each (λ n. own n ≡ false) f
     → Between own lo (chain_of nodes f) hi
 Between-none own nodes lo nil hi h = tt
@@ -83,7 +83,7 @@ pub rising_numbers : (own : ℕ → Bool) (lo : ℕ) (f : Forest Numbered) (hi :
 rising_numbers own lo nil hi r = tt
 rising_numbers own lo (node a below after) hi r = (r.0, rising_numbers own (suc a.number) after hi r.2)
 
--- each number of a forest stands among its numbers
+-- each number of a forest is among its numbers
 among_more : (x : ℕ) (xs ys : List ℕ) → AllByRecursion (λ ix. among xs ix ≡ true) ys → AllByRecursion (λ ix. among (x ∷ xs) ix ≡ true) ys
 among_more x xs [] h = tt
 among_more x xs (y ∷ ys) h = (or_right (x == y) (among xs y) h.0, among_more x xs ys h.1)

@@ -73,7 +73,7 @@ taken_none closer (waiting start r ∷ es) inside h =
     none_if closer (may_take closer r) start r es inside (taken_none closer es (characters r.opener.number start r.opener.count inside))
     refl h
 
--- an opener with characters stands in the chain
+-- an opener with characters is in the chain
 characters_stand : (number start n : ℕ) (before : Forest Numbered) → 0 < n → top (characters_after number start n before) ≡ None → ⊥
 characters_stand number start zero before h e = omega arith
 characters_stand number start (suc n) before h e = cc
@@ -206,7 +206,7 @@ module _ (h : Chain) (s : Arena Item) (es : List Entry) (last : Option ℕ) (sta
             st.cut.rises_right st.rest_touched).all_touched;
       }
 
--- entries that are the same chain stand where it stands
+-- entries that are the same chain may replace one another
 pub stands_as : (h : Chain) (s : Arena Item) (es es' : List Entry) (last l : Option ℕ) (rest : Forest Numbered) → flat es' ≡ flat es
     → Stands h s es last l rest → Stands h s es' last l rest
 stands_as h s es es' last l rest e st =

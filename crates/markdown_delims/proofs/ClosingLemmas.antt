@@ -40,7 +40,7 @@ link_of : (k : View) (l : Option ℕ) (number start n : ℕ) (after : Forest Num
 link_of k l number start zero after some h = absurd (omega arith)
 link_of k l number start (suc n) after some h = h.0
 
--- what stands after some finds: to go on from here gives what the whole run gives
+-- the state after some successful searches: continuing from here gives what the whole run gives
 pub record ClosingAt (m : Marks) (start : ℕ) (met : Characters) (h : Chain) (begun : List Entry) (after : Forest Numbered)
     (s t : Arena Item) (runs : List OpenRun) (at : ℕ) (closer : Characters) (last : Option ℕ) : Type 0 where
   pub es : List Entry
@@ -165,7 +165,7 @@ module _ (m : Marks) (start : ℕ) (met : Characters) (h : Chain) (begun : List 
                     ∙ a.same;
               }
 
-          -- it has none left
+          -- the closer has no characters left
           ended : closer.count ≤ opener.count → Reads h t u (closed_in m met.count start met begun) (Some root) rest after
           ended last_find =
               let n : count_of opener closer ≡ closer.count = omega arith in

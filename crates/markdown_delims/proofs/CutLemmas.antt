@@ -14,7 +14,7 @@ pub next_number-le : (own : ℕ → Bool) (lo : ℕ) (f : Forest Numbered) (hi :
 next_number-le own lo nil hi r = omega arith
 next_number-le own lo (node a below after) hi r = omega (arith, Rises-le own (suc a.number) after hi r.2)
 
--- what is below a tree may stand in a wider span
+-- what is below a tree may lie in a wider span of numbers
 pub Between-wider : (own : ℕ → Bool) (lo lo' : ℕ) (f : Forest Numbered) (hi hi' : ℕ) → lo' ≤ lo → hi ≤ hi' → Between own lo f hi
     → Between own lo' f hi'
 Between-wider own lo lo' nil hi hi' l h b = tt
@@ -28,7 +28,7 @@ Between-wider own lo lo' (node a below after) hi hi' l h b = (
 pub Inside-further : (own : ℕ → Bool) (lo : ℕ) (f : Forest Numbered) (hi hi' : ℕ) → hi ≤ hi' → Inside own lo f hi → Inside own lo f hi'
 Inside-further own lo f hi hi' l b = (omega (arith, b.0), Between-wider own lo lo f hi hi' (omega arith) l b.1)
 
--- a chain may stand below a tree
+-- a chain may occur below a tree
 pub Between-of : (own : ℕ → Bool) (lo : ℕ) (f : Forest Numbered) (hi : ℕ) → Rises own lo f hi → Between own lo f hi
 Between-of own lo nil hi r = tt
 Between-of own lo (node a below after) hi r =
@@ -72,7 +72,7 @@ pub LeftRises-further : (own : ℕ → Bool) (f : Forest Numbered) (hi hi' : ℕ
 LeftRises-further own nil hi hi' l r = tt
 LeftRises-further own (node a below before) hi hi' l r = (Inside-further own (suc a.number) below hi hi' l r.0, r.1)
 
--- a write at a node of the chain leaves what has other numbers: all before it, and all behind it
+-- a write at a node of the chain does not change what has other numbers: all before it, and all after it
 pub Holds-inside : (own : ℕ → Bool) (k k' : View) (ix : ℕ) (item : Item) (child next : Option ℕ) → Writes k k' ix item child next
     → own ix ≡ true
     → (l : Option ℕ) (lo : ℕ) (f : Forest Numbered) (hi : ℕ) → ((n : ℕ) → lo ≤ n → n < hi → n ≡ ix → ⊥) → Between own lo f hi → Holds k l f
@@ -103,7 +103,7 @@ pub Holds-write_before : (own : ℕ → Bool) (k k' : View) (ix : ℕ) (item : I
 Holds-write_before own k k' ix item child next w o l lo f hi b r h =
     Holds-inside_before own k k' ix item child next w o l lo f hi b (Inside-of own lo f hi r) h
 
--- a write behind a left list's numbers leaves it
+-- a write after a left list's numbers does not change it
 pub LeftHolds-write_behind : (own : ℕ → Bool) (k k' : View) (ix : ℕ) (item : Item) (child next : Option ℕ) → Writes k k' ix item child next
     → own ix ≡ true
     → (first : Option ℕ) (f : Forest Numbered) (l : Option ℕ) (hi : ℕ) → hi ≤ ix → LeftRises own f hi → LeftHolds k first f l
@@ -145,7 +145,7 @@ step_left own k first a below before l right hi c =
       rises_right = (omega arith, c.rises_left.0, Rises-raise own 0 (suc a.number) right hi above c.rises_right);
     }
 
--- the nearest tree leads elsewhere now; the chain that followed it stands as it was
+-- the nearest tree now leads elsewhere; the chain that followed it is unchanged
 pub record Parted (k : View) (first : Option ℕ) (before : Forest Numbered) (m : Option ℕ) (l : Option ℕ) (after : Forest Numbered) : Type 0
   where
     pub left : LeftHolds k first before m

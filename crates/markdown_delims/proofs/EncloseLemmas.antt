@@ -20,7 +20,7 @@ pub next_number-from : (own : ℕ → Bool) (lo : ℕ) (f : Forest Numbered) (hi
 next_number-from own lo nil hi r = r
 next_number-from own lo (node a below after) hi r = r.0
 
--- the character after the first t of some, what stands before it and what stands behind all
+-- the character after the first t, with what precedes it and the chain that follows it
 pub record Peeled (own : ℕ → Bool) (k : View) (first : Option ℕ) (number start t : ℕ) (before : Forest Numbered) (l : Option ℕ)
     (chain : Forest Numbered) (hi : ℕ) : Type 0 where
   pub within : number + t < k.size
@@ -155,7 +155,7 @@ pub touched_at : (touched : ℕ → Bool) (number start t n : ℕ) (before : For
 touched_at touched number start t n before l h =
     (touched_first touched number start (suc t) n before l h).0
 
--- what stands after some layers: the rest of the characters enclose the chain that was made so far
+-- the state after some layers: the rest of the characters enclose the chain that was made so far
 pub record LayersAt (m : Marks) (opener : Characters) (count end : ℕ) (outer : Option ℕ) (g : Around) (s t : Arena Item)
     (n left reached : ℕ) (inner : Option ℕ) : Type 0 where
   pub chain : Forest Numbered
@@ -280,7 +280,7 @@ module _ (m : Marks) (opener : Characters) (count end : ℕ) (outer : Option ℕ
       let p = peel_one g.touched (view_of t.nodes) g.first opener.number g.start g.before inner a.chain g.hi n h a.stands.cut in
       rw (← a.same) (layers_end t u n 1 1 reached (layer_of_one m opener.run.delimiter) inner es (omega arith) o a p w)
 
--- a link that a chain stands behind leads to a node
+-- a link to a chain leads to a node
 pub link_within : (k : View) (l : Option ℕ) (f : Forest Numbered) → Holds k l f → IfSome l (λ ix. ix < k.size)
 link_within k None f h = tt
 link_within k (Some ix) nil h = cc

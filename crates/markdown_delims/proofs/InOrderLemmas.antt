@@ -1,4 +1,4 @@
--- Where the trees of a chain stand in order, each behind the one before it, those that pairing leaves do too, at every
+-- If the trees of a chain are in order, each after the one before it, those that pairing leaves are too, at every
 -- depth; so each keeps the rules of items.
 use Rattle.std.proofs.Common.{◌≡◌, ℕ, zero, suc, ◌+◌, ◌-◌, ◌<◌, ◌≤◌, min, Bool, true, false, List, [], ◌∷◌, Option, Some, None, refl}
 use Rattle.std.proofs.Common.{ap, sym, ◌∙◌, subst, arith, inl, inr}
@@ -45,7 +45,7 @@ pub record IsSound (p : ItemBody → Type 0) (text : List ℕ) (a : Numbered) (b
   pub holds : p a.item.body
   pub right : AllStandRight text below
 
--- the trees of a chain stand from byte i and number n on, each behind the one before it
+-- the trees of a chain are in order, from byte offset i and number n on
 abbrev pub InOrder : (ItemBody → Type 0) → List ℕ → ℕ → ℕ → Forest Numbered → Type 0
 InOrder p text i n nil = ⊤
 InOrder p text i n (node a below after) = (i ≤ a.item.start) × (n ≤ a.number) × IsSound p text a below
@@ -58,12 +58,12 @@ AnyBody b = ⊤
 abbrev IsClosed : ItemBody → Type 0
 IsClosed b = is_open b ≡ false
 
--- so many characters stand from a byte on, and there are some
+-- `count` characters lie in the text from a byte offset on, and there is at least one
 record RunLies (text : List ℕ) (start count : ℕ) : Type 0 where
   some : 0 < count
   bounds : (l : ℕ) → l ≤ count → IsCharBoundary text (start + l)
 
--- what was read stands in order, before byte i and number n
+-- what was read is in order, before byte offset i and number n
 abbrev Stand : List ℕ → List Entry → ℕ → ℕ → Type 0
 Stand text [] i n = ⊤
 Stand text (settled a below ∷ es) i n = (a.item.end ≤ i) × (a.number < n) × IsSound IsClosed text a below
@@ -73,7 +73,7 @@ Stand text (waiting start r ∷ es) i n =
     (start + r.opener.count ≤ i) × (r.opener.number + r.opener.count ≤ n) × RunLies text start r.opener.count
     × Stand text es start r.opener.number
 
--- so it does with an opener that was found, before byte i and number n
+-- what was read is in order with an opener that was found, before byte offset i and number n
 record TakenStands (text : List ℕ) (i n : ℕ) (t : Taken) : Type 0 where
   ends : t.start + t.opener.count ≤ i
   numbers : t.opener.number + t.opener.count ≤ n
@@ -99,7 +99,7 @@ module _ (text : List ℕ) where
   later i j n k (lone number start c ∷ es) x y h = (omega (arith, h.0), omega (arith, h.1), h.2, h.3)
   later i j n k (waiting start r ∷ es) x y h = (omega (arith, h.0), omega (arith, h.1), h.2, h.3)
 
-  -- in a chain that stands in order and in which nothing is open all is right
+  -- each tree of a chain in order in which nothing is open keeps the rules
   before_first : (p : ItemBody → Type 0) (a : Numbered) (after : Forest Numbered) → InOrder p text a.item.end (suc a.number) after
       → StandsBefore a (first_root after)
   before_first p a nil h = tt
@@ -118,7 +118,7 @@ module _ (text : List ℕ) where
       → IsClosed b → AllStandRight text below → IsSound IsClosed text (labelled number i j b) below
   made_sound number i j b below x y z c h = record { lies = record { ordered = x; start = y; end = z }; holds = c; right = h }
 
-  -- characters stand in order before a chain that does
+  -- characters are in order before a chain that is
   in_characters : (number start n : ℕ) (after : Forest Numbered) → ((l : ℕ) → l ≤ n → IsCharBoundary text (start + l))
       → InOrder IsClosed text (start + n) (number + n) after
       → InOrder IsClosed text start number (characters number start n after)
@@ -161,7 +161,7 @@ module _ (text : List ℕ) where
       (in_characters c.number start c.count after h.2.bounds (earlier IsClosed text (start + c.count) i (c.number + c.count) n after h.0 h.1
       k)))
 
-  -- a search passes over what stands in order
+  -- what a search passes remains in order
   search_stands : (closer : Run) (es : List Entry) (inside : Forest Numbered) (i j n k : ℕ) → i ≤ j → n ≤ k → Stand text es i n
       → InOrder IsClosed text i n inside → IfSome (search closer es inside) (TakenStands text j k)
   search_stands closer [] inside i j n k x y h g = tt
@@ -181,7 +181,7 @@ module _ (text : List ℕ) where
       (in_characters c.number start c.count inside h.2.bounds (earlier IsClosed text (start + c.count) i (c.number + c.count) n inside h.0
       h.1 g)))
 
-  -- layers reach from an opener's characters to those of a closer, which stands behind it
+  -- layers extend from an opener's characters to those of a closer after it
   enclosed_stands : (m : Marks) (d : Delimiter) (number start top end k : ℕ) (inside : Forest Numbered) (es : List Entry) (i n : ℕ) → 0 < k
       → k ≤ top → start + top ≤ end → number + top ≤ n → end + k ≤ i
       → ((l : ℕ) → l ≤ top → IsCharBoundary text (start + l)) → ((l : ℕ) → l ≤ k → IsCharBoundary text (end + l))
@@ -238,7 +238,7 @@ module _ (text : List ℕ) where
       h.inside
       (rest_stands (min t.opener.count closer.count) start closer.number t h)
 
-  -- dropped or not, runs stand where they stood
+  -- runs remain in order when they are dropped
   dropped_stand : (closer : Run) (i n : ℕ) (es : List Entry) → Stand text es i n → Stand text (entries_dropped closer es) i n
   dropped_stand closer i n [] h = tt
   dropped_stand closer i n (settled a below ∷ es) h = (h.0, h.1, h.2, dropped_stand closer a.item.start a.number es h.3)
@@ -294,13 +294,14 @@ module _ (text : List ℕ) where
   run_stands m true start c es l h = closed_stands m c.count start c es l h
   run_stands m false start c es l h = keep_if c.run.can_open start c es l h
 
-  -- a chain stands in order from a byte and a number on, where some first trees belong to a run that was read already
+  -- a chain is in order from a byte offset and a number on, where some of its first trees belong to a run that was read
+  -- already
   abbrev Follows : ℕ → ℕ → ℕ → Forest Numbered → Type 0
   Follows zero i n f = InOrder AnyBody text i n f
   Follows (suc skip) i n nil = ⊤
   Follows (suc skip) i n (node a below after) = Follows skip i n after
 
-  -- one character, and those behind it
+  -- one character, and those after it
   byte_more : (count : ℕ) (item : Item) → LiesIn text item → item.end ≡ suc item.start
       → ((l : ℕ) → l ≤ count → IsCharBoundary text (item.end + l)) → RunLies text item.start (suc count)
   byte_more count item lies one bounds = record { some = omega arith; bounds = λ l x. bound l x }
@@ -310,7 +311,7 @@ module _ (text : List ℕ) where
       bound (suc l) x = subst (λ j. IsCharBoundary text j) (let f : item.end + l ≡ item.start + suc l = omega arith in f)
           (bounds l (omega arith))
 
-  -- the characters of a run stand there, and behind them the rest
+  -- the characters of a run are in order, and so is the rest after them
   run_lies : (more : ℕ) (opens closes : Bool) (i n : ℕ) (a : Numbered) (below after : Forest Numbered)
       → run_character a.item.body ≡ Some (record { count = suc more; can_open = opens; can_close = closes })
       → IsWhole text (node a below after) → InOrder AnyBody text i n (node a below after) → RunLies text a.item.start (suc more)
@@ -390,7 +391,7 @@ module _ (text : List ℕ) where
       let end = reads_stand m 0 0 0 f [] w r h tt in
       all_right 0 0 (paired m text f) (stand_back end.byte end.number (paired_from m text 0 f []) nil end.stand tt)
 
-  -- quotes stay where they stand
+  -- quotes remain in order
   pub quoted_in_order : (single double : Bool) (i n : ℕ) (f : Forest Numbered) → InOrder AnyBody text i n f
       → InOrder AnyBody text i n (quoted_after single double f)
   quoted_in_order single double i n nil h = tt
@@ -402,7 +403,7 @@ module _ (text : List ℕ) where
         quoted_in_order (turn_at a after single double).single (turn_at a after single double).double a.item.end (suc a.number) after h.3,
       )
 
-  -- a chain without blocks, in which all is right, stands in order
+  -- a chain without blocks whose items keep the rules is in order
   pub chain_in_order : (i n : ℕ) (f : Forest Numbered) → HasNoBlock f → AllStandRight text f
       → IfSome (first_root f) (λ b. (i ≤ b.item.start) × (n ≤ b.number)) → InOrder AnyBody text i n f
   chain_in_order i n nil b h x = tt

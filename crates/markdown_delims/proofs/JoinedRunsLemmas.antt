@@ -1,5 +1,6 @@
--- In a chain with each character's run in its tag, each tree that is made of a run is a character of it, or joins it to a run
--- with which it may pair: what is read keeps to it, since a closer's characters and those of an open run are each of one run.
+-- In a chain in which the tag of each character is its run, each tree that is made from a run is a character of it, or
+-- joins it to a run with which it may pair: this holds for all that is read, since the characters of a closer belong to
+-- one run, and so do those of an open run.
 use Rattle.std.proofs.Common.{◌≡◌, inl, inr, ℕ, zero, suc, ◌-◌, Bool, true, false, List, [], ◌∷◌, map, Option, Some, None, refl, ap, sym}
 use Rattle.std.proofs.Common.{subst, ◌∙◌, arith}
 use Rattle.std.specs.Prelude.{⊤, IfSome, not, ◌&&◌}
@@ -37,7 +38,8 @@ has_other p holds other i nil h = absurd h
 has_other p holds other i (node a below after) (inl h) = inl (h.0, i a.part.range h.1)
 has_other p holds other i (node a below after) (inr h) = inr (has_other p holds other i after h)
 
--- the first tree of what is left of a chain begins a run just where its tag says so, and the run's other characters follow
+-- the first tree of what is left of a chain begins a run if and only if its tag says so, and the run's other characters
+-- follow
 abbrev Follows : ℕ → MaybeRun → List ℕ → Forest Character → Type 0
 Follows more before source nil = ⊤
 Follows (suc more) before source (node a below after) = (a.tag ≡ before) × Follows more before source after
@@ -53,7 +55,7 @@ both None p q h k = tt
 both (Some x) p q h k = (h, k)
 
 module _ (whole : Forest Character) where
-  -- a character of this run, as it stands in the chain
+  -- a character of this run, as it is in the chain
   abbrev IsOf : RunAt → Character → Type 0
   IsOf p x = (x.tag ≡ Some p) × HasCharacter p (λ own. own ≡ x.part.range) whole
 
@@ -288,12 +290,12 @@ none_below : {A : Type 0} (whole : Forest Character) (f : Forest (Label A)) → 
 none_below whole nil = tt
 none_below whole (node a below after) = (tt, none_below whole below, none_below whole after)
 
--- the characters of a chain stand in another
+-- the characters of a chain occur in another
 abbrev Stands : (whole part : Forest Character) → Type 0
 Stands whole part = (p : RunAt) (r : Range ℕ) → HasCharacter p (λ own. own ≡ r) part → HasCharacter p (λ own. own ≡ r) whole
 
 module _ {A : Type 0} (s : Setting) where
-  -- each character is told to be of its run, and stands in its own chain
+  -- each character has its run as its tag, and occurs in its own chain
   runs_follow : (more : ℕ) (before : MaybeRun) (chain : Forest (Label A)) → Follows more before s.text (with_runs s more before chain)
   runs_follow more before nil = tt
   runs_follow (suc more) before (node a below after) = (refl, runs_follow more before after)

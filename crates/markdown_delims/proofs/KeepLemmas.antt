@@ -1,5 +1,5 @@
--- What holds of the characters of a chain as Texts and of its trees, and of a layer where it holds of what the layer is
--- made of, holds of each tree that pairing makes of the chain. So nothing of the chain stays open.
+-- What holds for the characters of a chain as Texts and for its trees, and for a layer if it holds for what the layer
+-- is made from, holds for each tree that pairing makes from the chain. So nothing of the chain stays open.
 use Rattle.std.proofs.Common.{◌≡◌, ℕ, zero, suc, Bool, true, false, List, [], ◌∷◌, refl, map}
 use Rattle.std.specs.Prelude.{⊤, IfSome, not, ◌&&◌, slice_range}
 use Rattle.std.specs.List.{AllByRecursion}

@@ -1,4 +1,4 @@
--- What the search of a closer and its layers are among labels, where a chain stands with the numbers of its nodes.
+-- The search of a closer and its layers, for labels and for the chain with the numbers of its nodes.
 use Rattle.std.proofs.Common.{◌≡◌, ℕ, zero, suc, ◌+◌, ◌-◌, ◌<◌, min, Bool, true, false, List, [], ◌∷◌, Option, Some, None, refl, ap, sym}
 use Rattle.std.proofs.Common.{◌∙◌, subst, arith, inl, inr, map}
 use Rattle.std.specs.Prelude.{if◌then◌else◌, ◌||◌, slice_range}
@@ -82,7 +82,7 @@ enclosed_tree m d number start top end (suc zero) inside = tt
 enclosed_tree m d number start top end (suc (suc zero)) inside = tt
 enclosed_tree m d number start top end (suc (suc (suc k))) inside = enclosed_tree m d number start (top - 2) (end + 2) (suc k) _
 
--- characters behind a left list are read back before a chain
+-- characters after a left list are read back before a chain
 pub before_back : (number start n : ℕ) (before after : Forest Numbered) → read_back (characters_after number start n before) after
     ≡ read_back before (characters number start n after)
 before_back number start zero before after = refl

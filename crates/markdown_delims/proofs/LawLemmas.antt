@@ -44,7 +44,7 @@ pub tag-law : {A B : Type 0} → TagLaw A B
 tag-law f s chain = ap (paired s) (sym (tags_same f chain)) ∙ paired-deep f (retagged f) s refl (λ g h. sym (tags_same f g)) chain
     ∙ tags_same f (paired s chain)
 
--- what holds of each label at every depth, and of a label that is not open where it held of one with the same block
+-- what holds for each label at every depth, and for a label that is not open if it held for one with the same block
 module _ {A : Type 0} (p : Label A → Type 0) (stays : (a b : Label A) → p a → b.part.block ≡ a.part.block
     → is_unresolved b.part.shape ≡ false → p b) (s : Setting) where
   abbrev HoldsBelow : Label A → Forest (Label A) → Type 0

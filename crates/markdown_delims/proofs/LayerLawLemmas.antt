@@ -1,5 +1,5 @@
--- What pairs and quotes become: a layer gives an event before what stands in it, and so is not open; a turn of the
--- reading of quotes makes a Text, or keeps what was there.
+-- What pairs and quotes become: a layer gives an event before what is in it, and so is not open; reading a quote makes
+-- a Text, and reading anything else keeps it.
 use Rattle.std.proofs.Common.{◌≡◌, ℕ, Bool, true, false, List, refl}
 use Rattle.std.specs.Prelude.{◌&&◌, if◌then◌else◌}
 use Rattle.markdown_base.specs.Event.{TagView}
@@ -43,7 +43,7 @@ two-closed m d source = gives_closed (layer_of_two m d source) (two-gives m d so
 pub one-closed : (m : Marks) (d : Delimiter) (source : List ℕ) → is_unresolved (layer_of_one m d source) ≡ false
 one-closed m d source = gives_closed (layer_of_one m d source) (one-gives m d source)
 
--- and so does what is neither open nor read as what is below it alone
+-- a shape that is neither open nor plain gives an event first
 pub gives-first : (shape : Shape) → is_plain shape ≡ false → is_unresolved shape ≡ false → GivesFirst shape
 gives-first (leaf e origins) p h = tt
 gives-first (enclosed tag) p h = tt

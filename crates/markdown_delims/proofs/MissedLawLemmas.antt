@@ -1,5 +1,5 @@
--- Of two runs of `*` or `_` that may pair, some pair encloses what is left of one alone: no two such runs have
--- characters left side by side in what was read of a chain, nor at any depth below.
+-- Of two runs of `*` or `_` that may pair, some pair encloses what is left of one and not of the other: no two such
+-- runs have characters left in the same chain, at any depth, once a chain is read.
 use Rattle.std.proofs.Common.{◌≡◌, ℕ, zero, suc, ◌-◌, ◌<◌, Bool, true, false, List, [], ◌∷◌, length, Option, Some, None, refl, ap, sym, ◌∙◌}
 use Rattle.std.proofs.Common.{subst, arith, map, ◌≤◌}
 use Rattle.std.specs.Prelude.{⊤, IfSome, IfNone, not, ◌&&◌, ◌||◌, slice_range, slice_index}
@@ -38,7 +38,7 @@ MaybeRun = Option RunAt
 abbrev Character : Type 0
 Character = Label MaybeRun
 
--- a chain whose first tree is of this run, and so are so many more
+-- a chain whose first tree belongs to this run, as do the next `more` trees
 abbrev with_run : {A : Type 0} → Setting → MaybeRun → ℕ → Label A → Forest (Label A) → Forest (Label A) → Forest Character
 with_run s r more a below after = node (retag (λ _. r) a) (retagged no_run below) (with_runs s more r after)
 

@@ -1,5 +1,5 @@
--- Where the trees of a chain lie in order, they do so at each step of the reading: what a pair encloses lies between its
--- characters, and what follows it behind the last of them.
+-- If the trees of a chain are in order, they are at each step of reading it: what a pair encloses lies between its
+-- characters, and what follows lies after the last of them.
 use Rattle.std.proofs.Common.{◌≡◌, ℕ, zero, suc, ◌≤◌, Bool, true, false, List, [], ◌∷◌, map, refl, sym, subst, arith}
 use Rattle.std.specs.Prelude.{IfSome, not, ◌&&◌}
 use Rattle.std.proofs.lemmas.Option.{IfSome_then}
@@ -63,7 +63,7 @@ module _ {A : Type 0} where
     nest_or_apart (end_of a) k after h.2,
   )
 
-  -- two chains, one behind the other
+  -- two chains, one after the other
   record IsCut (i k : ℕ) (f g : Forest (Label A)) : Type 0 where
     at : ℕ
     first : LieInOrder i at f
@@ -78,7 +78,7 @@ module _ {A : Type 0} where
   abbrev Lies : ℕ → (f g : Forest (Label A)) → Type 0
   Lies k f g = (i : ℕ) → LieInOrder i k f → LieInOrder i k g
 
-  -- behind a tree, behind characters, and behind what was read
+  -- after a tree, after characters, and after what was read
   behind_tree : (k : ℕ) (a : Label A) (below f g : Forest (Label A)) → Lies k f g → Lies k (node a below f) (node a below g)
   behind_tree k a below f g l i h = (h.0, h.1, l (end_of a) h.2)
 
@@ -112,7 +112,7 @@ module _ {A : Type 0} where
       let own : start_of v ≤ end_of v = h.1 in
       wider i (end_of v) k k chain (omega (arith, h.0, own)) (omega arith) (without_texts k vs chain (end_of v) h.2)
 
-  -- what is put onto what was read stands before the chain
+  -- what is added to what was read precedes the chain
   done_before : (xs : List (Label A)) (rs : List (Read A)) (chain : Forest (Label A)) → read_trees (all_done xs rs) chain
       ≡ read_trees rs (texts_before xs chain)
   done_before [] rs chain = refl
@@ -158,7 +158,7 @@ module _ {A : Type 0} where
       (subst (λ f. LieInOrder i k (read_trees rs f)) (texts_joined xs inside rest) h))
 
   module _ (s : Setting) where
-    -- a layer lies from its opener to its closer, over what stood between them
+    -- a layer extends from its opener to its closer, over what lies between them
     layer_lies : (shape : List ℕ → Shape) (k : ℕ) (x v : Label A) (inside rest : Forest (Label A))
         → Lies k (node x nil (joined inside (node v nil rest))) (node (spanned s.text shape x v) inside rest)
     layer_lies shape k x v inside rest i h =

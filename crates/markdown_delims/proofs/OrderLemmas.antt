@@ -1,5 +1,5 @@
--- Pairing a chain, and changing what is below each of its trees and the tags of its labels, may be done in either order:
--- where what is done to a chain in which nothing is open is done below its trees and to its tags alone.
+-- Pairing a chain, and changing what is below each of its trees and the tags of its labels, may be done in either
+-- order, if the change of a chain in which nothing is open only changes what is below its trees and its tags.
 use Rattle.std.proofs.Common.{◌≡◌, ℕ, zero, suc, ◌-◌, Bool, true, false, List, [], ◌∷◌, length, Option, Some, None, refl, ap, sym, ◌∙◌, map}
 use Rattle.std.specs.Prelude.{IfSome, not, ◌&&◌, ◌||◌, slice_range}
 use Rattle.std.specs.List.{AllByRecursion}

@@ -1,4 +1,4 @@
--- One pair: the chain is cut before the closer, and the opener encloses what stands behind it.
+-- One pair: the chain is cut before the closer, and the opener encloses what follows it.
 use Rattle.std.proofs.Common.{◌≡◌, ℕ, zero, suc, ◌+◌, ◌-◌, ◌<◌, ◌≤◌, min, Bool, true, false, List, [], ◌∷◌, Option, Some, None, length}
 use Rattle.std.proofs.Common.{refl, ap, sym, ◌∙◌, subst, arith, inl, inr}
 use Rattle.std.specs.Prelude.{if◌then◌else◌}
@@ -119,7 +119,7 @@ pub characters-front : (number start n m : ℕ) (after : Forest Numbered) → n 
 characters-front number start n m after h =
     ap (λ x. characters number start x after) (let e : m ≡ n + (m - n) = omega arith in e) ∙ characters-split number start n (m - n) after
 
--- what stands behind some characters
+-- what follows some characters
 pub record Behind (k : View) (touched : ℕ → Bool) (last : ℕ) (after : Forest Numbered) (hi : ℕ) : Type 0 where
   pub within : last < k.size
   pub holds : Holds k (k.next last) after
@@ -176,7 +176,7 @@ pub top_touched : (touched : ℕ → Bool) (f : Forest Numbered) (last : ℕ) �
 top_touched touched nil last h e = cc
 top_touched touched (node a below before) last h e = let same : last ≡ a.number = cc in rw same h.0
 
--- the link behind the last of some characters
+-- the link after the last of some characters
 pub behind_link : (k : View) (first : Option ℕ) (number start n : ℕ) (before : Forest Numbered) (l : Option ℕ) → 0 < n
     → LeftHolds k first (characters_after number start n before) l → (number + (n - 1) < k.size) × (k.next (number + (n - 1)) ≡ l)
 behind_link k first number start n before l some h =
@@ -194,7 +194,7 @@ flat-rest_open n t =
           (ap (λ m. characters_after t.opener.number t.start m (flat t.before)) (let e : 0 ≡ t.opener.count - n = omega arith in e))
     ]
 
--- a closer that stands behind an opener which its search finds
+-- a closer after an opener that its search finds
 module _ (h : Chain) (s : Arena Item) (es : List Entry) (after : Forest Numbered) (taken : Taken) (start : ℕ) (opener closer : Characters)
     (last : ℕ)
     (st : StandsAt h s es (Some last) start closer after) (finds : search closer.run es nil ≡ Some taken) (is : taken.opener ≡ opener)

@@ -42,7 +42,7 @@ use Rattle.markdown_delims.proofs.QuoteShapeLemmas.{with_quotes_seen}
 use Rattle.markdown_delims.proofs.SumLemmas.{sum_of, CountsNoMore, sum-paired}
 use Rattle.markdown_delims.proofs.WeightLawLemmas.{weighs, weights-count}
 
--- how often a number stands among a chain's own nodes, and how often below them
+-- the number of times that a number occurs among a chain's own nodes, and below them
 abbrev pub root_times : ℕ → Forest ℕ → ℕ
 root_times n nil = 0
 root_times n (node ix below after) = same n ix + root_times n after
@@ -65,7 +65,7 @@ root_some n (node ix below after) h = here (λ k. root_some n after k) (ix == n)
         in omega (arith, one)
     here rest false e h = omega (arith, rest h)
 
--- where no number stands twice, none of the chain's own stands below
+-- if no number occurs twice, none of the chain's own numbers occurs below
 module _ (f : Forest ℕ) (once : (n : ℕ) → total (same n) f ≤ 1) where
   own_if : (j : ℕ) (b : Bool) → among (roots f) j ≡ b → 1 ≤ below_times j f → among (roots f) j ≡ false
   own_if j false e l = e
@@ -227,12 +227,12 @@ weight_sum s nodes (node ix below after) =
     ap weight_if (open_agrees no_tables (slice_range s.text (item_at nodes ix).start (item_at nodes ix).end) (item_at nodes ix).body) in
     omega (arith, here, weight_sum s nodes below, weight_sum s nodes after)
 
--- a number that stands nowhere in a chain is none of its own
+-- a number that does not occur in a chain is not one of its own
 outside_if : (n : ℕ) (f : Forest ℕ) (b : Bool) → among (roots f) n ≡ b → total (same n) f ≡ 0 → among (roots f) n ≡ false
 outside_if n f false e none = e
 outside_if n f true e none = absurd (omega (arith, root_some n f e, times_parted n f, none))
 
--- what a node names stood at its number before
+-- each node of a chain refers only to what the node of its number refers to
 each_self : (nodes : List (Node Item)) (n : Named) (f : Forest ℕ)
     → Each (λ a. times_named n a.item.body ≤ naming nodes n a.number) (chain_of nodes f)
 each_self nodes n nil = tt

@@ -1,4 +1,4 @@
--- The searches that find, of labels and of the nodes that they are the labels of, are as many.
+-- The number of successful searches is the same for labels and for the nodes that they are the labels of.
 use Rattle.std.proofs.Common.{◌≡◌, ℕ, zero, suc, ◌+◌, ◌-◌, ◌<◌, min, Bool, true, false, List, [], ◌∷◌, Option, Some, None, refl, ap, sym}
 use Rattle.std.proofs.Common.{◌∙◌, subst, arith, inl, inr}
 use Rattle.std.specs.Prelude.{IfSome, slice_index, slice_range, nat_lt, if◌then◌else◌}

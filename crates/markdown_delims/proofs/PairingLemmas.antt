@@ -340,7 +340,7 @@ delimiter_some i h =
     star true e = (Star, rw e refl)
     star false e = underscore (i == 95) refl e
 
--- the run of a character that stands in one
+-- the run of a character of a run
 pub run_of_whole : (tables : Tables) (source : List ℕ) (b : ItemBody) (c : RunCharacter) (d : Option Delimiter) → run_character b ≡ Some c
     → 0 < c.count
     → run_of_shape (shape_of tables source b) d ≡ run_if (run_character b) d

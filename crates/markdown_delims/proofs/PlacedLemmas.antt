@@ -1,5 +1,5 @@
--- A chain that is paired in place keeps its place: its items are placed as they were, at every depth, and what stood
--- before it still does.
+-- A chain that is paired in place keeps its place: its items are placed as they were, at every depth, and what preceded
+-- it still does.
 use Rattle.std.proofs.Common.{◌≡◌, ℕ, ◌+◌, ◌-◌, ◌≤◌, Bool, true, false, List, Option, Some, None, refl, sym, subst, arith}
 use Rattle.std.specs.Prelude.{IfSome, if◌then◌else◌}
 use Rattle.std.specs.Option.{option_map}
@@ -31,7 +31,7 @@ use Rattle.markdown_delims.proofs.PairingLemmas.{HasRunsOnly}
 use Rattle.markdown_delims.proofs.QuoteChainLemmas.{whole_quoted}
 use Rattle.markdown_delims.proofs.SumLemmas.{sum_of, CountsNoMore}
 
--- the links of a spelled chain, in its forest
+-- the links of a chain that an arena represents, in its forest
 child_is : (nodes : List (Node Item)) (l : Option ℕ) (f : Forest ℕ) → Spells (links_of nodes) l f → l ≡ top (chain_of nodes f)
 child_is nodes l nil s = s
 child_is nodes l (node ix below after) s = s.0
@@ -108,7 +108,8 @@ items_placed m text tables old new l k f g whole runs blocks s h t is =
     (names_of text tables old f h)) in
     placed_of text tables new k g t right names
 
--- how many bytes a label stands before the item of its number, and whether it lost that it is a block
+-- the number of bytes by which a label starts before the item of its number, and whether the label lost that it is a
+-- block
 abbrev none_of : Option ItemBody → ℕ
 none_of None = 1
 none_of (Some b) = 0
@@ -133,7 +134,7 @@ block_stays : (b : Bool) (x : ItemBody) → if_block b (none_of (if b then Some 
 block_stays true x = refl
 block_stays false x = refl
 
--- no label of a chain stands elsewhere than its item
+-- no label of a chain starts elsewhere than its item
 pub none_moved : (s : Setting) (nodes : List (Node Item)) (f : Forest ℕ)
     → sum_of (moved nodes) (trees (λ n. n) no_tables s (chain_of nodes f)) ≡ 0
 none_moved s nodes nil = refl
@@ -151,7 +152,7 @@ block_was false c x h e = refl
 block_was true true x h e = cc
 block_was true false x h e = absurd (omega (arith, h))
 
--- so the first item of a chain that is paired stands where it stood
+-- so the first item of a chain that is paired still follows what it followed
 pub still_before : (s : Setting) (old new : List (Node Item)) (first : ℕ) (g : Forest ℕ) → Spells (links_of new) (Some first) g
     → sum_of (moved old) (trees (λ n. n) no_tables s (chain_of new g)) ≤ 0
     → (a : Numbered) → StandsBefore a (Some (numbered old first)) → StandsBefore a (Some (numbered new first))

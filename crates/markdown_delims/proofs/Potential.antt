@@ -1,4 +1,4 @@
--- How many runs stand at or above the bounds, as a stack and its bounds change.
+-- The number of runs at or above the bounds, as a stack and its bounds change.
 use Rattle.std.proofs.Common.{◌≡◌, ℕ, ◌+◌, ◌-◌, ◌%◌, ◌≤◌, min, Bool, true, false, List, length, refl, arith}
 use Rattle.std.specs.Prelude.{if◌then◌else◌, ◌==◌}
 use Rattle.std.proofs.Math.Nat.{add-le-add}
@@ -13,7 +13,7 @@ use Rattle.markdown_delims.specs.MayPair.{both}
 use Rattle.markdown_delims.specs.Bounds.{BoundCharacter, BoundStack, character_bound_for, bound_at, bound_for, character_raised_for}
 use Rattle.markdown_delims.specs.Bounds.{raised_at, raised_for, character_lowered, lowered, character_above, above_bounds}
 
--- a push stands above each bound of a character
+-- a run that is pushed is above each bound of a character
 character_above-push : (d : Delimiter) (stack : List Characters) (b : CharacterBounds) → BoundCharacter d stack b
     → character_above (length stack + 1) b ≡ character_above (length stack) b + 4
 character_above-push d stack b h =

@@ -1,4 +1,4 @@
--- Quotes are read tree by tree: a remembered one is written over where it stands.
+-- Quotes are read tree by tree: a remembered one is overwritten in place.
 use Rattle.std.proofs.Common.{◌≡◌, ℕ, suc, ◌<◌, Bool, true, false, Option, Some, None, length, refl, ap, sym, ◌∙◌, subst, arith, inl, inr}
 use Rattle.std.specs.Prelude.{◌⊎◌, ◌||◌, ◌&&◌, ◌==◌, if◌then◌else◌, IfSome, is_some}
 use Rattle.std.proofs.lemmas.Bool.{eqb-true, eqb-false, eq-eqb}
@@ -105,7 +105,7 @@ still_root : (single : Option ℕ) (a : Numbered) (below before : Forest Numbere
 still_root None a below before h = tt
 still_root (Some x) a below before h = inr h
 
--- what was remembered stands behind a tree that is read
+-- what was remembered precedes a tree that is read
 remembered_over : (single : Option ℕ) (later : Bool) (a : Numbered) (below before : Forest Numbered) → IfSome single (λ x. x < a.number)
     → remembered_as single later (node a below before) ≡ node a below (remembered_as single later before)
 remembered_over None later a below before h = refl

@@ -34,7 +34,7 @@ run_parts (Some c) (Some d) run e =
     let same : record { delimiter = d; length = c.count; can_open = c.can_open; can_close = c.can_close } ≡ run = cc in
     ap (λ (r : Run). Some (record { count = r.length; can_open = r.can_open; can_close = r.can_close })) same
 
--- where a delimiter stands there is text
+-- there is text at the offset of a delimiter
 delimiter_within : (text : List ℕ) (i : ℕ) → IsTrue (is_delimiter (slice_index text i)) → i < length text
 delimiter_within text i h =
     elim (cases_lt i (length text)) [
@@ -114,7 +114,7 @@ paired_some : (m : Marks) (text : List ℕ) (a : Numbered) (below after : Forest
 unfolding paired_from
 paired_some m text a below after es run e = ap (λ o. after_tree m (λ skip fs. paired_from m text skip after fs) o a below es) e
 
--- and so it is with the searches that find
+-- the same for the number of successful searches
 skip_finds : (m : Marks) (text : List ℕ) (number n : ℕ) (chain rest : Forest Numbered) (es : List Entry) → BeginsRun number n chain rest
     → finds_from m text n chain es ≡ finds_from m text 0 rest es
 unfolding finds_from
@@ -141,7 +141,7 @@ begins_after number zero a below after rest some b = absurd (omega arith)
 begins_after number (suc n) a below after rest some b = subst (λ i. BeginsRun (suc number) i after rest) (let e : n
     ≡ suc n - 1 = omega arith in e) b.2
 
--- numbers rise behind a run
+-- numbers rise after a run
 rises_behind : (own : ℕ → Bool) (number n lo : ℕ) (chain rest : Forest Numbered) (hi : ℕ) → 0 < n → BeginsRun number n chain rest
     → Rises own lo chain hi → Rises own (suc number) rest hi
 rises_behind own number zero lo chain rest hi some b r = absurd (omega arith)
@@ -282,7 +282,7 @@ module _ (m : Marks) (text : List ℕ) (h : Chain) (s : Arena Item) (es : List E
         further = r.rises;
       }
 
--- the same of a chain that can be read, at the item that stands there
+-- the same for a chain that can be read, at its next item
 pub met_here : (m : Marks) (text : List ℕ) (s : Arena Item) (ix : ℕ) (last : Option ℕ) (runs : List OpenRun) (cost : ℕ)
     (p : CanReadTree text ix last s runs cost) (item : Item) (run : Run) → item ≡ item_at s.nodes ix → Some run ≡ run_of text item
     → RunHere m text p.chain s p.es last ix run p.rest

@@ -54,7 +54,7 @@ settling_begin h s es number start n last chain rest st b =
       kept = kept_none h.touched s;
     }
 
--- the next of them stands in the arena
+-- the next of them is a node of the arena
 within_if : (h : Chain) (t : Arena Item) (before : Forest Numbered) (number n : ℕ) (l : Option ℕ) (chain rest : Forest Numbered) → 0 < n
     → Cut h.touched (view_of t.nodes) h.first before l chain h.bound → BeginsRun number n chain rest → number < length t.nodes
 within_if h t before number zero l chain rest some c b = absurd (omega arith)

@@ -42,7 +42,7 @@ module _ (stack : List Characters) (examined : ℕ) (b : LowerBounds) (sound : I
         fits = subst (λ p. p < 2 ^ 128) (sym (potential-push c)) room;
       }
 
-  -- a search that found at a place has paid for what it looked at by the runs that go
+  -- a search that succeeds at a position has paid for its comparisons with the runs that it removes
   pub potential-cut : (i after : ℕ) → i ≤ length stack → after + i ≡ examined + length stack
       → potential_of (take i stack) after (lowered i b) ≤ potential_of stack examined b
   potential-cut i after h e =
@@ -62,7 +62,7 @@ module _ (stack : List Characters) (examined : ℕ) (b : LowerBounds) (sound : I
       below : (x y z : ℕ) → x ≤ y → y < z → x < z
       below x y z p q = omega arith
 
-  -- one that failed has paid by the bounds that it raises
+  -- a search that fails has paid for them with the bounds that it raises
   pub potential-raised : (closer : Run) (after : ℕ) → after + bound_for closer b ≡ examined + length stack
       → potential_of stack after (raised_for closer (length stack) b) ≤ potential_of stack examined b
   potential-raised closer after e =

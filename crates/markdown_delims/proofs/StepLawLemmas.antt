@@ -1,4 +1,4 @@
--- What each step of the reading of a chain keeps, reading keeps.
+-- What each step in reading a chain keeps, reading the chain keeps.
 use Rattle.std.proofs.Common.{◌≡◌, ℕ, zero, suc, ◌-◌, Bool, true, false, List, [], ◌∷◌, map, length, Option, Some, None, refl, subst, arith}
 use Rattle.std.specs.Prelude.{⊤, IfSome}
 use Rattle.std.proofs.lemmas.Option.{IfSome_then}
@@ -18,8 +18,8 @@ later zero chain = chain
 later (suc n) nil = nil
 later (suc n) (node a below after) = later n after
 
--- i holds of the characters of a closer, of what was read before them and of the trees that are still to be read: it
--- stays so when a tree is read or passed over, when the characters of a run are, when open runs are dropped, when
+-- i holds for the characters of a closer, for what was read before them and for the trees that are still to be read:
+-- this stays true when a tree or the characters of a run are read or passed over, when open runs are dropped, when
 -- characters are left open or as text, and when they pair with a run that was found
 pub record StaysTrue {A : Type 0} (s : Setting) (i : List (Label A) → List (Read A) → Forest (Label A) → Type 0) : Type 0 where
   pub tree : (a : Label A) (below after : Forest (Label A)) (rs : List (Read A)) → i [] rs (node a below after)
@@ -40,7 +40,8 @@ pub found-if : {A : Type 0} (p : FoundOpener A → Type 0) (b : Bool) (f : Found
 found-if p true f o h k = h
 found-if p false f o h k = k
 
--- the same, where g holds of a run and its characters when it is read, and of those that are left of them while it closes
+-- the same, where g holds for a run and its characters when it is read, and for those that are left of them while it
+-- closes
 pub record StaysTrueOf {A : Type 0} (s : Setting) (g : Run → List (Label A) → Type 0)
     (i : List (Label A) → List (Read A) → Forest (Label A) → Type 0) : Type 0 where
   pub tree : (a : Label A) (below after : Forest (Label A)) (rs : List (Read A)) → run_of s.text a.part ≡ None

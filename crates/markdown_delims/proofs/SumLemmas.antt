@@ -1,5 +1,5 @@
--- Sums over the labels of a chain do not rise by pairing, where those of what is made do not: each node that is made
--- stands in the place of a character.
+-- Pairing does not increase sums over the labels of a chain, if the labels that it makes do not: each node that is made
+-- replaces a character.
 use Rattle.std.proofs.Common.{◌≡◌, ℕ, zero, suc, ◌+◌, ◌≤◌, Bool, true, false, List, [], ◌∷◌, refl, ap, arith, map}
 use Rattle.std.specs.Prelude.{IfSome, not, ◌&&◌}
 use Rattle.std.proofs.lemmas.Option.{IfSome_then}

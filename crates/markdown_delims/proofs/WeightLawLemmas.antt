@@ -1,4 +1,4 @@
--- Pairing makes no chain heavier: what it makes weighs no more than what stood in its place.
+-- Pairing does not increase the weight of a chain: what it makes weighs at most what it replaces.
 use Rattle.std.proofs.Common.{◌≡◌, ℕ, ◌≤◌, Bool, false, refl, sym, subst, arith}
 use Rattle.std.specs.Prelude.{slice_range}
 use Rattle.markdown_base.specs.Forest.{Forest, nil, node}

@@ -17,7 +17,7 @@ same_at_other (suc ix) (suc j) change (n ∷ nodes) d =
     let rest = same_at_other ix j change nodes (λ e. d (ap suc e)) in
     record { item = rest.item; child = rest.child; next = rest.next }
 
--- what stands at the node that is changed
+-- what the node that is changed becomes
 pub record ChangedTo (nodes changed : List (Node Item)) (ix : ℕ) (change : Node Item → Node Item) : Type 0 where
   pub item : item_at changed ix ≡ (change (record { item = item_at nodes ix; child = child_of nodes ix; next = sibling_of nodes ix })).item
   pub child : child_of changed ix

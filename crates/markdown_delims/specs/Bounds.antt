@@ -1,4 +1,4 @@
--- The ten lower bounds of a stack of open runs, and what they say of it.
+-- The ten lower bounds of a stack of open runs, and what they say about it.
 use Rattle.std.specs.Prelude.{◌≡◌, ℕ, ◌+◌, ◌-◌, ◌%◌, ◌≤◌, min, List, length, take, true, false, ◌==◌, if◌then◌else◌}
 use Rattle.std.specs.Prelude.{All}
 use Rattle.markdown_delims.specs.declared.run.Delimiter.{Delimiter}
@@ -9,36 +9,37 @@ use Rattle.markdown_delims.specs.declared.bounds.CharacterBounds.{CharacterBound
 use Rattle.markdown_delims.specs.declared.bounds.LowerBounds.{LowerBounds}
 use Rattle.markdown_delims.specs.MayPair.{same_delimiter, drops, both, lengths_agree}
 
--- nothing was looked for yet
+-- the bounds of one character before any search
 abbrev pub no_bounds : CharacterBounds
 no_bounds = record { cannot_open = 0; remainder_zero = 0; remainder_one = 0; remainder_two = 0 }
 
--- nothing was looked for yet, whatever the character
+-- the bounds of all characters before any search
 abbrev pub zero_bounds : LowerBounds
 zero_bounds = record { star = no_bounds; underscore = no_bounds; tilde = 0; caret = 0 }
 
--- the bound of closers whose length leaves this remainder by 3
+-- the bound for closers whose length has this remainder modulo 3
 abbrev pub remainder_bound : ℕ → CharacterBounds → ℕ
 remainder_bound r b = if r == 0 then b.remainder_zero else if r == 1 then b.remainder_one else b.remainder_two
 
--- the bound of a closer, among those of its character
+-- the bound for a closer, among those of its character
 abbrev pub character_bound_for : Run → CharacterBounds → ℕ
 character_bound_for closer b =
     if both closer then remainder_bound (closer.length % 3) b
     else min (remainder_bound (closer.length % 3) b) b.cannot_open
 
--- the bound of a closer of this character
+-- the bound for a closer of this character
 abbrev pub bound_at : Delimiter → Run → LowerBounds → ℕ
 bound_at Star closer b = character_bound_for closer b.star
 bound_at Underscore closer b = character_bound_for closer b.underscore
 bound_at Tilde closer b = b.tilde
 bound_at Caret closer b = b.caret
 
--- up to where no opener pairs with this closer
+-- the position of the stack below which no open run pairs with this closer
 abbrev pub bound_for : Run → LowerBounds → ℕ
 bound_for closer b = bound_at closer.delimiter closer b
 
--- the bounds that a search read are raised after it failed
+-- the bounds of one character after a failed search: those that apply to the closer are raised to the length of the
+-- stack
 abbrev pub character_raised_for : Run → ℕ → CharacterBounds → CharacterBounds
 character_raised_for closer len b =
     record {
@@ -48,8 +49,8 @@ character_raised_for closer len b =
       remainder_two = if closer.length % 3 == 2 then len else b.remainder_two;
     }
 
--- the bounds after a search that found nothing, by the closer's character: below its own no run pairs with it, and
--- below those of the runs that it drops none pairs at all
+-- the bounds after a failed search by a closer of this character: no run below the closer's bounds pairs with it, and
+-- of the characters that it drops, no run below the bound pairs with any closer
 abbrev pub raised_at : Delimiter → Run → ℕ → LowerBounds → LowerBounds
 raised_at d closer len b =
     record {
@@ -59,11 +60,11 @@ raised_at d closer len b =
       caret = if drops d Caret then len else b.caret;
     }
 
--- the bounds after a closer's search that found nothing, over a stack of this length
+-- the bounds after a closer's failed search of a stack of this length
 abbrev pub raised_for : Run → ℕ → LowerBounds → LowerBounds
 raised_for closer len b = raised_at closer.delimiter closer len b
 
--- the bounds of a character, none above this length
+-- the bounds of one character, each at most this length
 abbrev pub character_lowered : ℕ → CharacterBounds → CharacterBounds
 character_lowered len b =
     record {
@@ -73,7 +74,7 @@ character_lowered len b =
       remainder_two = min b.remainder_two len;
     }
 
--- bounds over a stack of this length
+-- the bounds, each at most the length of a stack
 abbrev pub lowered : ℕ → LowerBounds → LowerBounds
 lowered len b =
     record {
@@ -83,32 +84,32 @@ lowered len b =
       caret = min b.caret len;
     }
 
--- below which place a run of a character is dropped
+-- the position of the stack below which a run of a character is dropped
 abbrev pub drop_bound : Delimiter → LowerBounds → ℕ
 drop_bound Star b = 0
 drop_bound Underscore b = 0
 drop_bound Tilde b = b.tilde
 drop_bound Caret b = b.caret
 
--- how many runs of a stack stand at or above each bound, together
+-- the numbers of positions of a stack at or above the bounds of one character, added up
 abbrev pub character_above : ℕ → CharacterBounds → ℕ
 character_above len b =
     (len - b.cannot_open) + (len - b.remainder_zero) + (len - b.remainder_one) + (len - b.remainder_two)
 
--- how many there are for all characters
+-- the same for all bounds
 abbrev pub above_bounds : ℕ → LowerBounds → ℕ
 above_bounds len b =
     character_above len b.star + character_above len b.underscore + (len - b.tilde) + (len - b.caret)
 
--- a run of this character does not pair with a closer of this remainder by its length
+-- the lengths of a run of this character and of a closer with this remainder violate the rule of three
 abbrev pub IsOutOfStep : Delimiter → ℕ → Characters → Type 0
 IsOutOfStep d r c = same_delimiter c.run.delimiter d ≡ true → lengths_agree c.run.length r ≡ false
 
--- a run of this character can both open and close
+-- a run can both open and close, if it is of this character
 abbrev pub IsOfBoth : Delimiter → Characters → Type 0
 IsOfBoth d c = same_delimiter c.run.delimiter d ≡ true → both c.run ≡ true
 
--- what the bounds of one character say of the stack
+-- what the bounds of one character say about the stack
 pub record BoundCharacter (d : Delimiter) (stack : List Characters) (b : CharacterBounds) : Type 0 where
   pub cannot_open_within : b.cannot_open ≤ length stack
   pub zero_within : b.remainder_zero ≤ length stack
@@ -119,8 +120,8 @@ pub record BoundCharacter (d : Delimiter) (stack : List Characters) (b : Charact
   pub remainder_one : All (IsOutOfStep d 1) (take b.remainder_one stack)
   pub remainder_two : All (IsOutOfStep d 2) (take b.remainder_two stack)
 
--- what the bounds say of the stack; below the last two each run of the character is dropped, so they say nothing of
--- pairing
+-- what the bounds say about the stack; below the last two each run of the character is dropped, so they say nothing
+-- about which runs may pair
 pub record BoundStack (stack : List Characters) (b : LowerBounds) : Type 0 where
   pub star : BoundCharacter Star stack b.star
   pub underscore : BoundCharacter Underscore stack b.underscore

@@ -13,34 +13,34 @@ use Rattle.markdown_delims.specs.Entries.{paired}
 use Rattle.markdown_delims.specs.RunReading.{IsWhole, delimiters_of}
 use Rattle.markdown_delims.specs.Views.{Kept}
 
--- each number is above the one before it, and the first not below lo
+-- each number is greater than the one before it, and the first is at least lo
 abbrev pub RisesFrom : ℕ → List ℕ → Type 0
 RisesFrom lo [] = Unit {0}
 RisesFrom lo (x ∷ xs) = (lo ≤ x) × RisesFrom (suc x) xs
 
--- a number stands among others
+-- a number is among others
 abbrev pub among : List ℕ → ℕ → Bool
 among [] ix = false
 among (x ∷ xs) ix = (x == ix) || among xs ix
 
--- no number of a chain stands below one of its trees
+-- no number of a chain occurs below one of its trees
 abbrev pub NoneBelow : (ℕ → Bool) → Forest ℕ → Type 0
 NoneBelow own nil = Unit {0}
 NoneBelow own (node ix below after) = Each (λ n. own n ≡ false) below × NoneBelow own after
 
--- the chain of an arena, labelled by its items
+-- the chain of an arena, labelled with its items
 abbrev pub chain_of : List (Node Item) → Forest ℕ → Forest Numbered
 chain_of nodes f = relabelled (numbered nodes) f
 
--- from `first` on stands a chain of these nodes, whose numbers rise and whose runs are whole
+-- the links from `first` on lead through a chain of these nodes, whose numbers rise and whose runs are whole
 pub record IsChain (text : List ℕ) (nodes : List (Node Item)) (first : ℕ) (f : Forest ℕ) : Type 0 where
   pub spelled : Spells (links_of nodes) (Some first) f
   pub rising : RisesFrom 0 (roots f)
   pub apart : NoneBelow (among (roots f)) f
   pub whole : IsWhole text (chain_of nodes f)
 
--- from `first` on stands now the chain with its runs paired, whose numbers rise, and only nodes of the chain itself
--- have changed
+-- the links from `first` on now lead through the chain with its runs paired, whose numbers rise, and only nodes of the
+-- chain itself have changed
 pub record IsPaired (m : Marks) (text : List ℕ) (s t : Arena Item) (first : ℕ) (f : Forest ℕ) : Type 0 where
   pub forest : Forest ℕ
   pub spelled : Spells (links_of t.nodes) (Some first) forest
@@ -48,7 +48,7 @@ pub record IsPaired (m : Marks) (text : List ℕ) (s t : Arena Item) (first : �
   pub rising : RisesFrom 0 (roots forest)
   pub kept : Kept (among (roots f)) s t
 
--- no run is open, and nothing that was counted is still to be compared
+-- no run is open, and no comparison is accounted for in advance
 pub record IsEmptied (openers : Openers) : Type 0 where
   pub runs : openers.runs ≡ []
   pub potential : openers.potential ≡ openers.examined

@@ -1,4 +1,4 @@
--- How far a chain has been read, in an arena.
+-- The part of a chain of an arena that has been read, and the rest.
 use Rattle.std.specs.Prelude.{◌≡◌, ℕ, ◌+◌, ◌-◌, min, Bool, List, Option, Some}
 use Rattle.markdown_base.specs.declared.item.Item.{Item}
 use Rattle.markdown_base.specs.Arena.{Arena}
@@ -11,13 +11,13 @@ use Rattle.markdown_delims.specs.Entries.{Entry, Taken, flat, open_of, character
 use Rattle.markdown_delims.specs.Enclosing.{AllTouched}
 use Rattle.markdown_delims.specs.Views.{view_of, Cut, Kept, top}
 
--- a chain: which nodes may be written, the link to it, and a number behind its nodes
+-- a chain: which nodes may be written, the link to its first node, and a number above those of its nodes
 pub record Chain : Type 0 where
   pub touched : ℕ → Bool
   pub first : Option ℕ
   pub bound : ℕ
 
--- the chain so far is these entries, and `last` is its last node; from the link l on stands the rest
+-- what was read of the chain is these entries, and `last` is its last node; the rest follows from the link l on
 pub record Stands (h : Chain) (s : Arena Item) (es : List Entry) (last l : Option ℕ) (rest : Forest Numbered) : Type 0
   where
     pub cut : Cut h.touched (view_of s.nodes) h.first (flat es) l rest h.bound
@@ -36,7 +36,7 @@ abbrev pub StandsAt : Chain → Arena Item → List Entry → Option ℕ → ℕ
 StandsAt h s es last start closer after = Stands h s es last (Some closer.number)
     (characters closer.number start closer.count after)
 
--- the characters that pair
+-- the number of characters that pair
 abbrev pub count_of : Characters → Characters → ℕ
 count_of opener closer = min opener.count closer.count
 
@@ -50,7 +50,7 @@ Pairs m start opener closer last s t root rest =
     (characters (closer.number + count_of opener closer) (start + count_of opener closer)
     (closer.count - count_of opener closer) after)
 
--- that it finds one there
+-- there is a chain in which the closer's search finds that opener
 pub record CanPair (start : ℕ) (opener closer : Characters) (last : ℕ) (s : Arena Item) : Type 0 where
   pub chain : Chain
   pub es : List Entry
@@ -60,21 +60,21 @@ pub record CanPair (start : ℕ) (opener closer : Characters) (last : ℕ) (s : 
   pub finds : search closer.run es nil ≡ Some taken
   pub opener_is : taken.opener ≡ opener
 
--- the chain is read so far as these entries, and the open runs are those among them
+-- what was read of the chain is these entries, and the open runs are those among them
 pub record IsRead (h : Chain) (s t : Arena Item) (es : List Entry) (runs : List OpenRun) (last l : Option ℕ)
     (rest : Forest Numbered) : Type 0 where
   pub reads : Reads h s t es last l rest
   pub runs_are : runs ≡ open_of es
 
--- from a chain whose rest begins with the characters of a closer it is read on past them, and the entries are
--- what `next` makes of those before
+-- a chain whose rest begins with the characters of a closer is read past them, and `next` maps the entries before to
+-- those after
 abbrev pub ReadsOn : (List Entry → List Entry) → ℕ → Characters → Option ℕ → Arena Item → Arena Item → List OpenRun
     → List OpenRun → Option ℕ → Option ℕ → Type 0
 ReadsOn next start closer last s t runs runs' last' l =
     (h : Chain) (es : List Entry) (after : Forest Numbered) → StandsAt h s es last start closer after
     → runs ≡ open_of es → IsRead h s t (next es) runs' last' l after
 
--- that there is such a chain
+-- there is such a chain
 pub record CanRead (start : ℕ) (closer : Characters) (last : Option ℕ) (s : Arena Item) (runs : List OpenRun) : Type 0
   where
     pub chain : Chain

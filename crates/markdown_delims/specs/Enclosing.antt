@@ -1,4 +1,4 @@
--- Where an opener's characters stand in an arena while they become nodes round a chain.
+-- An opener's characters in an arena while they become nodes around a chain.
 use Rattle.std.specs.Prelude.{◌≡◌, ℕ, ◌-◌, Bool, true, List, ◌∷◌, Option, Some}
 use Rattle.markdown_base.specs.declared.item.Item.{Item}
 use Rattle.markdown_base.specs.Arena.{Arena}
@@ -9,9 +9,9 @@ use Rattle.markdown_delims.specs.declared.run.Characters.{Characters}
 use Rattle.markdown_delims.specs.Entries.{Entry, characters_after, flat, enclosed}
 use Rattle.markdown_delims.specs.Views.{view_of, Holds, Rises, Cut, Kept, top}
 
--- the surroundings of an opener: which nodes may be written, the link to the whole chain, what stands before
--- the opener, from which byte it stands, the chain inside, which ends before the number `hi`, and the chain
--- after the closer, which ends before `bound`
+-- the surroundings of an opener: which nodes may be written, the link to the whole chain, what precedes the opener, the
+-- opener's byte offset, the chain inside, whose numbers are below `hi`, and the chain after the closer, whose numbers
+-- are below `bound`
 pub record Around : Type 0 where
   pub touched : ℕ → Bool
   pub first : Option ℕ
@@ -27,7 +27,7 @@ abbrev pub AllTouched : (ℕ → Bool) → Forest Numbered → Type 0
 AllTouched touched nil = Unit {0}
 AllTouched touched (node a below after) = (touched a.number ≡ true) × AllTouched touched after
 
--- the first n characters from a number on stand before the link of the inner chain; the outer chain stands apart
+-- the first n characters from a number on precede the link of the inner chain; the outer chain is separate
 pub record Encloses (g : Around) (s : Arena Item) (number n : ℕ) (inner outer : Option ℕ) : Type 0 where
   pub cut : Cut g.touched (view_of s.nodes) g.first (characters_after number g.start n g.before) inner g.inside g.hi
   pub after : Holds (view_of s.nodes) outer g.after
@@ -43,11 +43,11 @@ pub record IsEnclosed (g : Around) (s t : Arena Item) (entry : Entry) (es : List
   pub left_touched : AllTouched g.touched (flat (entry ∷ es))
   pub kept : Kept g.touched s t
 
--- what stands before the paired characters are these entries
+-- these entries are what precedes the paired characters
 abbrev pub LeavesOpen : Around → Characters → ℕ → List Entry → Type 0
 LeavesOpen g opener count es = flat es ≡ characters_after opener.number g.start (opener.count - count) g.before
 
--- so many last characters of an opener enclose the chain inside
+-- the last `count` characters of an opener enclose the chain inside
 abbrev pub EnclosesAll : Marks → Characters → ℕ → ℕ → Option ℕ → Option ℕ → Arena Item → Arena Item → ℕ → Type 0
 EnclosesAll m opener count end inner outer s t root =
     (g : Around) (es : List Entry) → Encloses g s opener.number opener.count inner outer → LeavesOpen g opener count es

@@ -8,13 +8,13 @@ use Rattle.markdown_delims.specs.MayPair.{may_pair}
 use Rattle.markdown_delims.specs.Pairing.{paired}
 use Rattle.markdown_delims.specs.PairingLaws.{RunAt, with_runs}
 
--- a tree of a chain is a character of a run, and this holds of its range
+-- some tree of a chain is a character of this run, with a range for which `holds` is true
 abbrev pub HasCharacter : RunAt → (Range ℕ → Type 0) → Forest (Label (Option RunAt)) → Type 0
 HasCharacter p holds nil = ⊥
 HasCharacter p holds (node a below after) =
     ((a.tag ≡ Some p) × holds a.part.range) ⊎ HasCharacter p holds after
 
--- a range goes from a character of an opener to a character of a closer, which may pair
+-- a range goes from a character of an opener to a character of a closer, and the two runs may pair
 pub record Joins (chain : Forest (Label (Option RunAt))) (opener : RunAt) (range : Range ℕ) : Type 0 where
   pub closer : RunAt
   pub begins : HasCharacter opener (λ own. own.start ≡ range.start) chain
@@ -23,18 +23,19 @@ pub record Joins (chain : Forest (Label (Option RunAt))) (opener : RunAt) (range
   pub can_close : closer.run.can_close ≡ true
   pub may : may_pair opener.run closer.run ≡ true
 
--- a tree that is made of a run is a character that stayed text, with nothing below it, or it joins the run to another
+-- a tree that is made from a run is either a character that remained text, with nothing below it, or joins the run to
+-- another
 abbrev pub IsMadeOfRun : Forest (Label (Option RunAt)) → Option RunAt → Range ℕ
     → (below : Forest (Label (Option RunAt))) → Type 0
 IsMadeOfRun chain None range below = ⊤
 IsMadeOfRun chain (Some p) range below =
     ((below ≡ nil) × HasCharacter p (λ own. own ≡ range) chain) ⊎ Joins chain p range
 
--- so it is of each tree of a forest
+-- each tree of a forest is such a tree
 abbrev pub JoinsRuns : (chain trees : Forest (Label (Option RunAt))) → Type 0
 JoinsRuns chain trees = Throughout (λ a below after. IsMadeOfRun chain a.tag a.part.range below) trees
 
--- all trees that pairing makes of runs do so
+-- each tree that pairing makes from a run is such a tree
 abbrev pub JoinedLaw : Type 0 → Type 0
 JoinedLaw A = (s : Setting) (chain : Forest (Label A)) → JoinsRuns (with_runs s 0 None chain)
     (paired s (with_runs s 0 None chain))

@@ -13,7 +13,7 @@ use Rattle.markdown_delims.specs.declared.run.Delimiter.TheVariants.{Star, Under
 use Rattle.markdown_delims.specs.declared.run.Run.{Run}
 use Rattle.markdown_delims.specs.MayPair.{delimiter_of}
 
--- the marks of a set of options
+-- the marks that a set of options enables
 abbrev pub marks_of : Options → Marks
 marks_of options = record {
   strikethrough = strikethrough_on options;
@@ -21,19 +21,19 @@ marks_of options = record {
   subscript = subscript_on options;
 }
 
--- a mark where it is on, and else what stands in its place
+-- a mark if it is enabled, and otherwise another shape
 abbrev pub enclosed_if : (is_on : Bool) → TagView → Shape → Shape
 enclosed_if true tag other = enclosed tag
 enclosed_if false tag other = other
 
--- a layer of two characters over these bytes, and a layer of one; one that is no mark is a Text over all of them
+-- the shape of a layer of two characters over these bytes; a layer that is not a mark is a Text of all of them
 abbrev pub layer_of_two : Marks → Delimiter → List ℕ → Shape
 layer_of_two m Star source = enclosed strong
 layer_of_two m Underscore source = enclosed strong
 layer_of_two m Tilde source = enclosed_if m.strikethrough strikethrough (text_over source)
 layer_of_two m Caret source = enclosed_if m.superscript superscript (text_over source)
 
--- what a layer of one character makes
+-- the shape of a layer of one character over these bytes
 abbrev pub layer_of_one : Marks → Delimiter → List ℕ → Shape
 layer_of_one m Star source = enclosed emphasis
 layer_of_one m Underscore source = enclosed emphasis
@@ -41,7 +41,7 @@ layer_of_one m Tilde source =
     enclosed_if m.subscript subscript (enclosed_if m.strikethrough strikethrough (text_over source))
 layer_of_one m Caret source = enclosed_if m.superscript superscript (text_over source)
 
--- the label of an opener's character with another shape, up to the end of a closer's character
+-- the label of an opener's character with another shape, extended to the end of a closer's character
 abbrev pub spanned : {A : Type 0} → List ℕ → (List ℕ → Shape) → Label A → Label A → Label A
 spanned source shape opener closer = record {
   tag = opener.tag;
@@ -52,19 +52,19 @@ spanned source shape opener closer = record {
   };
 }
 
--- a run of so many characters; one of none is no run
+-- a run of `count` characters; none if the count is zero
 abbrev pub run_by : ℕ → Bool → Bool → Option Delimiter → Option Run
 run_by count opens closes None = None
 run_by zero opens closes (Some d) = None
 run_by (suc n) opens closes (Some d) =
     Some (record { delimiter = d; length = suc n; can_open = opens; can_close = closes })
 
--- the run of an open item
+-- the run of an open item, by its body
 abbrev pub run_of_body : ItemBody → Option Delimiter → Option Run
 run_of_body (body.MaybeEmphasis count opens closes) d = run_by count opens closes d
 run_of_body other d = None
 
--- the run of a shape, where it is open
+-- the run of a shape, if it is open
 abbrev pub run_of_shape : Shape → Option Delimiter → Option Run
 run_of_shape (leaf e origins) d = None
 run_of_shape (enclosed tag) d = None

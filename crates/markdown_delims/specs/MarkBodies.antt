@@ -1,4 +1,4 @@
--- What paired characters become, by the marks that are on.
+-- What paired characters become, by the enabled marks.
 use Rattle.std.specs.Prelude.{ℕ, false, List, Option, Some, None, if◌then◌else◌}
 use Rattle.markdown_base.specs.declared.item.Item.{Item}
 use Rattle.markdown_base.specs.declared.item.ItemBody.{ItemBody}
@@ -14,14 +14,14 @@ use Rattle.markdown_delims.specs.MayPair.{delimiter_of}
 abbrev pub whole_text : ItemBody
 whole_text = body.Text false
 
--- the body that a layer of two characters makes
+-- the body of a layer of two characters
 abbrev pub layer_of_two : Marks → Delimiter → ItemBody
 layer_of_two m Star = body.Strong
 layer_of_two m Underscore = body.Strong
 layer_of_two m Tilde = if m.strikethrough then body.Strikethrough else whole_text
 layer_of_two m Caret = if m.superscript then body.Superscript else whole_text
 
--- the body that a layer of one character makes
+-- the body of a layer of one character
 abbrev pub layer_of_one : Marks → Delimiter → ItemBody
 layer_of_one m Star = body.Emphasis
 layer_of_one m Underscore = body.Emphasis
@@ -29,12 +29,12 @@ layer_of_one m Tilde = if m.subscript then body.Subscript else if m.strikethroug
     else whole_text
 layer_of_one m Caret = if m.superscript then body.Superscript else whole_text
 
--- a run, by its character
+-- the run of a character, by its delimiter
 abbrev pub run_by : RunCharacter → Option Delimiter → Option Run
 run_by c None = None
 run_by c (Some d) = Some (record { delimiter = d; length = c.count; can_open = c.can_open; can_close = c.can_close })
 
--- the run of an item, if it is one of a run
+-- the run of an item, if it is a character of one
 abbrev pub run_if : Option RunCharacter → Option Delimiter → Option Run
 run_if None d = None
 run_if (Some c) d = run_by c d

@@ -1,4 +1,4 @@
--- Which delimiter characters pair.
+-- Which delimiter runs may pair (CommonMark 6.2, rules 9 and 10).
 use Rattle.std.specs.Prelude.{ℕ, ◌+◌, ◌%◌, List, [], ◌∷◌, map, Bool, true, false, not, ◌&&◌, ◌||◌, ◌==◌, if◌then◌else◌}
 use Rattle.std.specs.Prelude.{Option, Some, None}
 use Rattle.markdown_base.specs.Bytes.{asterisk, caret, tilde, underscore}
@@ -7,7 +7,7 @@ use Rattle.markdown_delims.specs.declared.run.Delimiter.TheVariants.{Star, Under
 use Rattle.markdown_delims.specs.declared.run.Run.{Run}
 use Rattle.markdown_delims.specs.declared.run.Characters.{Characters}
 
--- the character that a byte is
+-- the delimiter of a byte, if it is one
 abbrev pub delimiter_of : ℕ → Option Delimiter
 delimiter_of byte =
     if byte == asterisk then Some Star
@@ -15,7 +15,7 @@ delimiter_of byte =
     else if byte == tilde then Some Tilde
     else if byte == caret then Some Caret else None
 
--- the same character
+-- two delimiters are equal
 abbrev pub same_delimiter : Delimiter → Delimiter → Bool
 same_delimiter Star Star = true
 same_delimiter Underscore Underscore = true
@@ -23,29 +23,29 @@ same_delimiter Tilde Tilde = true
 same_delimiter Caret Caret = true
 same_delimiter _ _ = false
 
--- the delimiters that a failed search can drop
+-- the delimiters whose runs a failed search can drop
 abbrev pub is_tilde_or_caret : Delimiter → Bool
 is_tilde_or_caret Star = false
 is_tilde_or_caret Underscore = false
 is_tilde_or_caret Tilde = true
 is_tilde_or_caret Caret = true
 
--- a search by a closer of the first character that finds none drops each open run of the second
+-- a failed search by a closer of the first delimiter drops each open run of the second
 abbrev pub drops : Delimiter → Delimiter → Bool
 drops Tilde Tilde = true
 drops Caret Caret = true
 drops _ _ = false
 
--- the delimiter whose runs pair only with runs of their length
+-- the delimiter whose runs pair only with runs of equal length
 abbrev pub needs_equal_length : Delimiter → Bool
 needs_equal_length Tilde = true
 needs_equal_length _ = false
 
--- it can open, and it can close
+-- a run can both open and close
 abbrev pub both : Run → Bool
 both run = run.can_open && run.can_close
 
--- the rule of three, of an opener's length and a closer's
+-- the rule of three, for the lengths of an opener and a closer
 abbrev pub lengths_agree : ℕ → ℕ → Bool
 lengths_agree opener closer = not ((opener + closer) % 3 == 0) || (closer % 3 == 0)
 
@@ -61,7 +61,7 @@ pub record OpenRun : Type 0 where
   pub dropped : Bool
   pub opener : Characters
 
--- an open run with which a closer may pair
+-- a closer may pair with this open run
 abbrev pub may_take : Run → OpenRun → Bool
 may_take closer r = not r.dropped && may_pair r.opener.run closer
 
@@ -76,10 +76,10 @@ nearest closer [] = None
 nearest closer (r ∷ rs) = if may_take closer r then Some (record { opener = r.opener; before = rs })
     else nearest closer rs
 
--- an open run after a search by a closer of this character that found none
+-- an open run after a failed search by a closer of this character
 abbrev pub drop_run : Delimiter → OpenRun → OpenRun
 drop_run d r = record { dropped = r.dropped || drops d r.opener.run.delimiter; opener = r.opener }
 
--- the open runs after a search that found none
+-- the open runs after a closer's failed search
 abbrev pub dropped_by : Run → List OpenRun → List OpenRun
 dropped_by closer rs = map (drop_run closer.delimiter) rs

@@ -1,4 +1,4 @@
--- A chain of an arena that is paired where it stands.
+-- A chain of an arena that is paired in place.
 use Rattle.std.specs.Prelude.{◌≡◌, ℕ, ◌+◌, ◌-◌, ◌^◌, ◌≤◌, min, true, false, List, Some, length}
 use Rattle.markdown_base.specs.ArenaForest.{links_of, Spells, forest_at}
 use Rattle.markdown_base.specs.ArenaWalk.{Reaches}
@@ -17,7 +17,7 @@ use Rattle.markdown_delims.specs.ChainForest.{RisesFrom}
 use Rattle.markdown_delims.specs.Pairing.{paired}
 use Rattle.markdown_delims.specs.RunReading.{IsWhole}
 
--- what is open in a chain waits for pairing
+-- each open item of a chain waits for pairing
 abbrev pub WaitsForPairing : Forest Numbered → Type 0
 WaitsForPairing nil = Unit {0}
 WaitsForPairing (node a below after) =
@@ -28,8 +28,8 @@ abbrev pub HasNoBlock : Forest Numbered → Type 0
 HasNoBlock nil = Unit {0}
 HasNoBlock (node a below after) = (is_block a.item.body ≡ false) × HasNoBlock after
 
--- from `first` on stands a chain: no node stands twice in it, the numbers of its own nodes rise, its runs are whole,
--- and nothing of it is open but runs and quotes
+-- the links from `first` on lead through a chain: no node occurs twice in it, the numbers of its own nodes rise, its
+-- runs are whole, and only runs and quotes are open
 pub record CanPair (text : List ℕ) (nodes : List (Node Item)) (first : ℕ) : Type 0 where
   pub spelled : Spells (links_of nodes) (Some first) (forest_at (links_of nodes) (Some first))
   pub once : (n : ℕ) → times_in nodes (Some first) n ≤ 1
@@ -37,28 +37,28 @@ pub record CanPair (text : List ℕ) (nodes : List (Node Item)) (first : ℕ) : 
   pub whole : IsWhole text (trees_at nodes (Some first))
   pub waits : WaitsForPairing (trees_at nodes (Some first))
 
--- the chain from `first` on was paired where it stood
+-- the chain from `first` on was paired in place
 pub record PairsChain (s : Setting) (first : ℕ) (old new : List (Node Item)) : Type 0 where
-  -- it is the chain that the rules make of it, whatever its items name
+  -- it is the chain that the rules make from it, whatever its items refer to
   pub pairs : (tables : Tables)
       → trees_from s.text tables new (Some first) ≡ paired s (trees_from s.text tables old (Some first))
-  -- its links spell a chain, in which no node stands that did not stand there before, and none twice; its numbers rise
+  -- its links represent a chain without nodes that were not in it before, and without any node twice; its numbers rise
   pub spelled : Spells (links_of new) (Some first) (forest_at (links_of new) (Some first))
   pub times : (n : ℕ) → times_in new (Some first) n ≤ times_in old (Some first) n
   pub rising : RisesFrom 0 (roots (forest_at (links_of new) (Some first)))
-  -- other nodes are as they were
+  -- other nodes are unchanged
   pub same_size : length new ≡ length old
   pub outside : (n : ℕ) → times_in old (Some first) n ≡ 0 → IsSameAt old new n
-  -- where its items were placed, they are, at every depth; and what stood before the chain still does
+  -- if its items were placed, they still are, at every depth; and what preceded the chain still does
   pub placed : (tables : Tables) → HasNoBlock (trees_at old (Some first))
       → Reaches (links_of old) (IsPlaced s.text tables old) (Some first)
       → Reaches (links_of new) (IsPlaced s.text tables new) (Some first)
   pub before : (a : Numbered) → StandsBefore a (Some (numbered old first)) → StandsBefore a (Some (numbered new first))
-  -- no entry is named more often, and it is no heavier
+  -- no entry is referred to more often, and its weight is not greater
   pub named : (n : Named) → named_in new (Some first) n ≤ named_in old (Some first) n
   pub no_heavier : weight_in new (Some first) ≤ weight_in old (Some first)
 
--- a count rises by so much at most, and stays where it can grow no more
+-- a count rises by at most `most`, or to its maximum
 pub record ExaminesAtMost (most old new : ℕ) : Type 0 where
   pub examined : ℕ
   pub within : examined ≤ most

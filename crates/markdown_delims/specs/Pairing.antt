@@ -1,4 +1,4 @@
--- Pairing of a chain: it is read from left to right, and a closer encloses what stands between it and its opener
+-- Pairing of a chain: it is read from left to right, and a closer encloses what lies between its opener and itself
 -- (CommonMark 6.2, and the appendix's "process emphasis").
 use Rattle.std.specs.Prelude.{ℕ, zero, suc, ◌-◌, Bool, true, false, not, ◌&&◌, ◌||◌, List, [], ◌∷◌, map, length, Option}
 use Rattle.std.specs.Prelude.{Some, None}
@@ -12,41 +12,41 @@ use Rattle.markdown_delims.specs.Layers.{marks_of, layer_of_one, layer_of_two, s
 use Rattle.markdown_delims.specs.MayPair.{drops, may_pair}
 use Rattle.markdown_delims.specs.Quotes.{with_quotes}
 
--- what was read of a chain: a tree; or a run that is still open, dropped or not, by its characters that are not
+-- what was read of a chain: a tree; or a run that is still open, dropped or not, with its characters that are not
 -- paired, the last one first
 pub data Read (A : Type 0) : Type 0 where
   done : Label A → Forest (Label A) → Read A
   waiting : (dropped : Bool) → Run → List (Label A) → Read A
 
--- characters that stay text, the last one first: each is a tree of its own
+-- characters that remain text, the last one first, before a chain: each is a tree of its own
 abbrev pub texts_before : {A : Type 0} → List (Label A) → Forest (Label A) → Forest (Label A)
 texts_before [] chain = chain
 texts_before (x ∷ xs) chain = texts_before xs (node x nil chain)
 
--- these are read, and open no more
+-- the characters as trees that were read, before what was read already: they no longer open
 abbrev pub all_done : {A : Type 0} → List (Label A) → List (Read A) → List (Read A)
 all_done [] rs = rs
 all_done (x ∷ xs) rs = done x nil ∷ all_done xs rs
 
--- the chain that was read, the nearest first, and then another; a run that is still open is text
+-- the chain that was read, the nearest tree first, followed by another chain; a run that is still open becomes text
 abbrev pub read_trees : {A : Type 0} → List (Read A) → Forest (Label A) → Forest (Label A)
 read_trees [] after = after
 read_trees (done a below ∷ rs) after = read_trees rs (node a below after)
 read_trees (waiting dropped run xs ∷ rs) after = read_trees rs (texts_before xs after)
 
--- an opener that was found, what stands between it and its closer, and what stands before it
+-- an opener that was found, with what lies between it and its closer, and what precedes it
 pub record FoundOpener (A : Type 0) : Type 0 where
   pub inside : Forest (Label A)
   pub run : Run
   pub characters : List (Label A)
   pub before : List (Read A)
 
--- the opener that was found, or what is found further on
+-- the opener that was found, if it may be taken, and otherwise the result of the further search
 abbrev pub found_if : {A : Type 0} → Bool → FoundOpener A → Option (FoundOpener A) → Option (FoundOpener A)
 found_if true found further = Some found
 found_if false found further = further
 
--- the nearest open run that is not dropped and may pair, where `inside` was passed over already
+-- the nearest open run that is not dropped and may pair; `inside` is what the search has passed already
 abbrev pub nearest_opener : {A : Type 0} → Run → List (Read A) → Forest (Label A) → Option (FoundOpener A)
 nearest_opener closer [] inside = None
 nearest_opener closer (done a below ∷ rs) inside = nearest_opener closer rs (node a below inside)
@@ -54,19 +54,19 @@ nearest_opener closer (waiting dropped run xs ∷ rs) inside =
     found_if (not dropped && may_pair run closer) (record { inside = inside; run = run; characters = xs; before = rs })
     (nearest_opener closer rs (texts_before xs inside))
 
--- what was read, after a search by a closer of this character that found none
+-- a part of what was read, after a failed search by a closer of this character
 abbrev pub drop_read : {A : Type 0} → Delimiter → Read A → Read A
 drop_read d (done a below) = done a below
 drop_read d (waiting dropped run xs) = waiting (dropped || drops d run.delimiter) run xs
 
--- layers round a chain, and the characters of the opener and of the closer that are left
+-- layers around a chain, and the characters of the opener and of the closer that are left
 pub record Layers (A : Type 0) : Type 0 where
   pub whole : Forest (Label A)
   pub opening : List (Label A)
   pub closing : List (Label A)
 
--- the characters of an opener, the last one first, and those of a closer pair from the inside out: two at a time
--- while both have two, and then one
+-- the characters of an opener, the last one first, pair with those of a closer from the inside out: two at a time while
+-- both have two, and then one
 abbrev pub layers : {A : Type 0} → Setting → Delimiter → (opener closer : List (Label A)) → Forest (Label A) → Layers A
 layers s d [] vs inside = record { whole = inside; opening = []; closing = vs }
 layers s d (x ∷ xs) [] inside = record { whole = inside; opening = x ∷ xs; closing = [] }
@@ -83,7 +83,7 @@ layers s d (x ∷ y ∷ xs) (v ∷ []) inside = record {
 layers s d (x ∷ y ∷ xs) (v ∷ w ∷ vs) inside =
     layers s d xs vs (node (spanned s.text (layer_of_two (marks_of s.rules.options) d) y w) inside nil)
 
--- the trees of a chain are done
+-- the trees of a chain, added to what was read
 abbrev pub trees_done : {A : Type 0} → Forest (Label A) → List (Read A) → List (Read A)
 trees_done nil rs = rs
 trees_done (node a below after) rs = trees_done after (done a below ∷ rs)
@@ -93,17 +93,17 @@ abbrev pub still_waiting : {A : Type 0} → Run → List (Label A) → List (Rea
 still_waiting run [] rs = rs
 still_waiting run (x ∷ xs) rs = waiting false run (x ∷ xs) ∷ rs
 
--- a list, the last one first, before others
+-- a list in reverse, before others
 abbrev pub last_first : {X : Type 0} → List X → List X → List X
 last_first [] others = others
 last_first (x ∷ xs) others = last_first xs (x ∷ others)
 
--- characters that cannot close, or found none, open if they can; else they are text
+-- characters that cannot close, or whose search failed, open if they can, and otherwise become text
 abbrev pub opened_if : {A : Type 0} → (opens : Bool) → Run → List (Label A) → List (Read A) → List (Read A)
 opened_if true run xs rs = waiting false run xs ∷ rs
 opened_if false run xs rs = all_done xs rs
 
--- what is left of a run that closed nothing more: it opens if it can
+-- what is left of a run that closes nothing more: it opens if it can
 abbrev pub left_over : {A : Type 0} → Run → List (Label A) → List (Read A) → List (Read A)
 left_over run vs rs = opened_if run.can_open run (last_first vs []) rs
 
@@ -119,7 +119,8 @@ after_search s again closer vs rs (Some f) =
     again (layers s f.run.delimiter f.characters vs f.inside).closing
     (after_layers f (layers s f.run.delimiter f.characters vs f.inside))
 
--- the characters of a closer search, while there are some; each find uses one at least, so one turn for each is enough
+-- the searches of a closer while it has characters left; each that succeeds uses at least one character, so one turn
+-- for each is enough
 unfoldable pub closed_by : {A : Type 0} → Setting → ℕ → Run → List (Label A) → List (Read A) → List (Read A)
 closed_by s turns closer [] rs = rs
 closed_by s zero closer (v ∷ vs) rs = left_over closer (v ∷ vs) rs
@@ -132,30 +133,31 @@ abbrev pub run_read : {A : Type 0} → Setting → (closes : Bool) → Run → L
 run_read s true run vs rs = closed_by s (length vs) run vs rs
 run_read s false run vs rs = left_over run vs rs
 
--- the first characters of a chain, as texts
+-- the first characters of a chain, as Texts
 abbrev pub first_texts : {A : Type 0} → List ℕ → ℕ → Forest (Label A) → List (Label A)
 first_texts source zero chain = []
 first_texts source (suc n) nil = []
 first_texts source (suc n) (node a below after) = as_text source a ∷ first_texts source n after
 
--- a tree is read, which is a Text if it is open and no run; and with the first character of a run all of the run
+-- a tree is read, or all of a run if the tree is its first character; a tree that is open and not part of a run becomes
+-- a Text
 abbrev pub after_tree : {A : Type 0} → Setting → (go_on : ℕ → List (Read A) → List (Read A)) → Label A
     → (below after : Forest (Label A)) → List (Read A) → Option Run → List (Read A)
 after_tree s go_on a below after rs None = go_on 0 (done (as_closed s.text a) below ∷ rs)
 after_tree s go_on a below after rs (Some run) =
     go_on (run.length - 1) (run_read s run.can_close run (first_texts s.text run.length (node a below after)) rs)
 
--- a chain is read from left to right, where some of its first trees belong to a run that was read already
+-- a chain is read from left to right; the first `skip` trees belong to a run that was read already
 unfoldable pub reads_from : {A : Type 0} → Setting → ℕ → Forest (Label A) → List (Read A) → List (Read A)
 reads_from s skip nil rs = rs
 reads_from s (suc skip) (node a below after) rs = reads_from s skip after rs
 reads_from s zero (node a below after) rs =
     after_tree s (λ skip others. reads_from s skip after others) a below after rs (run_of s.text a.part)
 
--- a chain with its runs paired: at its end no run is open any more
+-- a chain with its runs paired: at its end all open runs become text
 unfoldable pub runs_paired : {A : Type 0} → Setting → Forest (Label A) → Forest (Label A)
 runs_paired s chain = read_trees (reads_from s 0 chain []) nil
 
--- what becomes of a chain after pass one: its quotes and its last break, and then its runs
+-- a chain resolved after pass one: its quotes and its last break, and then its runs
 unfoldable pub paired : {A : Type 0} → Setting → Forest (Label A) → Forest (Label A)
 paired s chain = runs_paired s (with_quotes chain)

@@ -1,4 +1,5 @@
--- Quotes of a chain, and a hard break by a backslash at its end.
+-- Quotes of a chain under smart punctuation, and a hard break by a backslash at its end, for chains with the numbers of
+-- their nodes.
 use Rattle.std.specs.Prelude.{Bool, true, false, ◌&&◌, ◌||◌, ◌==◌, if◌then◌else◌}
 use Rattle.markdown_base.specs.Bytes.{apostrophe, backslash}
 use Rattle.markdown_base.specs.declared.item.ItemBody.{ItemBody}
@@ -9,7 +10,7 @@ use Rattle.markdown_delims.specs.Quotes.{closes_later}
 use Rattle.markdown_delims.specs.declared.quotes.Kind.{Kind}
 use Rattle.markdown_delims.specs.declared.quotes.Kind.TheVariants as kind
 
--- the characters that quotes become: U+2018, U+2019, U+201C, U+201D; and the backslash
+-- a left single quotation mark
 abbrev pub left_single : ItemBody
 left_single = body.SynthesizeChar 8216
 
@@ -29,14 +30,14 @@ right_double = body.SynthesizeChar 8221
 abbrev pub shown_backslash : ItemBody
 shown_backslash = body.SynthesizeChar backslash
 
--- what a body is to the reading of quotes
+-- the kind of a body, for reading quotes
 abbrev pub kind_of : ItemBody → Kind
 kind_of (body.MaybeSmartQuote quote opens closes) = if quote == apostrophe then kind.Single opens closes
     else kind.Double opens closes
 kind_of (body.HardBreak by_backslash) = if by_backslash then kind.Break else kind.Other
 kind_of other = kind.Other
 
--- whether the `'` remembered here is closed later
+-- the `'` that is remembered is closed later, in this chain
 abbrev pub is_closed_later : Forest Numbered → Bool
 is_closed_later nil = false
 is_closed_later (node a below after) = closes_later (kind_of a.item.body) (is_closed_later after)
@@ -47,7 +48,7 @@ pub record Turn : Type 0 where
   pub single : Bool
   pub double : Bool
 
--- what an item becomes by its kind, and which quotes are remembered then
+-- what an item becomes by its kind, and which quotes are remembered afterwards
 abbrev pub turn_of : Kind → ItemBody → Bool → Bool → Bool → Bool → Turn
 turn_of (kind.Single opens closes) b single double later last =
     if single && closes then record { made = right_single; single = false; double = double }
@@ -68,7 +69,7 @@ turn_of kind.Break b single double later last = record {
 }
 turn_of kind.Other b single double later last = record { made = b; single = single; double = double }
 
--- nothing follows
+-- a chain is empty
 abbrev pub is_nil : Forest Numbered → Bool
 is_nil nil = true
 is_nil (node a below after) = false
@@ -77,18 +78,18 @@ is_nil (node a below after) = false
 abbrev pub with_body : ItemBody → Numbered → Numbered
 with_body b a = record { number = a.number; item = record { start = a.item.start; end = a.item.end; body = b } }
 
--- the turn of a chain's first tree
+-- what a chain's first tree becomes
 abbrev pub turn_at : Numbered → Forest Numbered → Bool → Bool → Turn
 turn_at a after single double = turn_of (kind_of a.item.body) a.item.body single double (is_closed_later after)
     (is_nil after)
 
--- a chain with its quotes, where a `'` may be remembered and a `"` open
+-- a chain with its quotes replaced, after a remembered `'` or an open `"` or neither
 abbrev pub quoted_after : Bool → Bool → Forest Numbered → Forest Numbered
 quoted_after single double nil = nil
 quoted_after single double (node a below after) =
     node (with_body (turn_at a after single double).made a) below (quoted_after (turn_at a after single double).single
     (turn_at a after single double).double after)
 
--- a chain with its quotes and its last break
+-- a chain with its quotes and its last break replaced
 abbrev pub quoted : Forest Numbered → Forest Numbered
 quoted chain = quoted_after false false chain

@@ -14,7 +14,7 @@ use Rattle.markdown_delims.specs.declared.quotes.Kind.TheVariants as kind
 abbrev pub synthesized : ℕ → Shape
 synthesized c = leaf (text (encode_utf8 c)) (made ∷ [])
 
--- U+2018, U+2019, U+201C, U+201D, and the backslash
+-- a left single quotation mark
 abbrev pub left_single : Shape
 left_single = synthesized 8216
 
@@ -34,18 +34,17 @@ right_double = synthesized 8221
 abbrev pub shown_backslash : Shape
 shown_backslash = synthesized backslash
 
--- what a shape is to the reading of quotes: a `'` or a `"` with whether it can open and can close, a hard break by a
--- backslash, or another
+-- the kind of a quote: a `'` or a `"`, with whether it can open and can close
 abbrev pub kind_by : (is_single opens closes : Bool) → Kind
 kind_by true opens closes = kind.Single opens closes
 kind_by false opens closes = kind.Double opens closes
 
--- what an open item is to quotes
+-- the kind of an open item's body, for reading quotes
 abbrev pub kind_of_open : ItemBody → Kind
 kind_of_open (body.MaybeSmartQuote quote opens closes) = kind_by (quote == apostrophe) opens closes
 kind_of_open other = kind.Other
 
--- what a shape is to quotes
+-- the kind of a shape, for reading quotes
 abbrev pub kind_of_shape : Shape → Kind
 kind_of_shape (leaf e origins) = kind.Other
 kind_of_shape (enclosed tag) = kind.Other
@@ -53,19 +52,19 @@ kind_of_shape plain = kind.Other
 kind_of_shape backslash_break = kind.Break
 kind_of_shape (unresolved b) = kind_of_open b
 
--- whether the `'` remembered here is closed later: the next one that can close or open decides
+-- whether the `'` that is remembered is closed later: the next one that can close or open decides
 abbrev pub closes_later : Kind → Bool → Bool
 closes_later (kind.Single opens closes) later = if closes then true else if opens then false else later
 closes_later (kind.Double opens closes) later = later
 closes_later kind.Break later = later
 closes_later kind.Other later = later
 
--- whether it is, by the chain after it
+-- whether it is closed in the chain after it
 abbrev pub is_closed_later : {A : Type 0} → Forest (Label A) → Bool
 is_closed_later nil = false
 is_closed_later (node a below after) = closes_later (kind_of_shape a.part.shape) (is_closed_later after)
 
--- nothing follows
+-- a chain is empty
 abbrev pub is_end : {A : Type 0} → Forest A → Bool
 is_end nil = true
 is_end (node a below after) = false
@@ -76,18 +75,19 @@ pub record QuoteTurn : Type 0 where
   pub single : Bool
   pub double : Bool
 
--- a `'` that closes a remembered one, and one that does not: it is a left quote where it is closed itself
+-- a `'` that closes the remembered one is a right quotation mark; another one is a left quotation mark if it is closed
+-- later
 abbrev pub single_turn : (is_closing opens single double later : Bool) → QuoteTurn
 single_turn true opens single double later = record { made = right_single; single = false; double = double }
 single_turn false opens single double later =
     record { made = if opens && later then left_single else right_single; single = opens || single; double = double }
 
--- a `"` that closes an open one, and one that does not
+-- a `"` that closes an open one is a right quotation mark, and any other a left one
 abbrev pub double_turn : (is_closing opens single double : Bool) → QuoteTurn
 double_turn true opens single double = record { made = right_double; single = single; double = false }
 double_turn false opens single double = record { made = left_double; single = single; double = opens || double }
 
--- what an item becomes by its kind, and which quotes are remembered then
+-- what an item becomes by its kind, and which quotes are remembered afterwards
 abbrev pub turn_by : Kind → Shape → (single double later last : Bool) → QuoteTurn
 turn_by (kind.Single opens closes) shape single double later last =
     single_turn (single && closes) opens single double later
@@ -96,18 +96,18 @@ turn_by kind.Break shape single double later last =
     record { made = if last then shown_backslash else shape; single = single; double = double }
 turn_by kind.Other shape single double later last = record { made = shape; single = single; double = double }
 
--- the turn of a chain's first tree
+-- what a chain's first tree becomes
 abbrev pub first_turn : {A : Type 0} → Label A → Forest (Label A) → (single double : Bool) → QuoteTurn
 first_turn a after single double =
     turn_by (kind_of_shape a.part.shape) a.part.shape single double (is_closed_later after) (is_end after)
 
--- a chain with its quotes, where a `'` may be remembered and a `"` open
+-- a chain with its quotes replaced, after a remembered `'` or an open `"` or neither
 abbrev pub quotes_after : {A : Type 0} → (single double : Bool) → Forest (Label A) → Forest (Label A)
 quotes_after single double nil = nil
 quotes_after single double (node a below after) =
     node (shaped (first_turn a after single double).made a) below
     (quotes_after (first_turn a after single double).single (first_turn a after single double).double after)
 
--- a chain with its quotes and its last break
+-- a chain with its quotes and its last break replaced
 unfoldable pub with_quotes : {A : Type 0} → Forest (Label A) → Forest (Label A)
 with_quotes chain = quotes_after false false chain

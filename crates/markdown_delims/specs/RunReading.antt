@@ -1,4 +1,4 @@
--- A chain whose runs are whole, and how far it has been read.
+-- A chain whose runs are whole, and the part of it that has been read.
 use Rattle.std.specs.Prelude.{◌≡◌, ℕ, zero, suc, ◌+◌, ◌*◌, ◌<◌, ◌≤◌, ◌^◌, List, Option, Some, None, IfSome}
 use Rattle.markdown_base.specs.declared.item.Item.{Item}
 use Rattle.markdown_base.specs.Arena.{Arena}
@@ -14,48 +14,48 @@ use Rattle.markdown_delims.specs.EntryFinds.{finds_from}
 use Rattle.markdown_delims.specs.ChainStanding.{Chain, Stands, IsRead}
 use Rattle.markdown_delims.specs.Views.{Rises, Kept}
 
--- a character of a run: it stands there with all that the run goes on with, and has no children
+-- a character of a run is followed by all that the run continues with, and has no children
 pub record StandsWhole (text : List ℕ) (a : Numbered) (below after : Forest Numbered) (c : RunCharacter) : Type 0 where
   pub stands : StandsInRun text a (first_root after) c
   pub childless : below ≡ nil
 
--- each run of a chain is whole. Of chains further down it says nothing.
+-- each run of a chain is whole. Chains at greater depth are not restricted.
 abbrev pub IsWhole : List ℕ → Forest Numbered → Type 0
 IsWhole text nil = Unit {0}
 IsWhole text (node a below after) = IfSome (run_character a.item.body) (StandsWhole text a below after)
     × IsWhole text after
 
--- a chain begins with n nodes of consecutive numbers without children, and then comes the rest
+-- a chain begins with n nodes of consecutive numbers without children, which the rest follows
 abbrev pub BeginsRun : ℕ → ℕ → Forest Numbered → Forest Numbered → Type 0
 BeginsRun number zero chain rest = chain ≡ rest
 BeginsRun number (suc n) nil rest = ⊥
 BeginsRun number (suc n) (node a below after) rest = (a.number ≡ number) × (below ≡ nil)
     × BeginsRun (suc number) n after rest
 
--- 1 for a character of a run
+-- 1 for a character of a run, and 0 otherwise
 abbrev pub counts_one : Option RunCharacter → ℕ
 counts_one None = 0
 counts_one (Some c) = 1
 
--- the delimiter characters of a chain
+-- the number of delimiter characters of a chain
 abbrev pub delimiters_of : Forest Numbered → ℕ
 delimiters_of nil = 0
 delimiters_of (node a below after) = counts_one (run_character a.item.body) + delimiters_of after
 
--- characters of a run were settled as text
+-- the next n characters of the chain became Texts
 pub record IsSettled (h : Chain) (s t : Arena Item) (es : List Entry) (number start n : ℕ) (last : Option ℕ)
     (rest : Forest Numbered) : Type 0 where
   pub stands : Stands h t es last (Some number) (characters number start n rest)
   pub kept : Kept h.touched s t
 
--- the first n nodes of the rest become characters that stay text
+-- the first n nodes of the rest become characters that remain text
 abbrev pub Settles : ℕ → ℕ → ℕ → Arena Item → Arena Item → Type 0
 Settles number start n s t =
     (h : Chain) (es : List Entry) (last : Option ℕ) (chain rest : Forest Numbered)
     → Stands h s es last (Some number) chain → BeginsRun number n chain rest
     → IsSettled h s t es number start n last rest
 
--- that there are n such nodes
+-- there are n such nodes
 pub record CanSettle (number n : ℕ) (s : Arena Item) : Type 0 where
   pub chain : Chain
   pub es : List Entry
@@ -65,7 +65,7 @@ pub record CanSettle (number n : ℕ) (s : Arena Item) : Type 0 where
   pub stands : Stands chain s es last (Some number) whole
   pub begins : BeginsRun number n whole rest
 
--- a chain that was read somewhat further: the same is made of the whole, and each search that found was counted
+-- a chain was read somewhat further: the pairing of the whole is the same, and each successful search was counted
 pub record ReadFurther (m : Marks) (text : List ℕ) (h : Chain) (s t : Arena Item) (begun : List Entry)
     (chain : Forest Numbered) (old new : Openers) (last' l : Option ℕ) (from : ℕ) : Type 0 where
   pub es : List Entry
@@ -85,7 +85,7 @@ ReadsTree m text ix last s t old new last' l =
     → old.runs ≡ open_of es
     → ReadFurther m text h s t es chain old new last' l (suc ix)
 
--- that there is one
+-- there is such a tree
 pub record CanReadTree (text : List ℕ) (ix : ℕ) (last : Option ℕ) (s : Arena Item) (runs : List OpenRun) (cost : ℕ)
     : Type 0 where
   pub chain : Chain

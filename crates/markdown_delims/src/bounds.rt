@@ -1,11 +1,12 @@
-//! Below which places no open run may pair with a closer: what earlier searches have learned.
+//! Lower bounds of a search: the positions of the stack below which no open run pairs with a closer, as earlier
+//! searches found.
 ghost use Rattle.std.specs.Prelude.{◌≡◌};
 ghost use Rattle.markdown_delims.specs.Bounds.{bound_for, raised_for, lowered, no_bounds, zero_bounds};
 ghost use Rattle.markdown_delims.specs.Bounds.{character_bound_for, character_raised_for, character_lowered};
 
 use crate::run::{Delimiter, Run};
 
-/// Below which places of the stack no run of one character pairs, by the closer.
+/// The lower bounds for closers of one character: no run below the least bound that applies to a closer pairs with it.
 #[derive(Clone, Copy)]
 pub struct CharacterBounds {
     pub cannot_open: usize,
@@ -14,7 +15,7 @@ pub struct CharacterBounds {
     pub remainder_two: usize,
 }
 
-/// The lower bounds of a stack.
+/// The lower bounds of a stack of open runs.
 #[derive(Clone, Copy)]
 pub struct LowerBounds {
     pub star: CharacterBounds,

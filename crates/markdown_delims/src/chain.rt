@@ -1,4 +1,4 @@
-//! A chain is paired where it stands: its quotes and its last break, and then its delimiter runs.
+//! Pairing a chain in place: its quotes and its last break, and then its delimiter runs.
 ghost use Rattle.std.specs.Prelude.{◌≡◌, ℕ, ◌+◌, ◌-◌, ◌*◌, ◌^◌, ◌<◌, ◌≤◌, [], Some, OnOk, min};
 ghost use Rattle.markdown_base.specs.BlockTree.{trees_at};
 ghost use Rattle.markdown_base.specs.Forest.{Forest};
@@ -24,7 +24,7 @@ use markdown_base::tree::Tree;
 use markdown_document::work::Work;
 use std::alloc::AllocError;
 
-/// 1 for a character of a delimiter run, 0 for all else.
+/// Returns 1 for a character of a delimiter run, and 0 for any other body.
 fn counts_one(body: ItemBody) -> u128
     ensures { result ≡ counts_one (run_character body) }
 {
@@ -34,14 +34,14 @@ fn counts_one(body: ItemBody) -> u128
     }
 }
 
-/// How many items of the chain from `first` on are characters of delimiter runs.
+/// Returns the number of items of the chain from `first` on that are characters of delimiter runs.
 fn count_delimiters(tree: &Tree<Item>, first: usize) -> u128
     requires chain { (f : Forest ℕ) × IsSpelled tree.now.nodes first f }
     ensures count { (f : Forest ℕ) → IsSpelled tree.now.nodes first f
         → result ≡ delimiters_of (chain_of tree.now.nodes f) }
     ensures small { result < 2 ^ 64 }
 {
-    // bounds the numbers
+    // bounds the node numbers
     let _nodes = tree.len();
     let mut count = 0;
     let mut cur = Some(first);
@@ -54,7 +54,8 @@ fn count_delimiters(tree: &Tree<Item>, first: usize) -> u128
     count
 }
 
-/// Pairs the runs of the chain from `first` on. No run is open before it. After a refusal nothing is said of the chain.
+/// Pairs the delimiter runs of the chain from `first` on, before which no run is open. The error is a refused
+/// allocation, after which the chain may be in any state.
 fn pair_runs(
     tree: &mut Tree<Item>,
     openers: &mut OpenRuns,
@@ -78,20 +79,20 @@ fn pair_runs(
         last = read;
         cur = next;
     }
-    // no more was examined than was counted
+    // no more comparisons were made than were counted
     let _examined = openers.examined();
     Ok(())
 }
 
-/// Pairs the chain of inline items from the node `first` on where it stands, once pass one has left nothing open in it
-/// but quotes and delimiter runs: quotes become their characters, a hard break by a backslash at its end becomes that
-/// backslash, paired characters become nodes around what stands between them, and all others Texts of one byte each
-/// (CommonMark 6.2).
+/// Pairs the chain of inline items from the node `first` on in place, once pass one has left nothing open in it but
+/// quotes and delimiter runs: quotes become their characters, a hard break by a backslash at its end becomes that
+/// backslash, paired delimiter characters become nodes around what lies between them, and all other delimiter
+/// characters become Texts of one byte each (CommonMark 6.2).
 ///
-/// `open_runs` is emptied first; its memory is kept from chain to chain. `work` counts the characters of runs, and the
-/// open runs that were compared with a closer: at most `comparisons_per_delimiter` for
-/// each character, and at least one for each search of a
-/// closer that finds. After a refusal of memory the nodes of the chain may be in any state.
+/// `open_runs` is emptied first; its allocation is kept from chain to chain. `work` counts the delimiter characters and
+/// the comparisons of open runs with closers: at most `comparisons_per_delimiter` for each character, and at least one
+/// for each search by a closer that finds an opener. The error is a refused allocation, after which the nodes of the
+/// chain may be in any state. Upstream: `handle_emphasis_and_hard_break`.
 pub fn pair_chain(
     tree: &mut Tree<Item>,
     open_runs: &mut OpenRuns,
@@ -110,7 +111,7 @@ pub fn pair_chain(
         → RisesAtLeast (finds_in (setting_of text.now rules) (trees_from text.now tables tree.old.nodes (Some first)))
         work.old.examined work.new.examined) }
 
-    // whatever comes
+    // on success and on error
     ensures counted { work.new ≡ record work.old {
       delimiters = min (work.old.delimiters + delimiters_of (trees_at tree.old.nodes (Some first))) (2 ^ 128 - 1);
       examined = work.new.examined;

@@ -1,4 +1,4 @@
-//! A closer pairs for as long as it has characters and finds an opener.
+//! Closers: a closer pairs as long as it has characters left and finds an opener.
 ghost use Rattle.std.specs.Prelude.{◌≡◌, ◌+◌, ◌^◌, ◌<◌, ◌≤◌, List, IfOk};
 ghost use Rattle.markdown_document.specs.Counts.{comparisons_per_delimiter};
 ghost use Rattle.markdown_delims.specs.Entries.{Entry, kept, with_run};
@@ -13,7 +13,8 @@ use markdown_base::item::Item;
 use markdown_base::tree::Tree;
 use std::alloc::AllocError;
 
-/// What is left of a run opens if it can. Answers the run's last node, and the link to what follows it.
+/// Opens what is left of a run, if the run can open. Returns the number of the run's last node, and the link to what
+/// follows that. The error is a refused allocation.
 fn keep(
     tree: &Tree<Item>,
     openers: &mut OpenRuns,
@@ -29,7 +30,7 @@ fn keep(
     ensures paid { openers.new.potential ≤ openers.old.potential + comparisons_per_delimiter }
     ensures counted { openers.new.examined ≡ openers.old.examined }
 {
-    // bounds the numbers
+    // bounds the node numbers
     let _nodes = tree.len();
     let _ = start;
     let _ = last;
@@ -41,9 +42,9 @@ fn keep(
     Ok((Some(ix), next))
 }
 
-/// A run is read. One that can close pairs for as long as it has characters and finds an opener; what is left of a run
-/// opens if it can. `start` is its first byte, `last` the node before it. Answers the last node that was read, and the
-/// link to what follows it.
+/// Reads a delimiter run. If it can close, it pairs as long as it has characters left and finds an opener; what is left
+/// of the run opens if it can. `start` is the byte offset of the run, and `last` the node before it. Returns the last
+/// node that was read, and the link to what follows that. The error is a refused allocation.
 pub fn read_run(
     tree: &mut Tree<Item>,
     openers: &mut OpenRuns,
@@ -64,7 +65,7 @@ pub fn read_run(
     if !met.run.can_close {
         return keep(tree, openers, met, start, last);
     }
-    // bounds the numbers
+    // bounds the node numbers
     let _nodes = tree.len();
     let mut closer = met;
     let mut at = start;

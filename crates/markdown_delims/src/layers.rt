@@ -1,4 +1,4 @@
-//! Characters of an opener become nodes round what stands behind them.
+//! Characters of an opener become nodes around what follows them.
 ghost use Rattle.std.specs.Prelude.{◌≡◌, ◌+◌, ◌^◌, ◌<◌, ◌≤◌, IfSome, length};
 ghost use Rattle.markdown_base.specs.BlockTree.{item_at};
 ghost use Rattle.markdown_delims.specs.Views.{Wrote};
@@ -10,7 +10,7 @@ use crate::run::Characters;
 use markdown_base::item::{Item, ItemBody};
 use markdown_base::tree::Tree;
 
-/// A node encloses a chain up to a byte.
+/// Makes the node `root` enclose the chain from `inside` on, with a range that ends at the byte offset `end`.
 fn enclose_in(
     tree: &mut Tree<Item>,
     root: usize,
@@ -33,8 +33,9 @@ fn enclose_in(
     put_node(tree, root, Item { start, end, body }, inside, next);
 }
 
-/// The last `count` characters of an opener enclose what stands from `inside` on, up to as many bytes after
-/// `end`, from the inside out: by twos, and then a one. What stands from `rest` on follows.
+/// Makes the last `count` characters of an opener, as nodes, enclose the chain from `inside` on, from the inside out:
+/// two characters at a time, and a last one alone. The ranges extend over the closer's `count` bytes after `end`. The
+/// chain from `rest` on follows. Returns the number of the outermost node.
 pub fn enclose(
     tree: &mut Tree<Item>,
     marks: Marks,
@@ -50,7 +51,7 @@ pub fn enclose(
     requires stands { (g : _) × Encloses g tree.old opener.number opener.count inside rest }
     ensures { EnclosesAll marks opener count end inside rest tree.old tree.new result }
 {
-    // bounds the numbers
+    // bounds the node numbers
     let _nodes = tree.len();
     let delimiter = opener.run.delimiter;
     let mut top = opener.count;

@@ -1,5 +1,5 @@
-//! Delimiter runs, quotes and the last hard break of a chain of inline items, paired in place: the characters of an
-//! opener become nodes around what stands between them.
+//! Pairs the delimiter runs, the quotes and the last hard break of a chain of inline items in place: the characters of
+//! an opener become nodes around what lies between it and its closer.
 #![tactic(auto)]
 
 mod bounds;

@@ -1,4 +1,4 @@
-//! What paired characters become, by the marks that are on.
+//! What paired characters become, by the enabled marks.
 ghost use Rattle.std.specs.Prelude.{◌≡◌};
 ghost use Rattle.markdown_delims.specs.MarkBodies.{layer_of_one, layer_of_two, run_of};
 ghost use Rattle.markdown_delims.specs.MayPair.{delimiter_of};
@@ -7,7 +7,7 @@ use crate::run::{Delimiter, Run};
 use markdown_base::item::{Item, ItemBody};
 use markdown_base::options::Options;
 
-/// Which marks are on.
+/// The enabled marks.
 #[derive(Clone, Copy)]
 pub struct Marks {
     pub strikethrough: bool,
@@ -18,7 +18,7 @@ pub struct Marks {
 impl Marks {
     ghost use Rattle.markdown_delims.specs.Layers.{marks_of};
 
-    /// The marks that are on in a set of options.
+    /// Returns the marks that a set of options enables.
     pub fn of_options(options: Options) -> Marks
         ensures { result ≡ marks_of options }
     {
@@ -29,7 +29,7 @@ impl Marks {
         }
     }
 
-    /// What a layer of two characters becomes.
+    /// Returns the body of a layer of two characters.
     pub fn layer_of_two(self, delimiter: Delimiter) -> ItemBody
         ensures { result ≡ layer_of_two self delimiter }
     {
@@ -51,7 +51,7 @@ impl Marks {
         }
     }
 
-    /// What a layer of one character becomes.
+    /// Returns the body of a layer of one character.
     pub fn layer_of_one(self, delimiter: Delimiter) -> ItemBody
         ensures { result ≡ layer_of_one self delimiter }
     {
@@ -78,7 +78,7 @@ impl Marks {
     }
 }
 
-/// The delimiter that a byte is.
+/// Returns the delimiter of a byte; `None` for bytes that are not delimiters.
 pub fn delimiter_of(byte: u8) -> Option<Delimiter>
     ensures { result ≡ delimiter_of byte }
 {
@@ -91,7 +91,7 @@ pub fn delimiter_of(byte: u8) -> Option<Delimiter>
     }
 }
 
-/// The run that an item's character begins.
+/// Returns the delimiter run that an item's character begins; `None` if the item is not a character of a run.
 pub fn run_of(text: &[u8], item: Item) -> Option<Run>
     ensures { result ≡ run_of text.now item }
 {

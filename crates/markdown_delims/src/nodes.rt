@@ -1,4 +1,4 @@
-//! A node of a tree is written as a whole, or led on.
+//! Writes of nodes of a tree: of a whole node, or of its next sibling only.
 ghost use Rattle.std.specs.Prelude.{◌≡◌, ◌<◌, IfSome, length};
 ghost use Rattle.markdown_base.specs.Arena.{child_of};
 ghost use Rattle.markdown_base.specs.BlockTree.{item_at};
@@ -7,7 +7,7 @@ ghost use Rattle.markdown_delims.specs.Views.{Wrote};
 use markdown_base::item::Item;
 use markdown_base::tree::Tree;
 
-/// Gives a node another item and other links.
+/// Replaces the item and the links of a node.
 pub fn put_node(
     tree: &mut Tree<Item>,
     ix: usize,
@@ -25,7 +25,7 @@ pub fn put_node(
     tree.set_next(ix, next);
 }
 
-/// Lets another node follow.
+/// Replaces the next sibling of a node.
 pub fn lead_on(tree: &mut Tree<Item>, ix: usize, next: Option<usize>)
     requires node { ix < length tree.old.nodes }
     requires next { IfSome next (λ after. after < length tree.old.nodes) }

@@ -10,7 +10,7 @@ use crate::run::{Characters, Run};
 use std::alloc::{AllocError, Global};
 use std::marker::Model;
 
-/// The runs that are still open, the newest last, and how many comparisons were made.
+/// The runs that are still open, the newest last, and the number of comparisons that were made.
 #[derive(Drop)]
 struct Stack {
     items: Vec<Characters>,
@@ -18,7 +18,8 @@ struct Stack {
 }
 
 impl Stack {
-    /// Compares an open run with a closer. No other call does.
+    /// Returns whether the open run at the position `i` may pair with a closer, and counts the comparison. No other
+    /// function compares runs.
     fn compare(&mut self, i: usize, closer: &Run) -> bool
         requires in_range { i < vec_len self.old.items }
         requires room { self.old.examined + 1 < 2 ^ 128 }
@@ -31,7 +32,7 @@ impl Stack {
     }
 }
 
-/// The open runs of a chain, with the lower bounds of a search.
+/// The open runs of a chain, with the lower bounds of its searches. Upstream: `InlineStack`.
 #[derive(Drop)]
 pub struct OpenRuns {
     stack: Stack,
@@ -69,7 +70,7 @@ impl OpenRuns {
         self.stack.examined
     }
 
-    /// Closes all runs, and counts from nothing. The memory is kept.
+    /// Removes all runs, and resets the count of comparisons. The allocation is kept.
     #[tactic(auto, unfolding(crate::specs::OpenRuns::open_runs))]
     pub fn clear(&mut self)
         ensures { self.new ≡ record { runs = []; examined = 0; potential = 0 } }
@@ -79,7 +80,7 @@ impl OpenRuns {
         self.bounds = LowerBounds::zero();
     }
 
-    /// Opens a run.
+    /// Adds a run to the open ones. The error is a refused allocation, after which the open runs are unchanged.
     pub fn push(&mut self, opener: Characters) -> Result<(), AllocError>
         requires some { 0 < opener.count }
         requires room { self.old.potential + comparisons_per_delimiter < 2 ^ 128 }
@@ -95,7 +96,8 @@ impl OpenRuns {
         Ok(())
     }
 
-    /// Takes the nearest open run with which a closer may pair, and all that are nearer.
+    /// Removes the nearest open run with which a closer may pair, and all nearer ones, and returns that run. If there
+    /// is none, returns `None`, and the open runs that the closer drops are dropped.
     pub fn take_nearest(&mut self, closer: &Run) -> Option<Characters>
         ensures found { IfSome result (λ opener. nearest closer.now self.old.runs
             ≡ Some (record { opener = opener; before = self.new.runs })) }

@@ -1,4 +1,4 @@
-//! A closer pairs with the opener that it found.
+//! Pairing a closer with the opener that it found.
 ghost use Rattle.std.specs.Prelude.{◌≡◌, ◌+◌, ◌^◌, ◌<◌};
 ghost use Rattle.markdown_delims.specs.ChainStanding.{CanPair, Pairs};
 
@@ -9,9 +9,10 @@ use crate::run::Characters;
 use markdown_base::item::Item;
 use markdown_base::tree::Tree;
 
-/// The opener's last characters enclose what stands between it and the closer, of which as many first
-/// characters leave the chain: the lesser of the two counts. `start` is the closer's first byte, `last` the
-/// node before it. Answers the node that stands there now, and the link to what follows it.
+/// Pairs `min(opener.count, closer.count)` characters of an opener and a closer: the opener's last characters, as
+/// nodes, enclose what lies between the two, and the closer's first characters are removed from the chain. `start` is
+/// the byte offset of the closer, and `last` the node before it. Returns the number of the outermost of these nodes,
+/// and the link to what follows it.
 pub fn pair(
     tree: &mut Tree<Item>,
     marks: Marks,
@@ -26,7 +27,7 @@ pub fn pair(
     requires stands { CanPair start opener closer last tree.old }
     ensures { Pairs marks start opener closer last tree.old tree.new result.0 result.1 }
 {
-    // bounds the numbers
+    // bounds the node numbers
     let _nodes = tree.len();
     let count = opener.count.min(closer.count);
     let rest = tree.next(closer.number + (count - 1));

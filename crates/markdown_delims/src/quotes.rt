@@ -1,4 +1,4 @@
-//! Quotes of a chain, and a hard break by a backslash at its end.
+//! Quotes of a chain under smart punctuation, and a hard break by a backslash at its end.
 ghost use Rattle.std.specs.Prelude.{◌≡◌, ℕ, ◌<◌, Bool, Option, length};
 ghost use Rattle.markdown_base.specs.Forest.{Forest};
 ghost use Rattle.markdown_delims.specs.QuoteBodies.{kind_of};
@@ -7,8 +7,8 @@ ghost use Rattle.markdown_delims.specs.Quoting.{WroteBody, QuotesTree, CanQuote,
 use markdown_base::item::{Item, ItemBody};
 use markdown_base::tree::Tree;
 
-/// What a body is to the reading of quotes: a `'` or a `"` with whether it can open and can close, a hard
-/// break by a backslash, or another.
+/// The kind of a body, for reading quotes: a `'` or a `"`, with whether it can open and can close; a hard break by a
+/// backslash; or any other.
 #[derive(Clone, Copy)]
 pub enum Kind {
     Single(bool, bool),
@@ -37,7 +37,7 @@ fn kind_of(body: ItemBody) -> Kind
     }
 }
 
-/// Gives a node another body.
+/// Replaces the body of a node's item.
 fn put_body(tree: &mut Tree<Item>, ix: usize, body: ItemBody)
     requires { ix < length tree.old.nodes }
     ensures { WroteBody tree.old tree.new ix body }
@@ -53,7 +53,8 @@ fn put_body(tree: &mut Tree<Item>, ix: usize, body: ItemBody)
     );
 }
 
-/// Reads a `'`, where another may be remembered. Answers which is remembered then.
+/// Reads a `'`; `single` is the one that is remembered, if any, which a later one may close. Returns the one that is
+/// remembered afterwards.
 fn quote_single(
     tree: &mut Tree<Item>,
     ix: usize,
@@ -82,7 +83,7 @@ fn quote_single(
     }
 }
 
-/// Reads a `"`, where another may be open. Answers whether one is open then.
+/// Reads a `"`; `double` says whether another is open. Returns whether one is open afterwards.
 fn quote_double(tree: &mut Tree<Item>, ix: usize, double: bool, opens: bool, closes: bool) -> bool
     requires stands { (single : Option ℕ) × CanQuote ix tree.old single }
     ensures quotes { (single : Option ℕ) (last : Bool)
@@ -97,7 +98,7 @@ fn quote_double(tree: &mut Tree<Item>, ix: usize, double: bool, opens: bool, clo
     }
 }
 
-/// Reads a tree of a chain. Answers which `'` is remembered then, and whether a `"` is open.
+/// Reads a tree of a chain. Returns the `'` that is remembered afterwards, if any, and whether a `"` is open.
 fn quote_tree(
     tree: &mut Tree<Item>,
     kind: Kind,

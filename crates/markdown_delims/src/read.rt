@@ -1,4 +1,4 @@
-//! A chain is read tree by tree.
+//! Reading a chain, tree by tree.
 ghost use Rattle.std.specs.Prelude.{◌≡◌, ◌+◌, ◌*◌, ◌^◌, ◌<◌, ◌≤◌, List, IfOk};
 ghost use Rattle.markdown_delims.specs.RunReading.{CanSettle, Settles, CanReadTree, ReadsTree};
 
@@ -10,14 +10,14 @@ use markdown_base::item::{Item, ItemBody};
 use markdown_base::tree::Tree;
 use std::alloc::AllocError;
 
-/// The characters of a run become texts of one byte each.
+/// Turns the `count` characters of a run into Texts of one byte each.
 fn settle_run(tree: &mut Tree<Item>, number: usize, start: usize, count: usize)
     requires bytes { start + count < 2 ^ 64 }
     requires some { 0 < count }
     requires stands { CanSettle number count tree.old }
     ensures { Settles number start count tree.old tree.new }
 {
-    // bounds the numbers
+    // bounds the node numbers
     let _nodes = tree.len();
     'settle: for i in 0..count {
         let ix = number + i;
@@ -35,8 +35,8 @@ fn settle_run(tree: &mut Tree<Item>, number: usize, start: usize, count: usize)
     }
 }
 
-/// A tree is read, and with the first character of a run all of the run. Answers the last node that was
-/// read, and the link to what follows it.
+/// Reads a tree of a chain, or all of a delimiter run if the tree is its first character. Returns the last node that
+/// was read, and the link to what follows that. The error is a refused allocation.
 pub fn read_tree(
     tree: &mut Tree<Item>,
     openers: &mut OpenRuns,
@@ -48,7 +48,7 @@ pub fn read_tree(
     requires stands { CanReadTree text.now ix last tree.old openers.old.runs openers.old.potential }
     ensures ok { IfOk result (λ r. ReadsTree marks text.now ix last tree.old tree.new openers.old openers.new r.0 r.1) }
 {
-    // bounds the bytes
+    // bounds the byte offsets
     let _bytes = text.len();
     let item = *tree.item(ix);
     match run_of(text, item) {

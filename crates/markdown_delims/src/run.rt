@@ -1,4 +1,4 @@
-//! Delimiter runs (CommonMark 6.2), and the characters of one that are not paired yet.
+//! Delimiter runs (CommonMark 6.2), and their characters that are not paired yet.
 ghost use Rattle.std.specs.Prelude.{◌≡◌};
 ghost use Rattle.markdown_delims.specs.MayPair.{may_pair, both, same_delimiter};
 
@@ -10,7 +10,7 @@ pub enum Delimiter {
     Caret,
 }
 
-/// A run of delimiter characters, as it is met.
+/// A delimiter run as it is read first, with its whole length in characters.
 #[derive(Clone, Copy)]
 pub struct Run {
     pub delimiter: Delimiter,
@@ -19,7 +19,7 @@ pub struct Run {
     pub can_close: bool,
 }
 
-/// Characters of a run that are not paired yet.
+/// The characters of a run that are not paired yet: the number of the first one's node, and their count.
 #[derive(Clone, Copy)]
 pub struct Characters {
     pub run: Run,
@@ -48,7 +48,7 @@ impl Run {
         self.can_open && self.can_close
     }
 
-    /// Whether an opener and a closer may pair.
+    /// Returns whether this run, as an opener, and a closer may pair.
     pub fn may_pair(&self, closer: &Run) -> bool
         ensures { result ≡ may_pair self.now closer.now }
     {

@@ -1,4 +1,4 @@
--- What is counted and what is left make the whole, of whichever nodes it is.
+-- The counted part and the rest add up to the whole, for any chain from `first` on.
 use Rattle.std.proofs.Common.{ℕ, length}
 use Rattle.markdown_base.specs.Forest.{Forest}
 use Rattle.markdown_delims.specs.Quoting.{IsSpelled}

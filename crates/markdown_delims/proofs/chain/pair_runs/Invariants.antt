@@ -1,4 +1,4 @@
--- The same is made of what is left as of the whole, of whichever nodes the chain is.
+-- The pairing of the rest is that of the whole, for any chain from `first` on.
 use Rattle.std.proofs.Common.{[], ℕ, length}
 use Rattle.markdown_base.specs.Forest.{Forest}
 use Rattle.markdown_delims.specs.ChainForest.{IsChain, chain_of}

@@ -1,4 +1,4 @@
--- To go on from here gives what the whole run gives, wherever the chain stands.
+-- Continuing from here gives what the whole run gives, for any chain.
 use Rattle.std.proofs.Common.{◌≡◌, ◌+◌, ◌<◌, ◌≤◌, List}
 use Rattle.markdown_base.specs.BlockTree.{Numbered}
 use Rattle.markdown_base.specs.Forest.{Forest}

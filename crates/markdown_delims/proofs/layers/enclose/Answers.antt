@@ -1,4 +1,4 @@
--- Layer by layer, wherever the opener stands.
+-- Layer by layer, for any surroundings of the opener.
 use Rattle.std.proofs.Common.{◌≡◌, ◌-◌, ◌≤◌, subst, refl, arith}
 use Rattle.markdown_delims.proofs.EncloseLemmas.{layers_begin, layers_more, layers_two, layers_one, root_of_two, root_of_one, outer_within}
 use Rattle.markdown_delims.proofs.EncloseLemmas.{wrote_body, LayersAt}

@@ -1,4 +1,4 @@
--- The layers so far, wherever the opener stands.
+-- The layers so far, for any surroundings of the opener.
 use Rattle.std.proofs.Common.{◌≡◌, ◌+◌, ◌<◌, ◌≤◌}
 use Rattle.markdown_delims.specs.Enclosing.{Around, Encloses}
 use Rattle.markdown_delims.proofs.EncloseLemmas.{LayersAt}

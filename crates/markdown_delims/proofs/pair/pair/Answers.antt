@@ -1,4 +1,4 @@
--- The chain is cut before the closer, and the opener encloses what stands behind it.
+-- The chain is cut before the closer, and the opener encloses what follows it.
 use Rattle.std.proofs.Common.{◌≡◌, ◌<◌, ◌+◌, ◌-◌, ℕ, Option, Some, length, arith, ap, subst, sym, ◌∙◌}
 use Rattle.markdown_base.specs.Arena.{Arena, sibling_of}
 use Rattle.markdown_base.specs.declared.item.Item.{Item}

@@ -1,4 +1,4 @@
--- What is made of the whole chain stays the same, of whichever nodes it is.
+-- What the whole chain becomes stays the same, for any chain from `first` on.
 use Rattle.std.proofs.Common.{ℕ, length}
 use Rattle.markdown_base.specs.Forest.{Forest}
 use Rattle.markdown_delims.specs.ChainForest.{chain_of}

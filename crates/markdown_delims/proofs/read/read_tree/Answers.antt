@@ -1,4 +1,4 @@
--- A run is settled and read; another tree stays.
+-- A run is turned into Texts and read; any other tree is kept.
 use Rattle.std.proofs.Common.{◌≡◌, ◌<◌, ◌+◌, ◌*◌, ◌^◌, ℕ, arith, subst, ap, sym, ◌∙◌, Ok, Err}
 use Rattle.std.specs.Prelude.{IfOk, Result}
 use Rattle.markdown_base.specs.declared.item.Item.{Item}

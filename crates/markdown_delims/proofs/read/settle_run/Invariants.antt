@@ -1,4 +1,4 @@
--- The first characters are texts, wherever the chain stands.
+-- The first characters are Texts, for any chain.
 use Rattle.std.proofs.Common.{List, Option, Some, ℕ}
 use Rattle.markdown_base.specs.BlockTree.{Numbered}
 use Rattle.markdown_base.specs.Forest.{Forest}

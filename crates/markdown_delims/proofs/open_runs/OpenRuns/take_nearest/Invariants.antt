@@ -5,7 +5,7 @@ use Rattle.markdown_delims.specs.OpenRuns.{open_runs}
 use Rattle.markdown_delims.specs.declared.run.Characters.{Characters}
 use Rattle.markdown_delims.proofs.open_runs.OpenRuns.take_nearest.Given as goal
 
--- what was looked at down to here was not taken
+-- the runs down to this position were compared and not taken
 abbrev pub invariant-loop-i : goal.invariant-loop-i
 invariant-loop-i l =
     record {
