@@ -1,4 +1,4 @@
--- What stands after a `<`: small examples.
+-- What begins at a `<`: small examples.
 use Rattle.std.proofs.Common.{◌≡◌, ℕ, List, [], ◌∷◌, ◌++◌, Option, Some, None, true, refl}
 use Rattle.std.specs.Prelude.{codes}
 use Rattle.markdown_base.specs.declared.item.ItemBody.TheVariants as body

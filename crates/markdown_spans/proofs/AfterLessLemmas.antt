@@ -84,7 +84,7 @@ skipped_character length_of c n rest later prefix =
     let one : IsAsciiPrefix (c ∷ rest) (suc n) = rw is at prefix in
     rw is (later n (later_prefix c rest n one))
 
--- what stands after so many ASCII bytes of a text, without the prefixes of its lines, is a text
+-- what follows ASCII bytes of a text, without its line prefixes, is a text
 past_is_text : (length_of : List ℕ → ℕ) → SkipsAscii length_of → (cs : List ℕ) → scalars cs ≡ true
     → (n : ℕ) → IsAsciiPrefix (encodes cs) n → IsUtf8 (text_past (λ line. Some (length_of line)) n (encodes cs))
 past_is_text length_of skips [] s n prefix = IsUtf8-nil
@@ -124,7 +124,7 @@ tag_text text (suc n) utf8 e =
     let low : get_or text n 0 < 128 = omega (arith, last) in
     IsUtf8-take text (suc n) utf8 (rw end at (IsCharBoundary-after_ascii text n utf8 here low))
 
--- so is a tag without the prefixes of its lines
+-- a tag without its line prefixes is a text
 pub tag_is_text : (prefix : ContainerPrefix) (text : List ℕ) (start end : ℕ) (bytes : List ℕ) → IsUtf8 text → IsCharBoundary text start
     → tag_at (λ rest. Some (length_by prefix rest)) text start ≡ Some (end, Some bytes) → IsUtf8 bytes
 tag_is_text prefix text start end bytes utf8 boundary e =
@@ -148,7 +148,7 @@ tag_is_text prefix text start end bytes utf8 boundary e =
         subst (λ (xs : List ℕ). IsUtf8 xs) is (tag_text (text_in (λ rest. Some (length_by prefix rest)) (drop start text)) n
         (joined_is_text (length_by prefix) (length_by_is_ascii prefix) (drop start text) (IsUtf8-drop text start utf8 boundary)) f)
 
--- raw HTML that is found after no autolink, and inside of which no prefix stands
+-- raw HTML that is found where there is no autolink, and that contains no line prefix
 pub unbroken_html : (skipped : List ℕ → Option ℕ) (text : List ℕ) (start at : ℕ) → uri_autolink text at ≡ None
     → is_unbroken (markup_at skipped text start at) ≡ true → option_and_then (λ tag. tag.1) (html_at skipped text start at) ≡ None
 unfolding markup_at

@@ -77,13 +77,13 @@ row_escaped_backtick : code_close (λ i. i) (body.MaybeCode 1 true) (text 2 3 �
 unfolding item text ticks
 row_escaped_backtick = refl
 
--- where nothing closes math all items are looked at: after the first of $a $b$
+-- if nothing closes math, all items are examined: after the first `$` of $a $b$
 row_looked_in_vain : looked_for_math (λ i. i) 1 0
     (text 1 3 ∷ dollar 3 true false 0 ∷ text 4 5 ∷ dollar 5 false true 0 ∷ []) ≡ 4
 unfolding item text dollar
 row_looked_in_vain = refl
 
--- and else those up to the `$` at which it closes: after the first of $$b$$ the text and one `$`
+-- otherwise, those up to the `$` at which it closes: after the first `$` of $$b$$, the text and one `$`
 row_looked_for_display : looked_for_math (λ i. i) 1 0
     (dollar 1 true false 0 ∷ text 2 3 ∷ dollar 3 true true 0 ∷ dollar 4 false true 0 ∷ []) ≡ 2
 unfolding item text dollar

@@ -130,7 +130,7 @@ replaced_skips piece zero bytes = refl
 replaced_skips piece (suc n) [] = refl
 replaced_skips piece (suc n) (b ∷ bytes) = replaced_skips piece n bytes
 
--- a byte that stands for itself
+-- a byte that is kept
 replaced_byte : (piece : List ℕ → Option Piece) (b : ℕ) (bytes : List ℕ) → piece (b ∷ bytes) ≡ None
     → replaced_past piece 0 (b ∷ bytes) ≡ b ∷ replaced_past piece 0 bytes
 unfolding replaced_past
@@ -146,7 +146,7 @@ replaced_piece piece (b ∷ bytes) p e some within =
     let rest : drop (p.taken - 1) bytes ≡ drop p.taken (b ∷ bytes) = ap (λ n. drop n (b ∷ bytes)) more in
     rw e (ap (λ xs. p.shown ++ xs) (replaced_skips piece (p.taken - 1) bytes ∙ ap (λ xs. replaced_past piece 0 xs) rest))
 
--- the byte at a place stands for itself
+-- the byte at a byte offset is kept
 pub replaced_at_byte : (piece : List ℕ → Option Piece) (text : List ℕ) (at : ℕ) → at < length text → piece (drop at text) ≡ None
     → replaced_past piece 0 text ≡ take at text ++ replaced_past piece 0 (drop at text)
     → replaced_past piece 0 text ≡ take (at + 1) text ++ replaced_past piece 0 (drop (at + 1) text)
@@ -158,7 +158,7 @@ replaced_at_byte piece text at h none was =
     ∙ (sym (append_assoc (take at text) (byte ∷ []) (replaced_past piece 0 (drop (at + 1) text)))
     ∙ ap (λ x. x ++ replaced_past piece 0 (drop (at + 1) text)) (sym (take_more text at 0 h)))))
 
--- a piece stands at a place
+-- a piece is replaced at a byte offset
 pub replaced_at_piece : (piece : List ℕ → Option Piece) (text : List ℕ) (at : ℕ) (p : Piece) → piece (drop at text) ≡ Some p
     → 0 < p.taken → p.taken ≤ length (drop at text)
     → replaced_past piece 0 text ≡ take at text ++ replaced_past piece 0 (drop at text)
@@ -211,7 +211,7 @@ pub sliced_end : (in_table : Bool) (text : List ℕ) (at : ℕ) → length text 
 unfolding is_sliced
 sliced_end in_table text at past = rw (drop_all at text past) refl
 
--- what stands between a space at each end of a text stands in it
+-- a text without the spaces at its ends is a slice of the text
 pub stands_inside : (text : List ℕ) → StandsIn text (without_outer_spaces text)
 stands_inside text = by (has_outer_spaces text) refl
   where
@@ -251,7 +251,7 @@ cut_around text at n utf8 h piece =
       after = rw end at (after_ascii_of_rest text at (n - 1) utf8 within last);
     }
 
--- at the end of a text that stands for itself
+-- at the end of a text whose bytes are all kept
 pub replaced_ends : (piece : List ℕ → Option Piece) (text : List ℕ) (at : ℕ) → length text ≤ at
     → replaced_past piece 0 text ≡ take at text ++ replaced_past piece 0 (drop at text) → replaced_past piece 0 text ≡ text
 unfolding replaced_past

@@ -21,7 +21,7 @@ use Rattle.markdown_spans.specs.declared.prefixes.ContainerPrefix.{ContainerPref
 abbrev pub is_taken : ℕ → Bool
 is_taken b = (b == 32) || ((b == 9) || (b == 62))
 
--- so many bytes of a line were taken, and these are left
+-- n bytes of a line were read, and these are left
 pub record IsTakenPast (line : List ℕ) (n : ℕ) (rest : List ℕ) : Type 0 where
   pub before : List ℕ
   pub whole : line ≡ before ++ rest
@@ -173,7 +173,7 @@ prefix_is_ascii gfm blocks line =
     let left : LineLeft = past_blocks gfm blocks (record { scanned = 0; owed = 0; column = 0; bytes = line }) in
     prefix_of_past line left.scanned left.bytes (prefix_past gfm blocks line)
 
--- no `[` stands in it
+-- a prefix contains no `[`
 pub prefix_opens_none : (gfm : Bool) (blocks : List ItemBody) (line : List ℕ)
     → list_any (nat_eq 91) (take (prefix_length gfm blocks line) line) ≡ false
 prefix_opens_none gfm blocks line =
@@ -198,7 +198,7 @@ pub reading_ends : (gfm : Bool) (block : ℕ → ItemBody) (spine : List ℕ) (i
     → past_blocks gfm (map block (drop i spine)) line ≡ line
 reading_ends gfm block spine i line past = rw (drop_all i spine past) refl
 
--- the innermost block tells whether a chain stands in a table
+-- the innermost block determines whether a chain is in a table
 pub in_table_last : (block : ℕ → ItemBody) (outer : List ℕ) (ix : ℕ) → in_table (map block (outer ++ ix ∷ [])) ≡ is_table_cell (block ix)
 in_table_last block [] ix = refl
 in_table_last block (a ∷ []) ix = refl

@@ -48,7 +48,7 @@ looked_without_mark : (ix : ℕ) (b : ItemBody) → mark_at Code ix b ≡ None �
 looked_without_mark ix (body.MaybeCode count escaped) h after = cc
 looked_without_mark ix other h after = refl
 
--- where nothing is looked at no count rises
+-- if nothing is examined, no count rises
 none_unless_failed : (learned : Learned) (n : ℕ) → n ≡ 0 → unless_failed learned n ≡ 0
 none_unless_failed None n e = e
 none_unless_failed (Some known) n e = refl
@@ -139,7 +139,7 @@ fails_walking nodes ix m found learned learned' v v' chain is some e s =
     ∙ ap not wanted in
     rw (e, opens) (fails_with Code chain.chain found learned' m.wanted v v' (s chain.low chain.chain chain.leads))
 
--- what closes a span stands in the arena
+-- what closes a span is a node of the arena
 closer_within : (nodes : List (Node Item)) (n low : ℕ) (link : Option ℕ) (after : List Numbered) →
     LeadsThrough nodes low link after
     → IfSome (option_map (λ a. a.number) (code_closer item_in n after)) (λ ix. ix < length nodes)

@@ -57,7 +57,7 @@ walks_in_vain kind wanted nodes chain old new visits visits' w =
     walks_to_end kind wanted nodes chain None old new visits visits' w
     (nothing_left nodes w.passes.low w.passes.rest w.passes.leads)
 
--- how many items are looked at for what closes an opener
+-- the number of items examined for what closes an opener
 looked_if : (nodes : List (Node Item)) (o : MathOpener) (after : List Numbered) (s : Searched nodes o after)
     (found : Bool) → is_some (math_close item_in o.end o.context after) ≡ found
     → looked_for_math item_in o.end o.context after
@@ -439,7 +439,7 @@ failed_at nodes ix o found learned learned' v v' at_ix h e s =
     subst P (opener_number nodes ix o at_ix)
     (λ h. fails_walking_math nodes o found learned learned' v v' is (chain_at nodes o.number h).later e s) h
 
--- what closes math stands in the arena
+-- what closes math consists of nodes of the arena
 pub math_within : (nodes : List (Node Item)) (ix : ℕ) (found : Option FoundMath) → HasChain nodes (Some ix) →
     ClosesMath nodes ix found → IfSome found (StandsIn nodes)
 math_within nodes ix found h closes = cases (opener_at nodes ix) refl

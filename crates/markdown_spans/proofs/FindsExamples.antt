@@ -135,7 +135,7 @@ row_escaped_alone : read_chain in_paragraph (codes "\\`a`")
 unfolding read_tree
 row_escaped_alone = refl
 
--- in a table `\|` stands for `|`
+-- in a table `\|` becomes `|`
 row_pipe : read_chain in_cell (codes "`a\\|b`") (ticks 0 1 ∷ plain_text 1 5 ∷ ticks 5 1 ∷ [])
     ≡ node (made_at 0 (code (codes "a|b")) 0 6) nil nil
 unfolding read_tree replaced_past is_sliced
@@ -148,7 +148,7 @@ row_empty_item : read_chain in_paragraph (codes "`a`b")
 unfolding read_tree replaced_past is_sliced
 row_empty_item = refl
 
--- only the next `$` is looked at: it closes nothing, but it opens
+-- only the next `$` is examined: it closes nothing, but it opens
 abbrev dollars : List ℕ
 dollars = codes "$a $b$"
 

@@ -1,5 +1,5 @@
--- What resolving a chain needs of code spans, math spans, autolinks and raw HTML: nothing of what stands for a find is
--- open, no chain gets heavier or has more delimiter characters, and tags say nothing.
+-- What resolving a chain needs to know about code spans, math spans, autolinks and raw HTML: nothing that replaces a
+-- find is open, no chain's weight or number of delimiter characters rises, and tags have no effect.
 use Rattle.std.proofs.Common.{◌≡◌, ℕ, ◌+◌, ◌-◌, ◌≤◌, Bool, true, false, List, Option, Some, None, refl, arith, nat_le}
 use Rattle.std.specs.Prelude.{if◌then◌else◌, is_some}
 use Rattle.markdown_base.specs.Forest.{Forest, nil, node, Each}
@@ -46,7 +46,7 @@ cut_counts n backslash_break = refl
 cut_counts n (unresolved b) = refl
 
 module _ {A : Type 0} where
-  -- what stands for a find
+  -- nothing that replaces a find is open
   closed_code : (s : Setting) (e : Bool) (a : Label A) (t : SpanText) (closer : Label A) → AllClosed (code_trees s e a t closer)
   closed_code s false a t closer = (refl, tt, tt)
   closed_code s true a t closer = (refl, tt, (refl, tt, tt))
@@ -77,7 +77,7 @@ module _ {A : Type 0} where
   weight_trees s new a (markup m) = weight_markup s new a m
   weight_trees s new a nothing = omega arith
 
-  -- what is read of a tree is no heavier than the tree
+  -- what is read from a tree weighs at most what the tree does
   unless_weight : (s : Setting) (tags : Tags A) (above : Above) (n : ℕ) (a : Label A) (below rest : Forest (Label A)) (quiet : Bool)
       → is_quiet a.part.shape ≡ quiet
       → weight (read_unless quiet s tags above n a below rest).trees ≤ weight_if (is_unresolved a.part.shape) + weight below
@@ -110,7 +110,7 @@ module _ {A : Type 0} where
   past_weight None chain = omega arith
   past_weight (Some i) chain = past_byte_weight i chain
 
-  -- what stands for a find gives an event before all else, and has no delimiter character
+  -- what replaces a find gives an event first, and has no delimiter character
   begins_code : (s : Setting) (e : Bool) (a : Label A) (t : SpanText) (closer : Label A) → Begins (code_trees s e a t closer)
   begins_code s false a t closer = tt
   begins_code s true a t closer = tt

@@ -1,5 +1,5 @@
--- Tags say nothing: from an item of a chain with other tags the same is found, and the same trees, with those tags,
--- stand for it.
+-- Tags have no effect: at an item of a chain with other tags the same is found, and the same trees, with those tags,
+-- replace it.
 use Rattle.std.proofs.Common.{◌≡◌, ℕ, Bool, true, false, not, ◌&&◌, ◌==◌, List, [], ◌∷◌, map, Option, Some, None, refl, ap, ◌∙◌, nat_le}
 use Rattle.std.specs.Prelude.{if◌then◌else◌, drop, take}
 use Rattle.std.specs.Option.{option_map, option_map_or}
@@ -155,7 +155,7 @@ module _ {A B : Type 0} (f : A → B) where
   math_found_retag s above a l (Some m) =
       ap (λ n. math_span m.display (span_between s above Math n (start_of m.closer)) (end_of m.last)) (math_text_start_retag a l)
 
-  -- what stands from a `<` on
+  -- what begins at a `<`
   next_retag : (i : ℕ) (chain : Forest (Label A)) → next_starts_at i (retagged f chain) ≡ next_starts_at i chain
   next_retag i nil = refl
   next_retag i (node a below after) = refl
@@ -188,7 +188,7 @@ module _ {A B : Type 0} (f : A → B) where
       ≡ retag_find (find s above a rest)
   find_retag s above a rest = find_by_retag s above (open_body a.part.shape) a rest
 
-  -- the trees that stand for it
+  -- the trees that replace a find
   code_trees_retag : (s : Setting) (e : Bool) (a : Label A) (t : SpanText) (closer : Label A)
       → code_trees s e (retag f a) t (retag f closer) ≡ retagged f (code_trees s e a t closer)
   code_trees_retag s false a t closer = refl

@@ -44,7 +44,7 @@ holds_past kind nodes low link (a ∷ passed) rest learned h holds =
     holds_past kind nodes (suc a.number) (sibling_of nodes a.number) passed rest learned h.4
     (holds_next_of kind nodes a (sibling_of nodes a.number) (passed ++ rest) learned h.4 holds)
 
--- and of a chain with the same marks, where what stands before the one stands before the other
+-- the same for a chain with the same marks, if what precedes the one chain precedes the other
 before_alike : (chain chain' : List Numbered) (known : List KnownCloser) →
     ((n : ℕ) → IsBefore chain n → IsBefore chain' n) → AllBefore chain known → AllBefore chain' known
 before_alike chain chain' [] f b = tt

@@ -59,7 +59,7 @@ abbrev pub close_by : (display : Bool) → (opener_end : ℕ) → Option (Dollar
 close_by true opener_end found = display_close item_in found
 close_by false opener_end found = inline_close item_in opener_end found
 
--- the items in which what closes an opener is looked for
+-- the items that are searched for what closes an opener
 pub record Searched (nodes : List (Node Item)) (o : MathOpener) (after : List Numbered) : Type 0 where
   pub items : List Numbered
   pub is : searched_for_math item_in after ≡ items
@@ -213,7 +213,7 @@ pub found_or_not : (close : Option (MathClose Numbered)) (found : Option FoundMa
 found_or_not None found e = ap is_some e
 found_or_not (Some m) found e = ap is_some e
 
--- no more items are looked at than there are
+-- at most as many items are examined as there are
 pub looked_within : (context : ℕ) (chain : List Numbered) → looked_for_dollar item_in context chain ≤ length chain
 looked_within context [] = omega arith
 looked_within context (a ∷ after) = cases (is_dollar_of context a.item.body) (looked_within context after)
@@ -269,7 +269,7 @@ first_within nodes context low link chain first h e =
     cases None is = tt
     cases (Some d) is = (dollar_stands nodes context low link chain d h is).within
 
--- what closes an opener stands in the arena
+-- what closes an opener consists of nodes of the arena
 pub record HasNext (nodes : List (Node Item)) (ix : ℕ) : Type 0 where
   pub within : ix < length nodes
   pub later : HasChain nodes (sibling_of nodes ix)

@@ -7,7 +7,7 @@ use Rattle.std.proofs.lemmas.Bool.{cases_lt}
 use Rattle.std.proofs.lemmas.List.{drop-drop, length-take, take-take, take_all}
 use Rattle.markdown_document.specs.Origins.{IsSlicedOf, Origin, StandsIn}
 
--- the bytes between two places of a text stand in it, and so do all
+-- the bytes between two byte offsets of a text are a slice of it, and so are all its bytes
 pub stands_between : (text : List ℕ) (start end : ℕ) (bytes : List ℕ) → bytes ≡ take (end - start) (drop start text) → StandsIn text bytes
 stands_between text start end bytes e = ∣ (record { start = start; end = end }, e) ∣₁
 
@@ -43,7 +43,7 @@ slice_twice text a b c d =
     ap (λ xs. take (d - c) xs) (drop_of_take c (b - a) (drop a text)) ∙ take_of_take (d - c) (b - a - c) (drop c (drop a text))
     ∙ ap (λ xs. take n xs) (drop-drop c a text) ∙ ap (λ k. take k (drop (a + c) text)) e
 
--- what stands in a slice of a text stands in the text
+-- a slice of a slice of a text is a slice of the text
 pub stands_within : (text : List ℕ) (a b : ℕ) (bytes : List ℕ) → StandsIn (slice_range text a b) bytes → StandsIn text bytes
 stands_within text a b bytes h =
     ∥∥₁_map h (λ (p : (range : Range ℕ) × (bytes ≡ slice_range (slice_range text a b) range.start range.end)). (

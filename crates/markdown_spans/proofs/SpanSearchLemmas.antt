@@ -1,4 +1,4 @@
--- What a walk to a mark says of the closers of spans, and of the items that are looked at.
+-- What a search for a mark says about the closers of spans, and about the items that are examined.
 use Rattle.std.proofs.Common.{◌≡◌, ℕ, suc, ◌+◌, ◌-◌, ◌^◌, ◌≤◌, min, Bool, List, [], ◌∷◌, ◌++◌, Option, Some, None, true, false, length}
 use Rattle.std.proofs.Common.{refl, arith, sym, ◌∙◌, ap, append-nil}
 use Rattle.std.specs.Prelude.{option_to_list, if◌then◌else◌, is_some}
@@ -20,7 +20,7 @@ use Rattle.markdown_spans.specs.declared.span_marks.SpanMark.{SpanMark}
 use Rattle.markdown_spans.specs.declared.span_text.SpanKind.{SpanKind}
 use Rattle.markdown_spans.specs.declared.span_text.SpanKind.TheVariants.{Code, Math}
 
--- backticks are sought where they are so many
+-- a search for n backticks finds marks of n backticks
 sought_code : (n number : ℕ) (b : ItemBody) → is_wanted (Some n) (code_mark number b) ≡ is_code_of n b
 sought_code n number (body.MaybeCode count escaped) = refl
 sought_code n number other = refl
@@ -104,7 +104,7 @@ looked_here_dollar context (a ∷ after) h =
     let hit : is_dollar_of context a.item.body ≡ true = sym (sought_dollar context a.number a.item.body) ∙ h in
     rw hit refl
 
--- what a walk finds, and how many items it looks at
+-- what a search finds, and the number of items that it examines
 pub record WalksForCode (n : ℕ) (chain : List Numbered) (found : Option ℕ) (visits visits' : ℕ) : Type 0 where
   pub finds : option_map (λ a. a.number) (code_closer item_in n chain) ≡ found
   pub counts : RisesBy (looked_for_code item_in n chain) visits visits'
@@ -142,7 +142,7 @@ walk_for_dollar context nodes chain found old new visits visits' w =
           (rises_on visits (length p.passed) w.before (one_of p.rest) visits' p.counts w.counts);
     }
 
--- a walk that memory was refused to looks at no more
+-- a search that ends because an allocation is refused examines no more items
 no_more : (v n k most new : ℕ) → new ≡ min (v + n) most → new ≤ v + (n + k)
 no_more v n k most new e = omega arith
 
@@ -175,7 +175,7 @@ walk_notes kind wanted nodes chain old new visits visits' w =
     (sym (append-nil p.passed) ∙ (ap (λ rest. p.passed ++ rest) (sym (nothing_left nodes p.low p.rest p.leads))
     ∙ sym p.parts))
 
--- the first mark with a key is the first item that is so many backticks, or the first `$` of a brace context
+-- the first mark with a key is the first item of that many backticks, or the first `$` of a brace context
 first_code_with : (n number : ℕ) (b : ItemBody) (later : List SpanMark)
     → first_with n (option_to_list (code_mark number b) ++ later)
     ≡ (if is_code_of n b then Some number else first_with n later)

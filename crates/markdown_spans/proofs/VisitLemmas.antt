@@ -1,4 +1,4 @@
--- How many items a search looks at, by what it finds.
+-- The number of items that a search examines, by what it finds.
 use Rattle.std.proofs.Common.{◌≡◌, ℕ, suc, ◌+◌, ◌≤◌, Bool, true, false, List, [], ◌∷◌, ◌++◌, Some, None, length, drop, refl, arith, sym}
 use Rattle.std.proofs.Common.{◌∙◌, ap, length-append}
 use Rattle.std.specs.Prelude.{if◌then◌else◌, ◌==◌, is_some}

@@ -1,4 +1,4 @@
--- What stands from a `<` on: an absolute-URI autolink (CommonMark 6.5), raw HTML (6.6), or nothing.
+-- What begins at a `<`: an absolute-URI autolink (CommonMark 6.5), raw HTML (6.6), or nothing.
 use Rattle.std.specs.Prelude.{ℕ, ◌+◌, ◌==◌, Bool, true, false, List, Option, Some, None, if◌then◌else◌, slice_index}
 use Rattle.std.specs.Option.{option_map, option_or}
 use Rattle.markdown_base.specs.Bytes.{exclamation_mark, question_mark}
@@ -6,35 +6,35 @@ use Rattle.markdown_scan.specs.Autolink.{uri_autolink}
 use Rattle.markdown_raw_html.specs.RawHtml.{cdata_section, comment, declaration, end_from, processing_instruction}
 use Rattle.markdown_raw_html.specs.TagSource.{tag_at}
 
--- an autolink with the byte after its `>` and its URI; raw HTML with the byte after its `>` and, where prefixes of
--- lines stand inside it, its bytes without them
+-- an autolink, with the byte offset after its `>` and its URI; or raw HTML, with the byte offset after its `>` and, if
+-- it contains line prefixes, its bytes without them
 pub data Markup : Type 0 where
   autolink : ℕ → List ℕ → Markup
   html : ℕ → Option (List ℕ) → Markup
 
--- the end of a comment, a CDATA section or a declaration, from the byte after its `<!` on
+-- the byte offset after a comment, a CDATA section or a declaration, from the offset after its `<!` on
 abbrev pub declared_end : List ℕ → ℕ → Option ℕ
 declared_end text at =
     option_or (end_from comment text at) (option_or (end_from cdata_section text at) (end_from declaration text at))
 
--- where no prefix stands inside
+-- what was found, without line prefixes
 abbrev pub unbroken : Option ℕ → Option (ℕ × Option (List ℕ))
 unbroken found = option_map (λ end. (end, None)) found
 
--- raw HTML whose `<` stands at `start`, and `at` is the byte after it
+-- the raw HTML whose `<` is at the byte offset `start`; `at` is the offset after the `<`
 abbrev pub html_at : (skipped : List ℕ → Option ℕ) → List ℕ → (start at : ℕ) → Option (ℕ × Option (List ℕ))
 html_at skipped text start at =
     if slice_index text at == exclamation_mark then unbroken (declared_end text (at + 1))
     else if slice_index text at == question_mark then unbroken (end_from processing_instruction text (at + 1))
     else tag_at skipped text start
 
--- what stands from the `<` at `start` on, of which `at` is the byte after it
+-- what begins at the `<` at the byte offset `start`; `at` is the offset after the `<`
 unfoldable pub markup_at : (skipped : List ℕ → Option ℕ) → List ℕ → (start at : ℕ) → Option Markup
 markup_at skipped text start at =
     option_or (option_map (λ found. autolink found.0 found.1) (uri_autolink text at))
     (option_map (λ found. html found.0 found.1) (html_at skipped text start at))
 
--- no prefix stands inside what is found
+-- what was found contains no line prefix
 abbrev pub is_unbroken : Option Markup → Bool
 is_unbroken (Some (html end (Some bytes))) = false
 is_unbroken found = true

@@ -1,6 +1,7 @@
--- The text of a code span (CommonMark 6.1) or of a math span, of the bytes between its delimiters: each line ending
--- of code becomes one space, while that of math stays; the container prefix after it is removed; in a table `\|`
--- stands for `|`. Of code one space is removed at each end, where it begins and ends with one and is not all spaces.
+-- The text of a code span (CommonMark 6.1) or of a math span, from the bytes between its delimiters: each line ending
+-- in code becomes one space, while those in math are kept; the container prefix after it is removed; and in a table
+-- `\|` becomes `|`. From code, one space is removed at each end, if it begins and ends with a space and is not all
+-- spaces.
 use Rattle.std.specs.Prelude.{ℕ, suc, zero, ◌+◌, ◌-◌, Bool, true, not, ◌&&◌, ◌||◌, ◌==◌, List, [], ◌∷◌, ◌++◌, Option}
 use Rattle.std.specs.Prelude.{Some, None, if◌then◌else◌, drop, take, length, is_some, slice_index}
 use Rattle.std.specs.List.{list_all}
@@ -12,36 +13,36 @@ use Rattle.markdown_scan.specs.LineEnd.{line_ending}
 use Rattle.markdown_spans.specs.declared.span_text.SpanKind.{SpanKind}
 use Rattle.markdown_spans.specs.declared.span_text.SpanKind.TheVariants.{Code, Math}
 
--- what begins some bytes and does not stand for itself: how many bytes it takes, and what it becomes
+-- a piece that is replaced: its length in bytes, and what replaces it
 pub record Piece : Type 0 where
   pub taken : ℕ
   pub shown : List ℕ
 
--- what a line ending becomes
+-- what replaces a line ending
 abbrev pub shown_ending : SpanKind → List ℕ → List ℕ
 shown_ending Code ending = space ∷ []
 shown_ending Math ending = ending
 
--- a line ending, and the prefix after it
+-- a line ending, with the prefix after it
 abbrev pub ending_piece : SpanKind → (prefix : List ℕ → ℕ) → List ℕ → Option Piece
 ending_piece kind prefix bytes =
     option_map (λ n. record { taken = n + prefix (drop n bytes); shown = shown_ending kind (take n bytes) })
     (line_ending bytes)
 
--- the bytes begin with a pipe that a backslash escapes, in a table
+-- in a table, the bytes begin with a pipe that a backslash escapes
 abbrev pub begins_escaped_pipe : (in_table : Bool) → List ℕ → Bool
 begins_escaped_pipe in_table bytes = in_table && begins_with (backslash ∷ pipe ∷ []) bytes
 
--- in a table, `\\|` shows `|`
+-- in a table, `\|` becomes `|`
 abbrev pub pipe_piece : Bool → List ℕ → Option Piece
 pipe_piece in_table bytes = if begins_escaped_pipe in_table bytes then Some (record { taken = 2; shown = pipe ∷ [] })
     else None
 
--- what the bytes begin with, where that does not stand for itself
+-- the piece that the bytes begin with, if any
 abbrev pub piece_at : SpanKind → Bool → (List ℕ → ℕ) → List ℕ → Option Piece
 piece_at kind in_table prefix bytes = option_or (ending_piece kind prefix bytes) (pipe_piece in_table bytes)
 
--- the bytes with each such piece replaced, the first `passed` of which belong to a piece before them
+-- the bytes with each such piece replaced, without the first `passed` bytes, which belong to an earlier piece
 unfoldable pub replaced_past : (List ℕ → Option Piece) → ℕ → List ℕ → List ℕ
 replaced_past piece passed [] = []
 replaced_past piece (suc passed) (b ∷ bytes) = replaced_past piece passed bytes
@@ -53,30 +54,30 @@ replaced_past piece zero (b ∷ bytes) =
 abbrev pub lines_joined : SpanKind → Bool → (List ℕ → ℕ) → List ℕ → List ℕ
 lines_joined kind in_table prefix bytes = replaced_past (piece_at kind in_table prefix) 0 bytes
 
--- a space
+-- the byte is a space
 abbrev pub is_space : ℕ → Bool
 is_space b = b == space
 
--- they begin and end with a space, and are not all spaces
+-- the bytes begin and end with a space, and are not all spaces
 abbrev pub has_outer_spaces : List ℕ → Bool
 has_outer_spaces bytes =
     is_space (slice_index bytes 0) && is_space (slice_index bytes (length bytes - 1)) && not (list_all is_space bytes)
 
--- one space less at each end, where there is one at both
+-- the bytes without one space at each end, if they have spaces at both ends and are not all spaces
 abbrev pub without_outer_spaces : List ℕ → List ℕ
 without_outer_spaces bytes = if has_outer_spaces bytes then take (length bytes - 2) (drop 1 bytes) else bytes
 
--- the text of a span over these bytes
+-- the text of a span whose delimiters enclose these bytes
 abbrev pub span_text : SpanKind → Bool → (List ℕ → ℕ) → List ℕ → List ℕ
 span_text Code in_table prefix bytes = without_outer_spaces (lines_joined Code in_table prefix bytes)
 span_text Math in_table prefix bytes = lines_joined Math in_table prefix bytes
 
--- no line ending stands in them and, in a table, no `\|`: their text is a slice of them
+-- the bytes contain no line ending and, in a table, no `\|`: the text is a slice of them
 unfoldable pub is_sliced : Bool → List ℕ → Bool
 is_sliced in_table [] = true
 is_sliced in_table (b ∷ bytes) =
     not (is_some (line_ending (b ∷ bytes)) || begins_escaped_pipe in_table (b ∷ bytes)) && is_sliced in_table bytes
 
--- where it comes from, then
+-- the origin of the text: a slice of the source, or made
 abbrev pub span_origin : Bool → List ℕ → Origin
 span_origin in_table bytes = if is_sliced in_table bytes then sliced else made

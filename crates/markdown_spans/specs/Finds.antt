@@ -1,5 +1,5 @@
--- What code spans (CommonMark 6.1), math spans, autolinks (6.5) and raw HTML (6.6) make of a chain. From each item on
--- something is found in the items after it, or nothing; trees stand for it; and the chain goes on where it ends.
+-- What code spans (CommonMark 6.1), math spans, autolinks (6.5) and raw HTML (6.6) make of a chain. At each item
+-- something is found among the items after it, or nothing; trees replace it; and the chain continues where it ends.
 use Rattle.std.specs.Prelude.{ℕ, ◌+◌, ◌-◌, Bool, true, false, List, [], ◌∷◌, Option, Some, None}
 use Rattle.std.specs.Prelude.{slice_range, take}
 use Rattle.std.specs.Option.{option_map_or}
@@ -22,67 +22,67 @@ use Rattle.markdown_spans.specs.ContainerPrefix.{prefix_length}
 use Rattle.markdown_spans.specs.declared.span_text.SpanKind.{SpanKind}
 use Rattle.markdown_spans.specs.declared.span_text.SpanKind.TheVariants.{Code, Math}
 
--- how many of the bytes after a line ending are the prefix of the blocks open above
+-- the length in bytes of the prefix after a line ending, by the blocks above
 abbrev pub prefix_below : Setting → Above → List ℕ → ℕ
 prefix_below s above bytes = prefix_length (gfm_footnotes_on s.rules.options) above.bodies bytes
 
--- the text of a span that stands from a byte to another
+-- the text of a span between two byte offsets
 abbrev pub text_between : Setting → Above → SpanKind → (start end : ℕ) → List ℕ
 text_between s above kind start end =
     span_text kind above.in_table (prefix_below s above) (slice_range s.text start end)
 
--- and where it comes from
+-- the origin of that text
 abbrev pub origin_between : Setting → Above → (start end : ℕ) → Origin
 origin_between s above start end = span_origin above.in_table (slice_range s.text start end)
 
--- the text of a span, and where it comes from
+-- the text of a span, and its origin
 pub record SpanText : Type 0 where
   pub bytes : List ℕ
   pub origin : Origin
 
--- the text of a span from a byte to a byte
+-- the text of a span between two byte offsets, with its origin
 abbrev pub span_between : Setting → Above → SpanKind → (start end : ℕ) → SpanText
 span_between s above kind start end =
     record { bytes = text_between s above kind start end; origin = origin_between s above start end }
 
--- what is found from an item on: a code span with its text, up to an item that closes it; a math span with its text,
--- up to a byte; what stands from a `<` on; or nothing
+-- what is found at an item: a code span with its text and the item that closes it; a math span with its text and the
+-- byte offset where it ends; what begins at a `<`; or nothing
 pub data Find (A : Type 0) : Type 0 where
   code_span : SpanText → Label A → Find A
   math_span : (display : Bool) → SpanText → (end : ℕ) → Find A
   markup : Markup → Find A
   nothing : Find A
 
--- backticks open a code span, if an item closes it: its text is what stands between them
+-- backticks open a code span, if an item closes it: its text lies between the two
 abbrev pub code_found : {A : Type 0} → Setting → Above → Label A → Option (Label A) → Find A
 code_found s above a None = nothing
 code_found s above a (Some closer) = code_span (span_between s above Code (end_of a) (start_of closer)) closer
 
--- a `$` opens a math span, if something closes it: its text begins after the `$`, or after both where the next item
--- is a `$` too
+-- the byte offset of the text of a math span that a `$` opens: after the `$`, or after both if the next item is a `$`
+-- too
 abbrev pub math_text_start : {A : Type 0} → Label A → List (Label A) → ℕ
 math_text_start a after = option_map_or end_of (dollar_next as_item after) (end_of a)
 
--- math, by where it closes
+-- a math span, by what closes it
 abbrev pub math_found : {A : Type 0} → Setting → Above → Label A → List (Label A) → Option (MathClose (Label A))
     → Find A
 math_found s above a after None = nothing
 math_found s above a after (Some m) =
     math_span m.display (span_between s above Math (math_text_start a after) (start_of m.closer)) (end_of m.last)
 
--- what stands from a `<` on, up to the block's end, where the next item starts directly after it
+-- the markup that was found, or nothing
 abbrev pub markup_or_nothing : {A : Type 0} → Option Markup → Find A
 markup_or_nothing None = nothing
 markup_or_nothing (Some m) = markup m
 
--- what stands after a `<`, if the next item follows it directly
+-- what begins at a `<`, up to the block's end, if the next item starts directly after the `<`
 abbrev pub markup_found : {A : Type 0} → Setting → Above → Label A → (is_followed : Bool) → Find A
 markup_found s above a false = nothing
 markup_found s above a true =
     markup_or_nothing
     (markup_at (λ bytes. Some (prefix_below s above bytes)) (take above.block_end s.text) (start_of a) (end_of a))
 
--- what is found from an item on, of the chain after it
+-- what is found at an item with this body, from the chain after it
 abbrev pub find_by : {A : Type 0} → Setting → Above → ItemBody → Label A → Forest (Label A) → Find A
 find_by s above (body.MaybeCode count escaped) a rest =
     code_found s above a (code_close as_item (body.MaybeCode count escaped) (roots rest))
@@ -91,11 +91,11 @@ find_by s above (body.MaybeMath opens closes context) a rest =
 find_by s above body.MaybeHtml a rest = markup_found s above a (next_starts_at (end_of a) rest)
 find_by s above other a rest = nothing
 
--- what is found at an item
+-- what is found at an item, from the chain after it
 abbrev pub find : {A : Type 0} → Setting → Above → Label A → Forest (Label A) → Find A
 find s above a rest = find_by s above (open_body a.part.shape) a rest
 
--- a label over other bytes
+-- a label over a range
 abbrev pub over : {A : Type 0} → A → Shape → (start end : ℕ) → Label A
 over tag shape start end =
     record { tag = tag; part = record { shape = shape; range = record { start = start; end = end }; block = None } }
@@ -109,7 +109,8 @@ abbrev pub is_escaped : ItemBody → Bool
 is_escaped (body.MaybeCode count escaped) = escaped
 is_escaped other = false
 
--- a code span; where the first backtick of its opener is escaped, that is a Text, and the code takes the closer's place
+-- a code span; if the first backtick of its opener is escaped, that backtick becomes a Text, and the code takes the
+-- closer's tag
 abbrev pub code_trees : {A : Type 0} → Setting → (escaped : Bool) → Label A → SpanText → Label A → Forest (Label A)
 code_trees s false a t closer =
     node (over a.tag (leaf (code t.bytes) (t.origin ∷ [])) (start_of a) (end_of closer)) nil nil
@@ -117,11 +118,11 @@ code_trees s true a t closer =
     node (text_from s a.tag (start_of a) (start_of a + 1)) nil
     (node (over closer.tag (leaf (code t.bytes) (t.origin ∷ [])) (start_of a + 1) (end_of closer)) nil nil)
 
--- an autolink is a link to what stands between `<` and `>`, which is the text below it
+-- an autolink is a link to what is between `<` and `>`, which is also the text below it
 abbrev pub address : List ℕ → LinkView
 address uri = record { kind = Autolink; destination = uri; title = []; label = [] }
 
--- the trees of what stands after a `<`
+-- the trees of what begins at a `<`
 abbrev pub markup_trees : {A : Type 0} → Setting → (new : A) → Label A → Markup → Forest (Label A)
 markup_trees s new a (autolink end uri) =
     node (over a.tag (enclosed (link (address uri))) (start_of a) end)
@@ -131,7 +132,7 @@ markup_trees s new a (html end None) =
 markup_trees s new a (html end (Some bytes)) =
     node (over a.tag (leaf (inline_html bytes) (made ∷ [])) (start_of a) end) nil nil
 
--- the trees that stand for what is found from an item on: for nothing a Text
+-- the trees that replace what is found at an item: a Text if nothing is found
 abbrev pub trees_for : {A : Type 0} → Setting → (new : A) → Label A → Find A → Forest (Label A)
 trees_for s new a (code_span t closer) = code_trees s (is_escaped (open_body a.part.shape)) a t closer
 trees_for s new a (math_span display t end) =
@@ -139,35 +140,35 @@ trees_for s new a (math_span display t end) =
 trees_for s new a (markup m) = markup_trees s new a m
 trees_for s new a nothing = node (as_text s.text a) nil nil
 
--- the byte at which it ends
+-- the byte offset where the markup ends
 abbrev pub end_of_markup : Markup → ℕ
 end_of_markup (autolink end uri) = end
 end_of_markup (html end bytes) = end
 
--- where a find ends
+-- the byte offset where what was found ends, if anything was
 abbrev pub end_of_find : {A : Type 0} → Find A → Option ℕ
 end_of_find (code_span t closer) = Some (end_of closer)
 end_of_find (math_span display t end) = Some end
 end_of_find (markup m) = Some (end_of_markup m)
 end_of_find nothing = None
 
--- how many trees are made: the text of an autolink
+-- the number of additional trees that are made: one for the text of an autolink
 abbrev pub made_by : {A : Type 0} → Find A → ℕ
 made_by (markup (autolink end uri)) = 1
 made_by other = 0
 
--- what was read: the trees that stand for it; after a find, the byte past which the chain goes on; and how many trees
--- were made by now
+-- what was read: the trees that replace it; if something was found, the byte offset where the chain continues; and the
+-- number of additional trees made so far
 pub record Passed (A : Type 0) : Type 0 where
   pub trees : Forest (Label A)
   pub goes_on : Option ℕ
   pub made : ℕ
 
--- what is read of a tree: by its label, the trees below it and the chain after it
+-- what is read from a tree, by its label, the trees below it and the chain after it
 abbrev pub Reader : Type 0 → Type 0
 Reader A = Label A → Forest (Label A) → Forest (Label A) → Passed A
 
--- what is put for an item, where the chain goes on, and how many trees were made
+-- the trees that replace an item, where the chain continues, and the number of additional trees made so far
 abbrev pub passed : {A : Type 0} → Setting → Tags A → (made : ℕ) → Label A → Find A → Passed A
 passed s tags n a found = record {
   trees = trees_for s (tags.fresh n) a found;
@@ -175,11 +176,11 @@ passed s tags n a found = record {
   made = n + made_by found;
 }
 
--- what is not open, or waits for pairing, stays
+-- a tree that is not open, or that waits for pairing, is kept
 abbrev pub read_unless : {A : Type 0} → (is_quiet : Bool) → Setting → Tags A → Above → (made : ℕ) → Reader A
 read_unless true s tags above n a below rest = record { trees = node a below nil; goes_on = None; made = n }
 read_unless false s tags above n a below rest = passed s tags n a (find s above a rest)
 
--- a tree that is no bracket is read, where n were made before it
+-- a tree other than a bracket is read, after n additional trees were made
 unfoldable pub read_tree : {A : Type 0} → Setting → Tags A → Above → (made : ℕ) → Reader A
 read_tree s tags above n a below rest = read_unless (is_quiet a.part.shape) s tags above n a below rest

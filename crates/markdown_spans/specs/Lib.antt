@@ -1,11 +1,11 @@
--- the rules of a chain that ask nobody
+-- the rules for a chain that do not call the callback
 pub mod ContainerPrefix
 pub mod CodeText
 pub mod AfterLess
 pub mod Closers
 pub mod Finds
 pub mod VisitLaws
--- of the representation
+-- facts about the representation
 pub mod BlocksAbove
 pub mod ChainInArena
 pub mod ChainSearch
@@ -15,7 +15,7 @@ pub mod SpanClosers
 pub mod SpanMarks
 pub mod PrefixView
 pub mod MarkupView
--- the words of the lower crates that the clauses here are written in
+-- the definitions of the lower crates that clauses here cite
 pub use Rattle.markdown_base.specs.Arena
 pub use Rattle.markdown_base.specs.BlockTree
 pub use Rattle.markdown_base.specs.CowText

@@ -1,4 +1,4 @@
--- An opener of math as it stands in an arena, and what closes math at a `$` there.
+-- An opener of math in an arena, and what closes math at a `$` there.
 use Rattle.std.specs.Prelude.{ℕ, true, false, not, ◌&&◌, ◌==◌, List, [], Option, Some, None, is_some, if◌then◌else◌}
 use Rattle.std.specs.Prelude.{option_to_list}
 use Rattle.std.specs.Option.{option_map}
@@ -13,12 +13,12 @@ use Rattle.markdown_spans.specs.declared.math_opener.MathOpener.{MathOpener}
 use Rattle.markdown_spans.specs.declared.span_marks.SpanMark.{SpanMark}
 use Rattle.markdown_spans.specs.declared.span_text.SpanKind.TheVariants.{Math}
 
--- the `$` that a link leads to
+-- the number of the `$` that a link leads to, if it leads to one
 abbrev pub dollar_at : List (Node Item) → Option ℕ → Option ℕ
 dollar_at nodes None = None
 dollar_at nodes (Some ix) = if is_dollar (item_at nodes ix).body then Some ix else None
 
--- the opener that a node is
+-- the opener at a node, if the node is a `$` that can open
 abbrev pub opener_at : List (Node Item) → ℕ → Option MathOpener
 opener_at nodes ix =
     if can_open (item_at nodes ix).body
@@ -30,36 +30,36 @@ opener_at nodes ix =
     })
     else None
 
--- the link from which on what closes it is looked for
+-- the link after an opener's second `$`, or after the opener if it has none
 abbrev pub link_after : List (Node Item) → Option ℕ → ℕ → Option ℕ
 link_after nodes None ix = sibling_of nodes ix
 link_after nodes (Some second) ix = sibling_of nodes second
 
--- the node from which the end of math is sought
+-- the first node that is searched for what closes an opener
 abbrev pub searched_from : List (Node Item) → MathOpener → Option ℕ
 searched_from nodes opener = link_after nodes opener.second opener.number
 
--- what closes inline math at a `$`, and what closes display math there
+-- what closes inline math at a `$`, if the span is not empty and the `$` can close
 abbrev pub inline_closed : List (Node Item) → (opener_end : ℕ) → ℕ → Option FoundMath
 inline_closed nodes opener_end ix =
     if can_close (item_at nodes ix).body && not (opener_end == (item_at nodes ix).start)
     then Some (record { display = false; closer = ix; last = ix }) else None
 
--- display math that closes at a node and the one after it
+-- what closes display math at a `$`, if the next item is a `$` too
 abbrev pub display_closed : List (Node Item) → ℕ → Option FoundMath
 display_closed nodes ix =
     option_map (λ last. record { display = true; closer = ix; last = last }) (dollar_at nodes (sibling_of nodes ix))
 
--- math that closes at a node
+-- what closes an opener at a `$`
 abbrev pub closed_at : List (Node Item) → MathOpener → ℕ → Option FoundMath
 closed_at nodes opener ix = if is_some opener.second then display_closed nodes ix else inline_closed nodes opener.end ix
 
--- where this `$` is the first one of its brace context
+-- what closes an opener, given the first `$` of its brace context, if there is one
 abbrev pub closed_by_first : List (Node Item) → MathOpener → Option ℕ → Option FoundMath
 closed_by_first nodes opener None = None
 closed_by_first nodes opener (Some ix) = closed_at nodes opener ix
 
--- the mark to which a link leads
+-- the mark that a link leads to, as a list
 abbrev pub marks_at : List (Node Item) → Option ℕ → List SpanMark
 marks_at nodes None = []
 marks_at nodes (Some ix) = option_to_list (mark_at Math ix (item_at nodes ix).body)

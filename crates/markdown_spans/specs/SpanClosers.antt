@@ -1,5 +1,5 @@
--- What searches for closers of spans find in a chain of an arena, what they have learned of it, and how many items they
--- look at.
+-- What searches for closers of spans find in a chain of an arena, what they have learned about it, and the number of
+-- items that they examine.
 use Rattle.std.specs.Prelude.{◌≡◌, ℕ, ◌+◌, ◌-◌, ◌^◌, ◌<◌, ◌≤◌, min, Bool, not, ◌&&◌, ◌||◌, List, [], ◌∷◌, ◌++◌, Option}
 use Rattle.std.specs.Prelude.{Some, None, is_some, length}
 use Rattle.std.specs.Option.{option_map}
@@ -15,19 +15,19 @@ use Rattle.markdown_spans.specs.declared.span_closers.FoundMath.{FoundMath}
 use Rattle.markdown_spans.specs.declared.span_marks.KnownCloser.{KnownCloser}
 use Rattle.markdown_spans.specs.declared.span_text.SpanKind.{SpanKind}
 
--- the item of a numbered one
+-- a numbered item without its number
 abbrev pub item_in : Numbered → Item
 item_in a = a.item
 
--- what closes math, by numbers
+-- what closes math, by the numbers of nodes
 abbrev pub found_math : MathClose Numbered → FoundMath
 found_math m = record { display = m.display; closer = m.closer.number; last = m.last.number }
 
--- a count has risen by so much; it stays where it can grow no more
+-- a count rises by n, up to its maximum
 abbrev pub RisesBy : ℕ → (old new : ℕ) → Type 0
 RisesBy n old new = new ≡ min (old + n) (2 ^ 128 - 1)
 
--- the number of what closes the code span that a node opens
+-- the number of the node that closes the code span that a node opens
 abbrev pub ClosesCode : List (Node Item) → (opener : ℕ) → Option ℕ → Type 0
 ClosesCode nodes opener found =
     (low : ℕ) (after : List Numbered) → LeadsThrough nodes low (sibling_of nodes opener) after
@@ -39,74 +39,74 @@ ClosesMath nodes opener found =
     (low : ℕ) (after : List Numbered) → LeadsThrough nodes low (sibling_of nodes opener) after
     → option_map found_math (math_close_from item_in (item_at nodes opener) after) ≡ found
 
--- what was found stands there
+-- the numbers that were found are those of nodes
 pub record StandsIn (nodes : List (Node Item)) (found : FoundMath) : Type 0 where
   pub closer : found.closer < length nodes
   pub last : found.last < length nodes
 
--- what searches have learned of a chain: nothing, until one fails
+-- what searches have learned about a chain: nothing until one fails, and then closers of its marks
 abbrev pub Learned : Type 0
 Learned = Option (List KnownCloser)
 
--- one has failed
+-- a search has failed
 abbrev pub has_failed : Learned → Bool
 has_failed learned = is_some learned
 
--- one has failed by now: one before, or this one, if there was a search
+-- a search has failed by now: an earlier one, or this one, if there was one
 abbrev pub failed_by_now : (before : Learned) → (searched found : Bool) → Bool
 failed_by_now before searched found = has_failed before || (searched && not found)
 
--- how many items a search looks at: none, once one has failed
+-- the number of items that a search examines: none once an earlier search has failed
 abbrev pub unless_failed : Learned → ℕ → ℕ
 unless_failed None looked = looked
 unless_failed (Some closers) looked = 0
 
--- a count of the items looked at has risen by those of a search for the end of code, or of math
+-- a search for the end of code examines exactly the items that the definition counts
 abbrev pub LooksForCode : Learned → List (Node Item) → (opener : ℕ) → ℕ → ℕ → Type 0
 LooksForCode learned nodes opener visits visits' =
     (low : ℕ) (after : List Numbered) → LeadsThrough nodes low (sibling_of nodes opener) after
     → RisesBy (unless_failed learned (looked_for_code_close item_in (item_at nodes opener).body after)) visits visits'
 
--- a search for the end of math looks at exactly the items that the definition counts
+-- a search for the end of math examines exactly the items that the definition counts
 abbrev pub LooksForMath : Learned → List (Node Item) → (opener : ℕ) → ℕ → ℕ → Type 0
 LooksForMath learned nodes opener visits visits' =
     (low : ℕ) (after : List Numbered) → LeadsThrough nodes low (sibling_of nodes opener) after
     → RisesBy (unless_failed learned (looked_for_math_from item_in (item_at nodes opener) after)) visits visits'
 
--- or by no more than those
+-- a search for the end of code examines at most those items
 abbrev pub LooksForCodeAtMost : Learned → List (Node Item) → (opener : ℕ) → ℕ → ℕ → Type 0
 LooksForCodeAtMost learned nodes opener visits visits' =
     (low : ℕ) (after : List Numbered) → LeadsThrough nodes low (sibling_of nodes opener) after
     → visits' ≤ visits + unless_failed learned (looked_for_code_close item_in (item_at nodes opener).body after)
 
--- or at no more than these
+-- a search for the end of math examines at most those items
 abbrev pub LooksForMathAtMost : Learned → List (Node Item) → (opener : ℕ) → ℕ → ℕ → Type 0
 LooksForMathAtMost learned nodes opener visits visits' =
     (low : ℕ) (after : List Numbered) → LeadsThrough nodes low (sibling_of nodes opener) after
     → visits' ≤ visits + unless_failed learned (looked_for_math_from item_in (item_at nodes opener) after)
 
--- a number stands before the items of a chain
+-- a number is less than those of a chain
 abbrev pub IsBefore : List Numbered → ℕ → Type 0
 IsBefore [] number = Unit {0}
 IsBefore (a ∷ after) number = number < a.number
 
--- all known closers stand in this chain
+-- all these marks precede this chain
 abbrev pub AllBefore : List Numbered → List KnownCloser → Type 0
 AllBefore chain [] = Unit {0}
 AllBefore chain (k ∷ known) = IsBefore chain k.number × AllBefore chain known
 
--- what is known of marks is true of those of a chain; more may be known of marks before it
+-- the known closers are those of the marks of a chain, perhaps after known closers of earlier marks
 pub record KnowsClosers (kind : SpanKind) (known : List KnownCloser) (chain : List Numbered) : Type 0 where
   pub passed : List KnownCloser
   pub before : AllBefore chain passed
   pub closers : known ≡ passed ++ closers_of (marks_in kind chain)
 
--- what was learned is true of a chain
+-- what was learned holds for a chain
 abbrev pub HoldsOf : SpanKind → Learned → List Numbered → Type 0
 HoldsOf kind None chain = Unit {0}
 HoldsOf kind (Some known) chain = KnowsClosers kind known chain
 
--- and of the chain from a link on
+-- what was learned holds for the chain from a link on
 abbrev pub HoldsFrom : SpanKind → Learned → List (Node Item) → Option ℕ → Type 0
 HoldsFrom kind learned nodes link =
     (low : ℕ) (chain : List Numbered) → LeadsThrough nodes low link chain → HoldsOf kind learned chain

@@ -1,4 +1,4 @@
-//! What stands after a `<`: an autolink, raw HTML, or nothing.
+//! What begins at a `<`: an autolink, raw HTML, or nothing.
 ghost use Rattle.std.specs.Prelude.{◌≡◌, ◌≤◌, ◌+◌, ◌-◌, ℕ, List, slice_index, None, Some, length, IfOk, IfSome, IsOk};
 ghost use Rattle.std.specs.Prelude.{true, string_bytes, option_and_then};
 ghost use Rattle.std.specs.Option.{option_map};
@@ -14,18 +14,19 @@ use markdown_raw_html::raw_html::RawHtmlScanner;
 use markdown_scan::autolink::scan_uri_autolink;
 use std::alloc::{AllocError, Global};
 
-/// What was found.
+/// What was found at a `<`.
 #[derive(Drop)]
 pub enum MarkupFound<'t> {
-    /// An absolute-URI autolink: the byte after its `>`, and its URI.
+    /// An absolute-URI autolink: the byte offset after its `>`, and its URI.
     Autolink(usize, &'t str),
-    /// Raw HTML as it stands: the byte after its `>`.
+    /// Raw HTML that is a slice of the source: the byte offset after its `>`.
     Html(usize),
-    /// A tag inside of which prefixes of lines stand: the byte after its `>`, and the tag without them.
+    /// A tag that contains line prefixes: the byte offset after its `>`, and the tag without them.
     OwnedHtml(usize, String),
 }
 
-/// The end of the comment, CDATA section or declaration whose `<!` stands right before `at`.
+/// Returns the byte offset after the comment, CDATA section or declaration whose `<!` ends at the byte offset `at`;
+/// `None` if there is none.
 fn scan_declared(scanner: &mut RawHtmlScanner<'_>, at: usize) -> Option<usize>
     requires { at ≤ length scanner.old.text.now }
     ensures value { result ≡ declared_end scanner.old.text.now at }
@@ -42,7 +43,7 @@ fn scan_declared(scanner: &mut RawHtmlScanner<'_>, at: usize) -> Option<usize>
     scanner.scan_declaration(at)
 }
 
-/// A text of these bytes.
+/// Returns a text of these bytes.
 fn into_text(bytes: Vec<u8>) -> String
     requires { IsUtf8 bytes.items }
     ensures { string_bytes result ≡ bytes.items }
@@ -50,8 +51,9 @@ fn into_text(bytes: Vec<u8>) -> String
     String::from_utf8(bytes).unwrap()
 }
 
-/// The tag whose `<` stands at `start`: the byte after its `>`, and the tag without the prefixes of lines, where such
-/// stand inside it.
+/// Reads the tag whose `<` is at the byte offset `start`. Returns the offset after its `>`, and the tag without its
+/// line prefixes if it contains any; `None` if there is no tag. The error is a refused allocation, which can only occur
+/// if the tag contains line prefixes.
 fn scan_tag(
     alloc: Global,
     text: &str,
@@ -82,7 +84,7 @@ fn scan_tag(
     }
 }
 
-/// Raw HTML that ends before this byte, without a prefix inside.
+/// Returns raw HTML without a line prefix that ends at this byte offset.
 #[tactic(auto, using(crate::proofs::AfterLessLemmas::closed_boundary))]
 fn as_html(text: &str, end: Option<usize>) -> Option<(usize, Option<String>)>
     requires { IfSome end (λ end. (end ≤ length text.now) × (slice_index text.now (end - 1) ≡ 62)) }
@@ -95,7 +97,9 @@ fn as_html(text: &str, end: Option<usize>) -> Option<(usize, Option<String>)>
     }
 }
 
-/// The raw HTML whose `<` stands at `start`, and `at` is the byte after it.
+/// Reads the raw HTML whose `<` is at the byte offset `start`, where `at` is the offset after the `<`. Returns the
+/// offset after its `>`, and its text if it is a tag that contains line prefixes. The error is a refused allocation,
+/// which can only occur for such a tag.
 fn scan_html(
     alloc: Global,
     text: &str,
@@ -120,9 +124,10 @@ fn scan_html(
     }
 }
 
-/// What stands from the `<` at `start` on, in the text up to its block's end; `at` is the byte after it, and the
-/// scanner one of that text. An autolink is tried first, then raw HTML. Memory is taken, and can run out, only for a
-/// tag inside of which prefixes of lines stand.
+/// Reads the autolink or else the raw HTML that begins at the `<` at the byte offset `start`. `text` ends at the
+/// block's end, `at` is the offset after the `<`, and `scanner` is a scanner of `text`. Returns `None` if neither
+/// begins there. The error is a refused allocation, which can only occur for a tag that contains line prefixes, since
+/// nothing else allocates memory.
 #[tactic(auto, unfolding(crate::specs::AfterLess::markup_at))]
 pub fn scan_after_less<'t>(
     alloc: Global,

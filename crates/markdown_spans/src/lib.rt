@@ -1,4 +1,5 @@
-//! The rules of a chain that ask nobody: container prefixes, code spans, math spans, and what stands after a `<`.
+//! The rules for a chain that do not call the callback: container prefixes, code spans, math spans, and what begins at
+//! a `<`.
 #![tactic(auto)]
 
 pub mod after_less;

@@ -1,4 +1,4 @@
-//! Openers of math, and what closes math at a `$`.
+//! Openers of math spans, and what closes a math span at a `$`.
 ghost use Rattle.std.specs.Prelude.{◌≡◌, ◌<◌, None, Some, if◌then◌else◌, length, IfSome};
 ghost use Rattle.markdown_spans.specs.Closers.{can_close, can_open, context_of, is_dollar};
 ghost use Rattle.markdown_spans.specs.MathOpening.{display_closed, dollar_at, inline_closed};
@@ -7,34 +7,34 @@ use crate::span_closers::FoundMath;
 use markdown_base::item::{Item, ItemBody};
 use markdown_base::tree::Tree;
 
-/// A `$` that can open.
+/// A `$` that can open a math span.
 #[derive(Clone, Copy, Debug, PartialEq, Eq, Drop)]
 pub struct MathOpener {
-    /// The number of its item.
+    /// The number of its node.
     pub number: usize,
-    /// The byte after it.
+    /// The byte offset after it.
     pub end: usize,
     /// Its brace context.
     pub context: usize,
-    /// The number of the `$` that comes next, which makes it an opener of display math.
+    /// The number of the next node, if that is a `$`: then the opener is one of display math.
     pub second: Option<usize>,
 }
 
-/// Whether it is a `$`.
+/// Returns whether the body is a `$`.
 fn is_dollar(body: ItemBody) -> bool
     ensures { result ≡ is_dollar body }
 {
     matches!(body, ItemBody::MaybeMath(_, _, _))
 }
 
-/// Whether it is a `$` that can close.
+/// Returns whether the body is a `$` that can close.
 fn can_close(body: ItemBody) -> bool
     ensures { result ≡ can_close body }
 {
     matches!(body, ItemBody::MaybeMath(_, true, _))
 }
 
-/// The brace context of a `$` that can open.
+/// Returns the brace context of a `$` that can open; `None` for any other body.
 fn opening_context(body: ItemBody) -> Option<usize>
     ensures { result ≡ (if can_open body then Some (context_of body) else None) }
 {
@@ -44,7 +44,7 @@ fn opening_context(body: ItemBody) -> Option<usize>
     }
 }
 
-/// The `$` that a link leads to.
+/// Returns the number of the `$` that a link leads to; `None` if it leads to no `$`.
 fn dollar_at(tree: &Tree<Item>, link: Option<usize>) -> Option<usize>
     requires { IfSome link (λ ix. ix < length tree.now.nodes) }
     ensures { result ≡ dollar_at tree.now.nodes link }
@@ -58,7 +58,7 @@ fn dollar_at(tree: &Tree<Item>, link: Option<usize>) -> Option<usize>
 impl MathOpener {
     ghost use Rattle.markdown_spans.specs.MathOpening.{closed_at, closed_by_first, opener_at, searched_from};
 
-    /// The opener that a node is.
+    /// Returns the opener at a node; `None` if the node is not a `$` that can open.
     pub fn of_node(tree: &Tree<Item>, ix: usize) -> Option<MathOpener>
         requires { ix < length tree.now.nodes }
         ensures { result ≡ opener_at tree.now.nodes ix }
@@ -73,7 +73,7 @@ impl MathOpener {
         })
     }
 
-    /// The link from which on what closes it is looked for.
+    /// Returns the link to the first node that is searched for a closer.
     pub fn searched_from(self, tree: &Tree<Item>) -> Option<usize>
         requires number { self.number < length tree.now.nodes }
         requires second { IfSome self.second (λ ix. ix < length tree.now.nodes) }
@@ -85,7 +85,7 @@ impl MathOpener {
         }
     }
 
-    /// What closes it, where this is the first `$` of its brace context.
+    /// Returns what closes the span, given the first `$` of the opener's brace context, if there is one.
     pub fn close_by(self, tree: &Tree<Item>, first: Option<usize>) -> Option<FoundMath>
         requires { IfSome first (λ ix. ix < length tree.now.nodes) }
         ensures { result ≡ closed_by_first tree.now.nodes self first }
@@ -94,7 +94,7 @@ impl MathOpener {
         self.close_at(tree, ix)
     }
 
-    /// What closes it at a `$` of its brace context, if that does.
+    /// Returns what closes the span at a `$` of the opener's brace context; `None` if that `$` does not close it.
     pub fn close_at(self, tree: &Tree<Item>, ix: usize) -> Option<FoundMath>
         requires { ix < length tree.now.nodes }
         ensures { result ≡ closed_at tree.now.nodes self ix }
@@ -106,7 +106,7 @@ impl MathOpener {
     }
 }
 
-/// What closes inline math at a `$`: that one, if it can close and the span is not empty.
+/// Returns what closes inline math at a `$`: that `$`, if it can close and the span is not empty.
 fn close_inline(tree: &Tree<Item>, opener_end: usize, ix: usize) -> Option<FoundMath>
     requires { ix < length tree.now.nodes }
     ensures { result ≡ inline_closed tree.now.nodes opener_end ix }
@@ -123,7 +123,7 @@ fn close_inline(tree: &Tree<Item>, opener_end: usize, ix: usize) -> Option<Found
     }
 }
 
-/// What closes display math at a `$`: that one and the next item, if that is one too.
+/// Returns what closes display math at a `$`: that `$` and the next item, if that is a `$` too.
 fn close_display(tree: &Tree<Item>, ix: usize) -> Option<FoundMath>
     requires { ix < length tree.now.nodes }
     ensures { result ≡ display_closed tree.now.nodes ix }

@@ -1,4 +1,4 @@
-//! Container prefixes: what the blocks open above a chain take of a line that the chain goes on in.
+//! Container prefixes: the beginning of a line on which a chain continues that belongs to the blocks above the chain.
 ghost use Rattle.std.specs.Prelude.{◌≡◌, ◌≤◌, None, Some, if◌then◌else◌, length, take, IfSome, IsTrue};
 ghost use Rattle.std.specs.List.{list_all};
 ghost use Rattle.std.specs.Char.{is_ascii};
@@ -12,16 +12,16 @@ use markdown_base::tree::Tree;
 use markdown_scan::line_rule::LineRule;
 use markdown_scan::line_start::LineStart;
 
-/// The blocks open above a chain: the nodes that a walk has gone into.
+/// The blocks above a chain: the nodes that a traversal has entered.
 #[derive(Drop)]
 pub struct ContainerPrefix<'t> {
     pub tree: &'t Tree<Item>,
-    /// Whether footnotes are on, and in GFM style.
+    /// Whether footnotes are enabled, in GitHub's style.
     pub gfm_footnotes: bool,
     ghost above: { HasBlocks tree.now },
 }
 
-/// Takes at most 3 columns of space and a block quote marker: whether the marker comes.
+/// Reads at most 3 columns of space and a block quote marker, and returns whether there was a marker.
 fn take_quote(line: &mut LineStart<'_>) -> bool
     ensures { (if result then Some (line_left line.new) else None)
         ≡ past_marker_next (space 3 (line_left line.old)).after }
@@ -30,14 +30,14 @@ fn take_quote(line: &mut LineStart<'_>) -> bool
     line.scan_blockquote_marker()
 }
 
-/// Takes so many columns of space, or what there is of them if the line is over then: whether it is so.
+/// Reads at most `indent` columns of space, and returns whether there were that many or the line ends after them.
 fn take_indent(line: &mut LineStart<'_>, indent: usize) -> bool
     ensures { (if result then Some (line_left line.new) else None) ≡ past_indent indent (line_left line.old) }
 {
     line.scan_space_upto(indent) == indent || line.is_at_eol()
 }
 
-/// Takes the part of a block: whether it is found.
+/// Reads a block's part of the prefix, and returns whether it was there.
 fn take_block(line: &mut LineStart<'_>, block: ItemBody, gfm_footnotes: bool) -> bool
     ensures { (if result then Some (line_left line.new) else None)
         ≡ past_block gfm_footnotes block (line_left line.old) }
@@ -54,7 +54,7 @@ fn take_block(line: &mut LineStart<'_>, block: ItemBody, gfm_footnotes: bool) ->
 impl<'t> ContainerPrefix<'t> {
     ghost use Rattle.markdown_spans.specs.PrefixView.{length_by, stands_in_table};
 
-    /// Those of a tree whose walk stands in the chain.
+    /// Returns the prefixes for the chain at the cursor of a traversal of `tree`.
     pub fn new(tree: &'t Tree<Item>, gfm_footnotes: bool) -> ContainerPrefix<'t>
         requires { HasBlocks tree.now }
         ensures tree { result.tree.now ≡ tree.now }
@@ -66,7 +66,8 @@ impl<'t> ContainerPrefix<'t> {
         }
     }
 
-    /// How many of the bytes that follow a line ending are the prefix, which is ASCII.
+    /// Returns the length in bytes of the prefix at the beginning of `rest`, which follows a line ending. The prefix is
+    /// ASCII. Upstream: `scan_containers`.
     pub fn length_of(&self, rest: &[u8]) -> usize
         ensures value { result ≡ length_by self.now rest.now }
         ensures within { result ≤ length rest.now }
@@ -82,7 +83,7 @@ impl<'t> ContainerPrefix<'t> {
         line.bytes_scanned()
     }
 
-    /// Whether the chain stands in a table: its block, the innermost of those above, is a cell.
+    /// Returns whether the chain is in a table: whether the innermost block above it is a cell.
     pub fn is_in_table(&self) -> bool
         ensures { result ≡ stands_in_table self.now }
     {

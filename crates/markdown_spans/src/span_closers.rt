@@ -1,4 +1,4 @@
-//! Where spans close: searches along a chain for what closes code and math.
+//! Closers of spans: searches along a chain for what closes code and math.
 ghost use Rattle.std.specs.Prelude.{◌≡◌, ◌++◌, ◌+◌, ◌<◌, ◌≤◌, ℕ, List, None, Some, length, reverse, IfErr, IfOk};
 ghost use Rattle.std.specs.Prelude.{IfSome, OnErr, OnOk, is_some};
 ghost use Rattle.markdown_base.specs.Arena.{sibling_of};
@@ -25,26 +25,27 @@ use std::marker::Model;
 pub struct FoundMath {
     /// Whether it is display math.
     pub display: bool,
-    /// The number of the `$` that its text ends at.
+    /// The number of the `$` at which the span's text ends.
     pub closer: usize,
-    /// The number of its last `$`.
+    /// The number of the last `$` of the span.
     pub last: usize,
 }
 
 /// Searches for what closes spans of one kind in a chain.
 ///
-/// Each walks along the items after its opener. A text of backtick runs of rising lengths closes none of them, so that
-/// walks from each to the end would look at as many items as the square of their number. So the first walk that fails
-/// notes what closes each mark ahead of it, and later searches of the chain read that and walk no more.
+/// A search examines the items after its opener. In a text of backtick runs of different lengths nothing is closed, and
+/// if each search went on to the end, the number of items examined would be quadratic. Therefore the first search that
+/// fails records the closer of each mark after it, and later searches in the chain read those and examine no more
+/// items. Upstream: `CodeDelims`, `MathDelims`.
 #[derive(Drop)]
 pub struct SpanClosers {
-    /// Whether a search has failed in this chain.
+    /// Whether a search in this chain has failed.
     failed: bool,
-    /// If so, what closes the marks ahead, the next one last.
+    /// If so, the closers of the later marks, with the next mark last.
     ahead: Vec<KnownCloser>,
-    /// The marks that a walk has passed.
+    /// The marks that a search has passed.
     noted: Vec<SpanMark>,
-    /// The number of the nearest mark of each key, while what closes them is found.
+    /// The number of the nearest mark of each key, while closers are determined.
     nearest: HashMap<usize, usize>,
 }
 
@@ -57,7 +58,7 @@ impl Model for SpanClosers {
     ghost view = { λ s. if s.failed then Some (reverse s.ahead.items) else None };
 }
 
-/// What closes each mark that was noted, that of the first one last.
+/// Determines the closer of each recorded mark, with the first mark last. The error is a refused allocation.
 fn fill_ahead(
     noted: &mut Vec<SpanMark>,
     nearest: &mut HashMap<usize, usize>,
@@ -78,7 +79,7 @@ fn fill_ahead(
     Ok(())
 }
 
-/// Takes off what is known of the marks up to one: what closes that one.
+/// Removes what is known about the marks up to the one with this number, and returns the closer of that one.
 fn take_closer(ahead: &mut Vec<KnownCloser>, number: usize) -> Option<usize>
     ensures value { result ≡ known_closer number (reverse ahead.old.items) }
     ensures left { reverse ahead.new.items ≡ known_after number (reverse ahead.old.items) }
@@ -91,7 +92,7 @@ fn take_closer(ahead: &mut Vec<KnownCloser>, number: usize) -> Option<usize>
     None
 }
 
-/// What is known to close the next mark.
+/// Returns the known closer of the next mark.
 fn next_closer(ahead: &[KnownCloser]) -> Option<usize>
     ensures { result ≡ next_closer (reverse ahead.now) }
 {
@@ -101,8 +102,8 @@ fn next_closer(ahead: &[KnownCloser]) -> Option<usize>
     }
 }
 
-/// Takes off what is known of the marks up to an opener of math: the first `$` after it, past its second one, that
-/// it wants.
+/// Removes what is known about the marks up to an opener of math. Returns the number of the first `$` after the opener,
+/// and after its second `$` if it has one, that is in the same brace context.
 fn take_dollar(ahead: &mut Vec<KnownCloser>, opener: MathOpener) -> Option<usize>
     ensures value { result ≡ known_dollar opener (reverse ahead.old.items) }
     ensures left { reverse ahead.new.items ≡ known_after opener.number (reverse ahead.old.items) }
@@ -114,7 +115,7 @@ fn take_dollar(ahead: &mut Vec<KnownCloser>, opener: MathOpener) -> Option<usize
     }
 }
 
-/// Notes the second `$` of an opener of display math.
+/// Records the second `$` of an opener of display math. The error is a refused allocation.
 fn note_second(
     tree: &Tree<Item>,
     opener: MathOpener,
@@ -132,7 +133,7 @@ fn note_second(
     Ok(())
 }
 
-/// Goes on with a walk from a `$` that closes nothing, to the end.
+/// Continues a search to the end of the chain, from a `$` that does not close. The error is a refused allocation.
 fn walk_on(
     tree: &Tree<Item>,
     ix: usize,
@@ -152,7 +153,8 @@ fn walk_on(
     Ok(())
 }
 
-/// What closes an opener of math, by a walk along the items after it. Where nothing does, all `$` after it are noted.
+/// Returns what closes an opener of math, by a search of the items after it. If nothing does, all `$` after it are
+/// recorded. The error is a refused allocation.
 fn walk_for_math(
     tree: &Tree<Item>,
     opener: MathOpener,
@@ -188,7 +190,7 @@ impl SpanClosers {
     ghost use Rattle.markdown_spans.specs.SpanClosers.{LooksForCodeAtMost, LooksForMath, LooksForMathAtMost, StandsIn};
     ghost use Rattle.markdown_spans.specs.SpanClosers.{failed_by_now, has_failed};
 
-    /// Nothing is known of any chain.
+    /// Returns searches that have learned nothing.
     pub fn new(alloc: Global) -> SpanClosers
         ensures { result ≡ None }
     {
@@ -200,14 +202,15 @@ impl SpanClosers {
         }
     }
 
-    /// For the next chain nothing is known. The memory is kept.
+    /// Forgets what was learned, before the next chain. The allocations are kept.
     pub fn clear(&mut self)
         ensures { self.new ≡ None }
     {
         self.failed = false;
     }
 
-    /// Walks along a chain for so many backticks.
+    /// Searches a chain for a mark of `wanted` backticks, and returns its number; if there is none, learns the closers
+    /// of the marks of the chain. The error is a refused allocation.
     fn search_code(
         &mut self,
         tree: &Tree<Item>,
@@ -242,7 +245,8 @@ impl SpanClosers {
         Ok(found)
     }
 
-    /// Walks along a chain for what closes an opener of math.
+    /// Searches a chain for what closes an opener of math; if nothing does, learns the closers of the marks after it.
+    /// The error is a refused allocation.
     fn search_math(
         &mut self,
         tree: &Tree<Item>,
@@ -269,9 +273,10 @@ impl SpanClosers {
         Ok(found)
     }
 
-    /// The item that closes the code span that a node opens (CommonMark 6.1), by its number. The node stands in a chain
-    /// of which what was learned holds. Each item that is looked at is counted. Memory can run out on a walk: then
-    /// nothing was learned.
+    /// Returns the number of the item that closes the code span that a node opens (CommonMark 6.1); `None` if nothing
+    /// closes it, or the node opens none. What was learned earlier must hold for the chain of the node. `visits` counts
+    /// each item that is examined. The error is a refused allocation, which can only occur before a search has failed,
+    /// and leaves what was learned unchanged.
     pub fn find_code_closer(
         &mut self,
         tree: &Tree<Item>,
@@ -288,7 +293,7 @@ impl SpanClosers {
         ensures learned { IfOk result (λ _. HoldsFrom SpanKind.Code self.new tree.now.nodes
             (sibling_of tree.now.nodes opener)) }
 
-        // after a refusal
+        // on errors
         ensures unchanged { OnErr result (self.new ≡ self.old) }
         ensures counted_at_most { IfErr result (λ _. LooksForCodeAtMost self.old tree.now.nodes opener visits.old
             visits.new) }
@@ -306,8 +311,9 @@ impl SpanClosers {
         self.search_code(tree, tree.next(opener), mark.wanted, visits)
     }
 
-    /// What closes the math span that a node opens. The node stands in a chain of which what was learned holds. Each
-    /// item that is looked at is counted. Memory can run out on a walk: then nothing was learned.
+    /// Returns what closes the math span that a node opens; `None` if nothing does, or the node opens none. What was
+    /// learned earlier must hold for the chain of the node. `visits` counts each item that is examined. The error is a
+    /// refused allocation, which can only occur before a search has failed, and leaves what was learned unchanged.
     pub fn find_math_closer(
         &mut self,
         tree: &Tree<Item>,
@@ -324,7 +330,7 @@ impl SpanClosers {
         ensures learned { IfOk result (λ _. HoldsFrom SpanKind.Math self.new tree.now.nodes
             (sibling_of tree.now.nodes opener)) }
 
-        // after a refusal
+        // on errors
         ensures unchanged { OnErr result (self.new ≡ self.old) }
         ensures counted_at_most { IfErr result (λ _. LooksForMathAtMost self.old tree.now.nodes opener visits.old
             visits.new) }

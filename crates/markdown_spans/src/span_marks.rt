@@ -1,4 +1,5 @@
-//! Marks of spans in a chain, backticks and `$`, and walks along it to the next one that is wanted.
+//! Marks of spans in a chain, which are backticks and `$`, and searches along the chain for the next one with a given
+//! key.
 ghost use Rattle.std.specs.Prelude.{◌≡◌, ℕ, ◌+◌, ◌-◌, ◌^◌, ◌++◌, List, min, IfErr, IfOk, OnOk, option_to_list};
 ghost use Rattle.markdown_base.specs.BlockTree.{Numbered};
 ghost use Rattle.markdown_spans.specs.ChainInArena.{HasChain, LeadsThrough};
@@ -11,34 +12,35 @@ use markdown_base::item::{Item, ItemBody};
 use markdown_base::tree::Tree;
 use std::alloc::AllocError;
 
-/// A mark of spans.
+/// A mark that can open or close a span.
 #[derive(Clone, Copy, Debug, PartialEq, Eq, Drop)]
 pub struct SpanMark {
-    /// The number of its item.
+    /// The number of its node.
     pub number: usize,
-    /// What tells it from others of its kind: how many backticks it is, or its brace context.
+    /// The number of backticks, or the brace context of a `$`.
     pub key: usize,
-    /// The key of what closes a span that it opens.
+    /// The key of the marks that close a span opened by this one.
     pub wanted: usize,
 }
 
-/// A mark ahead in a chain, with what closes a span that it opens.
+/// A later mark of a chain, with the closer of a span that it opens.
 #[derive(Clone, Copy, Debug, PartialEq, Eq, Drop)]
 pub struct KnownCloser {
-    /// The number of its item.
+    /// The number of its node.
     pub number: usize,
-    /// The number of the first mark after it that it wants.
+    /// The number of the first mark after it with the wanted key.
     pub closer: Option<usize>,
 }
 
-/// One more item was looked at. The count stays where it can grow no more.
+/// Counts one more item that was examined, up to the maximum of the count.
 fn count_visit(visits: &mut u128)
     ensures { visits.new ≡ min (visits.old + 1) (2 ^ 128 - 1) }
 {
     *visits = visits.saturating_add(1);
 }
 
-/// How many backticks close a code span that so many open.
+/// Returns the number of backticks that close a code span opened by `count` backticks, of which the first may be
+/// escaped.
 fn closing_count(count: usize, escaped: bool) -> usize
     ensures { result ≡ closing_count count escaped }
 {
@@ -49,7 +51,7 @@ fn closing_count(count: usize, escaped: bool) -> usize
     }
 }
 
-/// The backticks that an item is.
+/// Returns the mark of an item of backticks; `None` for any other item.
 fn code_mark(number: usize, body: ItemBody) -> Option<SpanMark>
     ensures { result ≡ code_mark number body }
 {
@@ -63,7 +65,7 @@ fn code_mark(number: usize, body: ItemBody) -> Option<SpanMark>
     }
 }
 
-/// The `$` that an item is.
+/// Returns the mark of a `$`; `None` for any other item.
 fn math_mark(number: usize, body: ItemBody) -> Option<SpanMark>
     ensures { result ≡ math_mark number body }
 {
@@ -77,7 +79,7 @@ fn math_mark(number: usize, body: ItemBody) -> Option<SpanMark>
     }
 }
 
-/// The mark that an item is.
+/// Returns the mark of an item, for this kind of span.
 pub fn mark_of(kind: SpanKind, number: usize, body: ItemBody) -> Option<SpanMark>
     ensures { result ≡ mark_at kind number body }
 {
@@ -87,7 +89,7 @@ pub fn mark_of(kind: SpanKind, number: usize, body: ItemBody) -> Option<SpanMark
     }
 }
 
-/// Whether it is a mark that is wanted.
+/// Returns whether a mark has the wanted key.
 fn is_wanted(mark: Option<SpanMark>, wanted: Option<usize>) -> bool
     ensures { result ≡ is_wanted wanted mark }
 {
@@ -97,7 +99,7 @@ fn is_wanted(mark: Option<SpanMark>, wanted: Option<usize>) -> bool
     }
 }
 
-/// Notes a mark, if there is one.
+/// Records a mark, if there is one. The error is a refused allocation.
 pub fn note(noted: &mut Vec<SpanMark>, mark: Option<SpanMark>) -> Result<(), AllocError>
     ensures { OnOk result (noted.new.items ≡ noted.old.items ++ option_to_list mark) }
 {
@@ -107,8 +109,9 @@ pub fn note(noted: &mut Vec<SpanMark>, mark: Option<SpanMark>) -> Result<(), All
     Ok(())
 }
 
-/// Goes along a chain to the first mark of a kind that is wanted: its number. Each item that is looked at is counted,
-/// and the marks before it are noted.
+/// Searches a chain for the first mark of a kind with the wanted key, and returns its number; `None` if there is none,
+/// or no key is wanted. `visits` counts each item that is examined, and the marks before the one that is found are
+/// recorded. The error is a refused allocation.
 pub fn walk_to(
     tree: &Tree<Item>,
     first: Option<usize>,

@@ -1,4 +1,4 @@
-//! The text of code spans and of math spans.
+//! The text of code spans (CommonMark 6.1) and of math spans.
 ghost use Rattle.std.specs.Prelude.{◌≡◌, ◌≤◌, ◌<◌, ◌-◌, ◌++◌, None, Some, drop, length, take, true, false, IfNone};
 ghost use Rattle.std.specs.Prelude.{IfOk, IfSome, IsOk, IsTrue, IsOkAnd, string_bytes};
 ghost use Rattle.std.specs.Option.{option_map};
@@ -16,19 +16,19 @@ use markdown_base::cow_str::CowStr;
 use markdown_scan::line_end::scan_line_ending;
 use std::alloc::{AllocError, Global};
 
-/// What a span is.
+/// The kinds of spans.
 #[derive(Clone, Copy, Debug, PartialEq, Eq, Drop)]
 pub enum SpanKind {
     /// Code: each line ending becomes one space.
     Code,
-    /// Math: line endings stay.
+    /// Math: line endings are kept.
     Math,
 }
 
 impl SpanKind {
     ghost use Rattle.markdown_spans.specs.CodeText as code;
 
-    /// What the line ending of so many bytes that the bytes begin with becomes.
+    /// Returns what replaces the line ending of `ending` bytes that the bytes begin with.
     fn shown_ending(self, bytes: &[u8], ending: usize) -> &'static str
         requires { line_ending bytes.now ≡ Some ending }
         ensures { result.now ≡ code.shown_ending self (take ending bytes.now) }
@@ -41,7 +41,8 @@ impl SpanKind {
         }
     }
 
-    /// What the bytes begin with that does not stand for itself: how many bytes it takes, and what it becomes.
+    /// Reads a line ending with the prefix after it, or an escaped pipe in a table, at the beginning of the bytes.
+    /// Returns its length in bytes and what replaces it; `None` if the bytes begin with neither.
     fn scan_piece(
         self,
         bytes: &[u8],
@@ -63,7 +64,8 @@ impl SpanKind {
         }
     }
 
-    /// What stands before the first such piece, what the piece becomes, and what stands after it.
+    /// Returns the text before the first piece that is replaced, what replaces the piece, and the text after it; `None`
+    /// if there is no such piece.
     fn split_at_piece<'t>(
         self,
         text: &'t str,
@@ -86,7 +88,8 @@ impl SpanKind {
         None
     }
 
-    /// A copy of the text with its lines joined.
+    /// Returns a copy of the text with its line endings, line prefixes and escaped pipes replaced. The error is a
+    /// refused allocation.
     fn join_lines(
         self,
         alloc: Global,
@@ -109,7 +112,7 @@ impl SpanKind {
     }
 }
 
-/// Whether the bytes are all spaces.
+/// Returns whether the bytes are all spaces.
 fn is_all_spaces(bytes: &[u8]) -> bool
     ensures { result ≡ list_all code.is_space bytes.now }
 {
@@ -121,14 +124,14 @@ fn is_all_spaces(bytes: &[u8]) -> bool
     true
 }
 
-/// Whether the bytes begin and end with a space, and are not all spaces.
+/// Returns whether the bytes begin and end with a space, and are not all spaces.
 fn has_outer_spaces(bytes: &[u8]) -> bool
     ensures { result ≡ has_outer_spaces bytes.now }
 {
     bytes.first() == Some(&b' ') && bytes.last() == Some(&b' ') && !is_all_spaces(bytes)
 }
 
-/// The slice without a space at each end, where it has such.
+/// Returns the slice without one space at each end, if it has spaces at both ends and is not all spaces.
 fn slice_outer_spaces(text: &str) -> &str
     ensures value { result.now ≡ without_outer_spaces text.now }
     ensures stands { StandsIn text.now result.now }
@@ -140,7 +143,7 @@ fn slice_outer_spaces(text: &str) -> &str
     }
 }
 
-/// The text without a space at each end, where it has such.
+/// Returns the text without one space at each end, if it has spaces at both ends and is not all spaces.
 fn drop_outer_spaces(text: String) -> String
     ensures { string_bytes result ≡ without_outer_spaces (string_bytes text) }
 {
@@ -152,9 +155,10 @@ fn drop_outer_spaces(text: String) -> String
     made
 }
 
-/// The text of a code span (CommonMark 6.1) or of a math span over the bytes between its delimiters. Where no line
-/// ending stands in them and, in a table, no `\|`, it is a slice of the source, and no memory is taken; else it is
-/// owned, and memory can run out.
+/// Returns the text of a code span (CommonMark 6.1) or of a math span, from the source text between its delimiters. If
+/// that contains no line ending and, in a table, no `\|`, the result is a slice of the source, and no memory is
+/// allocated. Otherwise the result is owned, and the error is a refused allocation. Upstream: `make_code_span`,
+/// `make_math_span`.
 pub fn span_text<'t>(
     alloc: Global,
     text: &'t str,

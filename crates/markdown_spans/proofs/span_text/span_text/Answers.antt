@@ -1,4 +1,4 @@
--- The bytes between the delimiters, or between a space at each end of them, stand in them.
+-- The bytes between the delimiters, with or without a space at each end, are a slice of the source.
 use Rattle.markdown_spans.proofs.SliceLemmas.{stands_whole}
 use Rattle.markdown_spans.proofs.span_text.span_text.Goals as goal
 use Rattle.markdown_spans.proofs.span_text.span_text.Goals.{in-Code, in-Math}

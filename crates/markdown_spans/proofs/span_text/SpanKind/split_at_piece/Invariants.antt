@@ -1,4 +1,4 @@
--- The bytes so far stand for themselves, and do not change.
+-- The bytes so far are kept unchanged.
 use Rattle.std.proofs.Common.{◌≡◌, ◌++◌, take, drop}
 use Rattle.markdown_spans.specs.CodeText.{is_sliced, lines_joined}
 use Rattle.markdown_spans.specs.PrefixView.{length_by}
