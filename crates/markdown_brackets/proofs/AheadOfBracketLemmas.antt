@@ -1,4 +1,4 @@
--- What stands after a `]` in an arena, as its links tell it, is what the definition says of the chain that it reads as.
+-- What follows a `]` in an arena, by its links, is what the definition says about the chain that it reads as.
 use Rattle.std.proofs.Common.{◌≡◌, ℕ, ◌+◌, ◌-◌, ◌<◌, Bool, true, false, ◌&&◌, ◌==◌, List, Option, Some, None, refl, sym, ◌∙◌, ap, subst}
 use Rattle.std.proofs.Common.{arith, drop, nat_lt}
 use Rattle.std.specs.Prelude.{if◌then◌else◌}
@@ -103,7 +103,7 @@ module _ (source : List ℕ) (tables : Tables) (nodes : List (Node Item)) where
       → forest_at (links_of nodes) l ≡ numbers_of f → (i : ℕ) → 0 < i → reaches_closer nodes i l ≡ closer_ends_at i f
   closers_ahead l f h found i some = rw found (closer_ahead i some l f h)
 
-  -- what stands at a byte, of the first item and the second
+  -- the first item and the second at a byte offset
   first_stands : (at : ℕ) (kind : ItemBody → Bool)
       → ((a : Label ℕ) → ReadsAs a → kind (item_at nodes a.tag).body ≡ kind (open_body a.part.shape))
       → (l : Option ℕ) (f : Forest (Label ℕ)) → Holds source tables nodes l f
@@ -131,7 +131,7 @@ module _ (source : List ℕ) (tables : Tables) (nodes : List (Node Item)) where
             (λ a r. refl) l f h,
       ) refl
 
--- the label of a full reference ends behind its `]`
+-- the label of a full reference ends after its `]`
 label_behind : (at : ℕ) (l : Option FoundLabel) → 0 < at → EndsBehind 0 (form_by_label at l)
 label_behind at None some = tt
 label_behind at (Some l) some = by l.is_footnote

@@ -1,5 +1,5 @@
--- What a `]` asks about: the label that follows it, whose `]` is used up then, or the label that it ends itself, where it could
--- be a reference; one question at most, and none at a limit of 0.
+-- What a `]` asks about: the label that follows it, whose `]` is used up then, or the label that ends with it, if it
+-- could be a reference; at most one question, and none at a limit of 0.
 use Rattle.std.proofs.Common.{◌≡◌, ◌⊎◌, inl, inr, ⊎_elim, ℕ, ◌+◌, Bool, true, false, ◌&&◌, ◌==◌, List}
 use Rattle.std.proofs.Common.{[], ◌∷◌, ◌++◌, Option, Some, None, cond, refl, sym, subst, append-nil, drop}
 use Rattle.std.proofs.Common.{if◌then◌else◌}
@@ -38,7 +38,7 @@ AtMostOneTo end [] = Unit {0}
 AtMostOneTo end (q ∷ []) = q.span.end ≡ end
 AtMostOneTo end (q ∷ r ∷ more) = ⊥
 
--- a look-up asks its question at most
+-- a look-up asks at most its own question
 look_up_asks : (defined : List Labelled) (asks : Bool) (limit : ℕ) (answers : Answers) (q : Question)
     → AtMostOneTo q.span.end (look_up defined asks limit answers q).questions
 look_up_asks defined asks limit answers q = by (limit == 0)

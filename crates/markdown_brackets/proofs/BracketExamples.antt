@@ -16,7 +16,7 @@ use Rattle.markdown_brackets.specs.BracketDecision.{decided}
 use Rattle.markdown_brackets.specs.LeftList.{done, trees_onto}
 use Rattle.markdown_brackets.specs.ReadChain.{begun, read_chain}
 
--- the items of a line: brackets, and texts between them; a backslash stands in no item
+-- the items of a line: brackets, and texts between them; a backslash is in no item
 abbrev item_if : Bool → ItemBody → ℕ → ℕ → List Item → List Item
 item_if true body i j items = record { start = i; end = j; body = body } ∷ items
 item_if false body i j items = items
@@ -78,7 +78,7 @@ abbrev ranges : Forest Plain → List (ℕ × ℕ)
 ranges nil = []
 ranges (node a below after) = range_pair a ∷ (ranges below ++ ranges after)
 
--- lines have no prefix, and nothing is defined but, where footnotes are on, the footnote `a`
+-- lines have no prefix, and nothing is defined except, if footnotes are enabled, the footnote `a`
 abbrev around : ℕ → Bool → List ℕ → Around
 around options asks source = record {
   setting = record {
@@ -109,7 +109,8 @@ wikilinks = 32768
 abbrev answer : List ℕ → List ℕ → Option Answer
 answer destination title = Some (record { destination = destination; title = title })
 
--- tables of sources, each with what is shown of it, its trees' ranges, or how many questions are asked where each is refused
+-- tables of sources, each with what is shown of it, its trees' ranges, or the number of questions that are asked if
+-- each is refused
 abbrev Shows : (options : ℕ) → List (List ℕ × List ℕ) → Type 0
 Shows options rows = map (λ row. read_with options row.0) rows ≡ map (λ row. row.1) rows
 
@@ -119,7 +120,7 @@ HasRanges options rows = map (λ row. ranges (forest_of (progress options false 
 abbrev Asks : List (List ℕ × ℕ) → Type 0
 Asks rows = map (λ row. length (progress 0 true 100 [] row.0).asked) rows ≡ map (λ row. row.1) rows
 
--- inline links and images; no link stands in a link, but an image does, and a link in an image
+-- inline links and images; a link contains no link, but it may contain an image, and an image a link
 links_and_images : Shows 0 (
     (codes "a [b](c) d", codes "a {c:b} d")
     ∷ (codes "[a [b](c) d](e)", codes "[a {c:b} d](e)")
@@ -138,7 +139,8 @@ link_ranges : HasRanges 0 ((codes "a [b](c) d", (0, 2) ∷ (2, 8) ∷ (3, 4) ∷
 unfolding read_chain closed decided
 link_ranges = refl
 
--- footnotes, as GitHub writes them (4): what is one is defined, takes no `[]` after it, and no opener before it opens a link
+-- footnotes in GitHub's style (4): a defined one is a reference, takes no `[]` after it, and no opener before it opens
+-- a link
 footnotes : Shows 4 (
     (codes "this![^a] out", codes "this!^{a} out")
     ∷ (codes "a[^b]", codes "a[^b]")
@@ -227,7 +229,7 @@ collapsed_reference : (asks_foo.asked
 unfolding read_chain closed decided
 collapsed_reference = (refl, refl)
 
--- a target may be longer than what is left of the limit, but then nobody is asked any more
+-- a target may be longer than what is left of the limit, but then no further question is asked
 abbrev asks_two : Progress (Unit {0})
 asks_two = progress 0 true 3 (answer (codes "long") [] ∷ answer (codes "v") [] ∷ []) (codes "[a] [b]")
 

@@ -1,4 +1,4 @@
--- A left list and its `]` in an arena: their parts stand there, as chains of their own.
+-- A left list and its `]` in an arena: their parts are chains of the arena.
 use Rattle.std.proofs.Common.{◌≡◌, ℕ, ◌≤◌, List, Option, length, sym, subst, arith}
 use Rattle.std.specs.Prelude.{⊤}
 use Rattle.markdown_base.specs.Arena.{sibling_of}
@@ -22,7 +22,8 @@ unfolding forest_at
 height_found k l = height-followed k.size k l
 
 module _ (source : List ℕ) (tables : Tables) (nodes : List (Node Item)) where
-  -- trees that stand there, no higher than the arena is large, are those that the links lead through
+  -- trees that an arena contains, whose height is at most the number of its nodes, are those that the links lead
+  -- through
   pub record Found (l : Option ℕ) (f : Forest (Label ℕ)) : Type 0 where
     pub holds : Holds source tables nodes l f
     pub low : height (numbers_of f) ≤ length nodes

@@ -1,5 +1,5 @@
--- Tags say nothing to brackets: what a `]` becomes is decided by the parts of labels alone, and what it makes of a left
--- list with other tags is what it makes of the list, with those tags.
+-- Brackets do not depend on tags: what a `]` becomes is decided by the parts of labels only, and its effect on a left
+-- list with other tags is its effect on the list, with those tags.
 use Rattle.std.proofs.Common.{◌≡◌, ℕ, Bool, true, false, ◌&&◌, ◌==◌, List, [], ◌∷◌, Option, Some, None, refl, ap, ◌∙◌, nat_le}
 use Rattle.std.proofs.Math.Path.{fun_ext}
 use Rattle.std.specs.Prelude.{if◌then◌else◌, nat_lt}

@@ -1,4 +1,4 @@
--- What brackets make of a chain is no heavier: each find takes at least as many nodes as it leaves.
+-- Brackets do not increase the weight of a chain: each find removes at least as many nodes as it leaves.
 use Rattle.std.proofs.Common.{◌≡◌, ℕ, ◌+◌, ◌-◌, ◌≤◌, Bool, true, false, List, [], ◌∷◌, Option, Some, None, refl, ◌∙◌, arith, nat_le}
 use Rattle.std.specs.Prelude.{IfSome, if◌then◌else◌}
 use Rattle.std.specs.Option.{option_map, option_and_then}

@@ -1,4 +1,4 @@
--- What stands first in a left list stays first, or becomes a link, an image or a footnote reference: so it passes a test
+-- What is first in a left list stays first, or becomes a link, an image or a footnote reference: so it passes a test
 -- that events and enclosing tags pass.
 use Rattle.std.proofs.Common.{◌≡◌, ℕ, Bool, true, false, List, [], ◌∷◌, Option, Some, None, nat_le}
 use Rattle.std.specs.Prelude.{⊤, IfSome, if◌then◌else◌}
@@ -19,7 +19,7 @@ use Rattle.markdown_brackets.specs.LeftList.{without_bracket, without_wikilink}
 use Rattle.markdown_brackets.specs.ReadChain.{Reader, begun, closing, read, read_as, read_chain, read_past}
 use Rattle.markdown_brackets.proofs.ClosingBracketLemmas.{Cases, in_each_case, some_of}
 
--- what is put behind a tree says nothing on how the trees begin: so a rule that puts more trees lets the first one stand
+-- what is added after a tree does not change how the trees begin: so a rule that adds more trees keeps the first one
 pub begins_onto : {A : Type 0} (test : Shape → Bool) (left : List (Entry A)) (one other : Forest (Label A))
     → (BeginsWith test one → BeginsWith test other)
     → BeginsWith test (trees_onto left one) → BeginsWith test (trees_onto left other)
@@ -47,7 +47,7 @@ module _ {A : Type 0} (w : Around) (test : Shape → Bool) (events : (e : EventV
   first-trees (done a below ∷ left) later h = first-trees left (node a below later) h
   first-trees (waits m a ∷ left) later h = first-trees left (node a nil later) h
 
-  -- what is behind it says nothing
+  -- what follows it has no effect
   first_or : {none other : Type 0} (left : List (Entry A)) → (none → other) → First none left → First other left
   first_or [] k h = k h
   first_or (done a below ∷ left) k h = h

@@ -1,5 +1,5 @@
--- What is put into a left list takes openers off the stacks: numbers rise along the list, so that an opener and all after it go, and those
--- before it stay; the one just before it leads to it, and no other.
+-- What is added to a left list takes openers off the stacks: numbers rise along the list, so that an opener and all
+-- after it are removed, and those before it stay; only the one just before it leads to it.
 use Rattle.std.proofs.Common.{◌≡◌, ℕ, ◌<◌, ◌≤◌, ◌==◌, Bool, true, false, List, [], ◌∷◌, ◌++◌, Option, Some, map, nat_le, refl, sym, ◌∙◌, ap}
 use Rattle.std.proofs.Common.{subst, arith}
 use Rattle.std.specs.Prelude.{if◌then◌else◌, ⊤}
@@ -97,7 +97,7 @@ after_all n [] f h = tt
 after_all n (done a below ∷ left) f h = ((behind_from n left (node a below f) h).0, after_all n left (node a below f) h)
 after_all n (waits m a ∷ left) f h = ((behind_from n left (node a nil f) h).0, after_all n left (node a nil f) h)
 
--- what stands leads on
+-- each node of the left list leads to the next
 links_on : (source : List ℕ) (tables : Tables) (nodes : List (Node Item)) (first : Option ℕ) (left : List (Entry ℕ)) (a : Label ℕ)
     (below later below' later' : Forest (Label ℕ))
     → Holds source tables nodes first (trees_onto left (node a below later))

@@ -1,4 +1,4 @@
--- Trees of a left list that stand in an arena: sums and heights, and what stands behind the left list.
+-- Trees of a left list in an arena: sums and heights, and what follows the left list.
 use Rattle.std.proofs.Common.{◌≡◌, ℕ, ◌+◌, ◌≤◌, List, [], ◌∷◌, Option, arith}
 use Rattle.markdown_base.specs.Arena.{child_of, sibling_of}
 use Rattle.markdown_base.specs.ArenaForest.{links_of, Spells}
@@ -32,14 +32,14 @@ pub total-joined : (count : ℕ → ℕ) (f g : Forest (Label ℕ)) → total_of
 total-joined count nil g = omega arith
 total-joined count (node a below after) g = omega (arith, total-joined count after g)
 
--- what stands behind a left list is no higher than all of it
+-- what follows a left list is at most as high as all of it
 pub height-later : (left : List (Entry ℕ)) (f : Forest (Label ℕ)) → height (numbers_of f) ≤ height (numbers_of (trees_onto left f))
 height-later [] f = omega arith
 height-later (done a below ∷ left) f = omega (arith, height-later left (node a below f))
 height-later (waits m a ∷ left) f = omega (arith, height-later left (node a nil f))
 
 module _ (source : List ℕ) (tables : Tables) where
-  -- what stands behind a left list stands somewhere
+  -- what follows a left list is a chain of the arena
   pub Holds-from : (nodes : List (Node Item)) (l : Option ℕ) (left : List (Entry ℕ)) (later : Forest (Label ℕ))
       → Holds source tables nodes l (trees_onto left later) → (m : Option ℕ) × Holds source tables nodes m later
   Holds-from nodes l [] later h = (l, h)
@@ -48,7 +48,7 @@ module _ (source : List ℕ) (tables : Tables) where
   Holds-from nodes l (waits m a ∷ left) later h =
       let r = Holds-from nodes l left (node a nil later) h in (sibling_of nodes a.tag, r.1.4)
 
-  -- the links spell their numbers
+  -- the links represent their numbers
   pub Holds-spells : (nodes : List (Node Item)) (l : Option ℕ) (f : Forest (Label ℕ)) → Holds source tables nodes l f
       → Spells (links_of nodes) l (numbers_of f)
   Holds-spells nodes l nil h = h

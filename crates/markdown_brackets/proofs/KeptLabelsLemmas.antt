@@ -1,5 +1,5 @@
--- What holds of each label that brackets make, and of those that the rule for other items makes, holds of each label that
--- is left of a chain.
+-- What holds for each label that brackets make, and for those that the rule for other items makes, holds for each label
+-- that is left of a chain.
 use Rattle.std.proofs.Common.{ℕ, Bool, true, false, List, [], ◌∷◌, Option, Some, None, nat_le}
 use Rattle.std.specs.Prelude.{IfSome, ⊤, if◌then◌else◌}
 use Rattle.std.specs.Option.{option_map}
@@ -46,7 +46,7 @@ module _ {A : Type 0} {base p : Label A → Type 0} (k : KeepsLabels base p) whe
   each_onto (done a below ∷ left) later h g = each_onto left (node a below later) h.2 (h.0, h.1, g)
   each_onto (waits m a ∷ left) later h g = each_onto left (node a nil later) h.1 (h.0, tt, g)
 
-  -- flags say nothing
+  -- flags have no effect
   each_marks : (f : Mark → Mark) (left : List (Entry A)) → Left left → Left (on_marks f left)
   each_marks f [] h = tt
   each_marks f (done a below ∷ left) h = (h.0, h.1, each_marks f left h.2)

@@ -1,4 +1,4 @@
--- No label is longer than the bytes that it stands in, and so a block that ends before a `]` has no label up to it.
+-- No label is longer than the bytes that it is read from, and so a block that ends before a `]` has no label up to it.
 use Rattle.std.proofs.Common.{◌≡◌, ℕ, zero, suc, ◌+◌, ◌-◌, ◌<◌, ◌≤◌, Bool, true, false, ◌==◌, List, [], ◌∷◌, Option, Some, None}
 use Rattle.std.proofs.Common.{length, refl, ap, arith, take, drop, if◌then◌else◌, is_none, unwrap_or, IfSome, length-drop}
 use Rattle.std.specs.Prelude.{option_and_then, slice_range}
@@ -14,7 +14,7 @@ use Rattle.markdown_brackets.specs.Reference.{label_past, of_length, on_one_line
 use Rattle.markdown_brackets.specs.declared.footnote.FootnoteStyle.{FootnoteStyle}
 use Rattle.markdown_brackets.specs.declared.footnote.FootnoteStyle.TheVariants as style
 
--- what was found stands in so many bytes
+-- what was found lies in the first n bytes
 StandsIn : ℕ → Option (ℕ × List ℕ) → Type 0
 StandsIn size found = IfSome found (λ f. f.0 < size)
 
@@ -45,7 +45,7 @@ body_stands skipped escaped zero (b ∷ bytes) =
     by false false None h = tt
     by false false (Some n) h = one_more (length bytes) (b ∷ []) (body later (label_bytes skipped n bytes)) (h n)
 
--- a label has so many bytes at most, and one at least
+-- a label has at most n bytes, and at least one
 Fits : ℕ → FoundLabel → Type 0
 Fits size l = (0 < l.length) × (l.length ≤ size)
 

@@ -1,5 +1,5 @@
--- In a link label no `[` stands directly behind a `]`: one of both would end the label, or forbid it. So no two labels end
--- at the same byte of which the second begins directly behind a `]` in the first.
+-- In a link label no `[` is directly after a `]`: one of the two would end the label, or forbid it. So no two labels
+-- end at the same byte offset if the second begins directly after a `]` in the first.
 use Rattle.std.proofs.Common.{◌≡◌, ℕ, zero, suc, ◌+◌, ◌-◌, ◌<◌, Bool, true, false, ◌||◌, ◌==◌, List, [], ◌∷◌, Option, Some, None}
 use Rattle.std.proofs.Common.{length, refl, sym, ap, subst, ◌∙◌, arith, take, drop, get_or, drop-cons, length-drop, if◌then◌else◌, is_none}
 use Rattle.std.proofs.Common.{unwrap_or, nat_eq}
@@ -20,7 +20,7 @@ use Rattle.markdown_brackets.specs.Reference.{label_past, on_one_line}
 use Rattle.markdown_brackets.specs.declared.footnote.FootnoteStyle.{FootnoteStyle}
 use Rattle.markdown_brackets.specs.declared.footnote.FootnoteStyle.TheVariants as style
 
--- the first n bytes are prefix, in which no `[` stands, and behind a line ending nothing is escaped
+-- the first n bytes are a prefix that contains no `[`, and nothing is escaped after a line ending
 record IsBehind (escaped : Bool) (n : ℕ) (bytes : List ℕ) : Type 0 where
   free : list_any (nat_eq 91) (take n bytes) ≡ false
   bare : 0 < n → escaped ≡ false
@@ -47,7 +47,7 @@ no_backslash : (escaped : Bool) (b : ℕ) (bytes : List ℕ) → ends_line b byt
 no_backslash true b bytes h = refl
 no_backslash false b bytes h = grind (arith, nat_tests)
 
--- each line goes on, behind so many bytes
+-- each line continues after its prefix
 abbrev behind : (List ℕ → ℕ) → List ℕ → Option ℕ
 behind skipped bytes = Some (skipped bytes)
 
@@ -69,7 +69,7 @@ module _ (skipped : List ℕ → ℕ) (none : HoldsNoOpener skipped) where
       let later = one_more [] (body false (label_bytes (behind skipped) n (91 ∷ rest))) k text e in
       none-some (later.place, later.text) (subst (λ o. o ≡ Some (later.place, later.text)) (opens_none n rest h.free) later.found)
 
-  -- behind a byte, and the prefix after it
+  -- after a byte, and the prefix that follows it
   behind_byte : (escaped : Bool) (b : ℕ) (bytes : List ℕ) (m : ℕ) → prefix_after (behind skipped) b bytes ≡ Some m
       → IsBehind (is_bare escaped b backslash) m bytes
   behind_byte escaped b bytes m e = by (ends_line b bytes) refl e
@@ -84,7 +84,7 @@ module _ (skipped : List ℕ → ℕ) (none : HoldsNoOpener skipped) where
           let same = same_Some 0 m e in
           subst (λ m. IsBehind (is_bare escaped b backslash) m bytes) same (record { free = refl; bare = λ l. absurd (omega (arith, l)) })
 
-  -- what is found from a byte on, where it is not found there, is found behind it
+  -- what is found from a byte on, if it is not found at that byte, is found after it
   abbrev IsPast : (later : Bool) → List ℕ → ℕ → Type 0
   IsPast later bytes k = (m : ℕ) × IsBehind later m bytes × Found (body later (label_bytes (behind skipped) m bytes)) k
 
@@ -139,7 +139,7 @@ record IsLabel (skipped : List ℕ → Option ℕ) (bytes : List ℕ) (size : �
   ends : size ≡ place + 2
 
 module _ (skipped : List ℕ → Option ℕ) (in_table : Bool) where
-  -- what is found behind the mark of a footnote is a footnote's label
+  -- a label that is found after the mark of a footnote is a footnote's label
   past_is_footnote : (n : ℕ) (o : Option (ℕ × List ℕ)) (l : FoundLabel) → label_past true n o ≡ Some l → l.is_footnote ≡ true
   past_is_footnote n None l e = absurd (none-some l e)
   past_is_footnote n (Some f) l e = sym (ap (λ (l : FoundLabel). l.is_footnote) (same_Some _ l e))
@@ -210,14 +210,14 @@ first_byte skipped text from to label =
     let here = sym (drop-cons text from 0 within) ∙ label.opens in
     (within, ap (λ (xs : List ℕ). get_or xs 0 0) here)
 
--- a `[` and a `]` stand at two places
+-- a `[` and a `]` are at two byte offsets
 not_next : (text : List ℕ) (from later : ℕ) → get_or text from 0 ≡ 91 → get_or text (later - 1) 0 ≡ 93 → later ≡ suc from → ⊥
 not_next text from later opens closes e =
     let place : later - 1 ≡ from = omega (arith, e) in
     let same : get_or text (later - 1) 0 ≡ get_or text from 0 = ap (λ (i : ℕ). get_or text i 0) place in
     absurd (omega (arith, opens, closes, same))
 
--- of two labels that end together the second does not begin directly behind a `]`
+-- if two labels end together, the second does not begin directly after a `]`
 pub labels_apart : (skipped : List ℕ → ℕ) → HoldsNoOpener skipped → (text : List ℕ) (from later to : ℕ)
     → IsLabelFrom (behind skipped) text from to → IsLabelFrom (behind skipped) text later to → from < later → get_or text (later - 1) 0 ≡ 93 → ⊥
 labels_apart skipped none text from later to first second l byte =

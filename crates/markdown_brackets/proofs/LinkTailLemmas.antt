@@ -54,7 +54,7 @@ module _ (in_table : Bool) (skipped : List ℕ → Option ℕ) (starts : ℕ →
       ∙ ap (after_destination skipped starts text (past_separator skipped text (at + 1))) e in
       subst Reads (sym here) (titled next (title_at starts text next) part)
 
--- where nothing closes it, no tail stands there
+-- there is no tail if no `)` closes it
 module _ (in_table : Bool) (skipped : List ℕ → Option ℕ) (starts : ℕ → Option ℕ) (text : List ℕ) (at close : ℕ) (written : List ℕ)
     (title : CowStr) (none : (slice_index text close == 41) ≡ false) where
   unclosed : (i : ℕ) (title_text : List ℕ) (joined : Bool) → IsTitleText in_table i close title_text joined title
@@ -80,14 +80,14 @@ module _ (in_table : Bool) (skipped : List ℕ → Option ℕ) (starts : ℕ →
       ∙ ap (after_destination skipped starts text (past_separator skipped text (at + 1))) e
       ∙ untitled next (title_at starts text next) part
 
--- so it is where nothing begins
+-- there is no tail if nothing begins one
 pub tail_closed : (skipped : List ℕ → Option ℕ) (starts : ℕ → Option ℕ) (text : List ℕ) (at : ℕ) → (slice_index text at == 40) ≡ false
     → link_tail skipped starts text at ≡ None
 tail_closed skipped starts text at e =
     ap (λ b. cond b (after_destination skipped starts text (past_separator skipped text (at + 1))
     (destination_at text (past_separator skipped text (at + 1)))) None) e
 
--- no tail stands past the text's end
+-- there is no tail after the text's end
 pub tail_past_end : (skipped : List ℕ → Option ℕ) (starts : ℕ → Option ℕ) (text : List ℕ) (at : ℕ) → length text ≤ at
     → link_tail skipped starts text at ≡ None
 tail_past_end skipped starts text at past =

@@ -9,7 +9,7 @@ use Rattle.markdown_defs.specs.Definitions.{Labelled}
 use Rattle.markdown_brackets.specs.Lookup.{LookedUp, look_up, finds_nothing, defined_or_asked, answered, size_of}
 use Rattle.markdown_brackets.specs.LookupLaws.{AsksOnceAtMost, FindsNothingAtZero, HandsOnLaterAnswers, TakesItsBytes}
 
--- a fact of what a question gives holds of a look-up where it holds in each case
+-- a fact about the results of a question holds for a look-up if it holds in each case
 cases : (limit : ℕ) (answers : Answers) (q : Question) (P : LookedUp → Type 0)
     → P (finds_nothing limit answers []) → ((asks : Bool) (o : Option LinkDef) → P (defined_or_asked asks limit answers q o))
     → (defined : List Labelled) (asks : Bool) → P (look_up defined asks limit answers q)
@@ -53,7 +53,7 @@ takes_bytes defined asks limit answers q = cases limit answers q (λ l. IfSome l
     in_case true None [] = tt
     in_case true None (a ∷ answers) = by_answer a answers
 
--- of a look-up with some answers, and of the same with more
+-- a look-up with some answers, and the same with more
 pub record LooksOn (answers later : Answers) (alone more : LookedUp) : Type 0 where
   pub once : length alone.questions ≤ 1
   pub takes : length alone.answers ≡ length answers - length alone.questions

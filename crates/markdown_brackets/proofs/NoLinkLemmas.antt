@@ -1,4 +1,4 @@
--- After a `[` that may still become a link stands no link: so none is folded into one.
+-- After a `[` that can still become a link there is no link: so no link is enclosed in one.
 use Rattle.std.proofs.Common.{◌≡◌, ℕ, ◌-◌, Bool, true, false, not, ◌&&◌, ◌||◌, List, [], ◌∷◌, ◌++◌, Option, Some, None, refl, sym, subst}
 use Rattle.std.proofs.Common.{inl, inr, ⊎_elim, nat_le}
 use Rattle.std.specs.Prelude.{⊤, ◌⊎◌, IfSome, if◌then◌else◌}
@@ -60,7 +60,7 @@ abbrev AllWell : {A : Type 0} → List (Entry A) → Type 0
 AllWell [] = ⊤
 AllWell (e ∷ left) = IsWell e × AllWell left
 
--- what stands after a live `[` is free of links
+-- what follows a live `[` contains no links
 abbrev IsSound : {A : Type 0} → List (Entry A) → Type 0
 IsSound [] = ⊤
 IsSound (e ∷ left) = (any_live left ≡ true → IsFree e) × IsWell e × IsSound left
@@ -174,7 +174,7 @@ sound_change {A} test f low (waits m a ∷ left) s = by (test m) (sound_change t
     by true ih = s
     by false ih = (λ q. s.0 (any_change test f low left q), s.1, ih)
 
--- what stands before a find
+-- what precedes a find
 sound_second : {A : Type 0} (left : List (Entry A)) → IsSound left → IsSound (second_folded left)
 sound_second [] s = tt
 sound_second (done a below ∷ left) s = s

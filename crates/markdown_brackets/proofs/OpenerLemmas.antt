@@ -1,4 +1,4 @@
--- A stack of openers as the list for which it stands.
+-- A stack of openers as the list that it represents.
 use Rattle.std.proofs.Common.{◌≡◌, ℕ, suc, zero, ◌+◌, ◌-◌, ◌<◌, ◌≤◌, Bool, true, false, ◌&&◌, List, [], ◌∷◌, ◌++◌, Some, length, get_or}
 use Rattle.std.proofs.Common.{take, map, min, cond, nat_le, arith, refl, sym, ◌∙◌, ap, reverse, subst}
 use Rattle.std.proofs.lemmas.Bool.{leb-true}
@@ -10,7 +10,7 @@ use Rattle.markdown_brackets.specs.Openers.{Waiting, live, disabled, before, fir
 use Rattle.markdown_brackets.specs.OpenerStack.{marked, waiting}
 use Rattle.markdown_brackets.specs.declared.openers.Opener.{Opener}
 
--- reversed, one more stands in front
+-- in reverse, an element at the end comes first
 pub reverse-snoc : {A : Type 0} (xs : List A) (x : A) → reverse (xs ++ x ∷ []) ≡ x ∷ reverse xs
 reverse-snoc xs x = reverse-append xs (x ∷ [])
 
@@ -156,7 +156,7 @@ waiting_min n openers = cases (nat_le n (length openers)) refl
         let same : length openers ≡ min n (length openers) = omega arith in
         waiting_past n openers past ∙ ap (λ m. waiting m openers) same
 
--- the last of so many goes, or stays
+-- the last of `left` openers is removed, or stays
 pub nearest_goes : (node n left : ℕ) (openers : List Opener) (d : Opener) → 0 < left → left ≤ length openers
     → node ≤ (get_or openers (left - 1) d).node → before node (waiting n (take left openers))
     ≡ before node (waiting n (take (left - 1) openers))

@@ -1,5 +1,5 @@
--- The questions of a chain are no more than its `]`, and no two end together: a `]` that a label of an earlier one ends asks
--- about no label of its own, and no two labels that follow a `]` end at the same byte.
+-- A chain asks at most as many questions as it has `]`, and no two end together: a `]` that ends the label of an
+-- earlier one asks about no label itself, and no two labels that follow a `]` end at the same byte offset.
 use Rattle.std.proofs.Common.{◌≡◌, ◌⊎◌, inl, inr, ⊎_elim, ℕ, ◌+◌, ◌-◌, ◌<◌, ◌≤◌, Bool, true, false, not, ◌&&◌, ◌||◌, ◌==◌, List}
 use Rattle.std.proofs.Common.{[], ◌∷◌, ◌++◌, length, map, Option, Some, None, cond, refl, sym, ap, subst, ◌∙◌, arith, append-nil, drop}
 use Rattle.std.proofs.Common.{get_or, take, nat_le, nat_eq, length-append, length-drop, length-take}
@@ -37,7 +37,7 @@ cut_body n (unresolved b) = refl
 
 -- ---- how many questions
 
--- so many questions more at most, and none at a limit of 0, which stays 0
+-- at most `closers` more questions, and none at a limit of 0, which stays 0
 record MoreAtMost (closers : ℕ) (s t : Told) : Type 0 where
   once : length t.asked ≤ length s.asked + closers
   silent : s.limit ≡ 0 → (t.limit ≡ 0) × (t.asked ≡ s.asked)
@@ -176,7 +176,7 @@ record IsUsedUp (w : Around) (last : ℕ) (spent : List ℕ) (end : ℕ) : Type 
   behind : from ≤ last
   label : IsLabelFrom (lines w) (block_text w) from end
 
--- each question ends at a byte or before, or with such a label
+-- each question ends at a byte offset or before, or with such a label
 abbrev EndsBy : Around → ℕ → List ℕ → Question → Type 0
 EndsBy w last spent q = (q.span.end ≤ last) ⊎ IsUsedUp w last spent q.span.end
 
@@ -202,7 +202,7 @@ told_later w last later t l h = record {
       t.asked h.each;
 }
 
--- behind the items by a byte stands a `]` up to another
+-- after the items up to one byte offset there is a `]` that ends at another
 pub record ClosesUpTo (text : List ℕ) (last end : ℕ) : Type 0 where
   pub later : last < end
   pub byte : get_or text (end - 1) 0 ≡ 93
@@ -286,7 +286,7 @@ module _ {A : Type 0} (w : Around) (none : HoldsNoOpener w.skipped) (c : Closing
         let told = ⊎_elim (full_told h.more) otherwise h.way in
         subst (λ (asked : List Question). ToldWith asked t.spent t.limit) (sym h.asked) told
 
--- a `]` stands over one byte
+-- the source of a `]` is one byte
 one_byte : (text : List ℕ) (start end : ℕ) → end ≤ length text → slice_range text start end ≡ 93 ∷ []
     → (start < end) × (get_or text (end - 1) 0 ≡ 93)
 one_byte text start end within bytes =

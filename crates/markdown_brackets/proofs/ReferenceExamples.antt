@@ -11,7 +11,7 @@ use Rattle.markdown_brackets.specs.declared.footnote.FootnoteStyle.TheVariants.{
 abbrev no_prefix : List ℕ → Option ℕ
 no_prefix rest = Some 0
 
--- a label of its own is all that stands there
+-- the bytes from the opener to the `]` are exactly one label
 own : own_label Off no_prefix false (codes "x [a b] y") 2 7 ≡ Some (record { is_footnote = false; length = 5; name = codes "a b" })
 own = refl
 
@@ -55,7 +55,7 @@ empty_brackets = refl
 label_follows : form_at Off no_prefix false (codes "[testing][Some reference]") 9 (opener_at 9) None ≡ reference (codes "Some reference") 25
 label_follows = refl
 
--- an escaped bracket begins no label: the next item does not stand there
+-- an escaped bracket begins no label: no item starts there
 escaped_bracket : form_at Off no_prefix false (codes "[a]\\[b]") 3 (opener_at 4) None ≡ shortcut
 escaped_bracket = refl
 

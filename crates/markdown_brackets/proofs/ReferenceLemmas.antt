@@ -1,4 +1,5 @@
--- Names of labels, as slices of the label and of what follows its first bytes; and the form of a reference where no text is left.
+-- Names of labels, as slices of the label and of what follows its first bytes; and the form of a reference where no
+-- text is left.
 use Rattle.std.proofs.Common.{◌≡◌, ℕ, ◌+◌, ◌-◌, ◌≤◌, ◌&&◌, Bool, true, false, List, [], Option, length, take, drop, slice_range, refl, sym}
 use Rattle.std.proofs.Common.{◌∙◌, ap, arith}
 use Rattle.std.specs.Prelude.{if◌then◌else◌}
@@ -17,7 +18,7 @@ BorrowsName-from_rest text rest start l is kind borrows e =
     borrows (e ∙ ap (λ (k : ℕ). slice_range text k (l.length - 1)) kind ∙ ap (λ (k : ℕ). take k (drop start text)) n
     ∙ ap (take (l.length - start - 1)) (sym is))
 
--- no label stands past the text's end
+-- there is no label after the text's end
 by_items : (style : FootnoteStyle) (skipped : List ℕ → Option ℕ) (in_table : Bool) (at : ℕ) (empty starts : Bool)
     → (if empty then collapsed else if starts then form_by_label at (label_at style skipped in_table []) else shortcut)
     ≡ (if empty then collapsed else shortcut)

@@ -1,4 +1,4 @@
--- A left list from which its nearest opener was taken off stands at that opener, and so what a `]` becomes by it stands there.
+-- A left list whose nearest opener was taken off is split at that opener, and so is what a `]` becomes by it.
 use Rattle.std.proofs.Common.{ℕ, Bool, true, false, List, [], ◌∷◌, Option, Some, None, cond, refl, ap}
 use Rattle.std.specs.Prelude.{IfSome, if◌then◌else◌}
 use Rattle.std.specs.Option.{option_map}
@@ -34,7 +34,7 @@ maybe_behind : (e : Entry ℕ) (left : List (Entry ℕ)) (o : Option (Split ℕ)
 maybe_behind e left None h = tt
 maybe_behind e left (Some o) h = split_behind e left o h
 
--- the nearest opener that passes a test, changed where it stands
+-- the nearest opener that passes a test, changed in place
 pub taken_splits : (test : Mark → Bool) (f : Mark → Mark) (left : List (Entry ℕ))
     → IfSome (nearest test left) (IsSplit (change_nearest test f left))
 taken_splits test f [] = tt
@@ -49,7 +49,7 @@ taken_splits test f (waits m a ∷ left) = by (test m) (taken_splits test f left
     by true h = record { after_then = []; mark_then = f m; left_is = refl; same_trees = λ later. refl }
     by false h = maybe_behind (waits m a) (change_nearest test f left) (nearest test left) h
 
--- what a `]` becomes by an opener stands at it
+-- what a `]` becomes by an opener splits the left list there
 module _ (w : Around) (c : Closing ℕ) (left : List (Entry ℕ)) where
   target_splits : (o : Split ℕ) (end next : ℕ) (target : Option LinkView) (p : Progress ℕ) → IsSplit left o
       → SplitsAs left (target_tried o end next target p).becomes

@@ -27,7 +27,7 @@ with_title = refl
 nothing_in_it : link_tail no_prefix no_item (codes "[a]()") 3 ≡ Some (record { ends = 5; destination = []; title = []; is_joined = false })
 nothing_in_it = refl
 
--- where no `)` stands it is not left out
+-- a destination is left out only before a `)`
 no_destination : link_tail no_prefix no_item (codes "[a](\n\u{b}\n)") 3 ≡ None
 no_destination = refl
 

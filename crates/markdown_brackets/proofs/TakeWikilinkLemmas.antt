@@ -1,4 +1,4 @@
--- A left list before a `]` in an arena: the openers on the stacks are those of the list, and stand where it says.
+-- A left list before a `]` in an arena: the openers on the stacks are those of the list, and are where the list says.
 use Rattle.std.proofs.Common.{◌≡◌, ℕ, ◌≤◌, Bool, true, false, ◌&&◌, List, [], ◌∷◌, Option, Some, None, length, refl, sym, ◌∙◌, ap, subst}
 use Rattle.std.proofs.Common.{arith}
 use Rattle.std.specs.Prelude.{IfSome, MatchOption, if◌then◌else◌}
@@ -63,7 +63,7 @@ module _ (nodes : List (Node Item)) (closer : ℕ) (left : List (Entry ℕ)) (c 
   abbrev behind_left : Forest (Label ℕ)
   behind_left = node c.label nil c.rest
 
-  -- all that stands from a part of the left list on
+  -- all trees from a part of the left list on are at most as high as there are nodes
   low : height (numbers_of (trees_onto left behind_left)) ≤ length nodes
   low = subst (λ g. height g ≤ length nodes) s.found (height_found (links_of nodes) s.first)
 

@@ -1,4 +1,5 @@
--- What is read in an arena at an opener and its `]` is what the definition reads of their labels; and so is what it comes to.
+-- What is read in an arena at an opener and its `]` is what the definition reads from their labels, and the result is
+-- the same.
 use Rattle.std.proofs.Common.{◌≡◌, ℕ, ◌-◌, ◌<◌, ◌||◌, Bool, true, false, List, [], ◌++◌, Option, Some, None, refl, sym, ◌∙◌, ap, take}
 use Rattle.std.proofs.Common.{append-nil}
 use Rattle.std.proofs.Math.Path.{fun_ext}

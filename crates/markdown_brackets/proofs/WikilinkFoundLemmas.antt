@@ -33,7 +33,7 @@ use Rattle.markdown_brackets.proofs.BracketStandsLemmas.{Found, found_after, fou
 use Rattle.markdown_brackets.proofs.ChainAheadLemmas.{is_below}
 use Rattle.markdown_brackets.proofs.WikilinkNodesLemmas.{from_is, second_is}
 
--- what a wikilink shows from a byte on stands before the end of its body
+-- what a wikilink shows from a byte offset on starts before the end of its body
 abbrev StartsBefore : ℕ → Shows → Type 0
 StartsBefore end (shows_from at) = at < end
 StartsBefore end other = Unit {0}

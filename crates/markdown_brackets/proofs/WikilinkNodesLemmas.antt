@@ -26,7 +26,7 @@ is_itself n = grind (arith, nat_tests)
 equal_by : (n m : ℕ) → (n == m) ≡ true → n ≡ m
 equal_by n m e = grind (arith, nat_tests)
 
--- a node that stands nowhere in some trees is not their first
+-- a node that does not occur in some trees is not their first
 apart_root : (k : ℕ) (a : Label ℕ) (below after : Forest (Label ℕ)) → times_of k (node a below after) ≡ 0 → (a.tag == k) ≡ false
 apart_root k a below after none = by (a.tag == k) refl
   where
@@ -44,7 +44,7 @@ module _ (source : List ℕ) (tables : Tables) (nodes : List (Node Item)) (close
   abbrev Up : Forest (Label ℕ) → Forest (Label ℕ)
   Up f = joined f (node closer below_closer rest)
 
-  -- the link to what stands before the `]`
+  -- the link to what precedes the `]`
   unless_closer : (l : Option ℕ) (f : Forest (Label ℕ)) → Holds source tables nodes l (Up f) → times_of closer.tag f ≡ 0
       → unless_is closer.tag l ≡ link_to f
   unless_closer l nil h none = rw (h.0, is_itself closer.tag) refl
@@ -59,7 +59,7 @@ module _ (source : List ℕ) (tables : Tables) (nodes : List (Node Item)) (close
       rw (unless_closer (sibling_of nodes opener) (node a below after) h none)
       (unless_closer (sibling_of nodes a.tag) after h.4 (apart_after closer.tag a below after none))
 
-  -- the node in which what stands from a byte on begins
+  -- the node in which the part of the body from a byte offset on begins
   pub from_is : (at : ℕ) → at < end_of closer → (l : Option ℕ) (f : Forest (Label ℕ)) → Holds source tables nodes l (Up f)
       → times_of closer.tag f ≡ 0
       → shown_from_node closer.tag at (first_root (numbers_past nodes at (numbers_of (Up f))))

@@ -1,4 +1,4 @@
--- The pipe of a wikilink in a block is that of the whole text, where it stands before the block's end.
+-- The pipe of a wikilink in a block is that of the whole text, if it is before the block's end.
 use Rattle.std.proofs.Common.{◌≡◌, ℕ, zero, suc, ◌+◌, ◌-◌, ◌<◌, ◌≤◌, ◌⊎◌, inl, inr, Bool, true, false, not, ◌==◌, List, [], ◌∷◌, Option, Some}
 use Rattle.std.proofs.Common.{None, length, take, drop, min, refl, sym, ap, ◌∙◌, subst, arith, cond, nat_lt, nat_le}
 use Rattle.std.specs.Prelude.{IfSome, if◌then◌else◌}
@@ -104,7 +104,7 @@ module _ (start m : ℕ) (body : List ℕ) where
       by (inl l) = at here (omega (arith, place, l)) ∙ inside l
       by (inr l) = at m (omega (arith, place, l)) ∙ outside l
 
--- behind a byte at which a block ends nothing is found in it
+-- after the byte offset where a block ends nothing is found in it
 past_block : (start n : ℕ) (body : List ℕ) → n < start
     → ending_by (start + (n - start)) (name_before_pipe start body) ≡ ending_by n (name_before_pipe start body)
 past_block start n body l = by (nat_lt place (length body))

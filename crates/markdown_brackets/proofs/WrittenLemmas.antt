@@ -78,7 +78,7 @@ boundary_within text end s h le =
 pub within_taken : (text : List ℕ) (end s : ℕ) → s ≤ length (take end text) → s ≤ end
 within_taken text end s h = omega (arith, h, length-take end text)
 
--- without a label of its own no `]` is a reference in these forms
+-- if the bytes from the opener to the `]` are no label, the `]` is not a collapsed or shortcut reference
 no_reference : (could_be : Bool) (end : ℕ) (closes : ℕ → Bool) (empty : Bool)
     → reference_written could_be end closes None (if empty then collapsed else shortcut) ≡ decision.no_link
 no_reference true end closes true = refl

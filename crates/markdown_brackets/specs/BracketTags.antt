@@ -1,4 +1,4 @@
--- Tags say nothing to brackets: a chain with other tags reads the same, with those tags on what is read.
+-- Brackets do not depend on tags: a chain with other tags is read in the same way, with those tags on what is read.
 use Rattle.std.specs.Prelude.{◌≡◌, List, map}
 use Rattle.markdown_base.specs.Forest.{Forest}
 use Rattle.markdown_document.specs.Document.{Label}
@@ -7,7 +7,7 @@ use Rattle.markdown_brackets.specs.BracketDecision.{Around, Progress}
 use Rattle.markdown_brackets.specs.LeftList.{Entry, done, waits}
 use Rattle.markdown_brackets.specs.ReadChain.{Reader, read_chain}
 
--- a left list with other tags
+-- an entry of a left list with other tags
 abbrev pub retag_entry : {A B : Type 0} → (A → B) → Entry A → Entry B
 retag_entry f (done a below) = done (retag f a) (retagged f below)
 retag_entry f (waits m a) = waits m (retag f a)
@@ -27,13 +27,13 @@ retag_progress f p = record {
   made = p.made;
 }
 
--- two rules for what is no bracket, of which the one does with other tags what the other does
+-- two rules for items other than brackets do the same, one of them with other tags
 abbrev pub Follows : {A B : Type 0} → (A → B) → Reader A → Reader B → Type 0
 Follows {A} f others others' = (a : Label A) (below rest : Forest (Label A)) (p : Progress A)
     → others' (retag f a) (retagged f below) (retagged f rest) (retag_progress f p)
     ≡ retag_progress f (others a below rest p)
 
--- then so do the readings of a chain by them
+-- then reading a chain by these rules does the same, with other tags
 abbrev pub TagLaw : Type 0 → Type 0 → Type 0
 TagLaw A B = (f : A → B) (w : Around) (others : Reader A) (others' : Reader B) → Follows f others others'
     → (chain : Forest (Label A)) (p : Progress A)

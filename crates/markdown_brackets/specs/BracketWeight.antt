@@ -1,5 +1,5 @@
--- What brackets make of a chain is no heavier than the chain, as a walk counts: an open item weighs as much as the two
--- nodes that it may become.
+-- What brackets make of a chain has at most the weight of the chain, as a traversal counts: an open item weighs as much
+-- as the two nodes that it may become.
 use Rattle.std.specs.Prelude.{ℕ, ◌+◌, ◌≤◌, List, [], ◌∷◌}
 use Rattle.markdown_base.specs.Forest.{Forest, nil}
 use Rattle.markdown_document.specs.Document.{Label, is_unresolved}
@@ -10,17 +10,18 @@ use Rattle.markdown_brackets.specs.BracketDecision.{Around, Progress}
 use Rattle.markdown_brackets.specs.LeftList.{Entry, done, waits, trees_onto}
 use Rattle.markdown_brackets.specs.ReadChain.{Reader, begun, read_chain}
 
--- what a label weighs
+-- the weight of a label
 abbrev pub weight_at : {A : Type 0} → Label A → ℕ
 weight_at a = weight_if (is_unresolved a.part.shape)
 
--- what a left list weighs
+-- the weight of a left list
 abbrev pub weight_left : {A : Type 0} → List (Entry A) → ℕ
 weight_left [] = 0
 weight_left (done a below ∷ left) = (weight_at a + weight below) + weight_left left
 weight_left (waits m a ∷ left) = weight_at a + weight_left left
 
--- where the rule for what is no bracket adds no more than its item weighs
+-- reading does not increase the weight of a chain, if the rule for items other than brackets adds at most the weight of
+-- its item
 abbrev pub BracketWeightLaw : Type 0 → Type 0
 BracketWeightLaw A = (w : Around) (others : Reader A)
     → ((a : Label A) (below rest : Forest (Label A)) (p : Progress A)

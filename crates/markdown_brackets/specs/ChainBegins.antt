@@ -1,5 +1,5 @@
--- How a chain begins once it is read: where its first item is open, with a tree that brackets made, or with the one
--- that the rule for other items put first; what stands first is taken away by nothing.
+-- How a chain begins once it is read: if its first item is open, with a tree that brackets made or that the rule for
+-- other items added first; nothing removes that tree later.
 use Rattle.std.specs.Prelude.{◌≡◌, Bool, true, List}
 use Rattle.markdown_base.specs.Event.{EventView, TagView}
 use Rattle.markdown_base.specs.Forest.{Forest, nil, node}
@@ -9,7 +9,7 @@ use Rattle.markdown_brackets.specs.BracketDecision.{Around, Progress}
 use Rattle.markdown_brackets.specs.LeftList.{trees_onto}
 use Rattle.markdown_brackets.specs.ReadChain.{Reader, begun, read_chain}
 
--- there is a first tree, and it passes a test
+-- there is a first tree, and it passes the test
 abbrev pub BeginsWith : {A : Type 0} → (Shape → Bool) → Forest (Label A) → Type 0
 BeginsWith test nil = ⊥
 BeginsWith test (node a below after) = test a.part.shape ≡ true
@@ -18,15 +18,15 @@ BeginsWith test (node a below after) = test a.part.shape ≡ true
 abbrev pub trees_of : {A : Type 0} → Progress A → Forest (Label A)
 trees_of p = trees_onto p.left nil
 
--- where a rule for other items puts such a tree first at an open item, with nothing before it, and lets such a tree
--- stand that is before it
+-- a rule for other items adds such a tree first at an open item, if nothing was read before, and keeps such a tree that
+-- was read before
 pub record BeginsSo {A : Type 0} (test : Shape → Bool) (others : Reader A) : Type 0 where
   pub puts : (a : Label A) (below rest : Forest (Label A)) (known : Known) → is_unresolved a.part.shape ≡ true
       → BeginsWith test (trees_of (others a below rest (begun known)))
   pub keeps : (a : Label A) (below rest : Forest (Label A)) (p : Progress A) → BeginsWith test (trees_of p)
       → BeginsWith test (trees_of (others a below rest p))
 
--- of a test that each event passes and each enclosing tag
+-- this holds for any test that each event and each enclosing tag passes
 abbrev pub BeginsLaw : Type 0 → Type 0
 BeginsLaw A = (w : Around) (others : Reader A) (test : Shape → Bool)
     → ((e : EventView) (origins : List Origin) → test (leaf e origins) ≡ true)

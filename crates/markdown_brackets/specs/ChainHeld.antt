@@ -1,4 +1,4 @@
--- How the trees of a chain stand in an arena: labels whose tags are the numbers of nodes.
+-- The trees of a chain in an arena, as labels whose tags are the numbers of nodes.
 use Rattle.std.specs.Prelude.{◌≡◌, ℕ, ◌<◌, List, Option, Some, None, length}
 use Rattle.markdown_base.specs.Arena.{child_of, sibling_of}
 use Rattle.markdown_base.specs.BlockTree.{item_at}
@@ -10,7 +10,7 @@ use Rattle.markdown_document.specs.Places.{IsPlaced}
 use Rattle.markdown_document.specs.Tables.{Tables}
 use Rattle.markdown_document.specs.Totals.{total, same}
 
--- from the link l on the links lead through these trees: each node has its label's number, and reads as its label
+-- the links from l on lead through these trees: each node has the number of its label, and reads as its label
 abbrev pub Holds : List ℕ → Tables → List (Node Item) → Option ℕ → Forest (Label ℕ) → Type 0
 Holds source tables nodes l nil = l ≡ None
 Holds source tables nodes l (node a below after) =
@@ -18,7 +18,7 @@ Holds source tables nodes l (node a below after) =
     × Holds source tables nodes (child_of nodes a.tag) below
     × Holds source tables nodes (sibling_of nodes a.tag) after
 
--- their numbers, and what they read as without
+-- the numbers of the nodes of a forest
 abbrev pub numbers_of : Forest (Label ℕ) → Forest ℕ
 numbers_of f = relabelled (λ a. a.tag) f
 
@@ -26,15 +26,15 @@ numbers_of f = relabelled (λ a. a.tag) f
 abbrev pub untagged : Forest (Label ℕ) → Forest Plain
 untagged f = relabelled (λ a. record { tag = tt; part = a.part }) f
 
--- how often a number stands in them
+-- the number of times that a node occurs in a forest
 abbrev pub times_of : ℕ → Forest (Label ℕ) → ℕ
 times_of n f = total (same n) (numbers_of f)
 
--- the link that leads to them
+-- the link to the first tree of a forest
 abbrev pub link_to : Forest (Label ℕ) → Option ℕ
 link_to nil = None
 link_to (node a below after) = Some a.tag
 
--- all their nodes are placed
+-- all nodes of a forest are placed
 abbrev pub ArePlaced : List ℕ → Tables → List (Node Item) → Forest (Label ℕ) → Type 0
 ArePlaced source tables nodes f = Each (IsPlaced source tables nodes) (numbers_of f)

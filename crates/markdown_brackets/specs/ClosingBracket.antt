@@ -1,4 +1,4 @@
--- What a closing bracket makes of a chain: of the left list before it, of the chain after it, and of what is known.
+-- The effect of a closing bracket on a chain, from the left list before it, the chain after it, and what is known.
 use Rattle.std.specs.Prelude.{ℕ, ◌+◌, Bool, true, false, List, [], ◌∷◌, Some}
 use Rattle.std.specs.Prelude.{if◌then◌else◌}
 use Rattle.markdown_base.specs.Event.{LinkView, TagView, link, image, footnote_reference}
@@ -13,19 +13,19 @@ use Rattle.markdown_brackets.specs.LeftList.{Mark, Entry, done, Split, inside}
 use Rattle.markdown_brackets.specs.LeftList.{before_link}
 use Rattle.markdown_brackets.specs.LeftList.{before_wikilink, before_footnote}
 
--- a link or an image, from its opener up to a byte
+-- the tag of a link or an image
 abbrev pub tag_for : Mark → LinkView → TagView
 tag_for m target = if m.is_image then image target else link target
 
--- a link or an image from its opener on
+-- a link or an image, from its opener to a byte offset
 abbrev pub linked : {A : Type 0} → Split A → LinkView → (end : ℕ) → Label A
 linked o target end = over o.opener (enclosed (tag_for o.mark target)) (start_of o.opener) end
 
--- a footnote reference; of what begins with `![^` the `!` is a Text of its own
+-- a footnote reference over a range
 abbrev pub footnote_from : {A : Type 0} → Label A → List ℕ → (start end : ℕ) → Label A
 footnote_from a name start end = over a (leaf (footnote_reference name) (made ∷ [])) start end
 
--- a footnote reference in the left list, behind the `!` of an image's opener
+-- a footnote reference is added to the left list; the `!` of an image's opener becomes a Text before it
 abbrev pub footnote_onto : {A : Type 0} → Around → Closing A → (is_image : Bool) → Label A → List ℕ → List (Entry A)
     → List (Entry A)
 footnote_onto w c false opener name left =
@@ -34,12 +34,12 @@ footnote_onto w c true opener name left =
     done (footnote_from c.label name (start_of opener + 1) (end_of c.label)) nil
     ∷ done (text_from w opener (start_of opener) (start_of opener + 1)) nil ∷ left
 
--- where a wikilink leads
+-- the target of a wikilink
 abbrev pub wikilink_target : {A : Type 0} → Wikilink A → LinkView
 wikilink_target found =
     record { kind = kind.WikiLink found.has_pothole; destination = found.name; title = []; label = [] }
 
--- what a `]` becomes is put into the left list
+-- what a `]` becomes is added to the left list, and openers before it are disabled or taken off
 abbrev pub put : {A : Type 0} → Around → Closing A → Becomes A → Step A
 put w c a_text p = record p { left = done (as_text w.setting.text c.label) nil ∷ p.left }
 put w c (a_link o target end next) p = record p {
@@ -55,10 +55,10 @@ put w c (a_wikilink o found end) p = record p {
   goes_on = Some end;
 }
 
--- what was decided is put
+-- what was decided is added to the left list
 abbrev pub put_decided : {A : Type 0} → Around → Closing A → Decision A → Progress A
 put_decided w c d = put w c d.becomes d.progress
 
--- what a `]` makes of what was read
+-- the effect of a `]` on what was read
 unfoldable pub closed : {A : Type 0} → Around → Closing A → Step A
 closed w c p = put_decided w c (decided w c p)

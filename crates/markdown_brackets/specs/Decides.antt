@@ -1,4 +1,4 @@
--- The decision at a `]` of an arena, with the openers that wait on stacks.
+-- The decision at a `]` of an arena, with stacks of waiting openers.
 use Rattle.std.specs.Prelude.{◌≡◌, ℕ, ◌≤◌, ◌++◌, ◌||◌, List, [], ◌∷◌, Option, Some, None}
 use Rattle.markdown_base.specs.ArenaForest.{links_of, forest_at}
 use Rattle.markdown_base.specs.Forest.{Forest, nil, node}
@@ -22,12 +22,12 @@ use Rattle.markdown_brackets.specs.SpentEnds.{is_spent}
 use Rattle.markdown_brackets.specs.declared.closing_bracket.ClosedBracket.{ClosedBracket}
 use Rattle.markdown_brackets.specs.declared.spent_ends.SpentEnds.{SpentEnds}
 
--- a fact of each opener that waits
+-- p holds for each waiting opener
 abbrev pub EachOpener : (ℕ → Type 0) → List Waiting → Type 0
 EachOpener p [] = Unit {0}
 EachOpener p (t ∷ held) = p t.opener.node × EachOpener p held
 
--- a left list stands in an arena, with the `]` of a node behind it and a chain after that, no node twice
+-- an arena contains a left list, followed by the `]` of a node and a chain, with no node twice
 pub record StandsBefore (nodes : List (Node Item)) (closer : ℕ) (left : List (Entry ℕ)) (c : Closing ℕ) : Type 0 where
   pub source : List ℕ
   pub tables : Tables
@@ -38,7 +38,7 @@ pub record StandsBefore (nodes : List (Node Item)) (closer : ℕ) (left : List (
   pub number : c.label.tag ≡ closer
   pub order : start_of c.label ≤ end_of c.label
 
--- no wikilink: one `]` is decided, by a left list without the opener that was tried
+-- no wikilink is found: a single `]` is decided, with a left list without the opener that was tried
 pub record TakesNone (w : Around) (c : Closing ℕ) (left : List (Entry ℕ)) (held : List Waiting) : Type 0 where
   pub left_then : List (Entry ℕ)
   pub held_is : held ≡ wikilinks_of left_then
@@ -47,7 +47,7 @@ pub record TakesNone (w : Around) (c : Closing ℕ) (left : List (Entry ℕ)) (h
   pub decides : (p : Progress ℕ) → decided w c (record p { left = left })
       ≡ one_decided w c (record p { left = left_then })
 
--- a wikilink
+-- a wikilink is found
 pub record TakesOne (w : Around) (c : Closing ℕ) (left : List (Entry ℕ)) (held : List Waiting) (found : ClosedBracket)
     : Type 0 where
   pub opener : Split ℕ
@@ -63,13 +63,13 @@ pub record TakesOne (w : Around) (c : Closing ℕ) (left : List (Entry ℕ)) (he
       }
   pub is : IsBecome w (a_wikilink opener wikilink end) found
 
--- a wikilink is taken, or none
+-- a wikilink is found, or none
 abbrev pub TakesWikilink : Around → Closing ℕ → List (Entry ℕ) → List Waiting → Option ClosedBracket → Type 0
 TakesWikilink w c left held None = TakesNone w c left held
 TakesWikilink w c left held (Some found) = TakesOne w c left held found
 
--- the decision: the callback went by these questions, one at most, and by these answers, and it is what the rules say,
--- whatever answers follow, which are handed on; the stacks hold the openers that are left
+-- the decision: the callback answered these questions, at most one, and the result is what the rules say whatever
+-- answers follow, which are left; the stacks contain the openers that are left
 pub record Decides {C : Type 0} (step : C → Question → Option Answer → C → Type 0) (w : Around) (c : Closing ℕ)
     (left : List (Entry ℕ)) (limit limit' : ℕ) (uses uses' : List ℕ → ℕ) (spent spent' : SpentEnds)
     (callback callback' : Option C) (brackets wikilinks : List Waiting) (found : ClosedBracket) : Type 0 where

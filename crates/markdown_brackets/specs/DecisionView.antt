@@ -1,4 +1,4 @@
--- What contracts see of what a `]` becomes, in an arena.
+-- What a `]` becomes in an arena, as contracts describe it.
 use Rattle.std.specs.Prelude.{◌≡◌, ℕ, ◌++◌, Bool, true, false, List, [], Option, Some, None, is_some}
 use Rattle.markdown_base.specs.CowText.{text_of}
 use Rattle.markdown_base.specs.Event.{LinkView}
@@ -27,12 +27,12 @@ use Rattle.markdown_brackets.specs.declared.wikilink_nodes.ShownNodes.{ShownNode
 use Rattle.markdown_brackets.specs.declared.wikilink_nodes.ShownNodes.TheVariants.{Over, From}
 use Rattle.markdown_document.specs.declared.chain_place.ChainPlace.{ChainPlace}
 
--- by a rule each line goes on behind a prefix of so many bytes
+-- by this rule each line continues after a prefix of the length given by `skipped`
 abbrev pub GoesOnBehind : (rule : List ℕ → Option ℕ) → (List ℕ → ℕ) → Type 0
 GoesOnBehind rule skipped = (bytes : List ℕ) → rule bytes ≡ Some (skipped bytes)
 
--- what the brackets of a chain at a place are read by: its lines go on behind such a prefix; the blocks above are
--- these; these definitions and footnotes can be found, and there is somebody to ask or not
+-- what reading the brackets of a chain at this place depends on: the line prefixes, the blocks above, the definitions
+-- and footnotes, and whether there is a callback
 abbrev pub around_at : ChainPlace → (List ℕ → ℕ) → List ItemBody → List Labelled → FootnoteDefs → Bool → Around
 around_at place skipped bodies definitions footnotes asks = record {
   setting = record {
@@ -48,11 +48,11 @@ around_at place skipped bodies definitions footnotes asks = record {
   skipped = skipped;
 }
 
--- an opener as a stack holds it
+-- an opener of the left list, as a stack stores it
 abbrev pub opener_of : Split ℕ → Opener
 opener_of o = record { node = o.opener.tag; is_image = o.mark.is_image }
 
--- what a wikilink shows of the trees of its body, and the node that it begins in
+-- the trees that a wikilink shows, from those of its body
 abbrev pub shown_of : Around → Forest (Label ℕ) → ShownNodes → Forest (Label ℕ)
 shown_of w nil shown = nil
 shown_of w (node first below after) (Over ix start end) = node (text_from w first start end) nil nil
@@ -63,7 +63,7 @@ abbrev pub first_shown : ShownNodes → ℕ
 first_shown (Over ix start end) = ix
 first_shown (From ix at) = ix
 
--- a `]` becomes this
+-- a returned value represents what a `]` becomes
 abbrev pub IsBecome : Around → Becomes ℕ → ClosedBracket → Type 0
 IsBecome w a_text Text = Unit {0}
 IsBecome w (a_link o target end next) (Link opener found found_end found_next) =
@@ -75,20 +75,20 @@ IsBecome w (a_wikilink o v end) (Wikilinked opener name has_pothole shown found_
     × (found_end ≡ end)
 IsBecome w other found = ⊥
 
--- a link to a target, if there is one, is found
+-- a returned value is a link to this target, or a Text if there is none
 abbrev pub IsLinkOr : Opener → (end next : ℕ) → Option LinkView → ClosedBracket → Type 0
 IsLinkOr opener end next None Text = Unit {0}
 IsLinkOr opener end next (Some target) (Link found_opener found found_end found_next) =
     (found_opener ≡ opener) × (target_view found ≡ target) × (found_end ≡ end) × (found_next ≡ next)
 IsLinkOr opener end next target found = ⊥
 
--- or a footnote reference, if it is one
+-- a returned value is a footnote reference, or a Text if the label is not one
 abbrev pub IsFootnoteOr : Opener → List ℕ → Bool → ClosedBracket → Type 0
 IsFootnoteOr opener name false Text = Unit {0}
 IsFootnoteOr opener name true (Footnote found_opener found) = (found_opener ≡ opener) × (text_of found ≡ name)
 IsFootnoteOr opener name is_one found = ⊥
 
--- rules by which labels are found: these definitions and footnotes, and somebody to ask or not
+-- the rules use these definitions and footnotes, this style, and a callback or none
 pub record KnowsRules (w : Around) (definitions : List Labelled) (footnotes : FootnoteDefs) (asks : Bool)
     (style : FootnoteStyle) : Type 0 where
   pub definitions_are : w.setting.rules.definitions ≡ definitions
@@ -96,17 +96,17 @@ pub record KnowsRules (w : Around) (definitions : List Labelled) (footnotes : Fo
   pub asks_is : w.setting.rules.asks ≡ asks
   pub style_is : footnote_style w.setting.rules.options ≡ style
 
--- how far a chain was read, where this is known
+-- the progress with this limit, these answers and these counts of uses
 abbrev pub knowing : ℕ → Answers → (List ℕ → ℕ) → Progress ℕ → Progress ℕ
 knowing limit answers uses p = record p { known = record { limit = limit; answers = answers; uses = uses } }
 
--- the ends that what is written uses up
+-- the ends of `]` that what is written uses up
 abbrev pub spent_in : decision.Written → List ℕ
 spent_in (link_label link_type label end next) = spent_by link_type end []
 spent_in other = []
 
--- a try comes to this: the callback went by these questions, one at most, and by these answers, and it is what the
--- rules say, whatever answers follow, which are handed on
+-- the result of a step of the decision: the callback answered these questions, at most one, and the result is what the
+-- rules say whatever answers follow, which are left
 pub record ComesTo {C : Type 0} (step : C → Question → Option Answer → C → Type 0) (w : Around) (try : Try ℕ)
     (more : List ℕ) (limit limit' : ℕ) (uses uses' : List ℕ → ℕ) (callback callback' : Option C)
     (found : ClosedBracket) : Type 0 where

@@ -1,5 +1,5 @@
--- What brackets leave of a chain is what they make, which is settled, or what the rule for other items leaves: so what
--- is open afterwards is what that rule leaves open.
+-- What is left of a chain after brackets is what they make, which is not open, or what the rule for other items leaves:
+-- so only what that rule leaves open is open afterwards.
 use Rattle.std.specs.Prelude.{◌≡◌, ⊤, Bool, true, List, [], ◌∷◌}
 use Rattle.markdown_base.specs.Event.{EventView, TagView}
 use Rattle.markdown_base.specs.Forest.{Forest, nil, node, Each}
@@ -9,26 +9,26 @@ use Rattle.markdown_brackets.specs.BracketDecision.{Around, Progress}
 use Rattle.markdown_brackets.specs.LeftList.{Entry, done, waits, trees_onto}
 use Rattle.markdown_brackets.specs.ReadChain.{Reader, begun, read_chain}
 
--- all shapes of a forest pass a test; those below its trees
+-- each shape of a forest, at any depth, passes the test
 abbrev pub PassesAll : {A : Type 0} → (Shape → Bool) → Forest (Label A) → Type 0
 PassesAll test f = Each (λ a. test a.part.shape ≡ true) f
 
--- all that is below a chain's items passes
+-- each shape below the items of a chain passes the test
 abbrev pub PassesBelow : {A : Type 0} → (Shape → Bool) → Forest (Label A) → Type 0
 PassesBelow test nil = ⊤
 PassesBelow test (node a below after) = PassesAll test below × PassesBelow test after
 
--- each label of a left list, and each below
+-- p holds for each label of a left list, at any depth
 abbrev pub EachLeft : {A : Type 0} → (Label A → Type 0) → List (Entry A) → Type 0
 EachLeft p [] = ⊤
 EachLeft p (done a below ∷ left) = p a × Each p below × EachLeft p left
 EachLeft p (waits m a ∷ left) = p a × EachLeft p left
 
--- all of a left list that is read passes, and what is below its openers
+-- each shape of a left list, at any depth, passes the test
 abbrev pub PassesLeft : {A : Type 0} → (Shape → Bool) → List (Entry A) → Type 0
 PassesLeft test left = EachLeft (λ a. test a.part.shape ≡ true) left
 
--- of a test that each event passes and each enclosing tag
+-- this holds for any test that each event and each enclosing tag passes
 abbrev pub KeptShapesLaw : Type 0 → Type 0
 KeptShapesLaw A = (w : Around) (others : Reader A) (test : Shape → Bool)
     → ((e : EventView) (origins : List Origin) → test (leaf e origins) ≡ true)

@@ -1,4 +1,4 @@
--- The left list of a chain while its items are read: trees that are done, and openers `[` and `![` that wait, the
+-- The left list of a chain while its items are read: trees that are complete, and waiting openers `[` and `![`, the
 -- nearest first.
 use Rattle.std.specs.Prelude.{ℕ, Bool, true, false, not, if◌then◌else◌, List, [], ◌∷◌, map, Option, Some, None}
 use Rattle.std.specs.Option.{option_map}
@@ -6,57 +6,58 @@ use Rattle.markdown_base.specs.Forest.{Forest, nil, node}
 use Rattle.markdown_document.specs.Document.{Label}
 use Rattle.markdown_brackets.specs.Openers.{Waiting}
 
--- whether an opener may still become something; it is gone once a `]` was tried with it
+-- whether an opener can still become something; it is gone once it was tried for a `]`
 pub data Flag : Type 0 where
   live : Flag
   disabled : Flag
   gone : Flag
 
--- an opener: whether it is an image's, whether it may still open a link or an image, and a wikilink
+-- the state of an opener: whether it is that of an image, and whether it can still open a link or an image, and a
+-- wikilink
 pub record Mark : Type 0 where
   pub is_image : Bool
   pub bracket : Flag
   pub wikilink : Flag
 
--- a tree that is done; or an opener that waits, with the label of the Text that it is where nothing becomes of it
+-- a complete tree; or a waiting opener, with the label of the Text that it remains if it becomes nothing
 pub data Entry (A : Type 0) : Type 0 where
   done : Label A → Forest (Label A) → Entry A
   waits : Mark → Label A → Entry A
 
--- an opener that was taken off
+-- an opener was taken off
 abbrev pub is_gone : Flag → Bool
 is_gone live = false
 is_gone disabled = false
 is_gone gone = true
 
--- an opener that can still become a link
+-- an opener can still become a link
 abbrev pub is_live : Flag → Bool
 is_live live = true
 is_live disabled = false
 is_live gone = false
 
--- the trees of a left list from left to right, and then those given
+-- the trees of a left list from left to right, followed by `later`
 abbrev pub trees_onto : {A : Type 0} → List (Entry A) → Forest (Label A) → Forest (Label A)
 trees_onto [] later = later
 trees_onto (done a below ∷ left) later = trees_onto left (node a below later)
 trees_onto (waits m a ∷ left) later = trees_onto left (node a nil later)
 
--- a left list at one of its openers: the opener, the entries after it, the nearest first, and those before it
+-- a left list, split at one of its openers: the opener, the entries after it, the nearest first, and those before it
 pub record Split (A : Type 0) : Type 0 where
   pub mark : Mark
   pub opener : Label A
   pub after : List (Entry A)
   pub before : List (Entry A)
 
--- the trees after it
+-- the trees after the opener
 abbrev pub inside : {A : Type 0} → Split A → Forest (Label A)
 inside o = trees_onto o.after nil
 
--- a split with one more entry behind its opener
+-- a split with one more entry after its opener
 abbrev pub behind : {A : Type 0} → Entry A → Split A → Split A
 behind e o = record o { after = e ∷ o.after }
 
--- the nearest opener that passes a test
+-- the left list, split at the nearest opener that passes a test
 abbrev pub nearest : {A : Type 0} → (Mark → Bool) → List (Entry A) → Option (Split A)
 nearest test [] = None
 nearest test (done a below ∷ left) = option_map (behind (done a below)) (nearest test left)
@@ -64,43 +65,43 @@ nearest test (waits m a ∷ left) =
     if test m then Some (record { mark = m; opener = a; after = []; before = left })
     else option_map (behind (waits m a)) (nearest test left)
 
--- a left list in which that opener is changed
+-- a left list with the state of that opener changed
 abbrev pub change_nearest : {A : Type 0} → (Mark → Bool) → (Mark → Mark) → List (Entry A) → List (Entry A)
 change_nearest test f [] = []
 change_nearest test f (done a below ∷ left) = done a below ∷ change_nearest test f left
 change_nearest test f (waits m a ∷ left) =
     if test m then waits (f m) a ∷ left else waits m a ∷ change_nearest test f left
 
--- the opener for the next `]`, and for the next two
+-- the opener waits on the stack of brackets
 abbrev pub opens_bracket : Mark → Bool
 opens_bracket m = not (is_gone m.bracket)
 
--- it waits on the stack of wikilinks
+-- the opener waits on the stack of wikilinks
 abbrev pub opens_wikilink : Mark → Bool
 opens_wikilink m = not (is_gone m.wikilink)
 
--- it was taken off the stack of brackets
+-- the opener is taken off the stack of brackets
 abbrev pub without_bracket : Mark → Mark
 without_bracket m = record m { bracket = gone }
 
--- it was taken off the stack of wikilinks
+-- the opener is taken off the stack of wikilinks
 abbrev pub without_wikilink : Mark → Mark
 without_wikilink m = record m { wikilink = gone }
 
--- it is taken off
+-- the nearest opener on the stack of brackets is taken off
 abbrev pub bracket_taken : {A : Type 0} → List (Entry A) → List (Entry A)
 bracket_taken left = change_nearest opens_bracket without_bracket left
 
--- the nearest opener of a wikilink is taken off
+-- the nearest opener on the stack of wikilinks is taken off
 abbrev pub wikilink_taken : {A : Type 0} → List (Entry A) → List (Entry A)
 wikilink_taken left = change_nearest opens_wikilink without_wikilink left
 
--- an opener's mark is changed
+-- an entry with the state changed, if it is an opener
 abbrev pub on_mark : {A : Type 0} → (Mark → Mark) → Entry A → Entry A
 on_mark f (done a below) = done a below
 on_mark f (waits m a) = waits (f m) a
 
--- all openers changed
+-- a left list with the state of each opener changed
 abbrev pub on_marks : {A : Type 0} → (Mark → Mark) → List (Entry A) → List (Entry A)
 on_marks f left = map (on_mark f) left
 
@@ -110,31 +111,32 @@ disabled_flag live = disabled
 disabled_flag disabled = disabled
 disabled_flag gone = gone
 
--- a `[` becomes no link any more; an image's opener may still become an image
+-- a `[` can no longer become a link; an image's opener can still become an image
 abbrev pub disabled_mark : Mark → Mark
 disabled_mark m =
     if m.is_image then m
     else record m { bracket = disabled_flag m.bracket; wikilink = disabled_flag m.wikilink }
 
--- the entry just before what was found opens no wikilink any more: what was found began with its second bracket
+-- the entry just before what was found no longer opens a wikilink: what was found began with its second bracket
 abbrev pub second_folded : {A : Type 0} → List (Entry A) → List (Entry A)
 second_folded [] = []
 second_folded (e ∷ left) = on_mark without_wikilink e ∷ left
 
--- what stands before a finished link, or before a finished image: no link stands in a link
+-- the entries before a finished link or image: after a link, no `[` can become a link, since links contain no other
+-- links
 abbrev pub before_link : {A : Type 0} → (is_image : Bool) → List (Entry A) → List (Entry A)
 before_link true left = second_folded left
 before_link false left = on_marks disabled_mark (second_folded left)
 
--- before a finished wikilink, as a link or as an image
+-- the entries before a finished wikilink, as a link or as an image
 abbrev pub before_wikilink : {A : Type 0} → List (Entry A) → List (Entry A)
 before_wikilink left = on_marks without_wikilink (on_marks disabled_mark left)
 
--- before a footnote reference
+-- the entries before a footnote reference
 abbrev pub before_footnote : {A : Type 0} → List (Entry A) → List (Entry A)
 before_footnote left = on_marks without_bracket (second_folded left)
 
--- the openers for a `]`, and for two, as a stack of nodes holds them
+-- an opener of this state is added to a stack, unless it is gone
 abbrev pub held_as : ℕ → Bool → Flag → List Waiting → List Waiting
 held_as number is_image live held =
     record { opener = record { node = number; is_image = is_image }; is_live = true } ∷ held

@@ -12,10 +12,10 @@ pub mod LookupLaws
 pub mod FootnoteUse
 pub mod Wikilink
 pub mod WikilinkView
--- openers that wait
+-- waiting openers
 pub mod Openers
 pub mod OpenerStack
--- what brackets make of a chain
+-- the effect of brackets on a chain
 pub mod BracketOptions
 pub mod LeftList
 pub mod BracketDecision
@@ -29,7 +29,7 @@ pub mod BracketWeight
 pub mod KeptShapes
 pub mod ChainBegins
 pub mod QuietItems
--- and in an arena
+-- brackets of an arena
 pub mod ChainHeld
 pub mod ChainAhead
 pub mod SpentEnds

@@ -8,12 +8,12 @@ use Rattle.markdown_brackets.specs.Lookup.{look_up, size_of}
 abbrev pub AsksOnceAtMost : List Labelled → Bool → ℕ → Answers → Question → Type 0
 AsksOnceAtMost defined asks limit answers q = length (look_up defined asks limit answers q).questions ≤ 1
 
--- at a limit of 0 nothing is found, and nothing asked
+-- at a limit of 0, nothing is found and no question is asked
 abbrev pub FindsNothingAtZero : List Labelled → Bool → Answers → Question → Type 0
 FindsNothingAtZero defined asks answers q =
     look_up defined asks 0 answers q ≡ record { target = None; questions = []; limit = 0; answers = answers }
 
--- where there is one answer for each question, the result is the same whatever answers follow, which are handed on
+-- if there is one answer for each question, the result is the same whatever answers follow, and those are left
 abbrev pub HandsOnLaterAnswers : List Labelled → Bool → ℕ → Question → Answers → Answers → Type 0
 HandsOnLaterAnswers defined asks limit q answers later =
     let alone = look_up defined asks limit answers q in
@@ -21,7 +21,7 @@ HandsOnLaterAnswers defined asks limit q answers later =
     → look_up defined asks limit (answers ++ later) q
     ≡ record { target = alone.target; questions = alone.questions; limit = alone.limit; answers = later }
 
--- what is found takes its bytes off the limit, but not below 0
+-- the limit falls by at most the number of bytes of what is found
 abbrev pub TakesItsBytes : List Labelled → Bool → ℕ → Answers → Question → Type 0
 TakesItsBytes defined asks limit answers q =
     let found = look_up defined asks limit answers q in

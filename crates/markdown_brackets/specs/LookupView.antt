@@ -1,4 +1,4 @@
--- What contracts see of look-ups: the callback went by at most one question and its answer.
+-- Look-ups, as contracts describe them: the callback answered at most one question.
 use Rattle.std.specs.Prelude.{◌≡◌, ℕ, ◌++◌, Bool, List, Option, Some, None, MatchOption}
 use Rattle.std.specs.declared.ops.Range.{Range}
 use Rattle.markdown_base.specs.BlockParts.{definition_view}
@@ -13,11 +13,11 @@ use Rattle.markdown_defs.specs.Definitions.{Labelled}
 use Rattle.markdown_brackets.specs.Lookup.{look_up, answered_target, defined_target}
 use Rattle.markdown_brackets.specs.declared.look_up.Target.{Target}
 
--- the question about a label
+-- the question about a link label
 abbrev pub question : Range ℕ → LinkType → CowStr → Question
 question span link_type label = record { span = span; link_type = link_type; reference = text_of label }
 
--- a target by the bytes of its texts
+-- a target, by the bytes of its texts
 abbrev pub target_view : Target → LinkView
 target_view t = record {
   kind = t.link_type;
@@ -26,27 +26,28 @@ target_view t = record {
   label = text_of t.id;
 }
 
--- what an answer gives
+-- the target for an answer, if it resolves the question
 abbrev pub target_by : Question → Option Answer → Option LinkView
 target_by q None = None
 target_by q (Some a) = Some (answered_target q a)
 
--- a callback, if there is one, answered this question, and the answer gave this target
+-- the callback, if there is one, answered this question, and this is the target for the answer
 abbrev pub IsAnswered : {C : Type 0} → (C → Question → Option Answer → C → Type 0) → Question → Option C → Option C
     → Option LinkView → Type 0
 IsAnswered step q None new target = (new ≡ None) × (target ≡ None)
 IsAnswered {C} step q (Some old) new target =
     (then : C) × (answer : Option Answer) × step old q answer then × (new ≡ Some then) × (target ≡ target_by q answer)
 
--- a label found this target: its definition, and nobody was asked; or what was answered about it
+-- the target of a label: that of its definition, with the callback unchanged; or without one, that of the callback's
+-- answer
 abbrev pub FindsTarget : {C : Type 0} → (C → Question → Option Answer → C → Type 0) → List Labelled → Question
     → Option C → Option C → Option LinkView → Type 0
 FindsTarget step defined q old new target =
     MatchOption (definitions.look_up q.reference defined) (IsAnswered step q old new target)
     (λ d. (new ≡ old) × (target ≡ Some (defined_target q.link_type (definition_view d) q.reference)))
 
--- a look-up found this target: the callback went by the questions asked and by these answers, and the look-up is the
--- defined one whatever answers follow, which are handed on
+-- the target of a look-up: the callback answered the questions asked, and the result is the defined one whatever
+-- answers follow, which are left
 pub record LooksUp {C : Type 0} (step : C → Question → Option Answer → C → Type 0) (defined : List Labelled)
     (asks : Bool) (q : Question) (limit limit' : ℕ) (callback callback' : Option C) (target : Option LinkView) : Type 0
   where

@@ -1,4 +1,4 @@
--- No link stands in a link but an autolink (CommonMark 6.3), at any depth.
+-- No link contains a link other than an autolink (CommonMark 6.3), at any depth.
 use Rattle.std.specs.Prelude.{◌≡◌, ⊤, Bool, true, false, List, [], ◌∷◌, ◌++◌}
 use Rattle.markdown_base.specs.Event.{TagView, link}
 use Rattle.markdown_base.specs.Forest.{Forest, nil, Each, Throughout}
@@ -10,17 +10,17 @@ use Rattle.markdown_brackets.specs.BracketDecision.{Around, Progress}
 use Rattle.markdown_brackets.specs.LeftList.{Entry, done, waits, trees_onto}
 use Rattle.markdown_brackets.specs.ReadChain.{Reader, begun, read_chain}
 
--- an autolink
+-- the link is an autolink
 abbrev pub is_autolink : LinkType → Bool
 is_autolink kind.Autolink = true
 is_autolink other = false
 
--- a tag that opens no link but an autolink
+-- the tag opens no link other than an autolink
 abbrev pub OpensNoLink : TagView → Type 0
 OpensNoLink (link v) = is_autolink v.kind ≡ true
 OpensNoLink other = ⊤
 
--- a tree that is no link, but for autolinks
+-- a tree of this shape is not a link other than an autolink
 abbrev pub IsNoLink : Shape → Type 0
 IsNoLink (enclosed tag) = OpensNoLink tag
 IsNoLink other = ⊤
@@ -29,33 +29,34 @@ IsNoLink other = ⊤
 abbrev pub IsFreeOfLinks : {A : Type 0} → Forest (Label A) → Type 0
 IsFreeOfLinks f = Each (λ a. IsNoLink a.part.shape) f
 
--- what a link has below it is free of links
+-- if the tag is that of a link, no such link is below it
 abbrev pub ClosesOverNone : {A : Type 0} → TagView → Forest (Label A) → Type 0
 ClosesOverNone (link v) below = IsFreeOfLinks below
 ClosesOverNone other below = ⊤
 
--- no link stands below a link
+-- if the shape is that of a link, no such link is below it
 abbrev pub HasNoneBelow : {A : Type 0} → Shape → Forest (Label A) → Type 0
 HasNoneBelow (enclosed tag) below = ClosesOverNone tag below
 HasNoneBelow other below = ⊤
 
--- and that is so throughout
+-- no link contains such a link, at any depth
 abbrev pub HasNoLinkInLink : {A : Type 0} → Forest (Label A) → Type 0
 HasNoLinkInLink f = Throughout (λ a below after. HasNoneBelow a.part.shape below) f
 
--- trees that are done, and free of links
+-- all entries are complete trees, without such links
 abbrev pub AreFreeTrees : {A : Type 0} → List (Entry A) → Type 0
 AreFreeTrees [] = ⊤
 AreFreeTrees (done a below ∷ more) = IsNoLink a.part.shape × IsFreeOfLinks below × AreFreeTrees more
 AreFreeTrees (waits m a ∷ more) = ⊥
 
--- a left list with such trees at its right
+-- a left list with such trees added
 pub record HasMoreTrees {A : Type 0} (left left' : List (Entry A)) : Type 0 where
   pub more : List (Entry A)
   pub free : AreFreeTrees more
   pub grown : left' ≡ more ++ left
 
--- a chain free of links is read so that no link stands in a link, where the rule for what is no bracket puts such trees
+-- a chain without such links is read so that no link contains one, if the rule for items other than brackets adds trees
+-- without them
 abbrev pub NoLinkLaw : Type 0 → Type 0
 NoLinkLaw A = (w : Around) (others : Reader A)
     → ((a : Label A) (below rest : Forest (Label A)) (p : Progress A) → IsNoLink a.part.shape → IsFreeOfLinks below

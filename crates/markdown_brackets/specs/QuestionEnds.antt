@@ -1,5 +1,5 @@
--- What reading a chain asks: at most one question for each `]`, none where references may expand to no byte, and no two
--- that end at the same byte, where items stand in order and over their markup.
+-- The questions that reading a chain asks: at most one for each `]`, none if references may not expand to any bytes,
+-- and no two that end at the same byte offset, if items are in order and their source is their markup.
 use Rattle.std.specs.Prelude.{◌≡◌, ℕ, ◌≤◌, ⊤, Bool, false, List, [], map, Option, IfSome, length, nat_eq, take}
 use Rattle.std.specs.Prelude.{count_by}
 use Rattle.std.specs.List.{IsDistinct, list_any}
@@ -15,51 +15,51 @@ use Rattle.markdown_brackets.specs.BracketDecision.{Around, Progress}
 use Rattle.markdown_brackets.specs.ReadChain.{Reader, begun, read_chain}
 use Rattle.markdown_brackets.specs.Reference.{is_closer}
 
--- it is a `]` of which it is open what it becomes
+-- the label is an open `]`
 abbrev pub closes_bracket : {A : Type 0} → Label A → Bool
 closes_bracket a = is_closer (open_body a.part.shape)
 
--- how many of some items are
+-- the number of open `]` among these labels
 abbrev pub closers_among : {A : Type 0} → List (Label A) → ℕ
 closers_among items = count_by closes_bracket items
 
--- so many questions are asked at most, and none at a limit of 0
+-- at most `closers` questions are asked, and none at a limit of 0
 pub record AsksAtMost (closers limit : ℕ) (questions : List Question) : Type 0 where
   pub once : length questions ≤ closers
   pub silent : limit ≡ 0 → questions ≡ []
 
--- no two questions end at the same byte
+-- no two questions end at the same byte offset
 abbrev pub EndApart : List Question → Type 0
 EndApart questions = IsDistinct nat_eq (map (λ q. q.span.end) questions)
 
--- an item lies in the text, stands over its markup, and before the item that follows
+-- an item lies in the text, its source is its markup, and it precedes the next item
 pub record StandsInLine {A : Type 0} (source : List ℕ) (a : Label A) (next : Option (Label A)) : Type 0 where
   pub lies : LiesIn source (as_item a)
   pub markup_is_there : MarkupIsThere source (as_item a)
   pub in_order : IfSome next (λ b. end_of a ≤ start_of b)
 
--- so does each item of a chain
+-- each item of a chain is such an item
 abbrev pub StandInLine : {A : Type 0} → List ℕ → Forest (Label A) → Type 0
 StandInLine source nil = ⊤
 StandInLine source (node a below after) = StandsInLine source a (first_root after) × StandInLine source after
 
--- no `[` stands in the prefix of a line
+-- no line prefix contains a `[`
 abbrev pub HoldsNoOpener : (List ℕ → ℕ) → Type 0
 HoldsNoOpener skipped = (bytes : List ℕ) → list_any (nat_eq open_bracket) (take (skipped bytes) bytes) ≡ false
 
--- a rule for other items asks nothing, takes nothing off the limit, and uses up no `]`
+-- a rule for other items asks no questions, does not change the limit, and uses up no `]`
 abbrev pub AsksNothing : {A : Type 0} → Reader A → Type 0
 AsksNothing {A} others = (a : Label A) (below rest : Forest (Label A)) (p : Progress A)
     → let q : Progress A = others a below rest p in
     q ≡ record p { left = q.left; goes_on = q.goes_on; made = q.made }
 
--- each `]` asks one question at most, and at a limit of 0 none asks
+-- each `]` asks at most one question, and none is asked at a limit of 0
 abbrev pub QuestionCountLaw : Type 0 → Type 0
 QuestionCountLaw A = (w : Around) (others : Reader A) → AsksNothing others
     → (chain : Forest (Label A)) (known : Known)
     → AsksAtMost (closers_among (roots chain)) known.limit (read_chain w others chain (begun known)).asked
 
--- and no two questions end at the same byte
+-- no two questions end at the same byte offset
 abbrev pub QuestionEndsLaw : Type 0 → Type 0
 QuestionEndsLaw A = (w : Around) (others : Reader A) → AsksNothing others → HoldsNoOpener w.skipped
     → (chain : Forest (Label A)) (known : Known) → StandInLine w.setting.text chain

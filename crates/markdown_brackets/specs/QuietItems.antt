@@ -1,4 +1,4 @@
--- A chain in which nothing is open but runs and quotes, which wait for pairing, is left as it is.
+-- A chain in which only delimiter runs and quotes are open, which wait for pairing, is left unchanged.
 use Rattle.std.specs.Prelude.{◌≡◌, ⊤, true, List, [], ◌∷◌, None}
 use Rattle.markdown_base.specs.Forest.{Forest, nil, node}
 use Rattle.markdown_document.specs.Document.{Label}
@@ -8,28 +8,28 @@ use Rattle.markdown_brackets.specs.BracketDecision.{Around, Progress}
 use Rattle.markdown_brackets.specs.LeftList.{Entry, done, trees_onto}
 use Rattle.markdown_brackets.specs.ReadChain.{Reader, begun, read_chain}
 
--- nothing of a chain is open but runs and quotes
+-- only delimiter runs and quotes are open in a chain
 abbrev pub WaitsAtMost : {A : Type 0} → Forest (Label A) → Type 0
 WaitsAtMost nil = ⊤
 WaitsAtMost (node a below after) = (is_quiet a.part.shape ≡ true) × WaitsAtMost after
 
--- a rule for other items leaves such an item as it is
+-- a rule for other items leaves such an item unchanged
 abbrev pub LeavesQuiet : {A : Type 0} → Reader A → Type 0
 LeavesQuiet {A} others = (a : Label A) (below rest : Forest (Label A)) (p : Progress A) → is_quiet a.part.shape ≡ true
     → p.goes_on ≡ None → others a below rest p ≡ record p { left = done a below ∷ p.left }
 
--- the trees of a chain, onto a left list
+-- the trees of a chain, added to a left list
 abbrev pub all_done : {A : Type 0} → Forest (Label A) → List (Entry A) → List (Entry A)
 all_done nil left = left
 all_done (node a below after) left = all_done after (done a below ∷ left)
 
--- reading puts the chain's own trees, and does nothing else
+-- reading adds the chain's own trees, and does nothing else
 pub record IsLeftAlone {A : Type 0} (w : Around) (others : Reader A) (chain : Forest (Label A)) (known : Known) : Type 0
   where
     pub reads : read_chain w others chain (begun known) ≡ record (begun known) { left = all_done chain [] }
     pub trees : trees_onto (all_done chain []) nil ≡ chain
 
--- a chain in which only runs and quotes are open is left alone
+-- a chain in which only delimiter runs and quotes are open is left unchanged
 abbrev pub QuietItemsLaw : Type 0 → Type 0
 QuietItemsLaw A = (w : Around) (others : Reader A) → LeavesQuiet others
     → (chain : Forest (Label A)) (known : Known) → WaitsAtMost chain → IsLeftAlone w others chain known

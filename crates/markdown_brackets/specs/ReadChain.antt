@@ -1,4 +1,4 @@
--- A chain that is read from left to right, each item once: brackets by their rules, all else by a rule that is given.
+-- Reading a chain from left to right, each item once: brackets by their rules, and all other items by a given rule.
 use Rattle.std.specs.Prelude.{ℕ, Bool, true, false, not, ◌&&◌, ◌||◌, ◌==◌, List, [], ◌∷◌, Option, Some, None}
 use Rattle.std.specs.Prelude.{if◌then◌else◌, nat_le}
 use Rattle.markdown_base.specs.Forest.{Forest, nil, node}
@@ -13,11 +13,11 @@ use Rattle.markdown_brackets.specs.ClosingBracket.{closed}
 use Rattle.markdown_brackets.specs.LeftList.{waits, live, gone}
 use Rattle.markdown_brackets.specs.Reference.{is_opener}
 
--- nothing is read yet
+-- the progress before anything is read
 abbrev pub begun : {A : Type 0} → Known → Progress A
 begun known = record { left = []; goes_on = None; spent = []; asked = []; known = known; made = 0 }
 
--- a `[` or `![`: with wikilinks on, one before a `[` opens a wikilink too
+-- a `[` or `![` is read: if wikilinks are enabled, one directly before a `[` item opens a wikilink too
 abbrev pub opened : {A : Type 0} → Around → (is_image : Bool) → Label A → Forest (Label A) → Step A
 opened w is_image a rest p = record p {
   left = waits (record {
@@ -32,16 +32,16 @@ abbrev pub among : ℕ → List ℕ → Bool
 among n [] = false
 among n (m ∷ others) = (n == m) || among n others
 
--- a `]` that can be no reference any more is none
+-- a `]` that ends the label of an earlier reference cannot be a reference
 abbrev pub closing : {A : Type 0} → (could_be_reference : Bool) → Label A → Forest (Label A) → Progress A → Closing A
 closing could_be_reference a rest p =
     record { label = a; could_be_reference = could_be_reference && not (among (end_of a) p.spent); rest = rest }
 
--- what is read of other items: by the label, the trees below it and the chain after it
+-- the effect of an item, from its label, the trees below it and the chain after it
 abbrev pub Reader : Type 0 → Type 0
 Reader A = Label A → Forest (Label A) → Forest (Label A) → Step A
 
--- what is read of an item, by its body
+-- the effect of an item with this body
 abbrev pub read_as : {A : Type 0} → Around → Reader A → ItemBody → Reader A
 read_as w others body.MaybeLinkOpen a below rest p = opened w false a rest p
 read_as w others body.MaybeImage a below rest p = opened w true a rest p
@@ -49,18 +49,18 @@ read_as w others (body.MaybeLinkClose could_be_reference) a below rest p =
     closed w (closing could_be_reference a rest p) p
 read_as w others other a below rest p = others a below rest p
 
--- what is read of an item
+-- the effect of an item
 abbrev pub read : {A : Type 0} → Around → Reader A → Reader A
 read w others a below rest p = read_as w others (open_body a.part.shape) a below rest p
 
--- after a find that ends at a byte, what ends there or before is left out, and the next item begins there at the
--- earliest
+-- after something was found that ends at the byte offset i, items that end there or before are left out, and the next
+-- item begins at i or later
 abbrev pub read_past : {A : Type 0} → Around → Reader A → Option ℕ → Reader A
 read_past w others None a below rest p = read w others a below rest p
 read_past w others (Some i) a below rest p =
     if nat_le (end_of a) i then p else read w others (begun_at i a) below rest (record p { goes_on = None })
 
--- all of them are read
+-- the items of a chain are read
 unfoldable pub read_chain : {A : Type 0} → Around → Reader A → Forest (Label A) → Step A
 read_chain w others nil p = p
 read_chain w others (node a below rest) p = read_chain w others rest (read_past w others p.goes_on a below rest p)

@@ -5,12 +5,12 @@ use Rattle.markdown_base.specs.declared.item.Item.{Item}
 use Rattle.markdown_base.specs.declared.node.Node.{Node}
 use Rattle.markdown_brackets.specs.Openers.{Waiting, before}
 
--- the link leads to this node
+-- a link leads to this node
 abbrev pub leads_to : Option ℕ → ℕ → Bool
 leads_to None node = false
 leads_to (Some next) node = next == node
 
--- openers, of which the nearest goes where this node follows it
+-- the openers, without the nearest one if this node is directly after it
 abbrev pub without_second : List (Node Item) → ℕ → List Waiting → List Waiting
 without_second nodes node [] = []
 without_second nodes node (w ∷ waiting) =

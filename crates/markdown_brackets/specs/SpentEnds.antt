@@ -1,8 +1,8 @@
--- The ends of closing brackets that can be no references any more, as a set holds them.
+-- The ends of closing brackets that can no longer be references, as a set.
 use Rattle.std.specs.Prelude.{ℕ, Bool, nat_eq}
 use Rattle.std.specs.HashSet.{contains}
 use Rattle.markdown_brackets.specs.declared.spent_ends.SpentEnds.{SpentEnds}
 
--- the `]` that ends there can be no reference any more
+-- the `]` that ends at this byte offset can no longer be a reference
 abbrev pub is_spent : SpentEnds → ℕ → Bool
 is_spent spent end = contains nat_eq spent.ends end

@@ -26,27 +26,27 @@ use Rattle.markdown_brackets.specs.declared.openers.Opener.{Opener}
 use Rattle.markdown_brackets.specs.declared.spent_ends.SpentEnds.{SpentEnds}
 use Rattle.markdown_document.specs.declared.chain_place.ChainPlace.{ChainPlace}
 
--- an opener can be tried: it is there, and ends with its `[`, from which on the text can be read
+-- an opener can be tried: it is a node, and its `[` is at a byte offset from which the text can be read
 pub record CanTry (nodes : List (Node Item)) (place : ChainPlace) (closer opener : ℕ) : Type 0 where
   pub within : opener < length nodes
   pub opens : 0 < (item_at nodes opener).end
   pub reads : CanRead nodes place closer ((item_at nodes opener).end - 1)
 
--- the opener that was taken off a stack is this one of the left list, and reads as its label
+-- the opener that was taken off a stack is this one of the left list, and has its range
 pub record IsTaken (nodes : List (Node Item)) (t : Opener × Bool) (o : Split ℕ) : Type 0 where
   pub opener : t.0 ≡ opener_of o
   pub live : t.1 ≡ is_live o.mark.bracket
   pub starts : (item_at nodes t.0.node).start ≡ start_of o.opener
   pub ends : (item_at nodes t.0.node).end ≡ end_of o.opener
 
--- the opener that was taken off is that of the split
+-- the opener that was taken off a stack, if any, is that of the split
 abbrev pub AreTaken : List (Node Item) → Option (Opener × Bool) → Option (Split ℕ) → Type 0
 AreTaken nodes None None = Unit {0}
 AreTaken nodes None (Some o) = ⊥
 AreTaken nodes (Some t) None = ⊥
 AreTaken nodes (Some t) (Some o) = IsTaken nodes t o
 
--- a `]` is a node, and what stands after it is the chain that its links lead through
+-- the `]` is a node, and the links after it lead through the rest of the chain
 pub record TriesOpener (nodes : List (Node Item)) (closer : ℕ) (could_be : Bool) (taken : Option (Opener × Bool))
     (c : Closing ℕ) (o : Option (Split ℕ)) : Type 0 where
   pub source : List ℕ
@@ -57,7 +57,7 @@ pub record TriesOpener (nodes : List (Node Item)) (closer : ℕ) (could_be : Boo
   pub could : c.could_be_reference ≡ could_be
   pub openers : AreTaken nodes taken o
 
--- what the try comes to, and which ends it used up
+-- the result of trying an opener, and the ends of `]` that it used up
 pub record ComesToOpener {C : Type 0} (step : C → Question → Option Answer → C → Type 0) (w : Around) (c : Closing ℕ)
     (o : Option (Split ℕ)) (limit limit' : ℕ) (uses uses' : List ℕ → ℕ) (spent spent' : SpentEnds)
     (callback callback' : Option C) (found : ClosedBracket) : Type 0 where
@@ -65,7 +65,7 @@ pub record ComesToOpener {C : Type 0} (step : C → Question → Option Answer �
   pub comes : ComesTo step w (opener_tried w c o) more limit limit' uses uses' callback callback' found
   pub spends : (end : ℕ) → is_spent spent' end ≡ (among end more || is_spent spent end)
 
--- a wikilink was found, with its body and what it shows of its nodes, or none was
+-- a returned value is the wikilink with this body and these shown nodes, or `None` if there is none
 abbrev pub IsWikilinkAt : Opener → (end : ℕ) → Option (WikilinkBody × ShownNodes) → Option ClosedBracket → Type 0
 IsWikilinkAt opener end None None = Unit {0}
 IsWikilinkAt opener end None (Some found) = ⊥
@@ -74,7 +74,7 @@ IsWikilinkAt opener end (Some v) (Some (Wikilinked found_opener name pothole sho
     × (found_end ≡ end)
 IsWikilinkAt opener end (Some v) found = ⊥
 
--- the same of trees
+-- a returned value is this wikilink, which shows trees, or `None` if there is none
 abbrev pub IsWikilink : Around → Opener → (end : ℕ) → Forest (Label ℕ) → Option (Wikilink ℕ) → Option ClosedBracket
     → Type 0
 IsWikilink w opener end trees None None = Unit {0}
@@ -84,7 +84,7 @@ IsWikilink w opener end trees (Some v) (Some (Wikilinked found_opener name potho
     × (link_to v.children ≡ Some (first_shown shown)) × (found_end ≡ end)
 IsWikilink w opener end trees (Some v) found = ⊥
 
--- an opener stands before the `]` of a node: the trees between them, and the chain after it
+-- an arena contains the trees between an opener and the `]` of a node, and the chain after that
 pub record StandsBetween (nodes : List (Node Item)) (closer : ℕ) (opener : Opener) (c : Closing ℕ) (o : Split ℕ) : Type
     0 where
   pub source : List ℕ
@@ -97,14 +97,14 @@ pub record StandsBetween (nodes : List (Node Item)) (closer : ℕ) (opener : Ope
   pub starts : (item_at nodes closer).start ≡ start_of c.label
   pub order : start_of c.label ≤ end_of c.label
 
--- the opener that was taken off a stack is this one of the left list, and stands before the `]`
+-- the opener that was taken off a stack is this one of the left list, and precedes the `]`
 pub record IsTakenBefore (nodes : List (Node Item)) (closer : ℕ) (t : Opener × Bool) (c : Closing ℕ) (o : Split ℕ)
     : Type 0 where
   pub opener : t.0 ≡ opener_of o
   pub live : t.1 ≡ is_live o.mark.wikilink
   pub stands : StandsBetween nodes closer t.0 c o
 
--- a wikilink is tried, with the opener that was taken off
+-- the opener with which a wikilink is tried, if any, is that of the split
 abbrev pub TriesWikilink : List (Node Item) → (closer : ℕ) → Option (Opener × Bool) → Closing ℕ → Option (Split ℕ)
     → Type 0
 TriesWikilink nodes closer None c None = Unit {0}
@@ -112,7 +112,7 @@ TriesWikilink nodes closer None c (Some o) = ⊥
 TriesWikilink nodes closer (Some t) c None = ⊥
 TriesWikilink nodes closer (Some t) c (Some o) = IsTakenBefore nodes closer t c o
 
--- what is found is the wikilink of a live opener
+-- a returned value is the wikilink of the opener, if the opener is live and there is one
 abbrev pub FindsWikilink : Around → (end : ℕ) → Closing ℕ → Option (Split ℕ) → Option ClosedBracket → Type 0
 FindsWikilink w end c None found = found ≡ None
 FindsWikilink w end c (Some o) found =

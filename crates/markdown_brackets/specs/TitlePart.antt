@@ -6,14 +6,15 @@ use Rattle.markdown_scan.specs.Unescape.{unescaped}
 use Rattle.markdown_brackets.specs.LinkTail.{past_separator}
 use Rattle.markdown_brackets.specs.LinkTitle.{Title}
 
--- the byte after both and the title, where the title ends at a byte and is written so
+-- the byte offset after both, and the title, if these are its offset and its text as written
 pub record IsTitleText (in_table : Bool) (close end : ℕ) (text : List ℕ) (is_joined : Bool) (found : CowStr) : Type 0
   where
     pub ends : end ≡ close
     pub text_is : text_of found ≡ unescaped in_table text
     pub borrowed : is_joined ≡ false → text_of found ≡ text → IsBorrowed found
 
--- what was found is the title that the definition reads, or what is read of it so far
+-- what is returned is the title with the separator after it or, if there is none, an empty title at the same byte
+-- offset
 abbrev pub IsTitlePart : (List ℕ → Option ℕ) → Bool → List ℕ → ℕ → Option Title → ℕ → CowStr → Type 0
 IsTitlePart skipped in_table text at None end found = IsTitleText in_table at end [] false found
 IsTitlePart skipped in_table text at (Some t) end found =

@@ -1,4 +1,4 @@
--- What contracts see of what is written at an opener and its `]`, in an arena.
+-- What is written at an opener and its `]` in an arena, as contracts describe it.
 use Rattle.std.specs.Prelude.{◌≡◌, ℕ, ◌<◌, ◌≤◌, Bool, List, Option, Some, length, take}
 use Rattle.std.specs.Option.{option_and_then, option_map}
 use Rattle.std.specs.Str.{IsCharBoundary}
@@ -19,7 +19,7 @@ use Rattle.markdown_document.specs.declared.chain_place.ChainPlace.{ChainPlace}
 use Rattle.markdown_brackets.specs.declared.written.Written.{Written}
 use Rattle.markdown_brackets.specs.declared.written.Written.TheVariants.{Nothing, Inline, Label, Footnote}
 
--- it is what is written there
+-- a returned value represents what is written
 abbrev pub IsRead : (in_table : Bool) → decision.Written → Written → Type 0
 IsRead in_table no_link Nothing = Unit {0}
 IsRead in_table (inline_link t) (Inline found) = IsTail in_table t found
@@ -28,7 +28,7 @@ IsRead in_table (link_label kind label end next) (Label found_kind found found_e
 IsRead in_table (footnote_label name) (Footnote found) = text_of found ≡ name
 IsRead in_table other found = ⊥
 
--- the form of a reference of which the `]` is a node's
+-- the form of a reference whose `]` is at a node
 abbrev pub form_ahead : List (Node Item) → ChainPlace → (List ℕ → Option ℕ) → (closer : ℕ) → Form
 form_ahead nodes place skipped closer =
     let next = sibling_of nodes closer in
@@ -36,7 +36,7 @@ form_ahead nodes place skipped closer =
     (item_at nodes closer).end (option_map (item_at nodes) next)
     (option_map (item_at nodes) (option_and_then (sibling_of nodes) next))
 
--- a reference in this form, whose `[` starts at a byte
+-- the reference in this form, whose `[` is at a byte offset
 abbrev pub reference_at : List (Node Item) → ChainPlace → (List ℕ → Option ℕ) → (closer : ℕ) → (could_be : Bool)
     → (start : ℕ) → Form → decision.Written
 reference_at nodes place skipped closer could_be start form =
@@ -45,7 +45,7 @@ reference_at nodes place skipped closer could_be start form =
     (own_label (footnote_style place.options) skipped place.in_table (take place.block_end place.text.now) start end)
     form
 
--- what is written at an opener whose `[` starts at a byte, and at the `]` of a node
+-- what is written at an opener whose `[` is at a byte offset, and at the `]` of a node
 abbrev pub written_at : List (Node Item) → ChainPlace → (List ℕ → Option ℕ) → (closer : ℕ) → (could_be : Bool)
     → (start : ℕ) → decision.Written
 written_at nodes place skipped closer could_be start =
@@ -53,14 +53,13 @@ written_at nodes place skipped closer could_be start =
     (link_tail skipped (starts_from nodes (sibling_of nodes closer)) (take place.block_end place.text.now)
     (item_at nodes closer).end)
 
--- what a form says of a label ends behind a byte
+-- the label of a full reference ends after a byte offset
 abbrev pub EndsBehind : ℕ → Form → Type 0
 EndsBehind at (reference label end) = at < end
 EndsBehind at other = Unit {0}
 
--- it can be read: the `]` stands in a chain; it ends between characters, and each item after it starts there; the
--- opener's
--- `[` stands before it
+-- what is written can be read: the `]` is in a chain, it ends between characters, as each item after it starts, and the
+-- opener's `[` precedes it
 pub record CanRead (nodes : List (Node Item)) (place : ChainPlace) (closer start : ℕ) : Type 0 where
   pub within : closer < length nodes
   pub chain : IsChain nodes (sibling_of nodes closer)

@@ -1,9 +1,9 @@
-//! What byte stands at a place of a text.
+//! Tests of single bytes of a text.
 ghost use Rattle.std.specs.Prelude.{◌≡◌, ◌≢◌, ◌==◌, ◌<◌, ◌+◌, IfSome, IsTrue, drop, length, slice_index};
 ghost use Rattle.std.specs.Option.{option_map};
 ghost use Rattle.markdown_brackets.specs.Reference.{stripped};
 
-/// Whether this byte stands there.
+/// Returns whether the text has this byte at the byte offset `at`.
 pub(crate) fn stands_at(text: &str, at: usize, byte: u8) -> bool
     requires { byte ≢ 0 }
     ensures value { result ≡ (slice_index text.now at == byte) }
@@ -12,7 +12,7 @@ pub(crate) fn stands_at(text: &str, at: usize, byte: u8) -> bool
     text.as_bytes().get(at) == Some(&byte)
 }
 
-/// What follows this ASCII byte, where the text begins with it.
+/// Returns the text after this ASCII byte, if the text begins with it.
 pub(crate) fn after_byte(text: &str, byte: u8) -> Option<&str>
     requires some { byte ≢ 0 }
     requires ascii { byte < 128 }

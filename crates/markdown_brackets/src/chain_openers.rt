@@ -1,12 +1,12 @@
-//! The openers of a chain: those of brackets and those of wikilinks, and what a finished link, image, wikilink or
-//! footnote leaves of them.
+//! The openers of a chain: those of brackets and those of wikilinks, and what is left of them after a finished link,
+//! image, wikilink or footnote reference.
 ghost use Rattle.std.specs.Prelude.{◌≡◌, []};
 ghost use Rattle.markdown_brackets.specs.Openers.{before, before_link, before_wikilink};
 
 use crate::openers::{Opener, OpenerStack};
 use std::alloc::Global;
 
-/// The openers that wait in a chain. An opener `[[` waits on both stacks.
+/// The waiting openers of a chain. An opener `[[` waits on both stacks.
 #[derive(Drop)]
 pub struct ChainOpeners {
     pub brackets: OpenerStack,
@@ -14,7 +14,7 @@ pub struct ChainOpeners {
 }
 
 impl ChainOpeners {
-    /// No openers.
+    /// Returns empty stacks.
     pub fn new(alloc: Global) -> ChainOpeners
         ensures brackets { result.brackets ≡ [] }
         ensures wikilinks { result.wikilinks ≡ [] }
@@ -25,7 +25,7 @@ impl ChainOpeners {
         }
     }
 
-    /// Takes all off, for the next chain.
+    /// Removes all openers, before the next chain.
     pub fn clear(&mut self)
         ensures brackets { self.new.brackets ≡ [] }
         ensures wikilinks { self.new.wikilinks ≡ [] }
@@ -34,8 +34,8 @@ impl ChainOpeners {
         self.wikilinks.clear();
     }
 
-    /// A link or an image was found from this opener on: it and all openers after it are gone, and before a link, not
-    /// before an image, each `[` may become no link any more.
+    /// Removes this opener and all later ones, after a link or an image was found from it on. After a link, but not
+    /// after an image, no earlier `[` can become a link.
     pub fn finish_link(&mut self, opener: Opener)
         ensures brackets { self.new.brackets ≡ before_link opener self.old.brackets }
         ensures wikilinks { self.new.wikilinks ≡ before_link opener self.old.wikilinks }
@@ -48,8 +48,8 @@ impl ChainOpeners {
         }
     }
 
-    /// A wikilink was found from the opener of this number on, as a link or as an image: it and all openers after it
-    /// are gone, each `[` before it may become no link any more, and no opener before it may become a wikilink.
+    /// Removes the opener with this node number and all later ones, after a wikilink was found from it on, as a link or
+    /// as an image. No earlier `[` can become a link, and no earlier opener can become a wikilink.
     pub fn finish_wikilink(&mut self, node: usize)
         ensures brackets { self.new.brackets ≡ before_wikilink node self.old.brackets }
         ensures wikilinks { self.new.wikilinks ≡ [] }
@@ -59,8 +59,8 @@ impl ChainOpeners {
         self.wikilinks.clear();
     }
 
-    /// A footnote reference was found from the opener of this number on: it and all openers after it are gone, and no
-    /// opener before it may become a link or an image.
+    /// Removes the opener with this node number and all later ones, after a footnote reference was found from it on. No
+    /// earlier opener can become a link or an image.
     pub fn finish_footnote(&mut self, node: usize)
         ensures brackets { self.new.brackets ≡ [] }
         ensures wikilinks { self.new.wikilinks ≡ before node self.old.wikilinks }
@@ -69,7 +69,8 @@ impl ChainOpeners {
         self.close_wikilink(node);
     }
 
-    /// Openers from this number on open no wikilink any more, as one whose second bracket became a link or a footnote.
+    /// Removes the wikilink openers from this node number on, for example one whose second bracket became a link or a
+    /// footnote reference.
     pub fn close_wikilink(&mut self, node: usize)
         ensures brackets { self.new.brackets ≡ self.old.brackets }
         ensures wikilinks { self.new.wikilinks ≡ before node self.old.wikilinks }

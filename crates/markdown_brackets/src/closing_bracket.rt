@@ -1,4 +1,4 @@
-//! What a closing bracket becomes: the decision, which reads a tree and changes nothing in it.
+//! What a closing bracket becomes: the result of the decision, which reads a tree and does not change it.
 ghost use Rattle.std.specs.Prelude.{◌≡◌, ◌||◌, ℕ, Bool, List, [], Option, IfErr, IfOk, IfSome, OnErr, OnOk, is_some};
 ghost use Rattle.std.specs.Prelude.{if◌then◌else◌};
 ghost use Rattle.std.specs.Option.{option_map};
@@ -41,19 +41,19 @@ use std::ops::Range;
 pub enum ClosedBracket<'a> {
     /// A Text.
     Text,
-    /// A link or an image, from its opener up to the byte `end`; the chain goes on at the byte `next`.
+    /// A link or an image, from its opener to the byte offset `end`; the chain continues at the byte offset `next`.
     Link {
         opener: Opener,
         target: Target<'a>,
         end: usize,
         next: usize,
     },
-    /// A footnote reference of this name, up to the end of the `]`.
+    /// A footnote reference with this name, from its opener to the end of the `]`.
     Footnote {
         opener: Opener,
         name: CowStr<'a>,
     },
-    /// A wikilink, as a link or as an image, up to the byte `end`.
+    /// A wikilink, as a link or as an image, from its opener to the byte offset `end`.
     Wikilinked {
         opener: Opener,
         name: &'a str,
@@ -63,7 +63,7 @@ pub enum ClosedBracket<'a> {
     },
 }
 
-// An inline link or image, by its tail.
+// Returns the inline link or image with this tail.
 fn inline_link(opener: Opener, tail: LinkTail<'_>) -> ClosedBracket<'_>
     ensures { (w : Around) (o : Split ℕ) (t : scanned.LinkTail) → opener ≡ opener_of o
         → IsTail w.above.in_table t tail.entry
@@ -82,7 +82,8 @@ fn inline_link(opener: Opener, tail: LinkTail<'_>) -> ClosedBracket<'_>
     }
 }
 
-// The `]` that ends the label of a full reference can be no reference any more.
+// Records the end of a full reference's label: the `]` there can no longer be a reference. The only error is
+// `Fault::Memory`.
 fn spend(spent: &mut SpentEnds, link_type: LinkType, end: usize) -> Result<(), Fault>
     ensures spent { OnOk result ((other : ℕ)
         → is_spent spent.new other ≡ (among other (spent_by link_type end []) || is_spent spent.old other)) }
@@ -94,7 +95,9 @@ fn spend(spent: &mut SpentEnds, link_type: LinkType, end: usize) -> Result<(), F
     }
 }
 
-// A reference to a link label, over the bytes `span`: the chain goes on at the byte `next`.
+// Looks up the link label of a reference over the byte range `span`, after which the chain continues at the byte offset
+// `next`. Returns a link or an image, or a Text if nothing is found. The only error is `Fault::Memory`, in which case
+// the callback was not called.
 fn find_reference<'a, F: BrokenLinkCallback<'a>>(
     alloc: Global,
     definitions: &RefDefs<'a>,
@@ -127,7 +130,8 @@ fn find_reference<'a, F: BrokenLinkCallback<'a>>(
     }
 }
 
-// A footnote label: whether it is a reference, which is counted then where it is defined.
+// Returns a footnote reference, or a Text if the label is not one. If the footnote is defined, one more use of it is
+// counted. The only error is `Fault::Memory`.
 fn find_footnote<'a>(
     footnotes: &mut FootnoteDefs,
     style: FootnoteStyle,
@@ -151,8 +155,9 @@ fn find_footnote<'a>(
     Ok(ClosedBracket::Text)
 }
 
-// What is written at an opener, which starts at the byte `start`, and at its `]` comes to: a link label is looked up, a
-// footnote's is counted.
+// Returns what a `]` becomes, from what is written at its opener, which starts at the byte offset `start`: a link label
+// is looked up, and a use of a footnote is counted. The only error is `Fault::Memory`, in which case the callback was
+// not called.
 pub(crate) fn find_written<'a, F: BrokenLinkCallback<'a>>(
     alloc: Global,
     written: Written<'a>,

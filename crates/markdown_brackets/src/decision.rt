@@ -1,4 +1,4 @@
-//! The decision what a closing bracket becomes: it reads a tree, and changes nothing in it.
+//! The decision what a closing bracket becomes: it reads a tree and does not change it.
 ghost use Rattle.std.specs.Prelude.{◌≡◌, ◌<◌, ◌&&◌, ℕ, Bool, List, Option, IfErr, IfOk, IfSome, OnErr, is_some, length};
 ghost use Rattle.std.specs.Prelude.{not};
 ghost use Rattle.markdown_base.specs.declared.fault.Fault.{Fault};
@@ -35,8 +35,8 @@ use markdown_document::chain_place::ChainPlace;
 use markdown_scan::line_rule::LineRule;
 use std::alloc::Global;
 
-/// What a `]`, the node `closer`, becomes by the opener that was taken off for it: a link or an image, a footnote
-/// reference, or a Text. The only error is `Fault::Memory`; then nobody was asked.
+/// Returns what the `]` at the node `closer` becomes with the opener that was taken for it: a link or an image, a
+/// footnote reference, or a Text. The only error is `Fault::Memory`, in which case the callback was not called.
 pub fn try_opener<'a, R: LineRule, F: BrokenLinkCallback<'a>>(
     alloc: Global,
     tree: &Tree<Item>,
@@ -89,7 +89,7 @@ pub fn try_opener<'a, R: LineRule, F: BrokenLinkCallback<'a>>(
     )
 }
 
-// Whether a pipe stands in a wikilink's body.
+// Returns whether a wikilink's body contains a pipe.
 fn has_pothole(shown: Shown) -> bool
     ensures { result ≡ has_pothole (shown_view shown) }
 {
@@ -99,8 +99,8 @@ fn has_pothole(shown: Shown) -> bool
     }
 }
 
-// The wikilink of an opener, whose body stands before the node `closer`, the first of its two `]`; the second ends at
-// the byte `end`. None where there is none.
+// Returns the wikilink of an opener whose body ends before the node `closer`, the first of its two `]`; the second ends
+// at the byte offset `end`. Returns `None` if there is no wikilink.
 fn find_wikilink<'a>(
     tree: &Tree<Item>,
     opener: Opener,
@@ -126,8 +126,8 @@ fn find_wikilink<'a>(
     })
 }
 
-/// The wikilink of the opener that was taken off for two `]`, of which the first is the node `closer` and the second
-/// ends at the byte `end`. None where there is none.
+/// Returns the wikilink of the opener that was taken for two `]`, the first of which is the node `closer`; the second
+/// ends at the byte offset `end`. Returns `None` if there is no wikilink.
 pub fn try_wikilink<'a>(
     tree: &Tree<Item>,
     closer: usize,
@@ -149,7 +149,7 @@ pub fn try_wikilink<'a>(
     find_wikilink(tree, opener, closer, place, end)
 }
 
-// The wikilink that a `]` ends with the one after it, if there is one. An opener that was tried is taken off.
+// Returns the wikilink that a `]` and the next one close, if there is one. An opener that was tried is removed.
 fn take_wikilink<'a>(
     tree: &Tree<Item>,
     closer: usize,
@@ -177,16 +177,17 @@ fn take_wikilink<'a>(
     try_wikilink(tree, closer, place, taken, second.end)
 }
 
-// Whether a `]` that ends at a byte could be a reference, and is not used up.
+// Returns whether the `]` that ends at the byte offset `end` could be a reference, and is not the end of an earlier
+// reference's label.
 fn could_still_be(could_be: bool, spent: &SpentEnds, end: usize) -> bool
     ensures { result ≡ (could_be && not (is_spent spent.now end)) }
 {
     could_be && !spent.contains(end)
 }
 
-/// Decides what a `]`, the node `closer`, becomes: by the openers that wait, by the items after it, by what is defined,
-/// and by what is answered. The openers that were tried are taken off. The only error is `Fault::Memory`; then nobody
-/// was asked.
+/// Returns what the `]` at the node `closer` becomes, which depends on the waiting openers, the items after it, the
+/// definitions, and the answers of the callback. The openers that were tried are removed. The only error is
+/// `Fault::Memory`, in which case the callback was not called.
 pub fn decide_bracket<'a, R: LineRule, F: BrokenLinkCallback<'a>>(
     alloc: Global,
     tree: &Tree<Item>,

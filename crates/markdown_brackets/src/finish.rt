@@ -1,4 +1,4 @@
-//! What a finished link, image, wikilink or footnote reference leaves of the openers that wait.
+//! The openers that still wait after a finished link, image, wikilink or footnote reference.
 ghost use Rattle.std.specs.Prelude.{◌≡◌, ◌<◌, ℕ, List, length};
 ghost use Rattle.markdown_brackets.specs.BracketDecision.{Around, Becomes, Closing, Progress};
 ghost use Rattle.markdown_brackets.specs.ClosingBracket.{put};
@@ -15,7 +15,7 @@ use crate::closing_bracket::ClosedBracket;
 use markdown_base::item::Item;
 use markdown_base::tree::Tree;
 
-// Whether the node `ix` leads to this one.
+// Returns whether the next sibling of the node `ix` is `node`.
 fn leads_to(tree: &Tree<Item>, ix: usize, node: usize) -> bool
     requires { ix < length tree.now.nodes }
     ensures { result ≡ leads_to (sibling_of tree.now.nodes ix) node }
@@ -26,7 +26,7 @@ fn leads_to(tree: &Tree<Item>, ix: usize, node: usize) -> bool
     }
 }
 
-// The openers from a node on open no wikilink any more, and neither does the one whose second bracket it is.
+// Removes the wikilink openers from a node on, and the one whose second bracket is the node.
 fn close_second(openers: &mut ChainOpeners, tree: &Tree<Item>, node: usize)
     requires { EachOpener (λ n. n < length tree.now.nodes) openers.old.wikilinks }
     ensures brackets { openers.new.brackets ≡ openers.old.brackets }
@@ -41,8 +41,8 @@ fn close_second(openers: &mut ChainOpeners, tree: &Tree<Item>, node: usize)
     }
 }
 
-/// Takes off the openers that wait no more once this is put: none for a Text. The tree is as it was when that was
-/// decided.
+/// Removes the openers that no longer wait after a `]` became `found`; none if it became a Text. The tree is the one
+/// that the decision read, before any change.
 pub fn finish_bracket(openers: &mut ChainOpeners, tree: &Tree<Item>, found: &ClosedBracket<'_>)
     requires { EachOpener (λ n. n < length tree.now.nodes) openers.old.wikilinks }
     ensures { (w : Around) (c : Closing ℕ) (closer : ℕ) (left : List (Entry ℕ)) (becomes : Becomes ℕ) (p : Progress ℕ)

@@ -1,4 +1,4 @@
-//! Footnote references: how they are written, and how their uses are counted.
+//! Footnote references: their styles, and the counts of their uses.
 ghost use Rattle.std.specs.Prelude.{◌≡◌, ℕ, List, IfErr, IfOk, OnErr, OnOk, if◌then◌else◌, is_some};
 ghost use Rattle.std.specs.Option.{option_map};
 ghost use Rattle.markdown_base.specs.declared.fault.Fault.{Fault};
@@ -9,19 +9,19 @@ ghost use Rattle.markdown_brackets.specs.FootnoteUse.{is_reference};
 use markdown_base::fault::Fault;
 use markdown_defs::FootnoteDefs;
 
-/// How footnotes are written.
+/// The style of footnotes.
 #[derive(Clone, Copy, Debug, PartialEq, Eq, Drop)]
 pub enum FootnoteStyle {
-    /// Not at all.
+    /// Footnotes are not enabled.
     Off,
-    /// As GitHub does: a label stands on one line, and one that is defined nowhere is text.
+    /// GitHub's style: a label is on one line, and one that is not defined is text.
     Gfm,
-    /// The older way: a label may go over lines, and is a reference also where it is defined nowhere.
+    /// The old style: a label may continue on further lines, and is a reference even if it is not defined.
     Old,
 }
 
-/// Whether a footnote label of this name is a reference. If it is defined, one more use of it is counted. The only
-/// error is `Fault::Memory`; then nothing has changed.
+/// Returns whether a footnote label with this name is a reference. If the footnote is defined, one more use of it is
+/// counted. The only error is `Fault::Memory`, after which nothing has changed.
 pub fn use_footnote(
     footnotes: &mut FootnoteDefs,
     style: FootnoteStyle,

@@ -1,19 +1,19 @@
-//! The items that stand after a closing bracket.
+//! The items after a closing bracket.
 ghost use Rattle.std.specs.Prelude.{◌≡◌, ◌≤◌, ℕ, Option};
 
-/// The items after a `]`, of which a link's title asks where its lines go on.
+/// The items after a `]`, which determine where the lines of a link's title continue.
 pub trait ItemsAfter {
-    /// The start of the first of them whose end is past a byte.
+    /// The start of the first item that ends after a byte offset.
     ghost starts: { Self → ℕ → Option ℕ };
 
-    /// The start of the first item whose end is past the byte `at`. It is asked about bytes in rising order, so that
-    /// items which end before may be forgotten.
+    /// Returns the start of the first item that ends after the byte offset `at`. The offsets of successive calls must
+    /// rise, so that items that end earlier can be forgotten.
     fn start_of_first_past(&mut self, at: usize) -> Option<usize>
         ensures value { result ≡ starts self.old at }
         ensures later { (n : ℕ) → at ≤ n → starts self.new n ≡ starts self.old n };
 }
 
-/// No item follows.
+/// The items after a `]` that is the last item: none.
 #[derive(Debug, Drop)]
 pub struct NoItems;
 

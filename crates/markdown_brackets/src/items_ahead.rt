@@ -1,4 +1,4 @@
-//! The items that stand in a chain of a tree from a link on.
+//! The items of a chain of a tree, from a link on.
 ghost use Rattle.std.specs.Prelude.{◌≡◌, ◌<◌, IfSome, length};
 ghost use Rattle.std.specs.Option.{option_and_then, option_map};
 ghost use Rattle.markdown_base.specs.Arena.{sibling_of};
@@ -12,7 +12,7 @@ use crate::reference::is_closer;
 use markdown_base::item::Item;
 use markdown_base::tree::Tree;
 
-/// The first node from a link on whose item ends past a byte.
+/// Returns the first node, from the link `first` on, whose item ends after a byte offset.
 pub(crate) fn first_past(tree: &Tree<Item>, first: Option<usize>, byte: usize) -> Option<usize>
     requires { IsChain tree.now.nodes first }
     ensures chain { IsChain tree.now.nodes result }
@@ -32,7 +32,7 @@ pub(crate) fn first_past(tree: &Tree<Item>, first: Option<usize>, byte: usize) -
     None
 }
 
-/// The item that a link leads to.
+/// Returns the item that a link leads to.
 pub(crate) fn linked_item(tree: &Tree<Item>, link: Option<usize>) -> Option<Item>
     requires { IfSome link (λ ix. ix < length tree.now.nodes) }
     ensures { result ≡ option_map (item_at tree.now.nodes) link }
@@ -43,7 +43,7 @@ pub(crate) fn linked_item(tree: &Tree<Item>, link: Option<usize>) -> Option<Item
     }
 }
 
-/// The link that follows the node that a link leads to.
+/// Returns the link to the next sibling of the node that a link leads to.
 pub(crate) fn link_after(tree: &Tree<Item>, link: Option<usize>) -> Option<usize>
     requires { IfSome link (λ ix. ix < length tree.now.nodes) }
     ensures value { result ≡ option_and_then (sibling_of tree.now.nodes) link }
@@ -55,7 +55,8 @@ pub(crate) fn link_after(tree: &Tree<Item>, link: Option<usize>) -> Option<usize
     }
 }
 
-/// Whether the first item from a link on that reaches a byte is a `]` that ends there.
+/// Returns whether the first item, from the link `first` on, that ends at the byte offset `end` or later is a `]` that
+/// ends there.
 pub(crate) fn reaches_closer(tree: &Tree<Item>, first: Option<usize>, end: usize) -> bool
     requires chain { IsChain tree.now.nodes first }
     requires some { 0 < end }
@@ -67,7 +68,7 @@ pub(crate) fn reaches_closer(tree: &Tree<Item>, first: Option<usize>, end: usize
     }
 }
 
-/// The items of a chain from a link on, of which those that end before the byte that was asked about are forgotten.
+/// The items of a chain from a link on, without those that a call has passed already.
 #[derive(Drop)]
 pub(crate) struct ItemsAhead<'r> {
     pub(crate) tree: &'r Tree<Item>,

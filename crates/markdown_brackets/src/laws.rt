@@ -13,7 +13,7 @@ ghost use Rattle.markdown_brackets.specs.QuietItems.{QuietItemsLaw};
 ghost use Rattle.markdown_brackets.specs.LookupLaws.{AsksOnceAtMost, FindsNothingAtZero, HandsOnLaterAnswers};
 ghost use Rattle.markdown_brackets.specs.LookupLaws.{TakesItsBytes};
 
-/// A look-up asks at most one question, and none at a limit of 0, where it finds nothing.
+/// States that a look-up asks at most one question, and that at a limit of 0 it asks none and finds nothing.
 pub fn look_up_asks_once_at_most(limit: usize)
     ensures once { (defined : List Labelled) (asks : Bool) (answers : Answers) (q : Question)
         → AsksOnceAtMost defined asks limit answers q }
@@ -21,73 +21,76 @@ pub fn look_up_asks_once_at_most(limit: usize)
         → FindsNothingAtZero defined asks answers q }
 {}
 
-/// With one answer for each question a look-up finds the same whatever answers follow, which are handed on.
+/// States that a look-up with one answer for each question has the same result whatever answers follow, and leaves
+/// those.
 pub fn look_up_hands_on_later_answers(limit: usize)
     ensures { (defined : List Labelled) (asks : Bool) (q : Question) (answers later : Answers)
         → HandsOnLaterAnswers defined asks limit q answers later }
 {}
 
-/// What a look-up finds takes its bytes off the limit, as far as there are so many.
+/// States that a look-up lowers the limit by at most the number of bytes of what it finds.
 pub fn look_up_takes_its_bytes(limit: usize)
     ensures { (defined : List Labelled) (asks : Bool) (answers : Answers) (q : Question)
         → TakesItsBytes defined asks limit answers q }
 {}
 
-/// A `]` asks at most one question, and none at a limit of 0; with one answer for each question it makes the same of a
-/// chain whatever answers follow, which are handed on.
+/// States that a `]` asks at most one question, and none at a limit of 0, and that with one answer for each question it
+/// has the same effect on a chain whatever answers follow, and leaves those.
 pub fn closing_bracket_asks_once_at_most()
     ensures { ClosedLaw ℕ × ClosedLaw ⊤ }
 {}
 
-/// With one answer for each question a chain reads the same whatever answers follow, which are handed on, if the rule
-/// for items that are no brackets does so.
+/// States that a chain with one answer for each question is read in the same way whatever answers follow, and leaves
+/// those, if this holds for the rule for items other than brackets.
 pub fn chain_hands_on_later_answers()
     ensures { ChainLaw ℕ × ChainLaw ⊤ }
 {}
 
-/// A chain asks at most one question for each of its `]`, and none at a limit of 0, if the rule for items that are no
-/// brackets asks nothing.
+/// States that a chain asks at most one question for each of its `]`, and none at a limit of 0, if the rule for items
+/// other than brackets asks none.
 pub fn chain_asks_once_for_each_bracket()
     ensures { QuestionCountLaw ℕ × QuestionCountLaw ⊤ }
 {}
 
-/// No two questions of a chain end at the same byte, if its items stand in order and over their markup, the rule for
-/// items that are no brackets asks nothing, and no `[` stands in the prefix of a line.
+/// States that no two questions of a chain end at the same byte offset, if its items are in order and their source is
+/// their markup, the rule for items other than brackets asks no questions, and no line prefix contains a `[`.
 pub fn no_two_questions_end_together()
     ensures { QuestionEndsLaw ℕ × QuestionEndsLaw ⊤ }
 {}
 
-/// No link stands in a link but an autolink, whatever chain is read, if no link stands in it already and the rule for
-/// items that are no brackets makes none but autolinks.
+/// States that no link contains a link other than an autolink once a chain is read, if the chain contains no links
+/// other than autolinks and the rule for items other than brackets adds none.
 pub fn no_link_stands_in_a_link()
     ensures { NoLinkLaw ℕ × NoLinkLaw ⊤ }
 {}
 
-/// Reading makes no chain heavier, if the rule for items that are no brackets adds no more than its item weighs.
+/// States that reading does not increase the weight of a chain, if the rule for items other than brackets adds at most
+/// the weight of its item.
 pub fn brackets_make_no_chain_heavier()
     ensures { BracketWeightLaw ℕ × BracketWeightLaw ⊤ }
 {}
 
-/// Brackets leave nothing open: a test that each event and each enclosing tag passes is passed by all that is read, if
-/// what the rule for other items puts passes it, and what stands below the chain's items.
+/// States that brackets leave nothing open: all that is read passes a test that each event and each enclosing tag
+/// passes, if what the rule for other items adds passes it, and what is below the chain's items.
 pub fn brackets_leave_nothing_open()
     ensures { KeptShapesLaw ℕ × KeptShapesLaw ⊤ }
 {}
 
-/// Tags say nothing to brackets: a chain without its tags reads as the chain does, but for the tags, if the rule for
-/// items that are no brackets looks at no tag.
+/// States that brackets do not depend on tags: a chain without its tags is read as the chain is, except for the tags,
+/// if this holds for the rule for items other than brackets.
 pub fn tags_say_nothing_to_brackets()
     ensures { TagLaw ℕ ⊤ }
 {}
 
-/// A chain whose first item is open begins, once it is read, with a tree that passes a test that each event passes and
-/// each enclosing tag, if the first tree that the rule for other items puts passes it: so it is never plain.
+/// States that a chain whose first item is open, once it is read, begins with a tree that passes any test that each
+/// event and each enclosing tag passes, if the first tree that the rule for other items adds passes it. So the first
+/// tree is never plain.
 pub fn first_tree_of_an_open_chain_passes()
     ensures { BeginsLaw ℕ × BeginsLaw ⊤ }
 {}
 
-/// A chain in which nothing is open but runs and quotes is left as it is, and nothing is asked, if the rule for items
-/// that are no brackets leaves such items.
+/// States that a chain in which only delimiter runs and quotes are open is left unchanged, and asks no questions, if
+/// the rule for items other than brackets leaves such items unchanged.
 pub fn runs_and_quotes_are_left_alone()
     ensures { QuietItemsLaw ℕ × QuietItemsLaw ⊤ }
 {}

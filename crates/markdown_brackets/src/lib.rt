@@ -1,5 +1,5 @@
-//! What a closing bracket finds, as far as it is no matter of the tree: the tail of an inline link, labels and the form
-//! of a reference, look-ups, footnotes, the body of a wikilink, and the openers that wait.
+//! What closing brackets become: the tails of inline links, labels and the forms of references, look-ups, footnotes,
+//! the bodies of wikilinks, the waiting openers, and the decision, which reads a tree.
 #![tactic(auto)]
 
 mod byte_at;

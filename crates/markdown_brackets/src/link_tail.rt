@@ -17,20 +17,20 @@ use markdown_scan::line_rule::LineRule;
 use markdown_scan::unescape::unescape;
 use std::alloc::{AllocError, Global};
 
-/// No more than so many parentheses may be open in a destination where another one is opened.
+/// The maximum number of parentheses that are open in a destination where another one is opened.
 pub const MAX_NESTING: usize = 32;
 
-/// What stands after the `]` of an inline link.
+/// What follows the `]` of an inline link.
 #[derive(Debug, Drop)]
 pub struct LinkTail<'t> {
-    /// The byte after the `)`.
+    /// The byte offset after the `)`.
     pub end: usize,
     pub destination: CowStr<'t>,
-    /// Empty where there is none.
+    /// Empty if there is no title.
     pub title: CowStr<'t>,
 }
 
-// The byte after the separator at the byte `at`.
+// Returns the byte offset after the separator at the byte offset `at`.
 fn past_separator<R: LineRule>(text: &str, at: usize, rule: &R) -> usize
     requires { IsCharBoundary text.now at }
     ensures value { result ≡ past_separator (R.skipped rule.now) text.now at }
@@ -39,7 +39,8 @@ fn past_separator<R: LineRule>(text: &str, at: usize, rule: &R) -> usize
     at + scan_separator(&text[at..], rule)
 }
 
-// The length and the text of the destination at the byte `at`, which may be left out before a `)` alone.
+// Returns the length in bytes and the text of the destination at the byte offset `at`. A destination may be left out
+// only before a `)`.
 fn scan_destination(text: &str, at: usize) -> Option<(usize, &str)>
     requires { IsCharBoundary text.now at }
     ensures value { option_map (λ p. (p.0, p.1.now)) result ≡ destination_at text.now at }
@@ -56,7 +57,8 @@ fn scan_destination(text: &str, at: usize) -> Option<(usize, &str)>
     Some((length, written))
 }
 
-// The byte after the title at the byte `at`, if there is one, and after the separator behind it; and the title.
+// Returns the title at the byte offset `at`, and the byte offset after it and the separator that follows; `at` and an
+// empty title if there is none. The error is a refused allocation.
 fn scan_title_part<'t, R: LineRule, I: ItemsAfter>(
     alloc: Global,
     text: &'t str,
@@ -77,9 +79,10 @@ fn scan_title_part<'t, R: LineRule, I: ItemsAfter>(
     }
 }
 
-/// The tail of an inline link that stands at the byte `at` of the text, directly after a `]`: `(`, a separator, the
-/// destination, a separator, a title and a separator if there is one, `)`. Escapes and entities in the destination and
-/// the title are replaced; either is a slice of the source where it does not change. None where no tail stands there.
+/// Returns the tail of an inline link at the byte offset `at` of the text, directly after a `]`: `(`, a separator, the
+/// destination, a separator, perhaps a title and a separator, and `)`. Escapes and entities in the destination and the
+/// title are replaced; either is a slice of the source if it does not change. Returns `None` if there is no tail at
+/// `at`. The error is a refused allocation. Upstream: `scan_inline_link`.
 pub fn scan_link_tail<'t, R: LineRule, I: ItemsAfter>(
     alloc: Global,
     text: &'t str,

@@ -11,7 +11,7 @@ use crate::title_text::TitleText;
 use markdown_base::cow_str::CowStr;
 use std::alloc::{AllocError, Global};
 
-// The mark that closes a title which this byte opens.
+// Returns the mark that closes a title which this byte opens; `None` if it opens none.
 fn closer_of(byte: u8) -> Option<u8>
     ensures value { result ≡ title.closer_of byte }
     ensures ascii { IfSome result (λ closer. (byte < 128) × (closer < 128)) }
@@ -23,7 +23,7 @@ fn closer_of(byte: u8) -> Option<u8>
     }
 }
 
-// The mark that closes a title which the byte at `at` opens.
+// Returns the mark that closes a title which the byte at the offset `at` opens; `None` if it opens none.
 fn closer_at(text: &str, at: usize) -> Option<u8>
     ensures value { result ≡ title.first_closer (drop at text.now) }
     ensures ascii { IfSome result (λ closer.
@@ -35,21 +35,22 @@ fn closer_at(text: &str, at: usize) -> Option<u8>
     }
 }
 
-// The byte is this mark, and not escaped.
+// Returns whether the byte is this mark and is not escaped.
 fn is_bare(escaped: bool, byte: u8, what: u8) -> bool
     ensures { result ≡ backslash.is_bare escaped byte what }
 {
     !escaped && byte == what
 }
 
-// An open parenthesis in a title in parentheses.
+// Returns whether the byte is an open parenthesis that a title in parentheses may not contain.
 fn refuses(closer: u8, escaped: bool, byte: u8) -> bool
     ensures { result ≡ title.refuses closer escaped byte }
 {
     closer == b')' && is_bare(escaped, byte, b'(')
 }
 
-// Where a title goes on past the byte at `at`, if that ends a line and an item starts later.
+// Returns the byte offset where a title continues, if the byte at the offset `at` ends a line and the next item starts
+// later.
 fn next_line<I: ItemsAfter>(items: &mut I, at: usize, byte: u8) -> Option<usize>
     requires { at + 1 < 2 ^ 64 }
     ensures value { result ≡ title.next_line (I.starts items.old) at byte }
@@ -65,8 +66,9 @@ fn next_line<I: ItemsAfter>(items: &mut I, at: usize, byte: u8) -> Option<usize>
     }
 }
 
-// A title from the byte `start` up to the mark that closes it: the byte after that mark, and its text. None where it
-// would go on past the text's end.
+// Reads a title from the byte offset `start` to the mark that closes it. Returns the byte offset after that mark, and
+// the title's text; `None` if no mark closes it, a line of it continues after the text's end, or it contains a `(` that
+// is not allowed. The error is a refused allocation.
 fn scan_title_text<'t, I: ItemsAfter>(
     alloc: Global,
     text: &'t str,
@@ -111,9 +113,11 @@ fn scan_title_text<'t, I: ItemsAfter>(
     Ok(None)
 }
 
-/// The title that stands at the byte `at` of the text: the byte after it, and what it stands for. It stands between
-/// equal `'`, equal `"`, or `(` and `)`; a second `(` refuses it. Where a line of it ends and an item starts later, a
-/// line feed stands for all up to that item. A text that does not change is a slice of the source.
+/// Reads the link title at the byte offset `at` of the text. Returns the byte offset after it, and its text with
+/// escapes and entities replaced; `None` if there is no title. A title is enclosed in `'`, in `"`, or in `(` and `)`,
+/// in which case it contains no other unescaped `(`. If a line of it ends and the next item starts later, a line feed
+/// replaces everything up to that item. A text that does not change is a slice of the source. The error is a refused
+/// allocation. Upstream: `scan_link_title`.
 pub fn scan_link_title<'t, I: ItemsAfter>(
     alloc: Global,
     text: &'t str,

@@ -1,4 +1,4 @@
-//! Look-ups of link labels, and questions about those that are defined nowhere.
+//! Look-ups of link labels, and questions to the callback about labels that are not defined.
 ghost use Rattle.std.specs.Prelude.{◌≡◌, ◌-◌, IfErr, IfOk, IfSome, OnErr, is_some, unwrap_or, length, []};
 ghost use Rattle.std.specs.Option.{option_map};
 ghost use Rattle.markdown_base.specs.BlockParts.{definition_view};
@@ -17,18 +17,18 @@ use markdown_defs::{BrokenLink, BrokenLinkCallback, RefDefs};
 use std::alloc::Global;
 use std::ops::Range;
 
-/// Where a link leads.
+/// The target of a link.
 #[derive(Debug, Drop)]
 pub struct Target<'a> {
     pub link_type: LinkType,
     pub destination: CowStr<'a>,
-    /// Empty where there is none.
+    /// Empty if there is no title.
     pub title: CowStr<'a>,
     /// The link label.
     pub id: CowStr<'a>,
 }
 
-// The type of a link whose label a callback knew.
+// Returns the type of a link whose label the callback resolved.
 fn unknown(link_type: LinkType) -> LinkType
     ensures { result ≡ lookup.unknown link_type }
 {
@@ -49,7 +49,7 @@ fn title_or_empty(title: Option<CowStr<'_>>) -> CowStr<'_>
     }
 }
 
-// The link to a definition.
+// Returns the link to a definition. The only error is `Fault::Memory`.
 fn defined_target<'a>(
     alloc: Global,
     definition: &LinkDef<'a>,
@@ -69,7 +69,7 @@ fn defined_target<'a>(
     })
 }
 
-// The link that an answer gives.
+// Returns the link for an answer of the callback; `None` if it resolves nothing.
 fn answered_target<'a>(
     answer: Option<(CowStr<'a>, CowStr<'a>)>,
     link_type: LinkType,
@@ -92,7 +92,8 @@ fn answered_target<'a>(
     }
 }
 
-// What a callback, if there is one, answers about a label that is defined nowhere.
+// Calls the callback, if there is one, for a label that is not defined, and returns the link for its answer. The only
+// error is `Fault::Memory`, in which case the callback was not called.
 fn ask<'a, F: BrokenLinkCallback<'a>>(
     alloc: Global,
     callback: &mut Option<F>,
@@ -121,7 +122,8 @@ fn ask<'a, F: BrokenLinkCallback<'a>>(
     Ok(answered_target(answer, link_type, id))
 }
 
-// What the label finds: its definition, or what is answered about it.
+// Returns the link to the label's definition or, without one, the link for the callback's answer. The only error is
+// `Fault::Memory`, in which case the callback was not called.
 fn find_target<'a, F: BrokenLinkCallback<'a>>(
     alloc: Global,
     definitions: &RefDefs<'a>,
@@ -144,7 +146,7 @@ fn find_target<'a, F: BrokenLinkCallback<'a>>(
     }
 }
 
-// What is left of the limit after a link, if there is one.
+// Returns the limit that is left after a link was found, or after nothing was found.
 fn limit_after(limit: usize, target: &Option<Target<'_>>) -> usize
     ensures { result ≡ lookup.limit_after limit (option_map target_view target.now) }
 {
@@ -156,10 +158,11 @@ fn limit_after(limit: usize, target: &Option<Target<'_>>) -> usize
     }
 }
 
-/// The look-up of a link label, which stands over the bytes `span` in the form `link_type`. At a limit of 0 nothing is
-/// found, and nothing asked. Else the definition of equal case folding is found, or, where there is none and there is a
-/// callback, it is asked once. What is found takes the bytes of its destination and title off the limit, but not below
-/// 0. The only error is `Fault::Memory`; then nothing was asked, and the limit is as it was.
+/// Looks up the link label of a reference over the byte range `span`, in the form `link_type`. At a limit of 0, nothing
+/// is found and the callback is not called. Otherwise, the definition with equal case folding is found; if there is
+/// none and there is a callback, that is called once. The limit falls by the number of bytes of the destination and
+/// title that are found, but not below 0. The only error is `Fault::Memory`, in which case the callback was not called
+/// and the limit is unchanged. Upstream: `fetch_link_type_url_title`.
 pub fn look_up_label<'a, F: BrokenLinkCallback<'a>>(
     alloc: Global,
     definitions: &RefDefs<'a>,

@@ -1,4 +1,4 @@
-//! The openers that wait for a `]`.
+//! Openers that wait for a `]`.
 ghost use Rattle.std.specs.Prelude.{◌≡◌, ◌≤◌, ℕ, length, take};
 ghost use Rattle.markdown_brackets.specs.Openers.{before};
 ghost use Rattle.markdown_brackets.specs.OpenerStack.{waiting};
@@ -7,23 +7,25 @@ use markdown_base::fault::Fault;
 use std::alloc::Global;
 use std::marker::Model;
 
-/// An opener: the number of its node, and whether it is an image's.
+/// An opener: the number of its node, and whether it is that of an image.
 #[derive(Clone, Copy, Debug, PartialEq, Eq, Drop)]
 pub struct Opener {
     pub node: usize,
     pub is_image: bool,
 }
 
-/// Openers that wait, and which of them may still become links. Its memory is kept when it is emptied.
+/// A stack of waiting openers, and which of them can still become links. Its allocation is kept when it is emptied.
+/// Upstream: `LinkStack`.
 #[derive(Drop)]
 pub struct OpenerStack {
-    /// In the order in which they were met.
+    /// In the order in which they were read.
     openers: Vec<Opener>,
-    /// A `[` before this place may become no link any more: one number, so that no link has to go through the stack.
+    /// A `[` before this position can no longer become a link: a single number, so that a link need not change each
+    /// opener of the stack.
     live_from: usize,
 }
 
-// How many openers stand before the nearest ones whose numbers are this one or greater.
+// Returns the number of openers before the nearest ones with node numbers of at least `node`.
 fn count_before(openers: &[Opener], node: usize) -> usize
     ensures within { result ≤ length openers.now }
     ensures value { (n : ℕ) → before node (waiting n openers.now) ≡ waiting n (take result openers.now) }
@@ -55,7 +57,7 @@ impl OpenerStack {
     ghost use Rattle.markdown_base.specs.declared.fault.Fault.{Fault};
     ghost use Rattle.markdown_brackets.specs.Openers.{live, disabled, before, first_opener};
 
-    /// No openers.
+    /// Returns an empty stack.
     pub fn new(alloc: Global) -> OpenerStack
         ensures { result ≡ [] }
     {
@@ -65,7 +67,7 @@ impl OpenerStack {
         }
     }
 
-    /// One more, the nearest. The only error is `Fault::Memory`; then nothing has changed.
+    /// Adds an opener as the nearest one. The only error is `Fault::Memory`, after which nothing has changed.
     pub fn push(&mut self, opener: Opener) -> Result<(), Fault>
         ensures put { OnOk result (self.new ≡ live opener ∷ self.old) }
         ensures refused { IfErr result (λ fault. fault ≡ Fault.Memory) }
@@ -75,14 +77,14 @@ impl OpenerStack {
         Ok(())
     }
 
-    /// The nearest.
+    /// Returns the nearest opener.
     pub fn nearest(&self) -> Option<Opener>
         ensures { result ≡ first_opener self.now }
     {
         self.openers.last().copied()
     }
 
-    /// Takes the nearest off, and tells whether it may still become a link.
+    /// Removes the nearest opener, and returns it and whether it can still become a link or an image.
     pub fn take_nearest(&mut self) -> Option<(Opener, bool)>
         ensures { MatchOption result ((self.old ≡ []) × (self.new ≡ []))
             (λ taken. self.old ≡ record { opener = taken.0; is_live = taken.1 } ∷ self.new) }
@@ -96,14 +98,14 @@ impl OpenerStack {
         Some((opener, opener.is_image))
     }
 
-    /// Each `[` may become no link any more.
+    /// Prevents each `[` on the stack from becoming a link.
     pub fn disable_brackets(&mut self)
         ensures { self.new ≡ map disabled self.old }
     {
         self.live_from = self.openers.len();
     }
 
-    /// Takes off the nearest ones, as far as their numbers are this one or greater.
+    /// Removes the nearest openers, as long as their node numbers are at least `node`.
     pub fn drop_from(&mut self, node: usize)
         ensures { self.new ≡ before node self.old }
     {
@@ -112,7 +114,7 @@ impl OpenerStack {
         self.live_from = self.live_from.min(left);
     }
 
-    /// Takes all off.
+    /// Removes all openers.
     pub fn clear(&mut self)
         ensures { self.new ≡ [] }
     {

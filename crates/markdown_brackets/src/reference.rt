@@ -1,4 +1,4 @@
-//! Labels, and the form of a reference (CommonMark 6.3).
+//! Link labels, footnote labels, and the form of a reference (CommonMark 6.3).
 ghost use Rattle.std.specs.Prelude.{◌≡◌, ◌≤◌, ◌+◌, ◌<◌, ◌^◌, ◌&&◌, ℕ, Bool, true, List, Option, Some, IfOk, IfSome};
 ghost use Rattle.std.specs.Prelude.{drop, length, slice_range};
 ghost use Rattle.std.specs.Option.{option_map};
@@ -19,17 +19,17 @@ use std::alloc::{AllocError, Global};
 /// A label that was read.
 #[derive(Debug, Drop)]
 pub struct FoundLabel<'t> {
-    /// It names a footnote.
+    /// Whether it is the label of a footnote.
     pub is_footnote: bool,
-    /// Its bytes, from its `[` through its `]`.
+    /// Its length in bytes, from its `[` through its `]`.
     pub length: usize,
     pub name: CowStr<'t>,
 }
 
-/// How a reference is written.
+/// The form of a reference.
 #[derive(Debug, Drop)]
 pub enum Form<'t> {
-    /// `[text][label]`, with the byte after it.
+    /// `[text][label]`, with the byte offset after it.
     Reference { label: CowStr<'t>, end: usize },
     /// `[label][]`
     Collapsed,
@@ -37,7 +37,8 @@ pub enum Form<'t> {
     Shortcut,
 }
 
-// The label of which the text begins after its first `before` bytes.
+// Returns the label whose text is at the beginning of `text`, after the first `before` bytes of the label; `None` if
+// there is no label. The error is a refused allocation.
 fn scan_name<'t, R: LineRule>(
     alloc: Global,
     text: &'t str,
@@ -64,7 +65,8 @@ fn scan_name<'t, R: LineRule>(
     }
 }
 
-// The label of a footnote, of which the text begins after its `[`, with lines by a rule.
+// Returns the footnote label whose bytes after its `[` the text begins with, with this rule for its lines; `None` if
+// there is none. The error is a refused allocation.
 fn scan_after_caret<'t, R: LineRule>(
     alloc: Global,
     text: &'t str,
@@ -85,7 +87,8 @@ fn scan_after_caret<'t, R: LineRule>(
     }
 }
 
-// The label of a footnote, of which the text begins after its `[`.
+// Returns the footnote label of this style whose bytes after its `[` the text begins with; `None` if there is none. The
+// error is a refused allocation.
 fn scan_footnote_label<'t, R: LineRule>(
     alloc: Global,
     text: &'t str,
@@ -107,8 +110,9 @@ fn scan_footnote_label<'t, R: LineRule>(
     }
 }
 
-/// The label that the text begins with, from its `[` on: a footnote label `[^name]` by the style, or else a link label.
-/// As GitHub writes footnotes, their labels stand on one line.
+/// Returns the label that the text begins with, from its `[` on: a footnote label `[^name]` of this style, or otherwise
+/// a link label; `None` if there is neither. In GitHub's style, a footnote label is on one line. The error is a refused
+/// allocation.
 pub fn scan_label<'t, R: LineRule>(
     alloc: Global,
     text: &'t str,
@@ -130,7 +134,7 @@ pub fn scan_label<'t, R: LineRule>(
     }
 }
 
-// A label of exactly so many bytes.
+// Returns the label, if it has exactly this length in bytes.
 fn of_length(label: FoundLabel<'_>, length: usize) -> Option<FoundLabel<'_>>
     ensures value { option_map label_view result ≡ def.of_length length (Some (label_view label.entry)) }
     ensures same { IfSome result (λ l. l ≡ label.entry) }
@@ -142,8 +146,8 @@ fn of_length(label: FoundLabel<'_>, length: usize) -> Option<FoundLabel<'_>>
     None
 }
 
-/// The bytes from an opener's `[` up to the byte after its `]` as a label of their own; None where they are not exactly
-/// one label.
+/// Returns the bytes from an opener's `[` at `start` through its `]`, which ends at `end`, as a label; `None` if they
+/// are not exactly one label. The error is a refused allocation.
 pub fn scan_own_label<'t, R: LineRule>(
     alloc: Global,
     text: &'t str,
@@ -178,7 +182,7 @@ pub(crate) fn is_closer(body: ItemBody) -> bool
     matches!(body, ItemBody::MaybeLinkClose(_))
 }
 
-// A `[` stands there, and a `]` after it.
+// Returns whether the two items are a `[` at the byte offset `at` and a `]` directly after it.
 fn is_empty_pair(at: usize, next: Option<Item>, after: Option<Item>) -> bool
     requires { at + 1 < 2 ^ 64 }
     ensures { result ≡ (def.stands_at at def.is_opener next && def.stands_at (at + 1) def.is_closer after) }
@@ -203,7 +207,7 @@ fn starts_at(at: usize, next: Option<Item>) -> bool
     }
 }
 
-// The form by this label: a footnote label counts as none.
+// Returns the form of a reference that this label follows: a footnote label does not count.
 fn form_of(at: usize, label: FoundLabel<'_>) -> Form<'_>
     requires { at + label.length < 2 ^ 64 }
     ensures { form_view result ≡ def.form_by_label at (Some (label_view label.entry)) }
@@ -218,9 +222,9 @@ fn form_of(at: usize, label: FoundLabel<'_>) -> Form<'_>
     }
 }
 
-/// The form of a reference, of a `]` that ends before the byte `at` of the text, by the two items after it: Collapsed
-/// where these are a `[` and a `]` that stand there, Reference where a link label stands there and an item starts with
-/// it, else Shortcut.
+/// Returns the form of a reference whose `]` ends at the byte offset `at` of the text, from the two items after that:
+/// `Collapsed` if these are a `[` and a `]` directly after it, `Reference` if an item and a link label start there, and
+/// otherwise `Shortcut`. The error is a refused allocation. Upstream: `scan_reference`.
 pub fn scan_form<'t, R: LineRule>(
     alloc: Global,
     text: &'t str,

@@ -1,4 +1,4 @@
-//! What separates the parts of a link (CommonMark 6.3).
+//! The separators between the parts of an inline link (CommonMark 6.3).
 ghost use Rattle.std.specs.Prelude.{◌≡◌, ◌+◌, ◌≤◌, drop, length};
 ghost use Rattle.std.specs.Str.{IsCharBoundary};
 ghost use Rattle.markdown_brackets.specs.Separator as separator;
@@ -6,21 +6,21 @@ ghost use Rattle.markdown_brackets.specs.Separator as separator;
 use markdown_scan::line_end::scan_line_ending;
 use markdown_scan::line_rule::LineRule;
 
-// A space, tab, line tabulation or form feed.
+// Returns whether the byte is a space, tab, line tabulation or form feed.
 fn is_blank(byte: u8) -> bool
     ensures { result ≡ separator.is_blank byte }
 {
     matches!(byte, b' ' | b'\t' | b'\x0b' | b'\x0c')
 }
 
-// How many blanks the bytes begin with.
+// Returns the number of such bytes that the bytes begin with.
 fn count_blanks(bytes: &[u8]) -> usize
     ensures { result ≡ separator.blanks bytes.now }
 {
     bytes.iter().take_while(|byte| is_blank(**byte)).count()
 }
 
-// The same of a text, which may be cut after them.
+// Returns the same number for a text, which may be cut after them.
 fn skip_blanks(text: &str) -> usize
     ensures value { result ≡ separator.blanks text.now }
     ensures boundary { IsCharBoundary text.now result }
@@ -28,8 +28,8 @@ fn skip_blanks(text: &str) -> usize
     count_blanks(text.as_bytes())
 }
 
-// The length of the line ending that the text begins with, and of the prefix after it; 0 where the text does not go on
-// so.
+// Returns the length in bytes of the line ending that the text begins with and the line prefix after it; 0 if there is
+// no line ending, or the text may not continue after it.
 fn skip_line_break<R: LineRule>(text: &str, rule: &R) -> usize
     ensures value { result ≡ separator.line_break (R.skipped rule.now) text.now }
     ensures boundary { IsCharBoundary text.now result }
@@ -44,8 +44,8 @@ fn skip_line_break<R: LineRule>(text: &str, rule: &R) -> usize
     }
 }
 
-/// The length in bytes of the separator that the text begins with: white space other than line endings, at most one
-/// line ending with the prefix after it, and again such white space. It may be empty.
+/// Returns the length in bytes of the separator that the text begins with: white space other than line endings, at most
+/// one line ending with the line prefix after it, and again such white space. A separator may be empty.
 pub fn scan_separator<R: LineRule>(text: &str, rule: &R) -> usize
     ensures value { result ≡ separator.separator (R.skipped rule.now) text.now }
     ensures within { result ≤ length text.now }

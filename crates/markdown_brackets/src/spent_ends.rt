@@ -1,10 +1,10 @@
-//! The ends of closing brackets that can be no references any more.
+//! The ends of closing brackets that can no longer be references.
 use markdown_base::fault::Fault;
 use std::alloc::Global;
 use std::collections::HashSet;
 
-/// The ends of the `]` of a chain that end the label of a full reference which was looked up. Its memory is kept when
-/// it is emptied.
+/// For each `]` of a chain that ends the label of a full reference which was looked up, the byte offset after it. The
+/// allocation of the set is kept when it is emptied.
 #[derive(Drop)]
 pub struct SpentEnds {
     ends: HashSet<usize>,
@@ -15,7 +15,7 @@ impl SpentEnds {
     ghost use Rattle.markdown_base.specs.declared.fault.Fault.{Fault};
     ghost use Rattle.markdown_brackets.specs.SpentEnds.{is_spent};
 
-    /// None.
+    /// Returns an empty set.
     pub fn new(alloc: Global) -> SpentEnds
         ensures { (end : ℕ) → is_spent result end ≡ false }
     {
@@ -24,21 +24,21 @@ impl SpentEnds {
         }
     }
 
-    /// Forgets all, for the next chain.
+    /// Removes all ends, before the next chain.
     pub fn clear(&mut self)
         ensures { (end : ℕ) → is_spent self.new end ≡ false }
     {
         self.ends.clear();
     }
 
-    /// Whether the `]` that ends at this byte can be no reference any more.
+    /// Returns whether the `]` that ends at the byte offset `end` can no longer be a reference.
     pub fn contains(&self, end: usize) -> bool
         ensures { result ≡ is_spent self.now end }
     {
         self.ends.contains(&end)
     }
 
-    /// Nor can the `]` that ends at this byte. The only error is `Fault::Memory`.
+    /// Adds the end of a `]` that can no longer be a reference. The only error is `Fault::Memory`.
     pub fn insert(&mut self, end: usize) -> Result<(), Fault>
         ensures put { OnOk result ((other : ℕ)
             → is_spent self.new other ≡ ((end == other) || is_spent self.old other)) }

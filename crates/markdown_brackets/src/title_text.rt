@@ -1,4 +1,4 @@
-//! The text of a title while it is read: a slice of the source as long as no line of it is joined to the next.
+//! The text of a link title while it is read: a slice of the source as long as no lines are joined.
 ghost use Rattle.std.specs.Prelude.{◌≡◌, [], false, string_bytes};
 ghost use Rattle.std.specs.Str.{IsCharBoundary};
 
@@ -6,7 +6,7 @@ use markdown_base::cow_str::CowStr;
 use markdown_scan::unescape::unescape;
 use std::alloc::{AllocError, Global};
 
-/// The text of a title as it is written, so far: lines that were joined, and what stands from a byte of the text on.
+/// The source text of a title so far: lines that were joined, and the text from the byte offset `from` on.
 #[derive(Drop)]
 pub(crate) struct TitleText<'t> {
     text: &'t str,
@@ -25,7 +25,7 @@ impl<'t> TitleText<'t> {
     ghost use Rattle.markdown_scan.specs.Unescape.{unescaped};
     ghost use Rattle.markdown_brackets.specs.TitleText.{so_far};
 
-    /// Nothing yet, from this byte on.
+    /// Returns an empty title that starts at the byte offset `from`.
     pub(crate) fn new(alloc: Global, text: &'t str, from: usize) -> TitleText<'t>
         requires { IsCharBoundary text.now from }
         ensures text { result.text.now ≡ text.now }
@@ -41,7 +41,8 @@ impl<'t> TitleText<'t> {
         }
     }
 
-    /// The line ends at the byte `at`, and the next one starts at the byte `start`.
+    /// Appends the line that ends at the byte offset `at` and a line feed; the next line starts at the byte offset
+    /// `start`. The error is a refused allocation.
     pub(crate) fn join_line(&mut self, at: usize, start: usize) -> Result<(), AllocError>
         requires order { self.old.from ≤ at }
         requires here { IsCharBoundary self.old.text.now at }
@@ -60,7 +61,8 @@ impl<'t> TitleText<'t> {
         Ok(())
     }
 
-    /// The text up to the byte `at`, with its escapes and entities replaced.
+    /// Returns the title that ends at the byte offset `at`, with its escapes and entities replaced. If no lines were
+    /// joined and nothing is replaced, it is a slice of the source. The error is a refused allocation.
     pub(crate) fn finish(
         self,
         alloc: Global,

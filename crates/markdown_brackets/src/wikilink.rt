@@ -8,25 +8,25 @@ ghost use Rattle.markdown_brackets.specs.WikilinkView.{body_view, shown_view};
 
 use markdown_scan::wikilink_pipe::scan_wikilink_pipe;
 
-/// What a wikilink shows.
+/// The part of its body that a wikilink shows.
 #[derive(Clone, Copy, Debug, PartialEq, Eq, Drop)]
 pub enum Shown {
-    /// Its name, over the whole body.
+    /// Its name, which is the whole body.
     Name,
-    /// Nothing, at the byte after the pipe: the body ends there.
+    /// Nothing: the body ends at this byte offset, directly after the pipe.
     Nothing(usize),
-    /// What stands from the byte after the pipe on.
+    /// The text from this byte offset on, directly after the pipe.
     From(usize),
 }
 
-/// The name of a wikilink, as written, and what it shows.
+/// The name of a wikilink, as it is written, and what the wikilink shows.
 #[derive(Debug, Drop)]
 pub struct WikilinkBody<'t> {
     pub name: &'t str,
     pub shown: Shown,
 }
 
-// A name that is not empty.
+// Returns the body with this name, if the name is not empty.
 fn named<'t>(name: &'t str, shown: Shown) -> Option<WikilinkBody<'t>>
     ensures { option_map body_view result ≡ named name.now (shown_view shown) }
 {
@@ -36,8 +36,8 @@ fn named<'t>(name: &'t str, shown: Shown) -> Option<WikilinkBody<'t>>
     Some(WikilinkBody { name, shown })
 }
 
-// The byte after the first `|` of so many bytes from the byte `start` on, and the text before it; None where none stands
-// in them before the block's end.
+// Returns the byte offset after the first `|` in the `length` bytes from the byte offset `start` on, and the text
+// before it; `None` if they contain no pipe before the block's end.
 fn scan_pipe(text: &str, block_end: usize, start: usize, length: usize) -> Option<(usize, &str)>
     requires start { IsCharBoundary text.now start }
     requires end { IsCharBoundary text.now (start + length) }
@@ -50,9 +50,9 @@ fn scan_pipe(text: &str, block_end: usize, start: usize, length: usize) -> Optio
     Some((after, name))
 }
 
-/// The body of a wikilink from the byte `start` of the text up to the byte `end`, in a block that ends at the byte
-/// `block_end`. The first `|` in it cuts the name from the shown text; none is looked for past the block's end. None
-/// where the body or the name is empty, and where the end stands before the start.
+/// Returns the body of a wikilink between the byte offsets `start` and `end` of the text, in a block that ends at the
+/// byte offset `block_end`. The first `|` in it, before the block's end, separates the name from the shown text.
+/// Returns `None` if the body or the name is empty, or if `end` is less than `start`.
 pub fn scan_wikilink_body(
     text: &str,
     block_end: usize,

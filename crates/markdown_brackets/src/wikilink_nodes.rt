@@ -1,4 +1,4 @@
-//! Wikilinks where they stand: the nodes of a wikilink's body, and what it shows of them.
+//! Wikilinks in a tree: the nodes of a wikilink's body, and those that it shows.
 ghost use Rattle.std.specs.Prelude.{◌≡◌, ◌<◌, Some, IfSome, length};
 ghost use Rattle.markdown_base.specs.Arena.{sibling_of};
 ghost use Rattle.markdown_brackets.specs.ChainAhead.{IsChain};
@@ -10,23 +10,23 @@ use crate::wikilink::Shown;
 use markdown_base::item::Item;
 use markdown_base::tree::Tree;
 
-/// What a wikilink shows.
+/// What a wikilink shows, in nodes.
 #[derive(Clone, Copy, Debug, PartialEq, Eq, Drop)]
 pub enum ShownNodes {
-    /// A Text over these bytes, in the first node of the body.
+    /// A Text over this byte range, in the first node of the body.
     Over {
         node: usize,
         start: usize,
         end: usize,
     },
-    /// What stands in the body from this byte on, which begins in this node.
+    /// The part of the body from the byte offset `at` on, which begins in this node.
     From {
         node: usize,
         at: usize,
     },
 }
 
-// The node after another one, unless it is the `]`.
+// Returns the next sibling of a node, unless that is the `]`.
 fn next_before(tree: &Tree<Item>, ix: usize, closer: usize) -> Option<usize>
     requires { ix < length tree.now.nodes }
     ensures value { result ≡ unless_is closer (sibling_of tree.now.nodes ix) }
@@ -38,7 +38,7 @@ fn next_before(tree: &Tree<Item>, ix: usize, closer: usize) -> Option<usize>
     }
 }
 
-/// The first node of a wikilink's body: the second after its opener, if it stands before the `]`.
+/// Returns the first node of a wikilink's body: the second one after its opener, if both precede the `]`.
 pub(crate) fn body_of(tree: &Tree<Item>, opener: usize, closer: usize) -> Option<usize>
     requires { opener < length tree.now.nodes }
     ensures value { result ≡ body_start tree.now.nodes opener closer }
@@ -48,7 +48,7 @@ pub(crate) fn body_of(tree: &Tree<Item>, opener: usize, closer: usize) -> Option
     next_before(tree, second, closer)
 }
 
-// What stands from a byte on, which begins in a node, unless that is the `]`.
+// Returns the part of the body from the byte offset `at` on, which begins in this node; `None` if that is the `]`.
 fn from_node(node: Option<usize>, closer: usize, at: usize) -> Option<ShownNodes>
     ensures { result ≡ shown_from_node closer at node }
 {
@@ -58,8 +58,8 @@ fn from_node(node: Option<usize>, closer: usize, at: usize) -> Option<ShownNodes
     }
 }
 
-/// What a wikilink shows of a body from the byte `start` to the byte `end`, whose first node is this one; None where
-/// nothing of what it shows stands before the `]`.
+/// Returns what a wikilink shows of its body, which starts at the byte offset `start` in the node `first` and ends at
+/// the byte offset `end`; `None` if nothing of it precedes the `]`.
 pub(crate) fn find_shown(
     tree: &Tree<Item>,
     first: usize,

@@ -29,21 +29,21 @@ use std::alloc::{AllocError, Global};
 /// What is written at an opener and its `]`.
 #[derive(Drop)]
 pub(crate) enum Written<'t> {
-    /// No link.
+    /// Not a link.
     Nothing,
     Inline(LinkTail<'t>),
-    /// A reference: its form, its label, where it ends, and where the chain goes on.
+    /// A reference: its form, its link label, the byte offset where it ends, and the one where the chain continues.
     Label {
         link_type: LinkType,
         label: CowStr<'t>,
         end: usize,
         next: usize,
     },
-    /// A footnote's label.
+    /// The name in a footnote label.
     Footnote(CowStr<'t>),
 }
 
-/// How options take footnotes.
+/// Returns the style of footnotes that the options enable.
 pub(crate) fn footnote_style(options: Options) -> FootnoteStyle
     ensures { result ≡ footnote_style options }
 {
@@ -56,14 +56,14 @@ pub(crate) fn footnote_style(options: Options) -> FootnoteStyle
     }
 }
 
-/// Whether options take wikilinks.
+/// Returns whether the options enable wikilinks.
 pub fn wikilinks_on(options: Options) -> bool
     ensures { result ≡ wikilinks_on options }
 {
     options.contains(Options::ENABLE_WIKILINKS)
 }
 
-// A label from an opener's `[` to its `]`, which ends at a byte.
+// Returns the reference or footnote label for the label between an opener's `[` and its `]`.
 fn of_own_label(label: FoundLabel<'_>, link_type: LinkType, end: usize, next: usize) -> Written<'_>
     ensures { (in_table : Bool)
         → IsRead in_table (own_written link_type end next (Some (label_view label.entry))) result }
@@ -79,7 +79,8 @@ fn of_own_label(label: FoundLabel<'_>, link_type: LinkType, end: usize, next: us
     }
 }
 
-// What stands from the byte `start` of an opener's `[` to its `]`, which ends at the byte `end`, as a label.
+// Reads the bytes from an opener's `[` at the byte offset `start` through its `]`, which ends at `end`, as a label.
+// Returns `Nothing` if they are not exactly one. The error is a refused allocation.
 fn read_own<'t, R: LineRule>(
     alloc: Global,
     place: &ChainPlace<'t>,
@@ -106,7 +107,7 @@ fn read_own<'t, R: LineRule>(
     }
 }
 
-// A reference in full, whose label ends at a byte, if a `]` ends there.
+// Returns the full reference whose label ends at the byte offset `end`, or `Nothing` if no `]` ends there.
 fn read_full<'t>(
     tree: &Tree<Item>,
     next: Option<usize>,
@@ -131,7 +132,8 @@ fn read_full<'t>(
     }
 }
 
-// A reference whose form is known: its `[` starts at the byte `start`, and its `]` ends at the byte `end`.
+// Reads a reference of this form, whose `[` is at the byte offset `start`. Returns `Nothing` if there is none. The
+// error is a refused allocation.
 fn read_form<'t, R: LineRule>(
     alloc: Global,
     tree: &Tree<Item>,
@@ -164,7 +166,7 @@ fn read_form<'t, R: LineRule>(
     read_own(alloc, place, rule, start, end, link_type, next)
 }
 
-// The form of a reference, by what follows the `]` of a node in the block.
+// Returns the form of a reference, from what follows its `]` in the block. The error is a refused allocation.
 fn read_form_ahead<'t, R: LineRule>(
     alloc: Global,
     tree: &Tree<Item>,
@@ -188,7 +190,7 @@ fn read_form_ahead<'t, R: LineRule>(
     scan_form(alloc, text, end, style, rule, place.in_table, first, second)
 }
 
-// A reference, whose `]` stands in the block.
+// Reads a reference whose `]` lies in the block. Returns `Nothing` if there is none. The error is a refused allocation.
 fn read_reference<'t, R: LineRule>(
     alloc: Global,
     tree: &Tree<Item>,
@@ -208,8 +210,9 @@ fn read_reference<'t, R: LineRule>(
     read_form(alloc, tree, closer, could_be, place, rule, start, form)
 }
 
-/// Reads what is written at an opener, whose `[` starts at the byte `start`, and at the `]` of a node, which could be a
-/// reference or not. Past the block's end nothing is.
+/// Reads what is written at an opener, whose `[` is at the byte offset `start`, and at the `]` of the node `closer`,
+/// which can end a collapsed or shortcut reference only if `could_be` is true. Nothing is read beyond the block's end.
+/// The error is a refused allocation.
 pub(crate) fn read_written<'t, R: LineRule>(
     alloc: Global,
     tree: &Tree<Item>,

@@ -1,4 +1,4 @@
--- The pipe of the text counts, where it stands before the block's end.
+-- The pipe of the text counts, if it is before the block's end.
 use Rattle.markdown_brackets.proofs.WikilinkPipeLemmas.{no_pipe_in_block, pipe_before_end, pipe_past_block}
 use Rattle.markdown_brackets.proofs.wikilink.scan_pipe.Goals as goal
 

@@ -1,4 +1,4 @@
--- The label of a full reference ends behind its `]`.
+-- The label of a full reference ends after its `]`.
 use Rattle.std.proofs.Common.{sym, subst}
 use Rattle.markdown_brackets.specs.WrittenView.{EndsBehind}
 use Rattle.markdown_brackets.proofs.AheadOfBracketLemmas.{form_behind}
