@@ -1,4 +1,4 @@
--- What the rules ask of a body alone, for the bodies that a builder places.
+-- What the rules require of a body by itself, for the bodies that a builder places.
 use Rattle.std.proofs.Common.{◌≡◌, ℕ, ◌+◌, ◌<◌, ◌≤◌, List, Option, Some, None, true, false, refl, arith}
 use Rattle.std.specs.Prelude.{IfSome, IsTrue, Bool, ◌||◌, ◌&&◌}
 use Rattle.markdown_base.specs.declared.index.AlignmentIndex.{AlignmentIndex}
@@ -18,7 +18,7 @@ use Rattle.markdown_base.proofs.WellFormedLemmas.{HasMore}
 use Rattle.markdown_builder.specs.Bodies.{is_leaf, is_plain_block, is_settled}
 use Rattle.markdown_builder.specs.BuilderRules.{ItemFits, NamesNew}
 
--- a body that names nothing
+-- a body that refers to nothing
 pub record IsPlain (b : ItemBody) : Type 0 where
   pub unresolved : is_resolved b ≡ false
   pub no_run : run_character b ≡ None
@@ -59,7 +59,7 @@ block_plain body.TableRow h = plain refl refl refl refl refl refl refl
 block_plain body.TableCell h = plain refl refl refl refl refl refl refl
 block_plain other h = cc (h)
 
--- and may have children
+-- blocks that are opened as they are may have children
 pub block_parent : (b : ItemBody) → is_plain_block b ≡ true → is_childless b ≡ false
 block_parent body.Paragraph h = refl
 block_parent (body.Heading level None) h = refl
@@ -93,7 +93,7 @@ settled_plain body.SoftBreak h = plain refl refl refl refl refl refl refl
 settled_plain (body.HardBreak backslash) h = plain refl refl refl refl refl refl refl
 settled_plain other h = cc (h)
 
--- and inline
+-- settled inline items are inline
 pub settled_inline : (b : ItemBody) → is_settled b ≡ true → is_inline b ≡ true
 settled_inline (body.TaskListMarker done) h = refl
 settled_inline body.InlineHtml h = refl
@@ -104,7 +104,7 @@ settled_inline body.SoftBreak h = refl
 settled_inline (body.HardBreak backslash) h = refl
 settled_inline other h = cc (h)
 
--- and need no markup
+-- settled inline items require no markup
 pub settled_markup : (b : ItemBody) (source : List ℕ) → is_settled b ≡ true → StandsOverMarkup source b
 settled_markup (body.TaskListMarker done) source h = tt
 settled_markup body.InlineHtml source h = tt
@@ -152,12 +152,12 @@ parent_of_one above b k = of_test (is_childless above) k.childless
     of_test true h = let e = h refl in cc (e)
     of_test false h = refl
 
--- nor a character of a run
+-- a block is not a character of a run
 pub block_no_run : (b : ItemBody) → is_inline b ≡ false → run_character b ≡ None
 block_no_run (body.MaybeEmphasis count opens closes) h = cc (h)
 block_no_run other h = refl
 
--- and needs no markup
+-- a block requires no markup
 pub block_markup : (b : ItemBody) (source : List ℕ) → is_inline b ≡ false → StandsOverMarkup source b
 block_markup (body.MaybeMath opens closes context) source h = cc (h)
 block_markup (body.MaybeSmartQuote quote opens closes) source h = cc (h)
@@ -183,7 +183,7 @@ pub tight_leaf : (b : ItemBody) → is_tight_paragraph b ≡ true → is_leaf b 
 tight_leaf body.TightParagraph h = refl
 tight_leaf other h = cc (h)
 
--- whatever is said of a name that there is not
+-- anything is true of the number that a body refers to where there is none
 pub no_name : {A : Type 0} (o : Option A) (P : A → Type 0) → o ≡ None → IfSome o P
 no_name o P e = rw e tt
 
@@ -223,11 +223,11 @@ plain_placed counts b p = record {
   loose = p.loose;
 }
 
--- a block with nothing below it is settled where it may stand in the tree
+-- a block with nothing below it is settled where it may occur in the tree
 pub settled_alone : (b : ItemBody) → is_unplaced b ≡ false → BlocksAreSettled b nil
 settled_alone b placed = record { placed = placed; tight = λ t. refl }
 
--- it fits wherever it lies in the text, over its markup
+-- a body that may be placed fits wherever its item lies in the text, over its markup
 pub placed_fits : (text : List ℕ) (few many : PartCounts) (start end : ℕ) (b : ItemBody) → MayBePlaced few many b
     → MarkupIsThere text (item_over start end b)
     → LiesIn text (item_over start end b) → ItemFits text many (item_over start end b)
@@ -239,7 +239,7 @@ placed_fits text few many start end b p markup range = record {
   blocks_are_settled = settled_alone b p.placed;
 }
 
--- and names what is new
+-- a body that may be placed refers to what is new
 pub placed_new : (few many : PartCounts) (start end : ℕ) (b : ItemBody) → MayBePlaced few many b → NamesNew few (item_over start end b)
 placed_new few many start end b p = record { texts = p.texts; alignments = p.alignments }
 

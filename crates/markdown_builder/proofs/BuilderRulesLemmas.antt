@@ -90,7 +90,7 @@ fits_more text few many item m f = record {
   blocks_are_settled = f.blocks_are_settled;
 }
 
--- what is said of a name holds of this one
+-- what is true of a reference where there is one is true of this one
 of_name : (o : Option ℕ) (P : ℕ → Type 0) (t : ℕ) → IfSome o P → o ≡ Some t → P t
 of_name None P t h e = cc (e)
 of_name (Some u) P t h e = let q : u ≡ t = cc (e) in subst P q h
@@ -105,7 +105,7 @@ low_names name nodes count none root low (suc i) t e =
     (λ (h : length nodes ≤ suc i). let a : name (item_at nodes (suc i)).body ≡ None = rw (item_beyond nodes (suc i) h) none in cc (a, e))
     (cases_lt (suc i) (length nodes))
 
--- names stand once where a new item's name is new
+-- entries are referred to once where a new item refers to a new one
 once_more : (name : ItemBody → Option ℕ) (old new : List (Node Item)) (down : Bool) (at : ℕ) (x : Item) (count : ℕ)
     → Grows old new down at x
     → ((i t : ℕ) → name (item_at old i).body ≡ Some t → t < count) → IfSome (name x.body) (λ ix. count ≤ ix)

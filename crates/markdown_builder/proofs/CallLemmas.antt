@@ -42,7 +42,7 @@ pub placed_keeps : {s : State} (now : Standpoint) (many : PartCounts) (b : ItemB
     → is_childless b ≡ false → IsSound (after_opening s many b)
 placed_keeps {s} now many b k e outside placed parent = opened s many b k (ap (λ (v : Standpoint). v.leaf) e ∙ outside) placed parent
 
--- a block whose parts were pushed, and that was not gone into
+-- a block whose parts were pushed, and that was not entered
 pub refused_keeps : {s : State} (now : Standpoint) (many : PartCounts) (b : ItemBody) (tree : Arena Item) → IsSound s → seen s ≡ now
     → now.leaf ≡ false
     → MayBePlaced s.counts many b → is_childless b ≡ false → (tree ≡ s.tree) ⊎ (tree ≡ appended s.tree (item_over s.at s.at b))
@@ -61,7 +61,7 @@ pub named_keeps : {s : State} (now : Standpoint) (many : PartCounts) (b : ItemBo
 named_keeps {s} now many b ix k e outside n more names parent = placed_keeps now many b k e outside (text_placed s.counts many b ix.0 n more
     names) parent
 
--- or it was not gone into
+-- a block that refers to the text which was pushed, and that was not entered
 pub named_refused : {s : State} (now : Standpoint) (many : PartCounts) (b : ItemBody) (ix : CowIndex) (tree : Arena Item) → IsSound s
     → seen s ≡ now → now.leaf ≡ false
     → ix.0 ≡ s.counts.texts → one_text_more s.counts many → NamesText b ix.0 → is_childless b ≡ false
@@ -93,7 +93,7 @@ inline_keeps {s} now end b k e h =
     (record { ordered = low; start = k.stands.boundary; end = boundary }))
     (placed_new s.counts s.counts s.at end b placed) (settled_inline b h ∙ sym within) placed.no_run placed.loose)
 
--- a spine that open blocks stand on ends with a number
+-- a spine whose nodes hold open blocks ends with a number
 spine_last : (nodes : List (Node Item)) (spine : List ℕ) (blocks : List OpenBlock) (block : OpenBlock)
     → AreOpen nodes spine (blocks ++ block ∷ [])
     → (outer : List ℕ) × (n : ℕ) × (spine ≡ outer ++ n ∷ [])
@@ -153,7 +153,7 @@ synthesize_keeps {s} now many end ix k e n more =
     (record { ordered = low; start = k.stands.boundary; end = boundary }))
     (placed_new s.counts many s.at end (body.SynthesizeText ix) placed) (sym within) refl refl)
 
--- a text that was pushed, and is not named
+-- a text that was pushed, and that nothing refers to
 pub pushed_keeps : {s : State} (many : PartCounts) → IsSound s → one_text_more s.counts many → IsSound (record s { counts = many })
 pushed_keeps {s} many k more =
     more_parts s many (record { texts = omega (arith, more.0); alignments = omega (arith, more.1); attributes = omega (arith, more.2) }) k
@@ -205,14 +205,14 @@ backticks_keeps {s} now end escaped k e =
     }))
     (placed_new s.counts s.counts s.at end b placed) (sym within) refl refl)
 
--- `run`: what it asks for
+-- `run`: what it requires
 pub record RunMayCome (now : Standpoint) (byte end : ℕ) : Type 0 where
   pub inside : now.leaf ≡ true
   pub delimiter : is_delimiter byte ≡ true
   pub whole : IsRunOf byte now.text now.at end
   pub other : follows_run now.run byte ≡ false
 
--- its Texts so far
+-- the Texts of a run so far
 run_texts : (s : State) (byte end count : ℕ) → IsSound s → RunMayCome (seen s) byte end → s.at + count ≤ end
     → TextsStand s byte count (texts_appended s.tree s.at count)
 run_texts s byte end count k may low = texts_stand s byte end count k may.inside may.whole (delimiter_ascii byte may.delimiter) may.other
@@ -225,7 +225,7 @@ run_nodes {s} now byte end k e may =
     let here : RunMayCome (seen s) byte end = subst (λ (v : Standpoint). RunMayCome v byte end) (sym e) may in
     let p = run_texts s byte end (end - s.at) k here (omega (arith, here.whole.more)) in omega (arith, p.size)
 
--- after a refusal some of its bytes are Texts
+-- after an error, some of the run's bytes are Texts
 pub run_refused : {s : State} (now : Standpoint) (byte end count : ℕ) → IsSound s → seen s ≡ now → RunMayCome now byte end
     → s.at + count ≤ end
     → IsSound (record s { tree = texts_appended s.tree s.at count; at = end })
@@ -237,7 +237,7 @@ run_refused {s} now byte end count k e may low =
     (run_boundary s.text s.at end byte k.utf8 here.whole ascii end here.whole.more (omega arith))
     (λ outside. let none : ⊥ = cc (here.inside, outside) in absurd none)
 
--- and else all are its characters
+-- otherwise all of them are characters of the run
 pub run_keeps : {s : State} (now : Standpoint) (byte end : ℕ) (opens closes : Bool) → IsSound s → seen s ≡ now → RunMayCome now byte end
     → IsSound (record s {
       tree = run_marked (texts_appended s.tree s.at (end - s.at)) end opens closes (end - s.at);

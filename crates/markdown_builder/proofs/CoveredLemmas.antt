@@ -18,7 +18,7 @@ use Rattle.markdown_builder.specs.Standing.{State, Standpoint, seen, IsUnderTop,
 use Rattle.markdown_builder.proofs.RisingLemmas.{IsRoot, top_is_root}
 use Rattle.markdown_builder.proofs.StepLemmas.{either_passes}
 
--- what stands on top is not inline
+-- what is at the top level is not inline
 top_inline : (text : List ℕ) (counts : PartCounts) (nodes : List (Node Item)) (j : ℕ) → KeepsNodes text counts nodes
     → IsOnTop (links_of nodes) j
     → is_inline (item_at nodes j).body ≡ false
@@ -30,7 +30,7 @@ top_inline text counts nodes j k (next_block i _ t e) =
     let x : StandsAfter (numbered nodes i) (numbered nodes j) = k.links false i j e in
     x.kind ∙ top_inline text counts nodes i k t
 
--- nor resolved, so it is a block
+-- what is at the top level is not resolved either, so it is a block
 top_low : (text : List ℕ) (counts : PartCounts) (nodes : List (Node Item)) (j : ℕ) → KeepsNodes text counts nodes
     → IsOnTop (links_of nodes) j
     → (0 < j) × (j < length nodes)

@@ -75,13 +75,13 @@ only_inline : (v : Bool) (chain : Forest Numbered) → OfKind v chain → IsTrue
 only_inline true chain h o = inline_chain (roots chain) h
 only_inline false chain h o = let e = blocks_closed (roots chain) h in cc (e, o)
 
--- nor does one stand among inline items
+-- no tight paragraph occurs among inline items
 inline_chain_loose : (chain : List Numbered) → AllByRecursion (λ n. is_inline n.item.body ≡ true) chain
     → list_any (λ n. is_tight_paragraph n.item.body) chain ≡ false
 inline_chain_loose [] h = refl
 inline_chain_loose (n ∷ chain) h = rw (inline_loose n.item.body h.0, inline_chain_loose chain h.1) refl
 
--- below a tight paragraph no tight one stands
+-- there is no tight paragraph below a tight one
 not_in_tight : (b : ItemBody) (v : Bool) (chain : Forest Numbered) → v ≡ is_leaf b → OfKind v chain → IsTrue (is_tight_paragraph b)
     → has_tight_paragraph chain ≡ false
 not_in_tight b true chain e h t = inline_chain_loose (roots chain) h
@@ -95,14 +95,14 @@ childless text counts nodes i nil k s c = refl
 childless text counts nodes i (node j below after) k s c =
     let x : StandsUnder (numbered nodes i) (numbered nodes j) = k.links true i j s.0 in let e = x.chains_are_kept.childless c in cc (e)
 
--- inline items stand in order
+-- inline items are in order
 in_order : (text : List ℕ) (counts : PartCounts) (nodes : List (Node Item)) (i : ℕ) (f : Forest ℕ) → KeepsNodes text counts nodes
     → Spells (links_of nodes) ((links_of nodes).next i) f → InlineInOrder (numbered nodes i) (first_root (relabelled (numbered nodes) f))
 in_order text counts nodes i nil k s = tt
 in_order text counts nodes i (node j below after) k s =
     let x : StandsAfter (numbered nodes i) (numbered nodes j) = k.links false i j s.0 in x.inline_in_order
 
--- the item after another is the first of what is spelled behind it
+-- the item after another is the first of the forest that the link leads through
 next_spelled : (nodes : List (Node Item)) (i : ℕ) (f : Forest ℕ) → Spells (links_of nodes) ((links_of nodes).next i) f
     → next_at nodes i ≡ first_root (relabelled (numbered nodes) f)
 next_spelled nodes i nil s = ap (λ (o : Option ℕ). option_map (numbered nodes) o) s
@@ -115,7 +115,7 @@ different x y h e = grind (arith, nat_tests)
 told_apart : (x y : ℕ) → (x ≡ y → ⊥) → nat_eq x y ≡ false
 told_apart x y h = grind (arith, nat_tests)
 
--- each name stands at one number
+-- each entry is referred to at one number
 abbrev NamesOnce : (ItemBody → Option ℕ) → List (Node Item) → Type 0
 NamesOnce name nodes = (i j t : ℕ) → name (item_at nodes i).body ≡ Some t → name (item_at nodes j).body ≡ Some t → i ≡ j
 
@@ -123,7 +123,7 @@ NamesOnce name nodes = (i j t : ℕ) → name (item_at nodes i).body ≡ Some t 
 abbrev names_at : (ItemBody → Option ℕ) → List (Node Item) → List ℕ → List ℕ
 names_at name nodes xs = filter_map (λ (n : Numbered). name n.item.body) (map (numbered nodes) xs)
 
--- a number's name is none of others
+-- what a number refers to is not among what others refer to
 other_names : (name : ItemBody → Option ℕ) (nodes : List (Node Item)) (x t : ℕ) (ys : List ℕ) → NamesOnce name nodes
     → name (item_at nodes x).body ≡ Some t → AllByRecursion (λ y. nat_eq x y ≡ false) ys
     → AllByRecursion (λ u. nat_eq t u ≡ false) (names_at name nodes ys)
@@ -135,7 +135,7 @@ other_names name nodes x t (y ∷ ys) h e d = put (name (item_at nodes y).body) 
     put None rest q = rest
     put (Some u) rest q = (told_apart t u (λ f. different x y d.0 (h x y t e (sym q ∙ ap Some (sym f)))), rest)
 
--- names that stand once are distinct
+-- references that occur once are distinct
 distinct_names : (name : ItemBody → Option ℕ) (nodes : List (Node Item)) (xs : List ℕ) → NamesOnce name nodes
     → IsDistinct nat_eq xs → IsDistinct nat_eq (names_at name nodes xs)
 unfolding IsDistinct

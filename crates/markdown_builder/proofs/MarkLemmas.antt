@@ -1,4 +1,4 @@
--- The markup of open items: what stands in the text over which they are placed.
+-- The markup of open items: the text of the ranges over which they are placed.
 use Rattle.std.proofs.Common.{◌≡◌, ℕ, zero, suc, ◌+◌, ◌-◌, ◌<◌, ◌≤◌, List, [], ◌∷◌, Some, None, Bool, true, false, cond, length, get_or}
 use Rattle.std.proofs.Common.{take, drop, replicate, refl, ap, ◌∙◌, subst, arith}
 use Rattle.std.specs.Prelude.{◌==◌, ◌||◌, slice_index, slice_range}
@@ -25,7 +25,7 @@ bytes_same (suc n) text at byte low h =
     ap (take (suc n)) (drop-cons text at 0 (omega (arith, low)))
     ∙ (ap (λ (x : ℕ). x ∷ take n (drop (suc at) text)) head ∙ ap (λ (xs : List ℕ). byte ∷ xs) tail)
 
--- a run is so many of its byte
+-- the bytes of a run are copies of its byte
 pub run_source : (text : List ℕ) (from to byte : ℕ) → IsRunOf byte text from to → slice_range text from to ≡ replicate (to - from) byte
 run_source text from to byte r =
     bytes_same (to - from) text from byte (omega (arith, r.more, r.within)) (λ p a b. r.same p a (omega (arith, b, r.more)))
@@ -52,7 +52,7 @@ two_source text at low =
     (drop-cons text (suc at) 0 (omega (arith, low))))
     ∙ rw next refl)
 
--- behind each byte of a run of ASCII a character begins
+-- after each byte of a run of ASCII a character begins
 pub run_boundary : (text : List ℕ) (from to byte : ℕ) → IsUtf8 text → IsRunOf byte text from to → byte < 128 → (p : ℕ) → from < p → p ≤ to
     → IsCharBoundary text p
 run_boundary text from to byte utf8 r ascii p low high =

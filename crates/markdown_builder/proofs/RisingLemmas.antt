@@ -56,7 +56,7 @@ on_top : (k : Links) (l : Option ℕ) (f : Forest ℕ) (j : ℕ) → Spells k l 
 on_top k l f j s e (first_block _ h) = root_here k l f j s (e ∙ h)
 on_top k l f j s e (next_block i _ t h) = root_after k l f i j s (on_top k l f i s e t) h
 
--- a number stands in a forest
+-- a number is in a forest
 abbrev pub IsIn : ℕ → Forest ℕ → Type 0
 IsIn j nil = ⊥
 IsIn j (node i below after) = (j ≡ i) ⊎ (IsIn j below ⊎ IsIn j after)
@@ -74,7 +74,7 @@ all_in P (node i below after) h = (
   both_lists P (preorder below) (preorder after) (all_in P below (λ j s. h j (inr (inl s)))) (all_in P after (λ j s. h j (inr (inr s)))),
 )
 
--- no number stands in two lists
+-- two lists of distinct numbers that share none are distinct when joined
 distinct_both : (xs ys : List ℕ) → IsDistinct nat_eq xs → IsDistinct nat_eq ys
     → AllByRecursion (λ x. AllByRecursion (λ y. nat_eq x y ≡ false) ys) xs → IsDistinct nat_eq (xs ++ ys)
 unfolding IsDistinct
@@ -100,7 +100,7 @@ pub record IsLedTo (k : Links) (f : Forest ℕ) (j : ℕ) : Type 0 where
   pub inside : IsIn from f
   pub link : link_of k down from ≡ Some j
 
--- what stands in a forest is where its link leads, or a link from it leads there
+-- a number in a forest is where the forest's link leads, or a link of the forest leads there
 comes_from : (k : Links) (l : Option ℕ) (f : Forest ℕ) (j : ℕ) → Spells k l f → IsIn j f → (l ≡ Some j) ⊎ IsLedTo k f j
 comes_from k l nil j s i = absurd i
 comes_from k l (node h below after) j s i =
@@ -168,7 +168,7 @@ not_led k down other n f r different s b =
     absurd (omega (arith, m, same.1)))
     (comes_from k (link_of k other n) f b.at s b.inside)
 
--- what stands below a node does not stand after it
+-- what is below a node is not after it
 disjoint : (k : Links) (n j : ℕ) (below after : Forest ℕ) → AreRising k → Spells k (k.child n) below → Spells k (k.next n) after
     → IsIn j below → IsIn j after → ⊥
 disjoint k n j below after r s t i h =

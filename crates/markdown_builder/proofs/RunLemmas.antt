@@ -19,7 +19,7 @@ use Rattle.markdown_builder.proofs.NodeWriteLemmas.{Grows, Writes}
 abbrev pub at_number : ℕ → Item → Numbered
 at_number number item = record { number = number; item = item }
 
--- what is said of a run's character holds of what follows it then
+-- a run's character stays whole where its run continues with the new next item as it did with the old one
 character_followed : (text : List ℕ) (a : Numbered) (old new : Option Numbered) → ((count : ℕ) (opens closes : Bool)
     → RunGoesOn text a count opens closes old → RunGoesOn text a count opens closes new) → RunsAreWhole text a old → RunsAreWhole text a new
 character_followed text a old new goes h = of_character (run_character a.item.body) h
@@ -157,7 +157,7 @@ runs_rewritten text old new at x r w replaced here k i =
         (subst (λ (b : Option Numbered). RunsAreWhole text (numbered old i) b) (sym next) (k i)))
         (same_or_not j at)
 
--- an item that is no character of a run is written in the place of such a one
+-- an item that is not a character of a run is replaced by another such item
 pub runs_written : (text : List ℕ) (old new : List (Node Item)) (at : ℕ) (x : Item) → AreRising (links_of old) → Writes old new at x
     → run_character (item_at old at).body ≡ None → run_character x.body ≡ None → KeepsRuns text old → KeepsRuns text new
 runs_written text old new at x r w was none =

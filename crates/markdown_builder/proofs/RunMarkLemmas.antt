@@ -1,4 +1,5 @@
--- The Texts over a delimiter run are made its characters, from the last one on: at each step the characters so far are a whole run.
+-- The Texts over a delimiter run are made its characters, from the last one on: at each step the characters so far are
+-- a whole run.
 use Rattle.std.proofs.Common.{◌≡◌, ℕ, zero, suc, ◌+◌, ◌-◌, ◌<◌, ◌≤◌, List, Option, Some, None, Bool, true, false, length, refl, sym, ap}
 use Rattle.std.proofs.Common.{◌∙◌, subst, arith, ⊎_elim}
 use Rattle.std.specs.Prelude.{IfSome, IsTrue, ◌==◌, ⊤, slice_index}
@@ -33,7 +34,7 @@ use Rattle.markdown_builder.proofs.StepLemmas.{none_tight_written}
 pub delimiter_ascii : (byte : ℕ) → is_delimiter byte ≡ true → byte < 128
 delimiter_ascii byte h = grind (arith, nat_tests)
 
--- so many of the last items are made characters of a run; the other items and all links stay
+-- the last `count` items are made characters of a run; the other items and all links stay
 pub record RunStands (s : State) (byte end : ℕ) (opens closes : Bool) (texts : Arena Item) (count : ℕ) (t : Arena Item) : Type 0 where
   pub stands : Stands (record s { tree = t; at = end; run = Some byte })
   pub runs : KeepsRuns s.text t.nodes
@@ -44,7 +45,7 @@ pub record RunStands (s : State) (byte end : ℕ) (opens closes : Bool) (texts :
   pub others : (n : ℕ) → n + count < length texts.nodes → item_at t.nodes n ≡ item_at texts.nodes n
   pub marked : (n left : ℕ) → n + left ≡ length texts.nodes → 1 ≤ left → left ≤ count → item_at t.nodes n ≡ run_item end opens closes left
 
--- the run that callers see is no matter of the tree
+-- the invariant, apart from runs, does not depend on the run that callers see
 stands_with_run : (s : State) (run : Option ℕ) → Stands s → Stands (record s { run = run })
 stands_with_run s run h = record {
   nodes = h.nodes;
@@ -78,7 +79,7 @@ byte_ends text byte a c same f = of_character (run_character c.item.body)
     of_character None = tt
     of_character (Some q) = subst (λ (b : ℕ). (b == byte_of text a.item) ≡ false) (sym same) f
 
--- what may precede a run of a byte stays whole where its character is written for an item that is none
+-- what may precede a run of a byte stays whole where an item that is not a run's character becomes one of this byte
 before_run : (text : List ℕ) (byte : ℕ) (a b c : Numbered) → run_character b.item.body ≡ None → byte_of text c.item ≡ byte
     → MayPrecede text byte a.item
     → RunsAreWhole text a (Some b) → RunsAreWhole text a (Some c)
@@ -96,7 +97,7 @@ last_ends : (text : List ℕ) (nodes : List (Node Item)) (a : Numbered) (o : Opt
 last_ends text nodes a None h = tt
 last_ends text nodes a (Some j) h = absurd (h j refl)
 
--- the character that is written next goes on with those behind it
+-- the character that is written next continues with those after it
 goes_on : (s : State) (byte end total : ℕ) (opens closes : Bool) (t old : Arena Item) (m : ℕ) → IsRunOf byte s.text s.at end
     → s.at + total ≡ end
     → TextsStand s byte total t → RunStands s byte end opens closes t m old → suc m ≤ total
@@ -193,7 +194,7 @@ one_marked s byte end total opens closes t old m rooted run delimiter whole p r 
           (cases_lt m left);
     }
 
--- so many Texts are made characters
+-- a number of Texts are made characters
 run_stands : (s : State) (byte end total : ℕ) (opens closes : Bool) (t : Arena Item) (m : ℕ) → 0 < length s.tree.nodes
     → IsRunOf byte s.text s.at end
     → is_delimiter byte ≡ true → s.at + total ≡ end → TextsStand s byte total t → m ≤ total
@@ -213,7 +214,7 @@ run_stands s byte end total opens closes t (suc m) rooted run delimiter whole p 
     one_marked s byte end total opens closes t (run_marked t end opens closes m) m rooted run delimiter whole p
     (run_stands s byte end total opens closes t m rooted run delimiter whole p (omega (arith, low))) low
 
--- all of them are: the run stands
+-- all Texts of the run are made characters
 pub run_sound : (s : State) (byte end total : ℕ) (opens closes : Bool) → IsSound s → s.leaf ≡ true → IsRunOf byte s.text s.at end
     → is_delimiter byte ≡ true
     → follows_run s.run byte ≡ false → s.at + total ≡ end

@@ -1,4 +1,5 @@
--- A delimiter run: a Text over each of its bytes is appended, and then each is made a character of the run, from the last one on.
+-- A delimiter run: a Text over each of its bytes is appended, and then each is made a character of the run, from the
+-- last one on.
 use Rattle.std.proofs.Common.{◌≡◌, ℕ, zero, suc, ◌+◌, ◌-◌, ◌<◌, ◌≤◌, List, Option, Some, None, Bool, true, false, length, refl, sym, ap}
 use Rattle.std.proofs.Common.{◌∙◌, subst, arith, ⊎_elim}
 use Rattle.std.specs.Prelude.{IfSome, ◌==◌}
@@ -21,11 +22,11 @@ use Rattle.markdown_builder.proofs.NodeWriteLemmas.{Grows}
 use Rattle.markdown_builder.proofs.StandingLemmas.{Appended, appended_fits, link_stays}
 use Rattle.markdown_builder.proofs.StepLemmas.{added}
 
--- an item that may stand directly before a run of a character: it ends no run of that character
+-- an item that may directly precede a run of a character: it does not end a run of the same character
 abbrev pub MayPrecede : List ℕ → ℕ → Item → Type 0
 MayPrecede text byte item = IfSome (run_character item.body) (λ c. (byte == byte_of text item) ≡ false)
 
--- the item in focus may, where the run that callers see is of another character
+-- the item at the cursor may, where the run that callers see is of another character
 last_precedes : (text : List ℕ) (nodes : List (Node Item)) (cursor run : Option ℕ) (c byte : ℕ) → cursor ≡ Some c
     → LastRun text nodes cursor run
     → follows_run run byte ≡ false → MayPrecede text byte (item_at nodes c)
@@ -39,7 +40,7 @@ last_precedes text nodes (Some d) run c byte e l f =
     of_character None h = tt
     of_character (Some r) h = subst (λ (o : Option ℕ). follows_run o byte ≡ false) h f
 
--- so many Texts stand behind what was there
+-- a number of Texts follow what was there
 pub record TextsStand (s : State) (byte count : ℕ) (t : Arena Item) : Type 0 where
   pub sound : IsSound (record s { tree = t; at = s.at + count })
   pub size : length t.nodes ≡ length s.tree.nodes + count

@@ -51,7 +51,7 @@ open_map P old new h [] (b ∷ blocks) a o = o
 open_map P old new h (s ∷ spine) [] a o = o
 open_map P old new h (s ∷ spine) (b ∷ blocks) a o = (h s b a.0 o.0, o.1, open_map P old new h spine blocks a.1 o.2)
 
--- and where an item is written that is none of theirs
+-- open blocks stay open where an item is written into a node that holds none of them
 pub open_written : (P : ℕ → Type 0) (old new : List (Node Item)) (at : ℕ) (x : Item) → Writes old new at x
     → ((s : ℕ) (b : OpenBlock) → P s → IsOpenAt old s b → s ≡ at → ⊥)
     → (spine : List ℕ) (blocks : List OpenBlock) → AllByRecursion P spine → AreOpen old spine blocks → AreOpen new spine blocks
@@ -87,7 +87,7 @@ pub record IsInnermost (nodes : List (Node Item)) (n : ℕ) (block : OpenBlock) 
   pub others : AreOpen nodes spine blocks
   pub above : AllByRecursion (λ s. s < n) spine
 
--- nothing is open below nothing
+-- where no block is open, no node was entered
 none_snoc : (nodes : List (Node Item)) (n : ℕ) (spine : List ℕ) → AreOpen nodes (spine ++ n ∷ []) [] → ⊥
 none_snoc nodes n [] o = o
 none_snoc nodes n (s ∷ spine) o = o

@@ -55,7 +55,7 @@ none_tight_grown old new down at x g k h i = ⊎_elim
     (λ (n : i ≡ length old → ⊥). ap (λ (y : Item). is_tight_paragraph y.body) (same_item old new down at x g i n) ∙ k i)
     (same_or_not i (length old))
 
--- nor with one that is written
+-- where an item is written that is not a tight paragraph, none is tight either
 pub none_tight_written : (old new : List (Node Item)) (at : ℕ) (x : Item) → Writes old new at x → NoneTight old
     → is_tight_paragraph x.body ≡ false → NoneTight new
 none_tight_written old new at x w k h i = ⊎_elim
@@ -140,7 +140,7 @@ pub covered_white : (text : List ℕ) (nodes : List (Node Item)) (definitions : 
 covered_white text nodes definitions from to c w p l dark =
     ⊎_elim (λ (h : p < from). c p h dark) (λ (h : from ≤ p). let q = w p h l in cc (q, dark)) (cases_lt p from)
 
--- a builder goes on to a place, where that much is covered, by the definitions that it has then
+-- a builder moves to a byte offset, where all before that is covered, by the definitions that it has then
 moved : (s : State) (to : ℕ) (definitions : List (CowStr × LinkDef)) → IsSound s → s.at ≤ to → IsCharBoundary s.text to
     → AreCovered s.text s.tree.nodes definitions (covered_to s.blocks to)
     → AllByRecursion (λ d. slice_index s.text d.1.span.start ≡ 91) definitions
@@ -255,7 +255,7 @@ leaves_open [] block h = refl
 leaves_open (b ∷ []) block h = (sym h, refl)
 leaves_open (b ∷ c ∷ blocks) block h = (h.0, leaves_open (c ∷ blocks) block h.1)
 
--- the state with a block that begins here gone into
+-- the state with a block that begins here and is entered
 abbrev pub after_opening : State → PartCounts → ItemBody → State
 after_opening s many b =
     let block : OpenBlock = record { start = s.at; body = b } in
@@ -316,7 +316,7 @@ opened_alone s many b run k outside placed parent =
     (parent_not_inline b parent)) (record { ordered = omega arith; start = k.stands.boundary; end = k.stands.boundary }))
     (placed_new s.counts many s.at s.at b placed) ((parent_not_inline b parent) ∙ sym outside) placed.no_run placed.loose
 
--- with more parts all stands as before
+-- with more parts the invariant still holds
 pub more_parts : (s : State) (many : PartCounts) → HasMore s.counts many → IsSound s → IsSound (record s { counts = many })
 more_parts s many more k = record {
   utf8 = k.utf8;

@@ -1,4 +1,5 @@
--- What a builder keeps where an item is written in the place of another: another open block, and, where none is open, a tight paragraph.
+-- What a builder keeps where an item is written in the place of another: another open block, and, where none is open, a
+-- tight paragraph.
 use Rattle.std.proofs.Common.{◌≡◌, ℕ, ◌<◌, ◌≤◌, List, [], ◌∷◌, ◌++◌, Option, Some, None, Bool, true, false, length, refl, sym, ap, ◌∙◌}
 use Rattle.std.proofs.Common.{subst, arith, ⊎_elim}
 use Rattle.std.specs.Prelude.{IfSome, ⊤}
@@ -35,7 +36,7 @@ use Rattle.markdown_builder.proofs.RunLemmas.{runs_written}
 use Rattle.markdown_builder.proofs.StandingLemmas.{IsInnermost, open_snoc, open_unsnoc, open_written, top_stays, not_inside, covered_stays}
 use Rattle.markdown_builder.proofs.StepLemmas.{covered_white, none_tight_written, block_replaces}
 
--- what may come at a place may come where an item of the same kind is written
+-- what may follow at a place may follow where an item of the same kind is written
 still_fits : (old new : List (Node Item)) (number place : ℕ) (x y : Item) (d : Bool) → Writes old new number x
     → MayReplace (item_at old number) x
     → LinkFits d (numbered old place) (record { number = length old; item = y })
@@ -120,7 +121,7 @@ block_written s number x blocks k low was now loose h =
       loose = none_tight_written old new number x w k.loose loose;
     }
 
--- nothing is asked of the numbers gone into
+-- nothing is required of the nodes that were entered
 pub all_true : (spine : List ℕ) → AllByRecursion (λ t. ⊤) spine
 all_true [] = tt
 all_true (t ∷ spine) = (tt, all_true spine)

@@ -1,10 +1,10 @@
--- Which bodies a builder places, and by which of its calls.
+-- The bodies that a builder places, by the calls that place them.
 use Rattle.std.specs.Prelude.{ℕ, Bool, true, false, cond, ◌==◌, ◌||◌, Option, Some, None}
 use Rattle.markdown_base.specs.Bytes.{apostrophe, close_bracket, dollar_sign, double_quote, less_than, open_bracket}
 use Rattle.markdown_base.specs.declared.item.ItemBody.{ItemBody}
 use Rattle.markdown_base.specs.declared.item.ItemBody.TheVariants as body
 
--- a block in which inline items stand, and nothing else
+-- a block that contains only inline items
 abbrev pub is_leaf : ItemBody → Bool
 is_leaf body.Paragraph = true
 is_leaf body.TightParagraph = true
@@ -17,7 +17,7 @@ is_leaf body.DefinitionListTitle = true
 is_leaf body.TableCell = true
 is_leaf other = false
 
--- a block that is opened as it is: it names no part, and may have children
+-- a block that is opened as it is: it refers to no part, and may have children
 abbrev pub is_plain_block : ItemBody → Bool
 is_plain_block body.Paragraph = true
 is_plain_block (body.Heading level None) = true
@@ -35,7 +35,7 @@ is_plain_block body.TableRow = true
 is_plain_block body.TableCell = true
 is_plain_block other = false
 
--- an inline item that is appended as it is: it is settled, and names no part
+-- an inline item that is appended as it is: it is settled, and refers to no part
 abbrev pub is_settled : ItemBody → Bool
 is_settled (body.TaskListMarker done) = true
 is_settled body.InlineHtml = true
@@ -46,11 +46,11 @@ is_settled body.SoftBreak = true
 is_settled (body.HardBreak backslash) = true
 is_settled other = false
 
--- a quotation mark, where it is one
+-- a byte, where it is a quotation mark
 abbrev pub quote_byte : ℕ → Option ℕ
 quote_byte quote = cond ((quote == double_quote) || (quote == apostrophe)) (Some quote) None
 
--- the byte that an open item of one byte stands over
+-- the byte of an open item for one byte
 abbrev pub mark_byte : ItemBody → Option ℕ
 mark_byte (body.MaybeMath opens closes context) = Some dollar_sign
 mark_byte (body.MaybeSmartQuote quote opens closes) = quote_byte quote

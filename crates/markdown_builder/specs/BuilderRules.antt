@@ -1,6 +1,6 @@
--- What a builder keeps, whatever the tree, said of each number and of each link: the rules of a block result, each
--- as `KeepsRules` states it under the same name, where one item stands below another or after it; and that each chain
--- is of one kind, from which they follow for chains of any length.
+-- The rules that a builder keeps for each number and each link of its tree: those of a block result, each as
+-- `KeepsRules` states it under the same name, for one item below another or after it; and that each chain is of one
+-- kind, from which the rules follow for chains of any length.
 use Rattle.std.specs.Prelude.{◌≡◌, ℕ, ◌<◌, ◌≤◌, Bool, true, false, List, Some, IfSome, length}
 use Rattle.markdown_base.specs.declared.item.Item.{Item}
 use Rattle.markdown_base.specs.declared.item.ItemBody.TheVariants as body
@@ -15,7 +15,7 @@ use Rattle.markdown_base.specs.WellFormed.{NothingResolved, PartCounts, PartsAre
 use Rattle.markdown_builder.specs.Bodies.{is_leaf}
 use Rattle.markdown_builder.specs.Rising.{link_of, AreRising}
 
--- the rules of one item alone, with nothing below it
+-- the rules of one item by itself, with nothing below it
 pub record ItemFits (text : List ℕ) (counts : PartCounts) (item : Item) : Type 0 where
   pub ranges_lie_in : RangesLieIn text item
   pub nothing_resolved : NothingResolved item.body
@@ -23,22 +23,22 @@ pub record ItemFits (text : List ℕ) (counts : PartCounts) (item : Item) : Type
   pub parts_are_named : PartsAreNamed counts item.body
   pub blocks_are_settled : BlocksAreSettled item.body nil
 
--- the first item below another: inline items stand in leaves alone
+-- the rules of an item and its first child: inline items occur only in leaves
 pub record StandsUnder (a b : Numbered) : Type 0 where
   pub kind : is_inline b.item.body ≡ is_leaf a.item.body
   pub chains_are_kept : ChainsAreKept a.item.body (node b nil nil)
 
--- the item after another: of one kind
+-- the rules of an item and the next one: both are of one kind
 pub record StandsAfter (a b : Numbered) : Type 0 where
   pub kind : is_inline b.item.body ≡ is_inline a.item.body
   pub inline_in_order : InlineInOrder a (Some b)
 
--- what is kept at a link
+-- the rules at a link
 abbrev pub LinkFits : Bool → Numbered → Numbered → Type 0
 LinkFits true a b = StandsUnder a b
 LinkFits false a b = StandsAfter a b
 
--- the rules at each number and link, but for delimiter runs
+-- the rules at each number and link, except that of delimiter runs
 pub record KeepsNodes (text : List ℕ) (counts : PartCounts) (nodes : List (Node Item)) : Type 0 where
   pub rising : AreRising (links_of nodes)
   pub rooted : 0 < length nodes
@@ -51,17 +51,17 @@ pub record KeepsNodes (text : List ℕ) (counts : PartCounts) (nodes : List (Nod
   pub alignments : (i j t : ℕ) → alignments_named (item_at nodes i).body ≡ Some t
       → alignments_named (item_at nodes j).body ≡ Some t → i ≡ j
 
--- and the rule of delimiter runs
+-- the rule of delimiter runs
 abbrev pub KeepsRuns : List ℕ → List (Node Item) → Type 0
 KeepsRuns text nodes = (i : ℕ) → RunsAreWhole text (numbered nodes i) (next_at nodes i)
 
--- what an item names is new
+-- the parts that an item refers to are new
 pub record NamesNew (counts : PartCounts) (item : Item) : Type 0 where
   pub texts : IfSome (text_named item.body) (λ ix. counts.texts ≤ ix)
   pub alignments : IfSome (alignments_named item.body) (λ ix. counts.alignments ≤ ix)
 
--- an item may be written in the place of another: of the same kind, naming no other parts, and over the same bytes
--- where it is inline
+-- an item can be replaced by another: of the same kind, referring to no other parts, and with the same range where it
+-- is inline
 pub record MayReplace (a b : Item) : Type 0 where
   pub inline : is_inline b.body ≡ is_inline a.body
   pub leaf : is_leaf b.body ≡ is_leaf a.body

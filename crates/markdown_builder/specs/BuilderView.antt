@@ -1,4 +1,4 @@
--- What callers see of a builder, and what its calls ask of the text.
+-- A builder as its callers see it, and what its calls require of the text.
 use Rattle.std.specs.Prelude.{◌≡◌, ℕ, ◌-◌, ◌<◌, ◌≤◌, Bool, true, false, ◌==◌, List, [], ◌∷◌, ◌++◌, Option, Some, None}
 use Rattle.std.specs.Prelude.{length, slice_index, slice_get}
 use Rattle.std.specs.Char.{is_ascii_whitespace}
@@ -10,40 +10,40 @@ use Rattle.markdown_builder.specs.Bodies.{is_leaf}
 pub record BuilderView : Type 0 where
   -- the text
   pub text : List ℕ
-  -- up to here all is placed, or is white space, or stands in a definition
+  -- the byte offset up to which all is placed, or is white space, or is in a definition
   pub at : ℕ
   -- the open blocks, the outermost first
   pub blocks : List OpenBlock
-  -- the innermost of them is a leaf: inline items come, and nothing else
+  -- the innermost of them is a leaf, so that only inline items can follow
   pub leaf : Bool
-  -- the character of the delimiter run that was appended last, if no item came after it
+  -- the character of the delimiter run that was appended last, if no item followed it
   pub run : Option ℕ
-  -- the texts that blocks and items name by number
+  -- the texts that blocks and items refer to by number
   pub texts : List (List ℕ)
   -- the labels of the footnotes that are defined
   pub footnotes : List (List ℕ)
 
--- nothing is made yet of a text
+-- nothing is made of a text yet
 abbrev pub nothing_made : List ℕ → BuilderView
 nothing_made text =
     record { text = text; at = 0; blocks = []; leaf = false; run = None; texts = []; footnotes = [] }
 
--- each byte from one place up to another is white space
+-- each byte from one byte offset up to another is white space
 abbrev pub IsWhite : List ℕ → ℕ → ℕ → Type 0
 IsWhite text from to = (p : ℕ) → from ≤ p → p < to → is_ascii_whitespace (slice_index text p) ≡ true
 
--- there are bytes from one place up to another, and each is a given one
+-- the bytes from one byte offset up to another, of which there is at least one, are all equal to a given one
 pub record IsRunOf (byte : ℕ) (text : List ℕ) (from to : ℕ) : Type 0 where
   pub more : from < to
   pub within : to ≤ length text
   pub same : (p : ℕ) → from ≤ p → p < to → slice_index text p ≡ byte
 
--- a run of this character would follow one of the same character directly
+-- a delimiter run of this character would directly follow one of the same character
 abbrev pub follows_run : Option ℕ → ℕ → Bool
 follows_run None byte = false
 follows_run (Some before) byte = byte == before
 
--- a block with a body begins here, inside those that were open
+-- a block with this body is opened at the current byte offset, inside those that were open
 abbrev pub Opens : BuilderView → BuilderView → ItemBody → Type 0
 Opens old new body = new ≡ record old {
   blocks = old.blocks ++ record { start = old.at; body = body } ∷ [];
@@ -52,7 +52,7 @@ Opens old new body = new ≡ record old {
   run = None;
 }
 
--- such a block begins here and names a text, which is added to those that are named
+-- a block is opened at the current byte offset that refers to a text, which is appended to the texts
 abbrev pub OpensNaming : BuilderView → BuilderView → (CowIndex → ItemBody) → List ℕ → Type 0
 OpensNaming old new body text = new ≡ record old {
   blocks = old.blocks ++ record { start = old.at; body = body (record { 0 = length old.texts }) } ∷ [];
@@ -72,7 +72,7 @@ abbrev pub LastHasBody : List OpenBlock → List OpenBlock → ItemBody → Type
 LastHasBody old new body = (outer : List OpenBlock) (block : OpenBlock) → old ≡ outer ++ block ∷ []
     → new ≡ outer ++ record block { body = body } ∷ []
 
--- the innermost open block, where there is one, begins at another place
+-- the innermost open block, where there is one, has another start
 abbrev pub LastBegins : List OpenBlock → List OpenBlock → ℕ → Type 0
 LastBegins old new start = (outer : List OpenBlock) (block : OpenBlock) → old ≡ outer ++ block ∷ []
     → new ≡ outer ++ record block { start = start } ∷ []

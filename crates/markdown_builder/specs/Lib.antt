@@ -1,8 +1,8 @@
--- what contracts speak of
+-- the terms of contracts
 pub mod Bodies
 pub mod BuilderView
 pub mod Tightness
--- facts of a representation
+-- the representation
 pub mod Rising
 pub mod BuilderRules
 pub mod Standing

@@ -1,4 +1,4 @@
--- Where a builder stands: what it has made so far, and which blocks are open.
+-- The state of a builder: what it has made so far, and which blocks are open.
 use Rattle.std.specs.Prelude.{◌≡◌, ℕ, ◌<◌, ◌≤◌, Bool, true, false, IsTrue, List, [], ◌∷◌, ◌++◌, Option, Some, None}
 use Rattle.std.specs.Prelude.{IfSome, ⊤, ◌⊎◌, length, slice_index}
 use Rattle.std.specs.Char.{is_ascii_whitespace}
@@ -32,7 +32,7 @@ pub record State : Type 0 where
   pub run : Option ℕ
   pub at : ℕ
 
--- where it stands, as callers see it
+-- the position of a builder, as callers see it
 pub record Standpoint : Type 0 where
   pub text : List ℕ
   pub at : ℕ
@@ -43,16 +43,16 @@ pub record Standpoint : Type 0 where
 abbrev pub seen : State → Standpoint
 seen s = record { text = s.text; at = s.at; blocks = s.blocks; leaf = s.leaf; run = s.run }
 
--- the same, of what callers see
+-- the same, from the view of a builder
 abbrev pub standpoint : BuilderView → Standpoint
 standpoint view =
     record { text = view.text; at = view.at; blocks = view.blocks; leaf = view.leaf; run = view.run }
 
--- the item of an open block: its end is not known yet
+-- the item of an open block, whose end is not known yet
 abbrev pub open_item : OpenBlock → Item
 open_item block = record { start = block.start; end = block.start; body = block.body }
 
--- an arena with an item that is appended and gone into
+-- an arena with an item that is appended and entered
 abbrev pub entered : Arena Item → Item → Arena Item
 entered tree item = record (appended tree item) {
   spine = tree.spine ++ length tree.nodes ∷ [];
@@ -63,7 +63,7 @@ entered tree item = record (appended tree item) {
 abbrev pub with_item : Arena Item → ℕ → Item → Arena Item
 with_item tree number item = record tree { nodes = changed_at number (λ n. record n { item = item }) tree.nodes }
 
--- an open block that has been gone into
+-- a node that was entered holds this open block
 pub record IsOpenAt (nodes : List (Node Item)) (s : ℕ) (block : OpenBlock) : Type 0 where
   pub positive : 0 < s
   pub low : s < length nodes
@@ -71,7 +71,7 @@ pub record IsOpenAt (nodes : List (Node Item)) (s : ℕ) (block : OpenBlock) : T
   pub item : item_at nodes s ≡ open_item block
   pub parent : is_childless block.body ≡ false
 
--- the blocks gone into are the open ones, and their numbers rise
+-- the nodes that were entered hold the open blocks, and their numbers rise
 abbrev pub AreOpen : List (Node Item) → List ℕ → List OpenBlock → Type 0
 AreOpen nodes [] [] = ⊤
 AreOpen nodes [] (block ∷ blocks) = ⊥
@@ -79,40 +79,41 @@ AreOpen nodes (s ∷ spine) [] = ⊥
 AreOpen nodes (s ∷ spine) (block ∷ blocks) = IsOpenAt nodes s block × AllByRecursion (λ t. s < t) spine
     × AreOpen nodes spine blocks
 
--- no open block but the innermost is a leaf; whether that is one
+-- no open block is a leaf, except perhaps the innermost; `leaf` is whether that is one
 abbrev pub OnlyLastIsLeaf : List OpenBlock → Bool → Type 0
 OnlyLastIsLeaf [] leaf = leaf ≡ false
 OnlyLastIsLeaf (block ∷ []) leaf = leaf ≡ is_leaf block.body
 OnlyLastIsLeaf (block ∷ inner ∷ blocks) leaf = (is_leaf block.body ≡ false) × OnlyLastIsLeaf (inner ∷ blocks) leaf
 
--- the outermost open block stands on top, or the node in focus does where none is open
+-- the outermost open block is at the top level, or the node at the cursor is where no block is open
 abbrev pub IsTopPlace : List (Node Item) → List ℕ → Option ℕ → Type 0
 IsTopPlace nodes [] None = ⊤
 IsTopPlace nodes [] (Some before) = IsOnTop (links_of nodes) before
 IsTopPlace nodes (s ∷ spine) cursor = IsOnTop (links_of nodes) s
 
--- a block on top stands over a byte
+-- a block at the top level contains the byte at an offset
 pub record IsUnderTop (nodes : List (Node Item)) (p : ℕ) : Type 0 where
   pub number : ℕ
   pub top : IsOnTop (links_of nodes) number
   pub inside : is_inside p (range_of (item_at nodes number)) ≡ true
 
--- a definition stands over a byte
+-- a definition contains the byte at an offset
 abbrev pub is_in_definition : List (CowStr × LinkDef) → ℕ → Bool
 is_in_definition definitions p = list_any (λ d. is_inside p d.1.span) definitions
 
--- how far the text is covered: to where the outermost open block begins
+-- the byte offset up to which the text is covered: the start of the outermost open block, or the current byte offset
+-- where none is open
 abbrev pub covered_to : List OpenBlock → ℕ → ℕ
 covered_to [] at = at
 covered_to (block ∷ blocks) at = block.start
 
--- each byte before a place that is no white space is covered
+-- each byte before a byte offset is white space, or is in a block at the top level or in a definition
 abbrev pub AreCovered : List ℕ → List (Node Item) → List (CowStr × LinkDef) → ℕ → Type 0
 AreCovered text nodes definitions to =
     (p : ℕ) → p < to → is_ascii_whitespace (slice_index text p) ≡ false
     → IsUnderTop nodes p ⊎ IsTrue (is_in_definition definitions p)
 
--- a builder stands so, but for delimiter runs
+-- the invariant of a builder, except for delimiter runs
 pub record Stands (s : State) : Type 0 where
   pub nodes : KeepsNodes s.text s.counts s.tree.nodes
   pub low : place_at s.tree.spine s.tree.cursor < length s.tree.nodes
@@ -129,7 +130,7 @@ pub record Stands (s : State) : Type 0 where
   pub begun : AllByRecursion (λ b. b.start ≤ s.at) s.blocks
   pub brackets : AllByRecursion (λ d. slice_index s.text d.1.span.start ≡ open_bracket) s.definitions
 
--- where the node in focus ends a run, callers see its character
+-- where the node at the cursor is the end of a delimiter run, callers see its character
 abbrev pub LastRun : List ℕ → List (Node Item) → Option ℕ → Option ℕ → Type 0
 LastRun text nodes cursor run =
     IfSome cursor (λ c. IfSome (run_character (item_at nodes c).body) (λ r. run
@@ -139,7 +140,7 @@ LastRun text nodes cursor run =
 abbrev pub NoneTight : List (Node Item) → Type 0
 NoneTight nodes = (i : ℕ) → is_tight_paragraph (item_at nodes i).body ≡ false
 
--- what a builder keeps
+-- the invariant of a builder
 pub record IsSound (s : State) : Type 0 where
   pub utf8 : IsUtf8 s.text
   pub stands : Stands s

@@ -1,4 +1,4 @@
--- What a builder does to its tree in several steps: tight paragraphs, and the characters of a delimiter run.
+-- What a builder changes in its tree in several steps: tight paragraphs, and the characters of a delimiter run.
 use Rattle.std.specs.Prelude.{◌≡◌, ℕ, zero, suc, ◌+◌, ◌-◌, ◌<◌, ◌⊎◌, Bool, true, false, List, length}
 use Rattle.markdown_base.specs.declared.item.Item.{Item}
 use Rattle.markdown_base.specs.declared.item.ItemBody.{ItemBody}
@@ -10,7 +10,7 @@ use Rattle.markdown_base.specs.BlockTree.{item_at}
 use Rattle.markdown_builder.specs.Rising.{link_of}
 use Rattle.markdown_builder.specs.Standing.{with_item}
 
--- a paragraph that is not tight
+-- the body is that of a paragraph which is not tight
 abbrev pub is_paragraph : ItemBody → Bool
 is_paragraph body.Paragraph = true
 is_paragraph other = false
@@ -26,33 +26,33 @@ pub data Tightens (old : Arena Item) : Arena Item → Type 0 where
       → is_paragraph (item_at tree.nodes number).body ≡ true
       → Tightens old (with_item tree number (tight (item_at tree.nodes number)))
 
--- a paragraph with a number of a set is tight now
+-- a paragraph whose number is in a set is tight now
 pub record Tightened (S : ℕ → Type 0) (old new : List (Node Item)) (p : ℕ) : Type 0 where
   pub inside : S p
   pub was : (item_at old p).body ≡ body.Paragraph
   pub now : item_at new p ≡ tight (item_at old p)
 
--- the paragraphs with the numbers of a set are tight now, but for those that are left, and all else is as it was
+-- the paragraphs whose numbers are in a set are tight now, except those that are left, and all else is unchanged
 pub record MadeTight (S Left : ℕ → Type 0) (old new : List (Node Item)) : Type 0 where
   pub size : length new ≡ length old
   pub links : (d : Bool) (i : ℕ) → link_of (links_of new) d i ≡ link_of (links_of old) d i
   pub made : (p : ℕ) → S p → Left p ⊎ ((item_at new p).body ≡ body.Paragraph → ⊥)
   pub kept : (p : ℕ) → (item_at new p ≡ item_at old p) ⊎ Tightened S old new p
 
--- all of them are
+-- all paragraphs whose numbers are in a set are tight now, and all else is unchanged
 abbrev pub MakesTight : (ℕ → Type 0) → List (Node Item) → List (Node Item) → Type 0
 MakesTight S old new = MadeTight S (λ p. ⊥) old new
 
--- a Text over one byte
+-- a Text for one byte
 abbrev pub byte_text : ℕ → Item
 byte_text at = record { start = at; end = at + 1; body = body.Text false }
 
--- so many of them are appended, over the bytes from a place on
+-- an arena with `count` Texts appended, for the bytes from a byte offset on
 abbrev pub texts_appended : Arena Item → ℕ → ℕ → Arena Item
 texts_appended tree start zero = tree
 texts_appended tree start (suc count) = appended (texts_appended tree start count) (byte_text (start + count))
 
--- the character of a run before a place that so many characters of it stand before
+-- the character that starts `count` bytes before the end of a delimiter run, which is at byte offset `stop`
 abbrev pub run_item : ℕ → Bool → Bool → ℕ → Item
 run_item stop opens closes count = record {
   start = stop - count;
@@ -61,7 +61,7 @@ run_item stop opens closes count = record {
   body = body.MaybeEmphasis count opens closes;
 }
 
--- so many of the last items are made the characters of a run that stops at a place, from the last one on
+-- an arena whose last `count` items are made the characters of a delimiter run that ends at byte offset `stop`
 abbrev pub run_marked : Arena Item → ℕ → Bool → Bool → ℕ → Arena Item
 run_marked tree stop opens closes zero = tree
 run_marked tree stop opens closes (suc count) =

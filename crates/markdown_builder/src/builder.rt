@@ -1,4 +1,5 @@
-//! The builder: the state of a block result under way, and the calls that go on with it.
+//! The builder: the state of a block result in progress, and the calls that continue it. Calls that return a `Result`
+//! fail only where memory is refused; how much of the call was done by then is unspecified.
 ghost use Rattle.std.specs.Prelude.{◌≡◌};
 ghost use Rattle.markdown_builder.specs.Bodies.{is_leaf};
 
@@ -14,7 +15,7 @@ use markdown_base::tree::Tree;
 use std::alloc::{AllocError, Global};
 use std::marker::Model;
 
-/// A block result under way: the tree, the parts that its items name, and the blocks that are open.
+/// A block result in progress: the tree, the parts that its items refer to, and the open blocks.
 #[derive(Drop)]
 pub struct Builder<'a> {
     text: &'a str,
@@ -79,7 +80,7 @@ impl<'a> Builder<'a> {
     ghost use Rattle.markdown_builder.specs.BuilderView.{LastHasBody, LastBegins, Opens, OpensNaming};
     ghost use Rattle.markdown_builder.specs.Tightness.{TightInTightLists};
 
-    /// Nothing is made yet.
+    /// Returns a builder that has made nothing yet.
     pub fn new(alloc: Global, text: &'a str) -> Result<Builder<'a>, AllocError>
         ensures { IfOk result (λ made. made ≡ nothing_made text.now) }
     {
@@ -98,14 +99,14 @@ impl<'a> Builder<'a> {
         })
     }
 
-    /// The text.
+    /// Returns the text.
     pub fn text(&self) -> &'a str
         ensures { result.now ≡ self.now.text }
     {
         self.text
     }
 
-    /// Up to where all is placed, or is white space, or stands in a definition.
+    /// Returns the byte offset up to which all of the text is placed, or is white space, or is in a definition.
     pub fn at(&self) -> usize
         ensures value { result ≡ self.now.at }
         ensures boundary { IsCharBoundary self.now.text result }
@@ -113,21 +114,21 @@ impl<'a> Builder<'a> {
         self.at
     }
 
-    /// The open blocks, the outermost first.
+    /// Returns the open blocks, the outermost first.
     pub fn open_blocks(&self) -> &[OpenBlock]
         ensures { result.now ≡ self.now.blocks }
     {
         &self.blocks
     }
 
-    /// Whether the innermost open block is a leaf: inline items come, and nothing else.
+    /// Returns whether the innermost open block is a leaf, so that only inline items can follow.
     pub fn is_in_leaf(&self) -> bool
         ensures { result ≡ self.now.leaf }
     {
         self.leaf
     }
 
-    /// Whether a run of this character would follow one of the same character directly.
+    /// Returns whether a delimiter run of this character would directly follow one of the same character.
     pub fn follows_run(&self, byte: u8) -> bool
         ensures { result ≡ follows_run self.now.run byte }
     {
@@ -137,7 +138,7 @@ impl<'a> Builder<'a> {
         }
     }
 
-    /// Steps over bytes: white space, where no block is open.
+    /// Skips bytes up to byte offset `to`; where no block is open, they have to be white space.
     pub fn skip(&mut self, to: usize)
         requires low { self.old.at ≤ to }
         requires boundary { IsCharBoundary self.old.text to }
@@ -147,7 +148,7 @@ impl<'a> Builder<'a> {
         self.at = to;
     }
 
-    /// Opens a block here.
+    /// Opens a block at the current byte offset.
     pub fn open(&mut self, body: ItemBody) -> Result<(), AllocError>
         requires block { is_plain_block body ≡ true }
         requires outside { self.old.leaf ≡ false }
@@ -159,7 +160,8 @@ impl<'a> Builder<'a> {
         Ok(())
     }
 
-    /// Closes the innermost open block, which ends here.
+    /// Closes the innermost open block, which ends at the current byte offset, and returns it; `None` where no block is
+    /// open.
     pub fn close(&mut self) -> Option<OpenBlock>
         ensures { MatchOption result
             ((self.old.blocks ≡ []) × (self.new ≡ self.old))
@@ -178,7 +180,7 @@ impl<'a> Builder<'a> {
         Some(block)
     }
 
-    /// Appends a settled inline item up to a place.
+    /// Appends a settled inline item up to byte offset `end`.
     pub fn inline(&mut self, body: ItemBody, end: usize) -> Result<(), AllocError>
         requires settled { is_settled body ≡ true }
         requires inside { self.old.leaf ≡ true }
@@ -211,7 +213,7 @@ impl<'a> Builder<'a> {
         Ok(())
     }
 
-    /// Opens a footnote definition with a name, which is listed as defined.
+    /// Opens a footnote definition with a name, and lists the footnote as defined.
     pub fn open_footnote(&mut self, name: CowStr<'a>, listed: CowStr<'a>) -> Result<(), AllocError>
         requires { self.old.leaf ≡ false }
         ensures opens { IfOk result (λ _.
@@ -259,7 +261,7 @@ impl<'a> Builder<'a> {
         Ok(())
     }
 
-    /// Gives the innermost open block another body of the same kind, as a heading's for a paragraph's.
+    /// Replaces the body of the innermost open block by one of the same kind, such as a paragraph's by a heading's.
     pub fn change(&mut self, body: ItemBody)
         requires block { is_plain_block body ≡ true }
         requires same { is_leaf body ≡ self.old.leaf }
@@ -276,7 +278,8 @@ impl<'a> Builder<'a> {
         }
     }
 
-    /// Lets the innermost open block begin at a later place, behind white space. What stands in it stays.
+    /// Moves the start of the innermost open block to a later byte offset, after white space. What the block contains
+    /// stays.
     pub fn begin_later(&mut self, start: usize)
         requires low { start ≤ self.old.at }
         requires boundary { IsCharBoundary self.old.text start }
@@ -294,7 +297,7 @@ impl<'a> Builder<'a> {
         }
     }
 
-    /// Appends a thematic break up to a place.
+    /// Appends a thematic break up to byte offset `end`.
     pub fn rule(&mut self, end: usize) -> Result<(), AllocError>
         requires outside { self.old.leaf ≡ false }
         requires low { self.old.at ≤ end }
@@ -311,7 +314,7 @@ impl<'a> Builder<'a> {
         Ok(())
     }
 
-    /// Appends a text that stands for the bytes up to a place.
+    /// Appends a text that replaces the bytes up to byte offset `end`.
     pub fn synthesize(&mut self, text: CowStr<'a>, end: usize) -> Result<(), AllocError>
         requires inside { self.old.leaf ≡ true }
         requires low { self.old.at ≤ end }
@@ -333,7 +336,7 @@ impl<'a> Builder<'a> {
         Ok(())
     }
 
-    /// Appends an open item over one byte: a `$`, a quotation mark, a `<`, a `[` or a `]`.
+    /// Appends an open item for one byte: a `$`, a quotation mark, a `<`, a `[` or a `]`.
     pub fn mark(&mut self, body: ItemBody) -> Result<(), AllocError>
         requires inside { self.old.leaf ≡ true }
         requires more { self.old.at < length self.old.text }
@@ -351,7 +354,7 @@ impl<'a> Builder<'a> {
         Ok(())
     }
 
-    /// Appends the open item over a `![`.
+    /// Appends the open item for a `![`.
     pub fn image(&mut self) -> Result<(), AllocError>
         requires inside { self.old.leaf ≡ true }
         requires more { self.old.at + 1 < length self.old.text }
@@ -370,7 +373,8 @@ impl<'a> Builder<'a> {
         Ok(())
     }
 
-    /// Appends the open item over backticks up to a place; whether a backslash stands before them.
+    /// Appends the open item for a run of backticks up to byte offset `end`; `escaped` is whether a backslash precedes
+    /// it.
     pub fn backticks(&mut self, end: usize, escaped: bool) -> Result<(), AllocError>
         requires inside { self.old.leaf ≡ true }
         requires run { IsRunOf 96 self.old.text self.old.at end }
@@ -386,7 +390,8 @@ impl<'a> Builder<'a> {
         Ok(())
     }
 
-    /// Appends a whole delimiter run of a character up to a place; whether it can open, and can close.
+    /// Appends a whole delimiter run of a character up to byte offset `end`; `opens` and `closes` are whether it can
+    /// open and close.
     pub fn run(&mut self, byte: u8, end: usize, opens: bool, closes: bool) -> Result<(), AllocError>
         requires inside { self.old.leaf ≡ true }
         requires delimiter { is_delimiter byte ≡ true }
@@ -402,7 +407,7 @@ impl<'a> Builder<'a> {
         Ok(())
     }
 
-    /// Adds a link reference definition, which stands from here, at a `[`, up to a place.
+    /// Adds a link reference definition from the current byte offset, at a `[`, up to byte offset `end`.
     pub fn define(
         &mut self,
         label: CowStr<'a>,
@@ -422,8 +427,8 @@ impl<'a> Builder<'a> {
         Ok(())
     }
 
-    /// What was made, when the whole text is read and all blocks are closed. The paragraphs directly in the items of
-    /// tight lists are made tight.
+    /// Returns what was made, when the whole text is read and all blocks are closed. The paragraphs directly in the
+    /// items of tight lists are made tight.
     pub fn finish(self) -> (Tree<Item>, BlockParts<'a>)
         requires closed { self.blocks ≡ [] }
         requires read { self.at ≡ length self.text }
@@ -444,7 +449,7 @@ impl<'a> Builder<'a> {
     }
 }
 
-/// Whether a body is a leaf's.
+/// Returns whether a body is that of a leaf.
 fn is_leaf(body: ItemBody) -> bool
     ensures { result ≡ is_leaf body }
 {

@@ -1,7 +1,7 @@
-//! A block that is open: its end is not known yet.
+//! An open block, whose end is not known yet.
 use markdown_base::item::ItemBody;
 
-/// A block that begins at `start`, and into which what comes next goes.
+/// An open block, which starts at byte offset `start` and contains what comes next.
 #[derive(Clone, Copy, Debug, PartialEq, Eq, Drop)]
 pub struct OpenBlock {
     pub start: usize,

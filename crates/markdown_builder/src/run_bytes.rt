@@ -3,7 +3,7 @@ ghost use Rattle.std.specs.Prelude.{◌≡◌, ◌<◌, ◌≤◌, length, slice
 ghost use Rattle.std.specs.Str.{IsCharBoundary};
 ghost use Rattle.markdown_builder.specs.BuilderView.{IsRunOf};
 
-/// Where the run of one byte ends that begins at `from`.
+/// Returns the byte offset at which the run of a byte ends that begins at byte offset `from`.
 pub fn run_end(text: &str, from: usize, byte: u8) -> usize
     requires within { from < length text.now }
     requires first { slice_index text.now from ≡ byte }

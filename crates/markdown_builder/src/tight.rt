@@ -10,7 +10,7 @@ ghost use Rattle.markdown_builder.specs.TreeSteps.{is_paragraph, Tightens, Makes
 use markdown_base::item::{Item, ItemBody};
 use markdown_base::tree::Tree;
 
-/// Whether a body is that of a paragraph which is not tight.
+/// Returns whether a body is that of a paragraph which is not tight.
 fn is_paragraph(body: ItemBody) -> bool
     ensures { result ≡ is_paragraph body }
 {
@@ -37,7 +37,7 @@ fn tighten(tree: &mut Tree<Item>, number: usize)
     }
 }
 
-/// Makes the paragraphs tight that stand side by side from a node on.
+/// Makes the paragraphs tight in a chain of siblings, from its first node on.
 fn tighten_siblings(tree: &mut Tree<Item>, first: Option<usize>)
     requires rising { AreRising (links_of tree.old.nodes) }
     requires within { IfSome first (λ number. number < length tree.old.nodes) }
@@ -51,7 +51,7 @@ fn tighten_siblings(tree: &mut Tree<Item>, first: Option<usize>)
     }
 }
 
-/// Makes the paragraphs tight that stand directly in the items of a list.
+/// Makes the paragraphs tight that are directly in the items of a list.
 fn tighten_items(tree: &mut Tree<Item>, list: usize)
     requires rising { AreRising (links_of tree.old.nodes) }
     requires within { list < length tree.old.nodes }
@@ -66,7 +66,7 @@ fn tighten_items(tree: &mut Tree<Item>, list: usize)
     }
 }
 
-/// Whether a body is that of a tight list.
+/// Returns whether a body is that of a tight list.
 fn is_tight_list(body: ItemBody) -> bool
     ensures { result ≡ is_tight_list body }
 {
@@ -76,7 +76,7 @@ fn is_tight_list(body: ItemBody) -> bool
     }
 }
 
-/// Makes the paragraphs tight that stand directly in the items of tight lists.
+/// Makes the paragraphs tight that are directly in the items of tight lists.
 pub fn tighten_lists(tree: &mut Tree<Item>)
     requires { AreRising (links_of tree.old.nodes) }
     ensures steps { Tightens tree.old tree.new }

@@ -1,4 +1,4 @@
-//! What a builder does to its tree, a step at a time.
+//! The steps in which a builder changes its tree.
 ghost use Rattle.std.specs.Prelude.{◌≡◌, ℕ, ◌+◌, ◌-◌, ◌<◌, ◌≤◌, ◌⊎◌, List, ◌++◌, ◌∷◌, [], Some, length, IfOk, OnErr};
 ghost use Rattle.markdown_base.specs.Arena.{appended, changed_at};
 ghost use Rattle.markdown_builder.specs.Standing.{entered, open_item, with_item};
@@ -12,7 +12,7 @@ use markdown_base::item::{Item, ItemBody};
 use markdown_base::tree::Tree;
 use std::alloc::AllocError;
 
-/// Appends an item and goes into it. After a refusal it may have been appended alone.
+/// Appends an item and enters it. Fails where memory is refused; the item may then have been appended.
 fn go_into(tree: &mut Tree<Item>, item: Item) -> Result<(), AllocError>
     ensures entered { IfOk result (λ _. tree.new ≡ entered tree.old item) }
     ensures refused { OnErr result ((tree.new ≡ tree.old) ⊎ (tree.new ≡ appended tree.old item)) }
@@ -22,7 +22,7 @@ fn go_into(tree: &mut Tree<Item>, item: Item) -> Result<(), AllocError>
     Ok(())
 }
 
-/// Appends a block and goes into it. After a refusal it may have been appended alone.
+/// Appends a block and enters it. Fails where memory is refused; its item may then have been appended.
 pub fn enter(
     tree: &mut Tree<Item>,
     blocks: &mut Vec<OpenBlock>,
@@ -52,7 +52,7 @@ pub fn enter(
     }
 }
 
-/// Goes out of the node gone into last, and writes its item.
+/// Leaves the node that was entered last, and replaces its item.
 pub fn leave(tree: &mut Tree<Item>, item: Item)
     ensures { (outer : List ℕ) (ix : ℕ) → tree.old.spine ≡ outer ++ ix ∷ []
         → tree.new ≡ record {
@@ -68,7 +68,7 @@ pub fn leave(tree: &mut Tree<Item>, item: Item)
     }
 }
 
-/// Writes the item of the node gone into last: that of an open block.
+/// Replaces the item of the node that was entered last by that of an open block.
 pub fn rewrite(tree: &mut Tree<Item>, block: OpenBlock)
     ensures { (outer : List ℕ) (ix : ℕ) → tree.old.spine ≡ outer ++ ix ∷ []
         → tree.new ≡ with_item tree.old ix (open_item block) }
@@ -84,7 +84,7 @@ pub fn rewrite(tree: &mut Tree<Item>, block: OpenBlock)
     }
 }
 
-/// Puts a block in the place of the last one.
+/// Replaces the last block.
 pub fn replace_last(blocks: &mut Vec<OpenBlock>, block: OpenBlock)
     requires { 0 < length blocks.old.items }
     ensures { (outer : List OpenBlock) (last : OpenBlock) → blocks.old.items ≡ outer ++ last ∷ []
@@ -94,7 +94,7 @@ pub fn replace_last(blocks: &mut Vec<OpenBlock>, block: OpenBlock)
     blocks[last] = block;
 }
 
-/// Adds a text, and answers its number.
+/// Appends a text, and returns its number. Fails where memory is refused; the texts are then unchanged.
 pub fn push_text<'a>(texts: &mut Vec<CowStr<'a>>, text: CowStr<'a>) -> Result<CowIndex, AllocError>
     ensures number { IfOk result (λ ix. ix.0 ≡ length texts.old.items) }
     ensures more { IfOk result (λ _. length texts.new.items ≡ length texts.old.items + 1) }
@@ -106,7 +106,7 @@ pub fn push_text<'a>(texts: &mut Vec<CowStr<'a>>, text: CowStr<'a>) -> Result<Co
     Ok(ix)
 }
 
-/// Appends a Text over each byte of a range. After a refusal some of them are appended.
+/// Appends a Text for each byte of a range. Fails where memory is refused; some of them may then have been appended.
 pub fn append_texts(tree: &mut Tree<Item>, start: usize, end: usize) -> Result<(), AllocError>
     requires { start ≤ end }
     ensures appended { IfOk result (λ _. tree.new ≡ texts_appended tree.old start (end - start)) }
@@ -126,7 +126,7 @@ pub fn append_texts(tree: &mut Tree<Item>, start: usize, end: usize) -> Result<(
     Ok(())
 }
 
-/// Makes the last items, one a byte, the characters of a delimiter run that stops at a place.
+/// Makes the last `count` items, of one byte each, the characters of a delimiter run that ends at byte offset `stop`.
 pub fn mark_run(tree: &mut Tree<Item>, stop: usize, count: usize, opens: bool, closes: bool)
     requires nodes { count ≤ length tree.old.nodes }
     requires bytes { count ≤ stop }

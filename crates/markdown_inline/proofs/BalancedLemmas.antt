@@ -1,4 +1,4 @@
--- The events of a forest in which no Start and no End stands alone are balanced.
+-- The events of a forest in which no leaf is a Start or an End are balanced.
 use Rattle.std.proofs.Common.{◌≡◌, ℕ, List, [], ◌∷◌, ◌++◌, refl, sym, subst, append_assoc, append-nil, arith}
 use Rattle.std.specs.declared.ops.Range.{Range}
 use Rattle.markdown_base.specs.Event.{EventView, start, end, end_of}
@@ -17,7 +17,7 @@ lone_turn (start tag) range awaited rest e h = cc e
 lone_turn (end x) range awaited rest e h = cc e
 lone_turn other range awaited rest e h = h
 
--- before what goes on balanced stand events that keep what is awaited
+-- events that keep what is awaited before balanced events
 abbrev Goes : List Ranged → Type 0
 Goes es = (awaited : List Awaited) (rest : List Ranged) → AreBalancedFrom awaited rest → AreBalancedFrom awaited (es ++ rest)
 
@@ -34,7 +34,7 @@ goes_on plain range es fs lone inside after awaited rest h =
 goes_on backslash_break range es fs lone inside after awaited rest h = after awaited rest h
 goes_on (unresolved b) range es fs lone inside after awaited rest h = after awaited rest h
 
--- so are the events of a forest before what goes on balanced
+-- the events of a forest do so
 balanced_in : {A : Type 0} (f : Forest (Label A)) → sum_of alone f ≡ 0 → Goes (ranged_in f)
 balanced_in nil lone awaited rest h = h
 balanced_in (node a below later) lone awaited rest h =

@@ -1,4 +1,4 @@
--- A chain that is resolved in place: what a walk that stands before it has left.
+-- A chain that is resolved in place: what a walk that is before it has left.
 use Rattle.std.proofs.Common.{◌+◌, ◌≡◌, ℕ, ◌<◌, ◌≤◌, Bool, true, false, List, [], ◌∷◌, ◌++◌, map, length, Option, Some, refl, ap, sym, ◌∙◌}
 use Rattle.std.proofs.Common.{⊎_elim, arith, append_assoc}
 use Rattle.std.specs.Prelude.{slice_range}
@@ -101,12 +101,12 @@ pub record ChainMoves (s : Setting) (tables tables' : Tables) (nodes nodes' : Li
       ≡ map question questions ++ left_of s tables' nodes' (Some first) spine (now later)
   pub begins : (known : Known) → BeginsWithEvent (left_of s tables' nodes' (Some first) spine known)
   pub falls : steps_of nodes' (Some first) spine < steps_of nodes (Some first) spine
-  -- its counts were ahead, and nothing is then
+  -- its counts were ahead, and none are afterwards
   pub was_ahead : counts_ahead s tables nodes (Some first) spine ≡ chain_counts s plain_tags (above_at s.text nodes spine)
       (trees_from s.text tables nodes (Some first))
   pub none_ahead : counts_ahead s tables' nodes' (Some first) spine ≡ no_chain
 
--- numbers that stand above are those of nodes, and entries named there are in the tables
+-- numbers above are those of nodes, and entries that are referred to there are in the tables
 above_within : (k : Links) (p : ℕ → Type 0) (spine : List ℕ) (n : ℕ) → AllReach k p spine → 0 < climbed (same n) (same n) k spine
     → n < k.size
 above_within k p spine n r l = ⊎_elim (λ h. h) (λ h. absurd (omega (arith, times_above-past k p spine n r h, l))) (cases_lt n k.size)
@@ -130,7 +130,7 @@ above_chain step s first spine old new w r =
     (omega (arith, w.once n, l)))
     (λ n l. grown-same old.tables new.tables n r.changes.grown (above_named s.text old.tables old.nodes spine n w.walk.above l))
 
--- the chain stands ready to be resolved
+-- the chain is ready to be resolved
 pub can_resolve : (source : List ℕ) (tables : Tables) (nodes : List (Node Item)) (first : ℕ) (spine : List ℕ)
     → Stands source tables nodes (Some first) spine → is_open (item_at nodes first).body ≡ true
     → CanResolve source tables nodes (Some first)
@@ -146,7 +146,7 @@ can_resolve source tables nodes first spine w e =
       quiet_below = rw o.here ((rw o.here at w.here_kept).0 (ap is_unresolved open_shape));
     }
 
--- the nodes gone into are there, lie in the text, and stand in no chain at hand
+-- the nodes that were entered exist, lie in the text, and are not in the chain at hand
 nodes_above : (source : List ℕ) (k : Links) (nodes : List (Node Item)) (p : ℕ → Type 0) (l : Option ℕ) (spine : List ℕ) → k ≡ links_of nodes
     → AllReach k p spine → SpineLies source nodes spine
     → ((n : ℕ) → times_in nodes l n + climbed (same n) (same n) k spine ≤ 1) → AreAbove source nodes l spine

@@ -20,7 +20,7 @@ use Rattle.markdown_document.specs.Tables.{Tables}
 use Rattle.markdown_inline.specs.Counts.{Counting, no_chain, before_event, first_counts, unless_ended, counts_around, counts_ahead}
 use Rattle.markdown_inline.specs.Walk.{closing}
 
--- the node gone into last is left first
+-- the node that was entered last is left first
 pub counts_around-snoc : (s : Setting) (above : Above) (tables : Tables) (nodes : List (Node Item)) (spine : List ℕ) (ix : ℕ)
     (after : Counting) → counts_around s above tables nodes (spine ++ ix ∷ []) after
     ≡ unless_ended (closing (item_at nodes ix).body)

@@ -1,4 +1,5 @@
--- No count of a walk reaches its greatest value: a call counts no more than there are steps to come before it, and steps fall.
+-- No count of a walk reaches its maximum: a call counts at most as many as there are steps to come before it, and steps
+-- get fewer.
 use Rattle.std.proofs.Common.{◌≡◌, ℕ, zero, suc, ◌+◌, ◌*◌, ◌^◌, ◌<◌, ◌≤◌, Bool, true, false, List, [], ◌∷◌, ◌++◌, length}
 use Rattle.std.proofs.Common.{Option, Some, None, Ok, refl, ap, subst, arith}
 use Rattle.std.specs.Prelude.{IfSome, slice_range}
@@ -48,12 +49,12 @@ few-none most = record { items = omega arith; delimiters = omega arith }
 few-more : (n : ChainCounts) (most more : ℕ) → most ≤ more → AreFew n most → AreFew n more
 few-more n most more l h = record { items = omega (arith, l, h.items); delimiters = omega (arith, l, h.delimiters) }
 
--- a chain weighs as much as it has items at least
+-- a chain weighs at least as much as it has items
 roots-few : {A : Type 0} (f : Forest (Label A)) → length (roots f) ≤ weight f
 roots-few nil = omega arith
 roots-few (node a below after) = omega (arith, roots-few after, some_weight (is_unresolved a.part.shape))
 
--- and as much as it has delimiter characters
+-- a chain weighs at least as much as it has delimiter characters
 counted-once : (b : ItemBody) → counts_delimiter b ≤ 1
 counted-once (body.MaybeEmphasis count opens closes) = omega arith
 counted-once other = omega arith
@@ -69,7 +70,7 @@ delimiters-few : {A : Type 0} (f : Forest (Label A)) → delimiters_in f ≤ wei
 delimiters-few nil = omega arith
 delimiters-few (node a below after) = omega (arith, shape-few a.part.shape, delimiters-few after)
 
--- so its counts are few
+-- so the counts of a chain are few
 chain-few : {A : Type 0} (s : Setting) (tags : Tags A) (above : Above) (chain : Forest (Label A)) (known : Known)
     → AreFew (chain_counts s tags above chain known) (weight chain)
 chain-few s tags above chain known = record {
@@ -81,7 +82,7 @@ chain-few s tags above chain known = record {
   );
 }
 
--- and those before the first event of a forest
+-- and so are those before the first event of a forest
 before-few : (shape : Shape) (inside chain : Counting) (known : Known) (most : ℕ) → AreFew (inside known) most
     → AreFew (chain known) most → AreFew (before_event shape inside chain known) most
 before-few (leaf e origins) inside chain known most i c = few-none most
@@ -116,7 +117,7 @@ open-same tables source b = by (is_open b) refl
     by true e = ap is_unresolved (shape-open tables source b e)
     by false e = closed (is_unresolved (shape_of tables source b)) refl e
 
--- a forest weighs as its nodes do
+-- the weight of a forest is that of its nodes
 weight-placed : (source : List ℕ) (tables : Tables) (nodes : List (Node Item)) (f : Forest ℕ)
     → weight (relabelled (label_at source tables nodes) f) ≡ total (weight_at nodes) f
 weight-placed source tables nodes nil = refl
@@ -150,7 +151,7 @@ around-few s above tables nodes (ix ∷ deeper) after known most h =
     (around-few s (inside_item (item_at nodes ix) above) tables nodes deeper (unless_ended ends here) known (weight trees + most)
     (unless-few ends here known (weight trees + most) (first-few s above trees after known most h)))
 
--- so are those of a walk, by the weight of what is left of it
+-- the counts of a walk are few, by the weight of what is left of it
 ahead-few : (s : Setting) (tables : Tables) (nodes : List (Node Item)) (l : Option ℕ) (spine : List ℕ) (known : Known)
     → AreFew (counts_ahead s tables nodes l spine known) (weight_left nodes l spine)
 unfolding counts_ahead left_total

@@ -1,5 +1,5 @@
--- Lists of numbers that a forest's labels have, in the order in which its trees end: what is dropped from such a list, and
--- sums of what stands before each number.
+-- Lists of numbers that a forest's labels have, in the order in which its trees end: what is dropped from such a list,
+-- and sums of what stands before each number.
 use Rattle.std.proofs.Common.{◌≡◌, ℕ, ◌+◌, ◌-◌, ◌<◌, ◌≤◌, Bool, true, false, List, [], ◌∷◌, ◌++◌, refl, sym, ap, ◌∙◌, append_assoc, arith}
 use Rattle.std.specs.Prelude.{⊤, if◌then◌else◌}
 use Rattle.markdown_base.specs.Forest.{Forest, nil, node}
@@ -11,22 +11,24 @@ abbrev pub total : List ℕ → ℕ
 total [] = 0
 total (n ∷ ns) = n + total ns
 
--- the sum before each number is below a limit, where so much stands before the first
+-- the sum of the numbers before each number is below a limit, where they include `before`
 abbrev pub Fits : (limit before : ℕ) → List ℕ → Type 0
 Fits limit before [] = ⊤
 Fits limit before (n ∷ ns) = (before < limit) × Fits limit (before + n) ns
 
--- a list fits wherever another does, and sums to no more: so it is where it has some of the other's numbers, in order
+-- a list fits wherever another does, and sums to no more: for example, where it has some of the other's numbers, in
+-- order
 pub record IsWithin (ns ms : List ℕ) : Type 0 where
   pub fits : (limit n m : ℕ) → n ≤ m → Fits limit m ms → Fits limit n ns
   pub sums : total ns ≤ total ms
 
--- a list fits where less stands before it
+-- a list fits where less precedes it
 fits_less : (limit n m : ℕ) (ns : List ℕ) → n ≤ m → Fits limit m ns → Fits limit n ns
 fits_less limit n m [] h f = tt
 fits_less limit n m (x ∷ ns) h f = (omega (arith, h, f.0), fits_less limit (n + x) (m + x) ns (omega (arith, h)) f.1)
 
--- a list is within itself, what is within one within another is within the other, and nothing is within each
+-- a list is within itself; what is within a list that is within another is within the other; and the empty list is
+-- within each
 pub within_same : (ns : List ℕ) → IsWithin ns ns
 within_same ns = record { fits = λ limit n m h f. fits_less limit n m ns h f; sums = omega arith }
 
@@ -73,7 +75,7 @@ fits_append limit before (n ∷ ns) ms f g = (
       + (n + total ns)) ms (omega arith) g),
 )
 
--- later, where the limit is less by what stands before
+-- a list fits later, where the limit is less by what precedes it
 pub fits_later : (limit later before n m : ℕ) (ns : List ℕ) → later ≤ limit - before → m ≤ before + n → Fits later n ns → Fits limit m ns
 fits_later limit later before n m [] h e f = tt
 fits_later limit later before n m (x ∷ ns) h e f = (
@@ -119,7 +121,8 @@ ends_onto own nil rest = rest
 ends_onto own (node a below after) rest = ends_onto own below (own a.part.shape ++ ends_onto own after rest)
 
 module _ {A : Type 0} (own : Shape → List ℕ) where
-  -- before what is within a list stands what is within the same before that list; all of a forest's may be dropped; what follows goes on
+  -- where a list is within another, so it is with the numbers of a forest before both; all of a forest's may be
+  -- dropped; what follows stays in order
   pub ends_mono : (f : Forest (Label A)) (ns ms : List ℕ) → IsWithin ns ms → IsWithin (ends_onto own f ns) (ends_onto own f ms)
   ends_mono nil ns ms w = w
   ends_mono (node a below after) ns ms w =

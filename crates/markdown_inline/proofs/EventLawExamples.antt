@@ -37,7 +37,7 @@ end_alone h = h
 start_alone : AreBalanced ((start emphasis, from_to 0 3) ∷ []) → ⊥
 start_alone h = cc h
 
--- `[<c>](c)` keeps to the second, and so does a link after a link; an inline link in another breaks it
+-- `[<c>](c)` keeps the second law, and so does a link after a link; an inline link in another breaks it
 autolink_in_link : NoLinkInLink ((start (link (leads kind.Inline)), from_to 0 8) ∷ (start (link (leads kind.Autolink)), from_to 1 4) ∷ [])
 autolink_in_link = (λ some. absurd (omega (arith, some)), (λ some. refl, tt))
 

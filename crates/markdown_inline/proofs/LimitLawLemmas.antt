@@ -1,5 +1,5 @@
--- What the events of a forest list at their Ends is what its labels have, in the order in which its trees end; and where what
--- stands before each fits, all but the last sum to less than the limit.
+-- What the events of a forest list at their Ends are the numbers of its labels, in the order in which its trees end;
+-- and where the sums before each are below a limit, all but the last sum to less than the limit.
 use Rattle.std.proofs.Common.{◌≡◌, ℕ, ◌+◌, ◌<◌, ◌≤◌, List, [], ◌∷◌, ◌++◌, refl, sym, subst, append_assoc, append-nil, arith, map}
 use Rattle.std.specs.declared.ops.Range.{Range}
 use Rattle.markdown_base.specs.Event.{EventView, start, end, end_of}
@@ -17,7 +17,7 @@ use Rattle.markdown_inline.proofs.EndOrderLemmas.{within_trans}
 use Rattle.markdown_inline.proofs.WholeReadingLemmas.{alone, alone_at, alone_event, ranged_in, expansion_at, opened_events, whole_events}
 use Rattle.markdown_inline.proofs.WholeReadingLemmas.{whole_such}
 
--- an event that is no Start and no End lists nothing
+-- an event that is neither a Start nor an End lists nothing
 lone_lists : (e : EventView) (opened : List (List ℕ)) (rest : List (List ℕ) → List ℕ) → total (alone_event e) ≡ 0
     → listed_at_ends e opened rest ≡ rest opened
 lone_lists (start tag) opened rest e = cc e
@@ -67,7 +67,7 @@ module _ {A : Type 0} where
       tree_lists a.part.shape a.part.range below later (ranged_in below) (ranged_in later) (omega (arith, lone))
       (lists_in below (omega (arith, lone))) (lists_in later (omega (arith, lone))) opened rest
 
--- what stands before the last is all but the last
+-- the sum before the last number is that of all but the last
 last_fits : (limit before n : ℕ) (ns : List ℕ) → Fits limit before (n ∷ ns) → before + sum_but_last (n ∷ ns) < limit
 last_fits limit before n [] f = omega (arith, f.0)
 last_fits limit before n (m ∷ ns) f = omega (arith, last_fits limit (before + n) m ns f.1)

@@ -1,5 +1,5 @@
--- Resolving a chain in which no link stands, but autolinks, puts no link into a link: pass one keeps to it by the law of
--- brackets, and pairing makes no link and moves none into another.
+-- Resolving a chain whose only links are autolinks puts no link into a link: pass one by the law of brackets, and
+-- pairing since it makes no link and moves none into another.
 use Rattle.std.proofs.Common.{◌≡◌, ℕ, Bool, true, false, List, [], ◌∷◌, ◌++◌, Some, None, refl, sym, ◌∙◌, append_assoc, arith}
 use Rattle.std.specs.Prelude.{⊤, slice_range}
 use Rattle.markdown_base.specs.Event.{TagView, link}
@@ -72,7 +72,7 @@ none_shape : (shape : Shape) → IsNoLink shape → total (links_at shape) ≡ 0
 none_shape (enclosed tag) h = none_tag tag h
 none_shape other h = refl
 
--- what has nothing below it has no link there
+-- where nothing is below an item, no link is
 nothing_below : (A : Type 0) (shape : Shape) → HasNoneBelow {A = A} shape nil
 nothing_below A (enclosed (link v)) = tt
 nothing_below A (enclosed other) = tt
@@ -265,7 +265,7 @@ module _ {A : Type 0} where
       put_more (read_tree s tags above p.made a below rest).trees p.left (free_unless (is_quiet a.part.shape) s tags above p.made a below
       rest h i)
 
-  -- nor pass one, by the law of brackets; nor the whole
+  -- pass one puts no link into a link either, by the law of brackets; nor does the whole
   pass_one_apart : (s : Setting) (tags : Tags A) (above : Above) (chain : Forest (Label A)) (known : Known) → IsFreeOfLinks chain
       → HasNoLinkInLink (pass_one s tags above chain known).forest
   unfolding pass_one

@@ -1,4 +1,5 @@
--- What a look-up finds takes its bytes off the limit, which was not 0 before; nothing else in a chain changes the limit.
+-- What a look-up finds takes its bytes off the limit, which was not 0 before; nothing else in a chain changes the
+-- limit.
 use Rattle.std.proofs.Common.{◌≡◌, ℕ, ◌-◌, ◌≤◌, Bool, true, false, ◌&&◌, List, [], ◌∷◌, map, Option, Some, None, refl, sym, subst}
 use Rattle.std.proofs.Common.{arith, nat_le}
 use Rattle.std.specs.Prelude.{MatchOption, if◌then◌else◌}
@@ -37,7 +38,7 @@ abbrev sizes : List LinkView → List ℕ
 sizes found = map size_of found
 
 module _ {A : Type 0} where
-  -- a decision leaves of a limit what the look-up left, if there was one
+  -- a decision leaves of the limit what the look-up left, if there was one
   abbrev IsSpent : (limit : ℕ) → Decision A → Type 0
   IsSpent limit d = Spent limit (sizes (found_by d.becomes)) d.progress.known.limit
 

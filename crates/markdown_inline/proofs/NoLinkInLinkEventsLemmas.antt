@@ -1,5 +1,5 @@
--- In the events of a forest in which no link stands in a link, and no Start and no End alone, no Start of a link stands in
--- a link.
+-- In the events of a forest in which no link is in a link, and no leaf is a Start or an End, no Start of a link is in a
+-- link.
 use Rattle.std.proofs.Common.{◌≡◌, ℕ, suc, ◌≤◌, true, List, [], ◌∷◌, ◌++◌, refl, sym, subst, append_assoc, append-nil, arith}
 use Rattle.std.specs.declared.ops.Range.{Range}
 use Rattle.markdown_base.specs.Event.{EventView, TagView, start, end, end_of, link}
@@ -20,13 +20,13 @@ autolink_is : (k : LinkType) → is_autolink k ≡ true → k ≡ kind.Autolink
 autolink_is kind.Autolink e = refl
 autolink_is other e = cc e
 
--- an event that is no Start and no End
+-- an event that is neither a Start nor an End
 lone_stays : (e : EventView) (within : ℕ) (rest : ℕ → Type 0) → total (alone_event e) ≡ 0 → rest within → StartsNoLinkInLink e within rest
 lone_stays (start tag) within rest e h = cc e
 lone_stays (end x) within rest e h = cc e
 lone_stays other within rest e h = h
 
--- before what goes on so stand events that go on so, with as many links open; where they are free of links in a link
+-- events that keep the law, where they are free of links in a link, before others that keep it with as many links open
 abbrev Goes : List Ranged → (free : Type 0) → Type 0
 Goes es free = (within : ℕ) (rest : List Ranged) → (1 ≤ within → free) → NoLinkInLinkFrom within rest → NoLinkInLinkFrom within (es ++ rest)
 
@@ -58,7 +58,7 @@ goes_on plain range below es fs free lone apart inside after within rest freed h
 goes_on backslash_break range below es fs free lone apart inside after within rest freed h = after within rest (λ some. (freed some).2) h
 goes_on (unresolved b) range below es fs free lone apart inside after within rest freed h = after within rest (λ some. (freed some).2) h
 
--- a forest before what goes on so
+-- a forest before others that keep the law
 apart_in : {A : Type 0} (f : Forest (Label A)) → sum_of alone f ≡ 0 → HasNoLinkInLink f → Goes (ranged_in f) (IsFreeOfLinks f)
 apart_in nil lone apart within rest freed h = h
 apart_in (node a below later) lone apart within rest freed h =

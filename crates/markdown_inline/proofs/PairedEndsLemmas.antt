@@ -1,5 +1,5 @@
--- Numbers of a chain's labels in the order in which its trees end, where Texts and the marks of pairs have none: pairing
--- drops some at most.
+-- The numbers of a chain's labels in the order in which its trees end, where Texts and the marks of pairs have none:
+-- pairing at most drops some.
 use Rattle.std.proofs.Common.{◌≡◌, ℕ, zero, suc, Bool, true, false, List, [], ◌∷◌, ◌++◌, map, refl, sym, subst, ap, ◌∙◌}
 use Rattle.std.specs.Prelude.{⊤, IfSome, not, ◌&&◌, encode_utf8, slice_range}
 use Rattle.std.proofs.lemmas.Option.{IfSome_then}
@@ -32,28 +32,28 @@ IsNoBracket (link v) = ⊥
 IsNoBracket (image v) = ⊥
 IsNoBracket other = ⊤
 
--- what is made of open items has none, but links and images
+-- what is made of open items has no numbers, except links and images
 pub record NumbersNoMarks (own : Shape → List ℕ) : Type 0 where
   pub lone : (e : EventView) (origins : List Origin) → IsMadeEvent e → own (leaf e origins) ≡ []
   pub mark : (tag : TagView) → IsMark tag → own (enclosed tag) ≡ []
 
--- a mark is no link and no image
+-- a mark is neither a link nor an image
 pub mark_bracket : (tag : TagView) → IsMark tag → IsNoBracket tag
 mark_bracket (link v) h = absurd h
 mark_bracket (image v) h = absurd h
 mark_bracket other h = tt
 
 module _ (own : Shape → List ℕ) (numbers : NumbersNoMarks own) where
-  -- what pairs make has none
+  -- what pairs make has no numbers
   enclosed_none : (b : Bool) (tag : TagView) (other : Shape) → IsMark tag → own other ≡ [] → own (enclosed_if b tag other) ≡ []
   enclosed_none true tag other h e = numbers.mark tag h
   enclosed_none false tag other h e = e
 
-  -- nor has a Text
+  -- a Text has no numbers
   pub text_none : (source : List ℕ) → own (text_over source) ≡ []
   text_none source = numbers.lone (text source) (sliced ∷ []) tt
 
-  -- a layer has none
+  -- a layer has no numbers
   two_none : (m : Marks) (d : Delimiter) (source : List ℕ) → own (layer_of_two m d source) ≡ []
   two_none m Star source = numbers.mark _ tt
   two_none m Underscore source = numbers.mark _ tt
@@ -91,7 +91,7 @@ module _ (own : Shape → List ℕ) (numbers : NumbersNoMarks own) where
     ends_read (done a below ∷ rs) rest = ends_read rs (ends below (of a ++ rest))
     ends_read (waiting dropped run xs ∷ rs) rest = ends_read rs (backward xs rest)
 
-    -- before what is within a list stands what is within the same before that list
+    -- where a list is within another, so it is with these numbers before both
     mono_backward : (xs : List (Label A)) (ns ms : List ℕ) → IsWithin ns ms → IsWithin (backward xs ns) (backward xs ms)
     mono_backward [] ns ms w = w
     mono_backward (x ∷ xs) ns ms w = mono_backward xs (of x ++ ns) (of x ++ ms) (keep_list (of x) ns ms w)
@@ -106,7 +106,7 @@ module _ (own : Shape → List ℕ) (numbers : NumbersNoMarks own) where
     mono_forward [] ns ms w = w
     mono_forward (x ∷ xs) ns ms w = keep_list (of x) (forward xs ns) (forward xs ms) (mono_forward xs ns ms w)
 
-    -- what stands before a chain in which things were read
+    -- the numbers before a chain in which things were read
     ends_texts : (xs : List (Label A)) (chain : Forest (Label A)) (t : List ℕ) → ends (texts_before xs chain) t ≡ backward xs (ends chain t)
     ends_texts [] chain t = refl
     ends_texts (x ∷ xs) chain t = ends_texts xs (node x nil chain) t
@@ -134,7 +134,7 @@ module _ (own : Shape → List ℕ) (numbers : NumbersNoMarks own) where
         (nearest_opener closer rs (texts_before xs inside)) e
         (ends_nearest closer rs (texts_before xs inside) whole (λ t. ap (λ (l : List ℕ). ends_read rs l) (ends_texts xs inside t) ∙ e t))
 
-    -- whether a run is dropped changes no number
+    -- numbers do not depend on whether a run is dropped
     ends_dropped : (d : Delimiter) (rs : List (Read A)) (t : List ℕ) → ends_read (map (drop_read d) rs) t ≡ ends_read rs t
     ends_dropped d [] t = refl
     ends_dropped d (done a below ∷ rs) t = ends_dropped d rs (ends below (of a ++ t))
@@ -218,7 +218,7 @@ module _ (own : Shape → List ℕ) (numbers : NumbersNoMarks own) where
     abbrev Within : Forest (Label A) → List (Label A) → List (Read A) → Forest (Label A) → Type 0
     Within whole vs rs rest = (t : List ℕ) → IsWithin (ends_read rs (forward vs (ends rest t))) (ends whole t)
 
-    -- a pair drops some at most, and each step of the reading does
+    -- a pair at most drops some numbers, and so does each step of the reading
     pair_within : (s : Setting) (vs : List (Label A)) (rs : List (Read A)) (rest : Forest (Label A)) (f : FoundOpener A) (t : List ℕ)
         → Splits (ends_read rs) f
         → IsWithin (ends_read (after_layers f (layers s f.run.delimiter f.characters vs f.inside))
@@ -263,7 +263,7 @@ module _ (own : Shape → List ℕ) (numbers : NumbersNoMarks own) where
           (λ f splits t. within_trans _ (ends_read rs (forward vs (ends rest t))) _ (pair_within s vs rs rest f t splits) (h t));
     }
 
-    -- quotes drop some at most
+    -- pairing quotation marks at most drops some numbers
     quoted_within : (single double : Bool) (chain : Forest (Label A)) (t : List ℕ)
         → IsWithin (ends (quotes_after single double chain) t) (ends chain t)
     quoted_within single double nil t = within_same t
@@ -281,7 +281,7 @@ module _ (own : Shape → List ℕ) (numbers : NumbersNoMarks own) where
         (turned rest (ends after t) (quoted_within (first_turn a after single double).single (first_turn a after single double).double after
         t))
 
-    -- and so does pairing, of a chain and of its chains of children
+    -- so does pairing a chain, and its chains of children
     pub paired_within : (s : Setting) (chain : Forest (Label A)) (t : List ℕ) → IsWithin (ends (paired s chain) t) (ends chain t)
     unfolding paired runs_paired with_quotes
     paired_within s chain t =

@@ -154,7 +154,7 @@ pub before_chain : (source : List ℕ) (s : Arena Item) (held : Allocated) (firs
     → IsBefore s first → CanResolve source (tables_of held) s.nodes (Some first)
 before_chain source s held first w b = can_resolve source (tables_of held) s.nodes first s.spine (rw b.cursor at w) b.is_open
 
--- the nodes gone into stay when it is resolved
+-- the nodes that were entered stay when it is resolved
 pub above_chain : (source : List ℕ) (s : Arena Item) (held : Allocated) (first : ℕ) → TreeStands source (tables_of held) s
     → IsBefore s first → AreAbove source s.nodes (Some first) s.spine
 above_chain source s held first w b = are_above source (tables_of held) s.nodes first s.spine (rw b.cursor at w)
@@ -175,7 +175,7 @@ pub stands_chain : {C : Type 0} (step : C → Question → Option Answer → C �
 stands_chain step g s t held held' first limit limit' c d work work' w b r =
     rw (r.tree, b.cursor) (chain_moves step g s t held held' first limit limit' c d work work' w b r).stands
 
--- the rules go by the names of footnotes alone, and not by their uses
+-- the rules depend on the names of footnotes, and not on their uses
 setting_kept : {F : Type 0} (s t : Parser F) → t.resolver.text ≡ s.resolver.text → t.resolver.options ≡ s.resolver.options
     → is_some s.resolver.callback ≡ is_some t.resolver.callback
     → t.resolver.tables ≡ record s.resolver.tables {
@@ -434,14 +434,14 @@ pub steps_failed : {F : Type 0} (step : F → Question → Option Answer → F �
     → parser_steps u < parser_steps s
 steps_failed step s t u g f = omega (arith, g.steps, f.more, f.is.steps)
 
--- a text and its definitions stay where what an item names is taken
+-- a text and its definitions stay where what an item refers to is taken
 took_keeps : {F : Type 0} (s t : Parser F) (item : Item) → Took s t item → Keeps s t
 took_keeps s t item took = record {
   text = ap (λ (text : Bor (List ℕ)). text.now) took.text;
   definitions = ap (λ (held : Allocated). held.refdefs) took.tables.tables;
 }
 
--- the steps that are left then are as many
+-- as many steps are left then
 took_falls : {F : Type 0} (s t u : Parser F) (item : Item) → Took t u item → parser_steps t < parser_steps s
     → parser_steps u < parser_steps s
 took_falls s t u item took l = rw took.tree l
@@ -491,14 +491,14 @@ begun_start step s r t u item w (Ok e) g k past b =
     next_event step s u e (range_of item) (begun_event step s r t u item w e g k past b)
 begun_start step s r t u item w (Err fault) g k past b = begun_fault step IsEventOf s r t u item w fault g k past b
 
--- what comes of it has fewer steps to come
+-- after a Start there are fewer steps to come
 pub start_falls : {F : Type 0} (step : F → Question → Option Answer → F → Type 0) (s r t u : Parser F) (item : Item) (w : Way)
     (made : Result Event Fault) → HasGone step s r → WentPast r t item w → MatchResult made (Began t u item) (RefusedAt t u)
     → parser_steps u < parser_steps s
 start_falls step s r t u item w (Ok e) g past b = let l = took_falls r t u item b.took past.falls in omega (arith, l, g.steps)
 start_falls step s r t u item w (Err fault) g past b = omega (arith, past.falls, b.is.steps, g.steps)
 
--- so has what a stop leaves
+-- after a stop there are fewer steps to come
 pub stop_falls : {F : Type 0} (step : F → Question → Option Answer → F → Type 0) (s r t : Parser F) → HasGone step s r
     → parser_steps t < parser_steps r → parser_steps t < parser_steps s
 stop_falls step s r t g l = omega (arith, l, g.steps)

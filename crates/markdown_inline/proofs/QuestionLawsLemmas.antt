@@ -1,4 +1,4 @@
--- The questions of a reading are those of its chains, and all `]` of a chain stand in its document.
+-- The questions of a reading are those of its chains, and all `]` of a chain are in its document.
 use Rattle.std.proofs.Common.{◌≡◌, ℕ, ◌+◌, ◌≤◌, Bool, true, false, List, [], ◌++◌, length, cond, refl, ap, ◌∙◌, arith}
 use Rattle.std.proofs.Common.{length-append}
 use Rattle.std.specs.Prelude.{count_by, slice_range}
@@ -29,7 +29,7 @@ use Rattle.markdown_resolver.specs.PassOne.{Outcome}
 use Rattle.markdown_resolver.specs.Resolved.{all_paired, resolved}
 use Rattle.markdown_resolver.proofs.ChainQuestionsLemmas.{document_in_line, resolved_asks, resolved_ends, resolved_stays_zero}
 
--- a reading asks so many questions at most, and none at a limit of 0
+-- a reading asks at most this many questions, and none at a limit of 0
 record Few (most : ℕ) (r : Reading) : Type 0 where
   once : (known : Known) → length (questions_of (r known)) ≤ most
   silent : (known : Known) → known.limit ≡ 0 → questions_of (r known) ≡ []
@@ -60,7 +60,7 @@ module _ {A : Type 0} where
 abbrev one_closer : {A : Type 0} → Label A → ℕ
 one_closer a = cond (closes_bracket a) 1 0
 
--- the `]` of a chain stand in its document
+-- the `]` of a chain are in its document
 roots_few : {A : Type 0} (f : Forest (Label A)) → closers_among (roots f) ≤ closers_among (preorder f)
 roots_few nil = omega arith
 roots_few (node a below after) =
@@ -70,7 +70,7 @@ roots_few (node a below after) =
     let more = roots_few after in
     omega (arith, all, sum, here, more)
 
--- of a tree: what is below it asks so many questions at most and what follows so many, or the chain from it on
+-- the questions of a tree: at most those of what is below it and of what follows, or those of the chain from it on
 opened_few : (a : Plain) (all few : ℕ) (inside : Reading → Reading) (after whole : Reading)
     → ((inner : Reading) → Few few inner → Few all (inside inner)) → Few few after → few ≤ all → Few all whole
     → (shape : Shape) → Few all (opened shape a.part.range inside after whole)

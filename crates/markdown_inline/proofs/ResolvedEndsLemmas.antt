@@ -1,5 +1,6 @@
--- Numbers of the shapes of a chain that is resolved, in the order in which its trees end, where what stood in the chain has
--- none: then what is made by look-ups alone has some, and a fact of them and of the limit that each look-up keeps is kept.
+-- The numbers of the shapes of a resolved chain, in the order in which its trees end, where those of the chain itself
+-- have none: then only what look-ups made has some, and a property of them and of the limit that each look-up keeps is
+-- kept.
 use Rattle.std.proofs.Common.{◌≡◌, ℕ, ◌+◌, ◌-◌, ◌≤◌, Bool, true, false, ◌&&◌, List, [], ◌∷◌, Option, Some, None, refl, sym, subst, ap, ◌∙◌}
 use Rattle.std.proofs.Common.{append-nil, append_assoc, ◌++◌, arith, nat_le}
 use Rattle.std.proofs.lemmas.Bool.{cond_both}
@@ -51,8 +52,8 @@ use Rattle.markdown_inline.proofs.EndOrderLemmas.{IsWithin, drop_list, ends_appe
 use Rattle.markdown_inline.proofs.EndOrderLemmas.{within_nothing, within_same, within_trans}
 use Rattle.markdown_inline.proofs.PairedEndsLemmas.{NumbersNoMarks, all_within, paired_within, text_none}
 
--- what has numbers beside: nothing but what look-ups made. A fact of a list and of a limit holds of what is within the list
--- too, and after a look-up
+-- the shapes of which only what look-ups made has numbers; and a property of a list and a limit, which stays true where
+-- some numbers are dropped, and after a look-up
 pub record Keeps (own : Shape → List ℕ) (holds : List ℕ → (limit : ℕ) → Type 0) : Type 0 where
   pub numbers : NumbersNoMarks own
   pub cut : (n : ℕ) (shape : Shape) → own (cut_shape n shape) ≡ own shape
@@ -64,7 +65,7 @@ pub record Keeps (own : Shape → List ℕ) (holds : List ℕ → (limit : ℕ) 
   pub image_found : (ns : List ℕ) (limit : ℕ) (v : LinkView) → 1 ≤ limit → holds ns limit
       → holds (ns ++ own (enclosed (image v))) (limit - size_of v)
 
--- what has no numbers stands before a list
+-- what has no numbers comes before a list
 none_before : (xs ns ms : List ℕ) → xs ≡ [] → IsWithin ns ms → IsWithin (xs ++ ns) ms
 none_before xs ns ms e w = subst (λ (l : List ℕ). IsWithin (l ++ ns) ms) (sym e) w
 
@@ -136,7 +137,8 @@ module _ {A : Type 0} (own : Shape → List ℕ) (holds : List ℕ → (limit : 
   put_on nil left t = refl
   put_on (node a below after) left t = put_on after (done a below ∷ left) t
 
-  -- before what is within a list stands what is within the same before that list; all of a left list's may be dropped; what follows goes on
+  -- where a list is within another, so it is with the numbers of a left list before both; all of a left list's may be
+  -- dropped; what follows stays in order
   mono_left : (left : List (Entry A)) (ns ms : List ℕ) → IsWithin ns ms → IsWithin (ends_left left ns) (ends_left left ms)
   mono_left [] ns ms w = w
   mono_left (done a below ∷ left) ns ms w = mono_left left (ends below (of a ++ ns)) (ends below (of a ++ ms))
@@ -264,7 +266,7 @@ module _ {A : Type 0} (own : Shape → List ℕ) (holds : List ℕ → (limit : 
     tag_found true v ns limit e h = keeps.image_found ns limit v e h
     tag_found false v ns limit e h = keeps.link_found ns limit v e h
 
-    -- with what stands in it and before it
+    -- with what is inside it and before it
     enclosing : (left : List (Entry A)) (o : Split A) (children : Forest (Label A)) (before : List (Entry A)) (x : List ℕ) (limit later : ℕ)
         → IsWithin (ends children []) (ends_left o.after [])
         → ((t : List ℕ) → ends_left before t ≡ ends_left o.before t) → IsPart left o
@@ -334,7 +336,7 @@ module _ {A : Type 0} (own : Shape → List ℕ) (holds : List ℕ → (limit : 
         (within_trans (ends_left (footnote_onto w c o.mark.is_image o.opener name left) []) (ends_left left []) (ends_left p.left [])
         (footnote_within o.mark.is_image o.opener name left) before) h
 
-    -- whether its use is counted says nothing
+    -- whether its use is counted does not matter
     used_holds : (is_defined : Bool) (o : Split A) (name : List ℕ) (p : Progress A) → IsPart p.left o → Holds p
         → Holds (put w c (a_footnote o name) (footnote_used is_defined name p))
     used_holds true o name p part h = footnote_holds o name p part h
@@ -459,7 +461,7 @@ module _ {A : Type 0} (own : Shape → List ℕ) (holds : List ℕ → (limit : 
     unfolding closed decided
     closed_holds p h = before_try c.rest p h
 
-  -- what stands for a find has no number
+  -- the trees that replace a find have no numbers
   code_none : (s : Setting) (escaped : Bool) (a : Label A) (t : SpanText) (closer : Label A) → HasNone (code_trees s escaped a t closer)
   code_none s false a t closer = (keeps.numbers.lone (code t.bytes) (t.origin ∷ []) tt, tt, tt)
   code_none s true a t closer = (

@@ -1,5 +1,5 @@
--- What a test passes of all that is made and of a chain it passes of what the chain is resolved to: what it does not pass is
--- counted, and what is made adds nothing.
+-- A test that accepts all that can be made and all of a chain accepts all that the chain is resolved to: what it does
+-- not accept is counted, and what is made adds nothing.
 use Rattle.std.proofs.Common.{◌≡◌, ℕ, Bool, true, false, List, [], ◌∷◌, refl, ap, arith}
 use Rattle.std.specs.Prelude.{if◌then◌else◌}
 use Rattle.markdown_base.specs.Event.{TagView, link, image}
@@ -12,7 +12,7 @@ use Rattle.markdown_inline.specs.ResolvedShapes.{IsMadeShape, IsMadeTag, IsMark,
 use Rattle.markdown_inline.proofs.EndOrderLemmas.{total, total_append, total_ends}
 use Rattle.markdown_inline.proofs.ResolvedEndsLemmas.{Keeps, resolved_holds}
 
--- 1 for what does not pass
+-- 1 for what the test does not accept
 abbrev unless_passed : Bool → List ℕ
 unless_passed b = if b then [] else 1 ∷ []
 

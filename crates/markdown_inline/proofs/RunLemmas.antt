@@ -28,7 +28,7 @@ questions_of-questions (q ∷ questions) es = ap (λ qs. q ∷ qs) (questions_of
 
 module _ {S F I : Type 0} (step : F → Question → Option Answer → F → Type 0) (is_of : List ℕ → I → Placed → Type 0) (at : S
     → Parser F) where
-  -- a call of `next`, where a parser is at work
+  -- a call of `next`
   abbrev pub Steps : S → Option (Result I Fault) → S → Type 0
   Steps s r t = NextGives step is_of (at s) r (at t)
 
@@ -37,7 +37,7 @@ module _ {S F I : Type 0} (step : F → Question → Option Answer → F → Typ
       → events_of (elements (at s) (g.answers ++ later)) ≡ g.placed ∷ events_of (elements (at t) later)
   events_before s t item g later = rw (g.left later) (events_of-questions g.questions (event g.placed ∷ elements (at t) later))
 
-  -- and the questions
+  -- the questions that were left before an item, in the same terms
   questions_before : (s t : S) (item : I) (g : GivesItem step is_of (at s) item (at t)) (later : Answers)
       → questions_of (elements (at s) (g.answers ++ later)) ≡ g.questions ++ questions_of (elements (at t) later)
   questions_before s t item g later = rw (g.left later) (questions_of-questions g.questions (event g.placed ∷ elements (at t) later))
@@ -209,7 +209,7 @@ unasked step old new (q ∷ questions) [] h n = absurd h
 unasked step None new (q ∷ questions) (a ∷ answers) h n = absurd h
 unasked step (Some c) new (q ∷ questions) (a ∷ answers) h n = cc n
 
--- so the items of a run without an error are what was left, whatever answers are thought of
+-- so the items of a run without an error are what was left, for all answers
 pub drained_unasked : {F : Type 0} (step : F → Question → Option Answer → F → Type 0) (p : Parser F) (given : List Event)
     → Drains (NextGives step IsEventOf) p (map (λ e. Ok e) given) → parser_callback p ≡ None
     → (later : Answers) → map (λ e. e.0) (events_of (elements p later)) ≡ map event_view given

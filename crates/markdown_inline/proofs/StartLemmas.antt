@@ -48,7 +48,7 @@ use Rattle.markdown_document.specs.Tables.{tables_at_start}
 use Rattle.markdown_document.proofs.PlaceLemmas.{named-past, open-unresolved}
 use Rattle.markdown_inline.proofs.ParserLemmas.{elements-parts}
 
--- the texts that are named
+-- the texts that are referred to
 listed-cons : (n : ℕ) (o : Option ℕ) (xs : List ℕ) → listed (same n) (cons_option o xs) ≡ same_as n o + listed (same n) xs
 listed-cons n None xs = omega arith
 listed-cons n (Some m) xs = refl
@@ -67,13 +67,13 @@ named-listed name nodes n (node ix below after) =
     )
     (omega (arith, listed-append (same n) b a, named-listed name nodes n below, named-listed name nodes n after))
 
--- nothing is resolved, so no link is named
+-- nothing is resolved, so no link is referred to
 no_link : (b : ItemBody) → is_resolved b ≡ false → link_named b ≡ None
 no_link (body.Link ix) r = cc r
 no_link (body.Image ix) r = cc r
 no_link other r = refl
 
--- nor a link, code or math, of which a text would be a slice
+-- nor is a link, code or math, whose text would have to be a slice
 unresolved_slices : (source : List ℕ) (tables : Tables) (b : ItemBody) → is_resolved b ≡ false → HasSlices source tables b
 unresolved_slices source tables (body.Code ix) r = cc r
 unresolved_slices source tables (body.Math ix display) r = cc r
@@ -85,7 +85,7 @@ entries_named : (parts : BlockParts) (b : ItemBody) → PartsAreNamed (counts_of
     → NamesEntries (tables_at_start parts) b
 entries_named parts b p r = record { text = p.text; link = rw (no_link b r) tt; alignments = p.alignments; attributes = p.attributes }
 
--- no entry is named twice
+-- no entry is referred to twice
 starts_once : (source : List ℕ) (nodes : List (Node Item)) (parts : BlockParts) (n : Named) → IsWellFormed source nodes parts
     → Each (IsPlaced source (tables_at_start parts) nodes) (numbers_below nodes) → total (naming nodes n) (numbers_below nodes) ≤ 1
 starts_once source nodes parts (some_text n) w placed =
@@ -219,7 +219,7 @@ kept_from source tables nodes (node ix below after) c i h =
           (h (or_more (is_open item.body) (has_open (relabelled (numbered nodes) after)) o))),
     )
 
--- the walk stands before the first block
+-- the walk is before the first block
 pub starts_stands : (source : List ℕ) (nodes : List (Node Item)) (parts : BlockParts) → IsWellFormed source nodes parts
     → Stands source (tables_at_start parts) nodes (child_of nodes 0) []
 unfolding left_total

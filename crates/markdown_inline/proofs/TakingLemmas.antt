@@ -1,4 +1,4 @@
--- What an item begins with, by what it names, and what is left in the tables.
+-- What an item begins with, by what it refers to, and what is left in the tables.
 use Rattle.markdown_base.specs.declared.item.ItemBody.TheVariants as body
 use Rattle.markdown_inline.specs.declared.bodies.Way.TheVariants as way
 use Rattle.std.proofs.Common.{◌≡◌, ℕ, zero, suc, ◌-◌, ◌<◌, ◌≤◌, List, [], ◌∷◌, Option, Some, None, length, refl, sym, ap, subst, arith}
@@ -49,7 +49,7 @@ origin_at-read [] n c l e = absurd (omega (arith, l))
 origin_at-read (d ∷ cows) zero c l e = ap origin_of (sym e)
 origin_at-read (d ∷ cows) (suc n) c l e = origin_at-read cows n c (omega (arith, l)) e
 
--- which comes from where the table says
+-- the text has the origin that the table says
 from_itself : (source : List ℕ) (c : CowStr) → IsSlicedOf source (origin_of c) (text_of c) → IsFrom source (origin_of c) c
 from_itself source (Borrowed slice) h = h refl
 from_itself source other h = tt
@@ -93,7 +93,7 @@ attributes_at-read [] n c l e = absurd (omega (arith, l))
 attributes_at-read (d ∷ headings) zero c l e = ap attributes_view (sym e)
 attributes_at-read (d ∷ headings) (suc n) c l e = attributes_at-read headings n c (omega (arith, l)) e
 
--- the attributes of a heading are there
+-- the attributes that a heading refers to exist
 pub heading_named : (tables : Tables) (level : HeadingLevel) (named : Option HeadingIndex) → NamesEntries tables (body.Heading level named)
     → IfSome named (λ ix. (1 ≤ ix.0) × (ix.0 ≤ length tables.headings))
 heading_named tables level None h = tt
@@ -103,7 +103,7 @@ pub place_within : (headings : List HeadingAttributes) (ix : HeadingIndex) → (
     → ix.0 - 1 < length headings
 place_within headings ix h = omega (arith, h.0, h.1)
 
--- and one that is beside a replaced one
+-- an entry beside one that is replaced is read as before
 text_at-set : (cows : List CowStr) (n m : ℕ) (c : CowStr) → same m n ≡ 0 → text_at (set cows n c) m ≡ text_at cows m
 text_at-set [] n m c h = refl
 text_at-set (d ∷ cows) zero zero c h = cc h
@@ -153,7 +153,7 @@ takes_nothing body held = record {
       λ n h. same_entry-refl (tables_of held) n;
 }
 
--- the text that a body names was taken
+-- the text that a body refers to was taken
 text_others : (tables : Tables) (b : ItemBody) (ix : ℕ) (left : CowStr) (n : Named) → text_named b ≡ Some ix → times_named n b ≡ 0
     → IsSameEntry tables (record tables { cows = set tables.cows ix left }) n
 text_others tables b ix left (some_text n) e h = let apart = rw e at h
@@ -175,7 +175,7 @@ takes_text b held held' ix e l = rw l.others (record {
   others = λ n h. text_others (tables_of held) b ix.0 l.left n e h;
 })
 
--- the link was
+-- the link that a body refers to was taken
 link_others : (tables : Tables) (b : ItemBody) (ix : ℕ) (left : LinkParts) (n : Named) → link_named b ≡ Some ix → times_named n b ≡ 0
     → IsSameEntry tables (record tables { links = set tables.links ix left }) n
 link_others tables b ix left (some_text n) e h = (refl, refl)
@@ -197,7 +197,7 @@ takes_link b held held' ix e l = rw l.others (record {
   others = λ n h. link_others (tables_of held) b ix.0 l.left n e h;
 })
 
--- the alignments were
+-- the alignments that a body refers to were taken
 alignments_others : (tables : Tables) (b : ItemBody) (ix : ℕ) (left : Vec Alignment Global) (n : Named) → alignments_named b ≡ Some ix
     → times_named n b ≡ 0
     → IsSameEntry tables (record tables { alignments = set tables.alignments ix left }) n
@@ -220,7 +220,7 @@ takes_alignments b held held' ix e l = rw l.others (record {
   others = λ n h. alignments_others (tables_of held) b ix.0 l.left n e h;
 })
 
--- an event of one text is no Start
+-- an event of one text is not a Start
 pub no_start : (source : List ℕ) (e : Event) (c : CowStr) → texts_of e ≡ c ∷ [] → StartIsFrom source e
 no_start source (step.Start tag) c h = cc h
 no_start source other c h = tt
@@ -237,7 +237,7 @@ opens_slice source range view e c (slice, is, over) viewed texts = rw is (record
   start = no_start source (e (Borrowed slice)) (Borrowed slice) (texts (Borrowed slice));
 })
 
--- an event of one text that is named, and is taken
+-- an event of one text that is referred to, and is taken
 pub opens_made : (source : List ℕ) (cows : List CowStr) (n : ℕ) (view : List ℕ → EventView) (e : CowStr → Event) (c : CowStr)
     → n < length cows → c ≡ get_or cows n c
     → ((d : CowStr) → event_view (e d) ≡ view (text_of d)) → ((d : CowStr) → texts_of (e d) ≡ d ∷ [])
@@ -249,7 +249,7 @@ opens_made source cows n view e c within read viewed texts = record {
   start = no_start source (e c) c (texts c);
 }
 
--- so is the text of a span, which is a slice of the source where the table says so
+-- the same for the text of a span, which is a slice of the source where the table says so
 pub opens_span : (source : List ℕ) (cows : List CowStr) (n : ℕ) (view : List ℕ → EventView) (e : CowStr → Event) (c : CowStr)
     → n < length cows → c ≡ get_or cows n c
     → IsSlicedOf source (origin_at cows n) (text_at cows n)
@@ -271,7 +271,7 @@ leaf_shape plain e origins h b = cc h
 leaf_shape backslash_break e origins h b = b
 leaf_shape (unresolved other) e origins h b = cc h
 
--- and there is one
+-- a shape with such an event
 pub record IsLeafShape (shape : Shape) : Type 0 where
   pub event : EventView
   pub origins : List Origin
@@ -296,7 +296,7 @@ some_tag plain h = absurd (cc h)
 some_tag backslash_break h = absurd (cc h)
 some_tag (unresolved other) h = absurd (cc h)
 
--- where it goes in without one, what is below is read alone
+-- where it goes in without one, only what is below is read
 pub plain_shape : (shape : Shape) → way_at_shape shape ≡ way.Plain → shape ≡ plain
 plain_shape (leaf e origins) h = cc h
 plain_shape (enclosed tag) h = cc h
@@ -304,19 +304,19 @@ plain_shape plain h = refl
 plain_shape backslash_break h = cc h
 plain_shape (unresolved other) h = cc h
 
--- a body alone tells how a walk goes at it
+-- how a walk moves at an item depends on its body alone
 pub way-shape : (tables : Tables) (over : List ℕ) (b : ItemBody) → way_at b ≡ way_at_shape (shape_of tables over b)
 way-shape tables over (body.HardBreak true) = refl
 way-shape tables over (body.HardBreak false) = refl
 way-shape tables over other = refl
 
--- a chain is resolved at an open item alone
+-- a chain is resolved only at an open item
 pub open-way : (b : ItemBody) → way_at b ≡ way.Open → is_open b ≡ true
 open-way (body.HardBreak true) h = cc h
 open-way (body.HardBreak false) h = cc h
 open-way other h = cc h
 
--- a Start of a body that names nothing is a container's
+-- the Start of a body that refers to nothing is that of a container
 pub some_container : (b : ItemBody) → way_at b ≡ way.Start
     → ((level : HeadingLevel) (named : Option HeadingIndex) → b ≡ body.Heading level named → ⊥)
     → ((ix : CowIndex) → b ≡ body.FencedCodeBlock ix → ⊥) → ((ix : CowIndex) → b ≡ body.FootnoteDefinition ix → ⊥)
@@ -332,7 +332,7 @@ some_container (body.HardBreak true) h heading fenced footnote table link image 
 some_container (body.HardBreak false) h heading fenced footnote table link image = cc h
 some_container other h heading fenced footnote table link image = cc h
 
--- whose tag the tree reads with
+-- the tree reads with the container's tag
 pub container_shape : (tables : Tables) (over : List ℕ) (b : ItemBody) (tag : TagView) (found : Option TagView) → container_of b ≡ found
     → is_some found ≡ true → IfSome found (λ t. tag ≡ t) → shape_of tables over b ≡ enclosed tag
 container_shape tables over b tag None e s h = cc s

@@ -1,5 +1,5 @@
--- What is read of a tree is its events, the questions for it, and then what comes after it, by what is known then: of a chain,
--- and so of a whole document.
+-- A tree reads as its events, the questions for it, and then what comes after it, with what is known then: so does a
+-- chain, and a whole document.
 use Rattle.std.proofs.Common.{◌≡◌, ℕ, Bool, List, [], ◌∷◌, ◌++◌, map, refl, sym, subst, ap, ◌∙◌, append_assoc, append-nil}
 use Rattle.std.specs.declared.ops.Range.{Range}
 use Rattle.markdown_base.specs.Event.{start, end, end_of, hard_break}
@@ -25,7 +25,7 @@ use Rattle.markdown_inline.proofs.RunLemmas.{events_of-questions, questions_of-q
 use Rattle.markdown_resolver.specs.PassOne.{Outcome}
 use Rattle.markdown_resolver.specs.Resolved.{all_paired, resolved}
 
--- what is read before what follows: these events and these questions, and what follows by what is known then
+-- what is read before what follows: these events and these questions, and then what follows with what is known then
 record Reads (reads : Reading → Reading) (known : Known) (es : List Placed) (qs : List Question) (later : Known) : Type 0 where
   events : (after : Reading) → events_of (reads after known) ≡ es ++ events_of (after later)
   questions : (after : Reading) → questions_of (reads after known) ≡ qs ++ questions_of (after later)

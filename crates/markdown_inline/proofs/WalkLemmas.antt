@@ -48,7 +48,7 @@ waits_once : (nodes : List (Node Item)) (l : Option ℕ) → waits_at nodes l �
 waits_once nodes None = omega arith
 waits_once nodes (Some ix) = one_once (is_open (item_at nodes ix).body)
 
--- one more node is gone into
+-- one more node is entered
 AllReach-snoc : (k : Links) (p : ℕ → Type 0) (spine : List ℕ) (ix : ℕ) → AllReach k p spine → ix < k.size → Reaches k p (k.next ix)
     → AllReach k p (spine ++ ix ∷ [])
 AllReach-snoc k p [] ix a within follows = (within, follows, tt)
@@ -83,7 +83,7 @@ AboveKept-last : (source : List ℕ) (tables : Tables) (nodes : List (Node Item)
 AboveKept-last source tables nodes [] ix a = a
 AboveKept-last source tables nodes (j ∷ js) ix a = AboveKept-last source tables nodes js ix a.1
 
--- the node gone into last ends first
+-- the node that was entered last ends first
 around-snoc : (s : Setting) (above : Above) (tables : Tables) (nodes : List (Node Item)) (spine : List ℕ) (ix : ℕ) (after : Reading)
     → around s above tables nodes (spine ++ ix ∷ []) after
     ≡ ended (closing (item_at nodes ix).body) (range_of (item_at nodes ix))
@@ -92,7 +92,7 @@ around-snoc : (s : Setting) (above : Above) (tables : Tables) (nodes : List (Nod
 around-snoc s above tables nodes [] ix after = refl
 around-snoc s above tables nodes (j ∷ js) ix after = around-snoc s (inside_item (item_at nodes j) above) tables nodes js ix _
 
--- what stands below it is inside it
+-- what is below it is inside it
 inside_all-snoc : (nodes : List (Node Item)) (spine : List ℕ) (ix : ℕ) (above : Above) → inside_all nodes (spine ++ ix ∷ []) above
     ≡ inside_item (item_at nodes ix) (inside_all nodes spine above)
 inside_all-snoc nodes [] ix above = refl
@@ -103,7 +103,7 @@ climbed-snoc : (gone count : ℕ → ℕ) (k : Links) (spine : List ℕ) (ix : �
 climbed-snoc gone count k [] ix = omega arith
 climbed-snoc gone count k (j ∷ js) ix = omega (arith, climbed-snoc gone count k js ix)
 
--- how a tree ends is told by its body alone
+-- how a tree ends depends on its body alone
 closing-enclosed : (tables : Tables) (source : List ℕ) (body : ItemBody) (tag : TagView) → shape_of tables source body ≡ enclosed tag
     → closing body ≡ Some (end_of tag)
 closing-enclosed tables source body.Paragraph tag h = cc h
@@ -154,7 +154,7 @@ moves_on s tables nodes ix spine e origins w h =
       falls = let waits = waits_once nodes (sibling_of nodes ix) in rw o.here (omega arith);
     }
 
--- no entry that it names is named afterwards
+-- no entry that it refers to is referred to afterwards
 pub moves_past : (source : List ℕ) (tables : Tables) (nodes : List (Node Item)) (ix : ℕ) (spine : List ℕ) (n : Named)
     → Stands source tables nodes (Some ix) spine → naming nodes n ix + named_left nodes (sibling_of nodes ix) spine n ≤ 1
 unfolding left_total
@@ -251,7 +251,7 @@ moves_in_plain s tables nodes ix spine w h =
           in rw (o.here, climbed-snoc (λ ix. 1) (weight_at nodes) (links_of nodes) spine ix) (omega arith);
     }
 
--- out of a node, whose end reads so
+-- out of a node that ends like this
 pub moves_out : (s : Setting) (tables : Tables) (nodes : List (Node Item)) (ix : ℕ) (spine : List ℕ) (given : List Placed)
     → Stands s.text tables nodes None (spine ++ ix ∷ [])
     → ((after : Reading) (known : Known) → ended (closing (item_at nodes ix).body) (range_of (item_at nodes ix)) after known
@@ -288,7 +288,7 @@ pub left_of-end : (s : Setting) (tables : Tables) (nodes : List (Node Item)) (kn
 unfolding left_of
 left_of-end s tables nodes known = rw (forest_at-none (links_of nodes)) refl
 
--- a node in focus takes steps
+-- with a node at the cursor there are steps to come
 pub steps-some : (source : List ℕ) (tables : Tables) (nodes : List (Node Item)) (ix : ℕ) (spine : List ℕ)
     → Stands source tables nodes (Some ix) spine → 0 < steps_of nodes (Some ix) spine
 unfolding left_total

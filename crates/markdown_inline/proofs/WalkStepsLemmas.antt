@@ -31,15 +31,15 @@ use Rattle.markdown_inline.proofs.LeftFrameLemmas.{left_framed}
 use Rattle.markdown_inline.proofs.WalkLemmas.{Moves, moves_on, moves_past, moves_in, moves_past_in, moves_in_plain, moves_out, left_of-end}
 use Rattle.markdown_inline.proofs.WalkLemmas.{steps-some, steps-end, stands-end, AllReach-last}
 
--- the bytes that an item stands over
+-- the bytes of an item's range
 abbrev pub over : List ℕ → Item → List ℕ
 over source item = slice_range source item.start item.end
 
--- for what does not depend on the rules of a chain
+-- some rules, for what does not depend on the rules of a chain
 any_rules : Rules
 any_rules = record { options = record { 0 = 0 }; definitions = []; is_footnote = λ name. false; asks = false }
 
--- after a move an entry that is taken, and is not named any more, changes nothing of what is left
+-- an entry that is taken after a move, and is no longer referred to, changes nothing of what is left
 taken_after : (source : List ℕ) (nodes : List (Node Item)) (ix : ℕ) (held held' : Allocated) (m : Option ℕ) (deeper : List ℕ)
     (rules : Rules)
     → TakesOnly (item_at nodes ix).body held held' → ((n : Named) → naming nodes n ix + named_left nodes m deeper n ≤ 1)
@@ -74,7 +74,7 @@ stands_at : (source : List ℕ) (tables : Tables) (s : Arena Item) (l : Option �
     → Stands source tables s.nodes l up
 stands_at source tables s l up a b w = rw (← a, ← b) w
 
--- the node in focus is there, and its item is placed
+-- the node at the cursor exists, and its item is placed
 pub cursor_within : (source : List ℕ) (tables : Tables) (s : Arena Item) (ix : ℕ) → TreeStands source tables s → s.cursor ≡ Some ix
     → ix < length s.nodes
 cursor_within source tables s ix w e = (opens (links_of s.nodes) (IsPlaced source tables s.nodes) ix (rw (← e) w.walk.here)).within
@@ -83,7 +83,7 @@ pub cursor_placed : (source : List ℕ) (tables : Tables) (s : Arena Item) (ix :
     → IsPlaced source tables s.nodes ix
 cursor_placed source tables s ix w e = (opens (links_of s.nodes) (IsPlaced source tables s.nodes) ix (rw (← e) w.walk.here)).holds
 
--- so are the nodes gone into
+-- so do the nodes that were entered
 pub spine_within : (source : List ℕ) (tables : Tables) (s : Arena Item) (ix : ℕ) (up : List ℕ) → TreeStands source tables s
     → s.spine ≡ up ++ ix ∷ [] → ix < length s.nodes
 spine_within source tables s ix up w e = (AllReach-last (links_of s.nodes) (IsPlaced source tables s.nodes) up ix (rw (← e) w.walk.above)).0
@@ -122,7 +122,7 @@ went_in_plain source s t held held' ix item w a h sh k c =
     s.nodes ix s.spine n st)
     (λ rules. moves_in_plain (setting_of source rules) (tables_of held) s.nodes ix s.spine st (rw h at sh))
 
--- what names an item's event is there where the cursor stands
+-- the entries that the item at the cursor refers to exist
 can_begin : (source : List ℕ) (s : Arena Item) (held : Allocated) (ix : ℕ) (item : Item) → TreeStands source (tables_of held) s
     → s.cursor ≡ Some ix → item ≡ item_at s.nodes ix → CanBegin source (tables_of held) item
 can_begin source s held ix item w a h =
@@ -173,7 +173,7 @@ passed_in source s t held ix item w a h goes c =
       falls = (went_in source s t held held ix item some.tag w a h some.is (takes_nothing item.body held) c).falls;
     }
 
--- into an item by none
+-- into an item without a Start
 pub passed_plain : (source : List ℕ) (s t : Arena Item) (held : Allocated) (ix : ℕ) (item : Item) → TreeStands source (tables_of held) s
     → s.cursor ≡ Some ix → item ≡ item_at s.nodes ix → way_at item.body ≡ way.Plain
     → t ≡ record s { spine = s.spine ++ ix ∷ []; cursor = child_of s.nodes ix } → Went source s t held held []
@@ -208,7 +208,7 @@ went_out_end source s t held ix item up e w a sp h cl c =
     rw h (went_out source s t held ix up ((end e, range_of (item_at s.nodes ix), []) ∷ []) w a sp (λ after known. rw (rw h at cl) refl)
     (λ after known. rw (rw h at cl) refl) c)
 
--- out of a node that gives none
+-- out of a node that gives no End
 pub went_out_plain : (source : List ℕ) (s t : Arena Item) (held : Allocated) (ix : ℕ) (item : Item) (up : List ℕ)
     → TreeStands source (tables_of held) s → s.cursor ≡ None → s.spine ≡ up ++ ix ∷ []
     → item ≡ item_at s.nodes ix → closing item.body ≡ None → t ≡ record s { spine = up; cursor = sibling_of s.nodes ix }
@@ -229,7 +229,7 @@ counts_ended s tables t e = rw (e.cursor, e.spine) (counts-end s tables t.nodes)
 pub steps_ended : (t : Arena Item) → HasEnded t → tree_steps t ≡ 0
 steps_ended t e = rw (e.cursor, e.spine) (steps-end t.nodes)
 
--- with a node in focus there are steps to come
+-- with a node at the cursor there are steps to come
 pub steps_at_cursor : (source : List ℕ) (tables : Tables) (s : Arena Item) (ix : ℕ) → TreeStands source tables s → s.cursor ≡ Some ix
     → 0 < tree_steps s
 steps_at_cursor source tables s ix w e = rw e (steps-some source tables s.nodes ix s.spine (stands_at source tables s (Some ix) s.spine e

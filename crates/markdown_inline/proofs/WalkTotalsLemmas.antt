@@ -1,4 +1,4 @@
--- What is left of a walk weighs at most four for each node of the arena, since no node stands twice in it.
+-- What is left of a walk weighs at most four for each node of the arena, since no node occurs twice in it.
 use Rattle.std.proofs.Common.{◌≡◌, ℕ, zero, suc, ◌+◌, ◌*◌, ◌<◌, ◌≤◌, Bool, true, false, List, [], ◌∷◌, length, Option, Some, None}
 use Rattle.std.proofs.Common.{refl, arith}
 use Rattle.markdown_base.specs.ArenaForest.{Links, Spells, links_of, forest_at}
@@ -14,7 +14,7 @@ use Rattle.markdown_document.specs.Totals.{total, same, weight_if, weight_at}
 use Rattle.markdown_inline.specs.WalkTotals.{climbed, left_total, times_left, weight_left, one_if, steps_of}
 use Rattle.markdown_inline.specs.Standing.{Stands}
 
--- the sum of what the numbers below n count
+-- the sum of the counts of the numbers below n
 abbrev pub sum_below : ℕ → (ℕ → ℕ) → ℕ
 sum_below zero count = 0
 sum_below (suc n) count = count 0 + sum_below n (λ i. count (suc i))
@@ -24,7 +24,7 @@ sum-add : (n : ℕ) (f g : ℕ → ℕ) → sum_below n (λ i. f i + g i) ≡ su
 sum-add zero f g = refl
 sum-add (suc n) f g = omega (arith, sum-add n (λ i. f (suc i)) (λ i. g (suc i)))
 
--- where each number counts one at most, there is one at most for each
+-- where each number counts at most one, the sum is at most the number of numbers
 sum-few : (n : ℕ) (f : ℕ → ℕ) → ((i : ℕ) → f i ≤ 1) → sum_below n f ≤ n
 sum-few zero f h = omega arith
 sum-few (suc n) f h = omega (arith, h 0, sum-few n (λ i. f (suc i)) (λ i. h (suc i)))
@@ -35,8 +35,8 @@ sum-same zero ix l = absurd (omega (arith, l))
 sum-same (suc n) zero l = omega arith
 sum-same (suc n) (suc ix) l = omega (arith, sum-same n ix (omega (arith, l)))
 
--- a forest of numbers below the arena's size counts, where each number counts four at most, at most four for each time
--- that a number stands there
+-- a forest of numbers below the arena's size counts, where each number counts at most four, at most four for each time
+-- that a number occurs
 total-few : (k : Links) (count : ℕ → ℕ) → ((ix : ℕ) → count ix ≤ 4) → (l : Option ℕ) (f : Forest ℕ) → Spells k l f
     → total count f ≤ 4 * sum_below k.size (λ i. total (same i) f)
 total-few k count h l nil s = omega arith
@@ -52,7 +52,7 @@ total-few k count h l (node ix below after) s =
       total-few k count h (k.next ix) after s.3,
     )
 
--- so does what is above the chain at hand, each node gone into with it
+-- so does what is above the chain at hand, with each node that was entered
 climbed-few : (k : Links) (p : ℕ → Type 0) (gone count : ℕ → ℕ) → ((ix : ℕ) → gone ix ≤ 4) → ((ix : ℕ) → count ix ≤ 4)
     → (spine : List ℕ) → AllReach k p spine
     → climbed gone count k spine ≤ 4 * sum_below k.size (λ i. climbed (same i) (same i) k spine)
@@ -69,7 +69,7 @@ climbed-few k p gone count g h (ix ∷ deeper) a =
       climbed-few k p gone count g h deeper a.2,
     )
 
--- a node weighs four at most, and waits once
+-- a node weighs at most four, and waits at most once
 node-few : (is_open : Bool) → (weight_if is_open ≤ 4) × (one_if is_open ≤ 1)
 node-few true = (omega arith, omega arith)
 node-few false = (omega arith, omega arith)
@@ -89,7 +89,7 @@ weight_left-few source tables nodes l spine w =
       sum-few k.size (times_left k l spine) w.once,
     )
 
--- a walk takes at most twice that, and one step where it stands before a chain
+-- a walk takes at most twice that many steps, and one more where it is before a chain
 pub steps_of-few : (source : List ℕ) (tables : Tables) (nodes : List (Node Item)) (l : Option ℕ) (spine : List ℕ)
     → Stands source tables nodes l spine → steps_of nodes l spine ≤ 8 * length nodes + 1
 steps_of-few source tables nodes None spine w = omega (arith, weight_left-few source tables nodes None spine w)

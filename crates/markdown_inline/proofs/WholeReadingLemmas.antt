@@ -1,5 +1,5 @@
--- In the tree of a whole document no Start and no End stands alone, no link stands in a link, and what was looked up expands to
--- little.
+-- In the tree of a whole document no leaf is a Start or an End, no link is in a link, and what was looked up expands to
+-- few bytes.
 use Rattle.std.proofs.Common.{◌≡◌, ℕ, Bool, true, false, List, [], ◌∷◌, ◌++◌, refl, sym, subst, ap, ◌∙◌}
 use Rattle.std.proofs.Common.{arith, map}
 use Rattle.std.specs.Prelude.{⊤, if◌then◌else◌}
@@ -52,7 +52,7 @@ abbrev pub ranged_in : {A : Type 0} → Forest (Label A) → List Ranged
 ranged_in nil = []
 ranged_in (node a below after) = opened_events a.part.shape a.part.range (ranged_in below) (ranged_in after)
 
--- they are the events of the reading, each with its range alone
+-- these are the events of the reading, with their ranges but without origins
 ranged_tree : (shape : Shape) (range : Range ℕ) (es fs : List Placed)
     → ranged (tree_events shape range es fs) ≡ opened_events shape range (ranged es) (ranged fs)
 ranged_tree (leaf e origins) range es fs = refl
@@ -69,7 +69,7 @@ ranged_same (node a below after) =
     ∙ ap (λ (l : List Ranged). opened_events a.part.shape a.part.range l (ranged (events_in after))) (ranged_same below)
     ∙ ap (λ (l : List Ranged). opened_events a.part.shape a.part.range (ranged_in below) l) (ranged_same after)
 
--- 1 for a Start or an End that stands as a leaf
+-- 1 for a Start or an End that is a leaf
 abbrev pub alone_event : EventView → List ℕ
 alone_event (start tag) = 1 ∷ []
 alone_event (end e) = 1 ∷ []
@@ -101,7 +101,7 @@ made_lone (start tag) h = absurd h
 made_lone (end e) h = absurd h
 made_lone other h = tt
 
--- look-ups and pairs make no Start or End alone
+-- look-ups and pairs make no leaf that is a Start or an End
 alone_keeps : Keeps alone_at (λ ns limit. total ns ≡ 0)
 alone_keeps = record {
   numbers = record { lone = λ e origins h. lone_none e (made_lone e h); mark = λ tag h. refl };
@@ -131,7 +131,7 @@ if_none : (b : Bool) (ns : List ℕ) → b ≡ false → (if b then ns else []) 
 if_none true ns e = cc e
 if_none false ns e = refl
 
--- look-ups alone expand to something, and each takes its bytes of the limit
+-- only look-ups expand to something, and each takes its bytes off the limit
 expansions_keep : (limit : ℕ) → Keeps expansion_at (Spent limit)
 expansions_keep limit = record {
   numbers = record { lone = λ e origins h. refl; mark = λ tag h. no_bracket_none tag (mark_bracket tag h) };
@@ -147,7 +147,7 @@ expansions_keep limit = record {
     cut_same n (leaf e origins) = refl
     cut_same n other = refl
 
--- of what a part of a document is resolved to: no Start and no End stands alone, no link stands in a link, and what look-ups
+-- what a part of a document is resolved to: no leaf is a Start or an End, no link is in a link, and what look-ups
 -- found, as the events show it and in all, fits in the limit
 pub record IsSuch (known : Known) (r : Resolution (Unit {0})) : Type 0 where
   pub lone : sum_of alone r.trees ≡ 0
@@ -158,7 +158,7 @@ pub record IsSuch (known : Known) (r : Resolution (Unit {0})) : Type 0 where
 none_such : (known : Known) → IsSuch known (no_trees known)
 none_such known = record { lone = refl; apart = tt; spent = spent_none known.limit; found = spent_none known.limit }
 
--- a shape of a block result: no link, no image, and no Start or End alone
+-- a shape of a block result: not a link or an image, and not a leaf that is a Start or an End
 abbrev pub IsBlockShape : Shape → Type 0
 IsBlockShape (leaf e origins) = IsLone e
 IsBlockShape (enclosed tag) = IsNoBracket tag

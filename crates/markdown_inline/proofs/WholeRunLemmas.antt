@@ -1,4 +1,5 @@
--- Events that are given have the views and the ranges of those that were left: so they keep the laws of a whole document.
+-- Events that are given have the views and the ranges of those that were left: so they keep the laws of a whole
+-- document.
 use Rattle.std.proofs.Common.{◌≡◌, ℕ, List, [], ◌∷◌, ◌++◌, Option, Bool, refl, sym, subst, ap, ◌∙◌}
 use Rattle.std.specs.Prelude.{is_some}
 use Rattle.std.specs.declared.ops.Range.{Range}
@@ -60,7 +61,7 @@ asks_once blocks asks answers =
           (document source tables nodes) (document_ends source nodes (block_parts blocks) tables rules blocks.well_formed);
     }
 
--- and of what into_events gives
+-- what `into_events` returns keeps the laws
 pub whole_run : {F : Type 0} (step : F → Question → Option Answer → F → Type 0) (p : Parser F) (given : List (Event × Range ℕ))
     (callback : Option F)
     → GaveRest IsPlacedOf step p given callback → IsWholeFromStart step p given callback

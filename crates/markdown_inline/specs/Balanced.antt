@@ -1,4 +1,5 @@
--- The events of a whole document are balanced: each End is that of the nearest Start still open, with the same range.
+-- The events of a whole document are balanced: each End is that of the nearest Start that is still open, with the same
+-- range.
 use Rattle.std.specs.Prelude.{◌≡◌, ℕ, Bool, List, [], ◌∷◌, map}
 use Rattle.std.specs.declared.ops.Range.{Range}
 use Rattle.markdown_base.specs.Event.{EventView, start, end, end_of}
@@ -12,7 +13,7 @@ use Rattle.markdown_inline.specs.ParserLeft.{reading_of}
 abbrev pub Ranged : Type 0
 Ranged = EventView × Range ℕ
 
--- the events of a reading, each with its range alone
+-- the events of a reading, with their ranges but without origins
 abbrev pub ranged : List Placed → List Ranged
 ranged events = map (λ (e : Placed). (e.0, e.1)) events
 
@@ -20,25 +21,25 @@ ranged events = map (λ (e : Placed). (e.0, e.1)) events
 abbrev pub Awaited : Type 0
 Awaited = TagEnd × Range ℕ
 
--- an event where some Ends are awaited, the nearest first, and what follows it by those that are awaited then: an End
--- has to be the nearest of them, with its range
+-- the condition on an event before which these Ends are awaited, the nearest first, and on what follows it, by the Ends
+-- that are awaited then: an End is the nearest of them, with its range
 abbrev pub EndsInTurn : EventView → Range ℕ → List Awaited → (rest : List Awaited → Type 0) → Type 0
 EndsInTurn (start tag) range awaited rest = rest ((end_of tag, range) ∷ awaited)
 EndsInTurn (end e) range [] rest = ⊥
 EndsInTurn (end e) range (nearest ∷ awaited) rest = (e ≡ nearest.0) × (range ≡ nearest.1) × rest awaited
 EndsInTurn other range awaited rest = rest awaited
 
--- at the last event no End is awaited any more
+-- events are balanced where these Ends are awaited before the first event; after the last, no End is awaited
 abbrev pub AreBalancedFrom : List Awaited → List Ranged → Type 0
 AreBalancedFrom awaited [] = awaited ≡ []
 AreBalancedFrom awaited (e ∷ events) =
     EndsInTurn e.0 e.1 awaited (λ awaited. AreBalancedFrom awaited events)
 
--- before the first none is
+-- events are balanced where no End is awaited before the first
 abbrev pub AreBalanced : List Ranged → Type 0
 AreBalanced events = AreBalancedFrom [] events
 
--- so is the reading of each block result, whatever is answered
+-- the reading of each block result is balanced, for all answers of the callback
 abbrev pub BalancedLaw : Type 0
 BalancedLaw = (blocks : Blocks) (asks : Bool) (answers : Answers)
     → AreBalanced (ranged (events_of (reading_of blocks asks answers)))

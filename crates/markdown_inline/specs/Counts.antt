@@ -1,4 +1,4 @@
--- What the chain counts that a walk resolves on its way to its next event.
+-- The counts of the chain that a walk resolves before its next event.
 use Rattle.std.specs.Prelude.{◌≡◌, ℕ, List, [], ◌∷◌, Option, Some, None}
 use Rattle.markdown_base.specs.Arena.{Arena, sibling_of}
 use Rattle.markdown_base.specs.BlockTree.{item_at}
@@ -23,15 +23,16 @@ use Rattle.markdown_inline.specs.Walk.{closing}
 abbrev pub no_work : Work
 no_work = record { delimiters = 0; examined = 0; items = 0; code_visits = 0; math_visits = 0 }
 
--- the counts of the chain that is reached before an event, by what is known
+-- the counts of the chain that is reached before an event, from what is known before it
 abbrev pub Counting : Type 0
 Counting = Known → ChainCounts
 
--- none is reached
+-- no chain is reached
 abbrev pub no_chain : Counting
 no_chain known = no_counts
 
--- what comes before the first event of a tree: nothing; else what is found inside it, or its chain
+-- the counts of the chain that is reached before the first event of a tree: none where the tree begins with an event,
+-- and otherwise that of what is below it, or of its own chain where it is open
 abbrev pub before_event : Shape → (inside chain : Counting) → Counting
 before_event (leaf e origins) inside chain = no_chain
 before_event (enclosed tag) inside chain = no_chain
@@ -39,20 +40,22 @@ before_event plain inside chain = inside
 before_event backslash_break inside chain = no_chain
 before_event (unresolved b) inside chain = chain
 
--- the counts of the chain that is reached before the first event of a forest, from its first open item on, below the
--- blocks that are open above it, or of what comes after the forest, where no event comes in it; none where no chain is
+-- the counts of the chain that is reached before the first event of a forest, resolved from its first open item on,
+-- below the blocks that are open above it; where the forest gives no event, those of what comes after it, and none
+-- where no chain is reached
 abbrev pub first_counts : {A : Type 0} → Setting → Tags A → Above → Forest (Label A) → (after : Counting) → Counting
 first_counts s tags above nil after = after
 first_counts s tags above (node a below later) after =
     before_event a.part.shape (first_counts s tags (inside_label a above) below (first_counts s tags above later after))
     (chain_counts s tags above (node a below later))
 
--- an End is an event
+-- no chain is reached before an End, which is an event
 abbrev pub unless_ended : Option TagEnd → Counting → Counting
 unless_ended None after = after
 unless_ended (Some e) after = no_chain
 
--- the same of what comes after the chain at hand of a walk, where these blocks are open above the spine
+-- the counts of the chain that is reached before the first event after the chain at hand of a walk, where these blocks
+-- are open above the spine
 abbrev pub counts_around : Setting → Above → Tables → List (Node Item) → List ℕ → (after : Counting) → Counting
 counts_around s above tables nodes [] after = after
 counts_around s above tables nodes (ix ∷ deeper) after =
@@ -60,17 +63,17 @@ counts_around s above tables nodes (ix ∷ deeper) after =
     (unless_ended (closing (item_at nodes ix).body)
     (first_counts s plain_tags above (trees_from s.text tables nodes (sibling_of nodes ix)) after))
 
--- the counts of the chain that a walk resolves before its next event; none where it resolves none
+-- the counts of the chain that a walk resolves before its next event; none where it resolves no chain
 unfoldable pub counts_ahead : Setting → Tables → List (Node Item) → Option ℕ → List ℕ → Counting
 counts_ahead s tables nodes l spine =
     first_counts s plain_tags (above_at s.text nodes spine) (trees_from s.text tables nodes l)
     (counts_around s (no_blocks s.text) tables nodes spine no_chain)
 
--- what resolving counts, of all that a walk has before it
+-- the same for the walk of a tree
 abbrev pub tree_counts : Setting → Tables → Arena Item → Counting
 tree_counts s tables tree = counts_ahead s tables tree.nodes tree.cursor tree.spine
 
--- a move that gives no event leaves the chain ahead; before an event there was none
+-- a move without events leaves the counts of the chain ahead; before a move with an event, no chain was ahead
 abbrev pub LeavesAhead : List Placed → (before after : ChainCounts) → Type 0
 LeavesAhead [] before after = before ≡ after
 LeavesAhead (e ∷ given) before after = before ≡ no_counts

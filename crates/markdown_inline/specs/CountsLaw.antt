@@ -1,4 +1,4 @@
--- No count of a walk reaches its greatest value: so counts rise by plain addition.
+-- No count of a walk reaches its maximum, so counts rise by plain addition.
 use Rattle.std.specs.Prelude.{◌≡◌, ℕ, ◌+◌, ◌-◌, ◌^◌, ◌<◌, List, [], ◌∷◌, Ok, Option, IfSome}
 use Rattle.std.specs.Option.{option_map}
 use Rattle.std.specs.declared.ops.Range.{Range}
@@ -12,8 +12,8 @@ use Rattle.markdown_inline.specs.NextGives.{NextGives, IsEventOf, IsPlacedOf}
 use Rattle.markdown_inline.specs.ParserLeft.{parser_steps, parser_work}
 use Rattle.markdown_inline.specs.declared.walk.Parser.{Parser}
 
--- calls of `next`, one after another, led from one parser to another; they gave items, with each of which there are
--- fewer steps to come, or None
+-- a sequence of calls of `next` leads from one parser to another, and returns these items, none of them an error, or
+-- None; after each item there are fewer steps to come
 abbrev pub Calls : {F I : Type 0} → (F → Question → Option Answer → F → Type 0) → (List ℕ → I → Placed → Type 0)
     → Parser F → List (Option I) → Parser F → Type 0
 Calls step is_of s [] t = s ≡ t
@@ -22,7 +22,7 @@ Calls {F} step is_of s (given ∷ later) t =
     × IfSome given (λ _. parser_steps u < parser_steps s)
     × Calls step is_of u later t
 
--- no count has reached the greatest value
+-- no count has reached the maximum
 pub record AreBelowGreatest (work : Work) : Type 0 where
   pub delimiters : work.delimiters < 2 ^ 128 - 1
   pub examined : work.examined < 2 ^ 128 - 1
@@ -30,7 +30,8 @@ pub record AreBelowGreatest (work : Work) : Type 0 where
   pub code_visits : work.code_visits < 2 ^ 128 - 1
   pub math_visits : work.math_visits < 2 ^ 128 - 1
 
--- so it is after any calls that are not refused, with ranges or without, from where nothing is counted and fewer than 2 ^ 62 steps are to come
+-- no count has reached the maximum after any calls without an error, with ranges or without, from a parser whose counts
+-- are 0 and which has fewer than 2 ^ 62 steps to come
 abbrev pub CountsLaw : {F : Type 0} → (F → Question → Option Answer → F → Type 0) → Parser F → Type 0
 CountsLaw {F} step p = parser_work p ≡ no_work → parser_steps p < 2 ^ 62
     → ((given : List (Option Event)) (t : Parser F) → Calls step IsEventOf p given t
@@ -38,6 +39,6 @@ CountsLaw {F} step p = parser_work p ≡ no_work → parser_steps p < 2 ^ 62
     × ((given : List (Option (Event × Range ℕ))) (t : Parser F) → Calls step IsPlacedOf p given t
     → AreBelowGreatest (parser_work t))
 
--- a count below the greatest has risen by plain addition
+-- a count below the maximum has risen by plain addition
 abbrev pub RisesPlainly : Type 0
 RisesPlainly = (n count : ℕ) → risen n count < 2 ^ 128 - 1 → risen n count ≡ count + n

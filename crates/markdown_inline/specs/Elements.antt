@@ -1,4 +1,4 @@
--- What is read of a document: events with their ranges, and the questions between them.
+-- The elements of a document's reading: events with their ranges, and the questions between them.
 use Rattle.std.specs.Prelude.{ℕ, List, [], ◌∷◌}
 use Rattle.std.specs.declared.ops.Range.{Range}
 use Rattle.markdown_base.specs.Event.{EventView}
@@ -15,11 +15,11 @@ pub data Element : Type 0 where
   question : Question → Element
   event : Placed → Element
 
--- what is read, by what is known
+-- a reading, from what is known before it
 abbrev pub Reading : Type 0
 Reading = Known → List Element
 
--- nothing
+-- the empty reading
 abbrev pub nothing : Reading
 nothing known = []
 
@@ -27,13 +27,13 @@ nothing known = []
 abbrev pub then_reads : Placed → Reading → Reading
 then_reads e after known = event e ∷ after known
 
--- the events of a reading, and its questions
+-- the events of a reading
 abbrev pub events_of : List Element → List Placed
 events_of [] = []
 events_of (question q ∷ es) = events_of es
 events_of (event e ∷ es) = e ∷ events_of es
 
--- the questions among these
+-- the questions of a reading
 abbrev pub questions_of : List Element → List Question
 questions_of [] = []
 questions_of (question q ∷ es) = q ∷ questions_of es

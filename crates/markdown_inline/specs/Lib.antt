@@ -3,7 +3,7 @@ pub mod Elements
 pub mod Reading
 pub mod ReadingLaw
 pub mod QuestionLaws
--- what contracts speak of
+-- the terms of contracts
 pub mod ParserLeft
 pub mod Slices
 pub mod NextGives
@@ -18,12 +18,12 @@ pub mod TreeReading
 pub mod ResolvedShapes
 pub mod LimitLaw
 pub mod WholeRun
--- facts of the representation: a walk over an arena
+-- the representation: a walk over an arena
 pub mod Walk
 pub mod WalkTotals
 pub mod Counts
 pub mod Standing
 pub mod OneForest
--- what private contracts speak of
+-- the terms of private contracts
 pub mod WalkSteps
 pub mod Moves

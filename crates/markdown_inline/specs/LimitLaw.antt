@@ -1,5 +1,5 @@
--- References expand to few bytes: the destinations and titles that look-ups of labels found in a whole document, all
--- but the last, have fewer bytes than the limit at the start.
+-- References expand to few bytes: the destinations and titles that look-ups of link labels found in a whole document,
+-- without the last, together have fewer bytes than the limit at the start.
 use Rattle.std.specs.Prelude.{ℕ, ◌+◌, ◌<◌, Bool, if◌then◌else◌, List, [], ◌∷◌, ◌++◌, map}
 use Rattle.markdown_base.specs.Event.{TagView, link, image, LinkView, EventView, start, end}
 use Rattle.markdown_base.specs.Questions.{Answers}
@@ -12,30 +12,31 @@ use Rattle.markdown_inline.specs.LookUps.{is_looked_up}
 use Rattle.markdown_inline.specs.ParserLeft.{expansion_limit, reading_of}
 use Rattle.markdown_inline.specs.ResolvedDocument.{resolved_blocks}
 
--- the bytes of destination and title, where they were looked up
+-- the number of bytes of destination and title, where they were looked up
 abbrev pub looked_up_size : LinkView → List ℕ
 looked_up_size v = if is_looked_up v.kind then size_of v ∷ [] else []
 
--- those of a tag: the expansion of its look-up, if there was one
+-- the same for a tag: its expansion, if its label was looked up
 abbrev pub tag_expansion : TagView → List ℕ
 tag_expansion (link v) = looked_up_size v
 tag_expansion (image v) = looked_up_size v
 tag_expansion other = []
 
--- an event where some Starts are open, the nearest first, each with its expansion, and what follows it by those that
--- are open then: an expansion is listed at its End
+-- the expansions of an event before which Starts with these expansions are open, the nearest first, and of what follows
+-- it, by the Starts that are open then: an expansion is listed at its End
 abbrev pub listed_at_ends : EventView → List (List ℕ) → (rest : List (List ℕ) → List ℕ) → List ℕ
 listed_at_ends (start tag) opened rest = rest (tag_expansion tag ∷ opened)
 listed_at_ends (end e) [] rest = rest []
 listed_at_ends (end e) (nearest ∷ opened) rest = nearest ++ rest opened
 listed_at_ends other opened rest = rest opened
 
--- those of all events, where some Starts are open before the first
+-- the expansions of events, where Starts with these expansions are open before the first event
 abbrev pub expansions_from : List (List ℕ) → List Ranged → List ℕ
 expansions_from opened [] = []
 expansions_from opened (e ∷ events) = listed_at_ends e.0 opened (λ opened. expansions_from opened events)
 
--- what was found by looking labels up, in the order of the look-ups: a label is looked up where its link or image ends
+-- the expansions of all look-ups of labels, in the order of the look-ups: a label is looked up where its link or image
+-- ends
 abbrev pub expansions : List Ranged → List ℕ
 expansions events = expansions_from [] events
 
@@ -45,17 +46,17 @@ sum_but_last [] = 0
 sum_but_last (n ∷ []) = 0
 sum_but_last (n ∷ m ∷ more) = n + sum_but_last (m ∷ more)
 
--- the expansions of all look-ups but the last are below a limit, all together
+-- the expansions of all look-ups but the last sum to less than a limit
 abbrev pub ExpandsBelow : (limit : ℕ) → List Ranged → Type 0
 ExpandsBelow limit events = sum_but_last (expansions events) < limit
 
--- so it is in the reading of each block result, whatever is answered: the limit is the greater of the text's bytes and
--- 100,000
+-- this is true of the reading of each block result, for all answers of the callback: the limit is the greater of the
+-- text's length in bytes and 100,000
 abbrev pub LimitLaw : Type 0
 LimitLaw = (blocks : Blocks) (asks : Bool) (answers : Answers)
     → ExpandsBelow (expansion_limit (block_text blocks)) (ranged (events_of (reading_of blocks asks answers)))
 
--- so it is of all that look-ups found for its tree, also of what no event shows
+-- and so it is of all that look-ups found in resolving its tree, including what no event shows
 abbrev pub LookUpLaw : Type 0
 LookUpLaw = (blocks : Blocks) (asks : Bool) (answers : Answers)
     → sum_but_last (map size_of (resolved_blocks blocks asks answers).found) < expansion_limit (block_text blocks)

@@ -1,4 +1,4 @@
--- What the look-ups of link labels found in a chain, in their order.
+-- The results of looking up link labels in a chain, in the order of the look-ups.
 use Rattle.std.specs.Prelude.{ℕ, Bool, true, false, List, [], ◌∷◌, ◌++◌, Option, Some, None, if◌then◌else◌, nat_le}
 use Rattle.markdown_base.specs.Event.{LinkView}
 use Rattle.markdown_base.specs.Forest.{Forest, nil, node}
@@ -14,7 +14,7 @@ use Rattle.markdown_document.specs.Document.{Tags, Label}
 use Rattle.markdown_document.specs.Setting.{Setting}
 use Rattle.markdown_resolver.specs.PassOne.{around, read_other}
 
--- the type of a link or an image whose label was looked up
+-- the type is that of a link or an image whose label was looked up
 abbrev pub is_looked_up : LinkType → Bool
 is_looked_up kind.Reference = true
 is_looked_up kind.ReferenceUnknown = true
@@ -24,19 +24,19 @@ is_looked_up kind.Shortcut = true
 is_looked_up kind.ShortcutUnknown = true
 is_looked_up other = false
 
--- what a look-up found, where a `]` becomes a link or an image by one
+-- what a look-up found, where it made a `]` the end of a link or an image
 abbrev pub found_by : {A : Type 0} → Becomes A → List LinkView
 found_by (a_link o target end next) = if is_looked_up target.kind then target ∷ [] else []
 found_by other = []
 
--- what it found at an item, by its body: a `]` alone looks a label up
+-- what a look-up found at an item, by the item's body: a label is looked up only at a `]`
 abbrev pub found_as : {A : Type 0} → Around → ItemBody → Label A → (rest : Forest (Label A)) → Progress A
     → List LinkView
 found_as w (body.MaybeLinkClose could_be_reference) a rest p =
     found_by (decided w (closing could_be_reference a rest p) p).becomes
 found_as w other a rest p = []
 
--- after a find that ends at a byte nothing is read of an item that ends there or before
+-- the same where pass one has read up to a byte offset: nothing is found at an item that ends there or before
 abbrev pub found_past : {A : Type 0} → Around → Option ℕ → Label A → (rest : Forest (Label A)) → Progress A
     → List LinkView
 found_past w None a rest p = found_as w (open_body a.part.shape) a rest p
@@ -44,7 +44,7 @@ found_past w (Some i) a rest p =
     if nat_le (end_of a) i then []
     else found_as w (open_body (begun_at i a).part.shape) (begun_at i a) rest (record p { goes_on = None })
 
--- a chain is read as pass one reads it, from a progress on
+-- what look-ups found in a chain as pass one reads it, from this progress on
 abbrev pub look_ups_from : {A : Type 0} → Setting → Tags A → Above → Forest (Label A) → Progress A → List LinkView
 look_ups_from s tags above nil p = []
 look_ups_from s tags above (node a below rest) p =

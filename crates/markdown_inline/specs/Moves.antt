@@ -1,4 +1,4 @@
--- What a step of a parser gives.
+-- What a step of a parser does.
 use Rattle.markdown_base.specs.declared.event.Event.TheVariants as events
 use Rattle.markdown_inline.specs.declared.bodies.Way.TheVariants as way
 use Rattle.markdown_inline.specs.declared.walk.Stop.TheVariants as stop
@@ -33,8 +33,8 @@ pub record BeginsWithEvent (es : List Element) : Type 0 where
   pub rest : List Element
   pub is : es ≡ event first ∷ rest
 
--- calls led from c to d, and from x to y: for their answers, x is the questions, then the events given, and
--- then y
+-- calls of the callback led from state c to d, and from x to y: for these answers, x is the questions, then the events
+-- given, and then y
 pub record Leads {C : Type 0} (step : C → Question → Option Answer → C → Type 0) (c d : Option C) (x y : Answers
     → List Element) (given : List Placed) : Type 0 where
   pub answers : Answers
@@ -42,7 +42,7 @@ pub record Leads {C : Type 0} (step : C → Question → Option Answer → C →
   pub asked : Asks step c questions answers d
   pub left : (later : Answers) → x (answers ++ later) ≡ map question questions ++ (map event given ++ y later)
 
--- a text and its definitions stay
+-- the text and its reference definitions stay the same
 pub record Keeps {F : Type 0} (s t : Parser F) : Type 0 where
   pub text : parser_text t ≡ parser_text s
   pub definitions : parser_definitions t ≡ parser_definitions s
@@ -58,11 +58,11 @@ pub record Gave {F : Type 0} (s t : Parser F) (given : List Placed) : Type 0 whe
 pub record WentOn {F : Type 0} (step : F → Question → Option Answer → F → Type 0) (s t : Parser F) : Type 0 where
   pub leads : Leads step (parser_callback s) (parser_callback t) (elements s) (elements t) []
   pub asked : Gave s t [] ⊎ ((answers : Answers) → BeginsWithEvent (elements t answers))
-  -- and the counts have risen so that what rises from t on rises from s on, for the answers that were given
+  -- the counts have risen so that what rises from t on also rises from s on, for the answers that were given
   pub counts : (later : Answers) (work : Work) → WorkRises (parser_counts t later) (parser_work t) work
       → WorkRises (parser_counts s (leads.answers ++ later)) (parser_work s) work
 
--- the walk was over, and is
+-- the walk was over, and still is
 pub record Ended {F : Type 0} (s t : Parser F) : Type 0 where
   pub was : IsOver s
   pub is : IsOver t
@@ -70,8 +70,8 @@ pub record Ended {F : Type 0} (s t : Parser F) : Type 0 where
   pub ahead : (answers : Answers) → parser_counts s answers ≡ no_counts
   pub work : parser_work t ≡ parser_work s
 
--- memory was refused, and the walk is over: the callback went by these questions, with which what was left
--- begins, and these answers
+-- memory was refused, and the walk is over: the callback returned these answers to these questions, with which what was
+-- left begins
 pub record Failed {F : Type 0} (step : F → Question → Option Answer → F → Type 0) (s t : Parser F) : Type 0 where
   pub is : IsOver t
   pub more : 0 < parser_steps s
@@ -81,31 +81,31 @@ pub record Failed {F : Type 0} (step : F → Question → Option Answer → F �
   pub begins : (later : Answers) → (others : List Element) × (elements s (answers ++ later) ≡ map question questions
       ++ others)
 
--- an event was given over a range
+-- an event was given with this range
 pub record GaveEvent {F : Type 0} (s t : Parser F) (e : Event) (range : Range ℕ) : Type 0 where
   pub placed : Placed
   pub is_item : IsPlacedOf (parser_text s) (e, range) placed
   pub gave : Gave s t (placed ∷ [])
 
--- the walk has gone on, from s on, and has given nothing
+-- from s to t the walk has gone on and has given nothing
 pub record HasGone {F : Type 0} (step : F → Question → Option Answer → F → Type 0) (s t : Parser F) : Type 0 where
   pub went : WentOn step s t
   pub keeps : Keeps s t
   pub over : IsOver s → IsOver t
   pub steps : parser_steps t ≤ parser_steps s
 
--- how an item reads, by what a parser holds
+-- the shape of an item, from the text and the tables of a parser
 abbrev pub shape_in : {F : Type 0} → Parser F → Item → Shape
 shape_in p item = shape_of (tables_of p.resolver.tables) (slice_range (parser_text p) item.start item.end) item.body
 
--- the event of an item may be made, and the walk stands where it did when what the item names is taken
+-- the event of an item can be made, and the walk keeps its invariant when what the item refers to is taken
 pub record IsToBegin {F : Type 0} (s : Parser F) (item : Item) (w : Way) : Type 0 where
   pub can : CanBegin (parser_text s) (tables_of s.resolver.tables) item
   pub stands : (held : Allocated) → TakesOnly item.body s.resolver.tables held
       → TreeStands (parser_text s) (tables_of held) s.tree
   pub goes : way_at item.body ≡ w
 
--- what an item names was taken, and nothing else was done
+-- what an item refers to was taken, and nothing else was done
 pub record Took {F : Type 0} (s t : Parser F) (item : Item) : Type 0 where
   pub text : t.resolver.text ≡ s.resolver.text
   pub options : t.resolver.options ≡ s.resolver.options
@@ -120,14 +120,14 @@ pub record Began {F : Type 0} (s t : Parser F) (item : Item) (e : Event) : Type 
   pub took : Took s t item
   pub opens : OpensWith (parser_text s) (shape_in s item) e
 
--- it was not, since memory was refused, and the walk is over
+-- the event was not made, since memory was refused, and the walk is over
 pub record RefusedAt {F : Type 0} (s t : Parser F) (fault : Fault) : Type 0 where
   pub memory : fault ≡ Memory
   pub is : IsOver t
   pub callback : t.resolver.callback ≡ s.resolver.callback
   pub keeps : Keeps s t
 
--- the walk went past the beginning of an item: its event is given once it is made
+-- the walk went past the beginning of an item, whose event is given once it is made
 pub record WentPast {F : Type 0} (s t : Parser F) (item : Item) (w : Way) : Type 0 where
   pub ready : IsToBegin t item w
   pub gave : (u : Parser F) (e : Event) → Took t u item → OpensWith (parser_text t) (shape_in t item) e
@@ -135,7 +135,7 @@ pub record WentPast {F : Type 0} (s t : Parser F) (item : Item) (w : Way) : Type
   pub callback : parser_callback t ≡ parser_callback s
   pub falls : parser_steps t < parser_steps s
 
--- one step of the walk, and what it leaves
+-- what one step of the walk does; None where the walk goes on
 abbrev pub Moved : {F : Type 0} → (F → Question → Option Answer → F → Type 0) → Parser F → Parser F → Option Stop
     → Type 0
 Moved step s t None = WentOn step s t × (parser_steps t < parser_steps s)

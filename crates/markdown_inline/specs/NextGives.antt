@@ -1,4 +1,4 @@
--- What a call of `next` gives of what was left of a parser.
+-- What a call of `next` gives, of what was left of a parser.
 use Rattle.std.specs.Prelude.{◌≡◌, ℕ, List, [], ◌∷◌, ◌++◌, map, Option, None, Result, MatchOption, MatchResult}
 use Rattle.std.specs.declared.ops.Range.{Range}
 use Rattle.markdown_base.specs.Event.{event_view}
@@ -14,21 +14,21 @@ use Rattle.markdown_inline.specs.ParserLeft.{parser_work, IsOver}
 use Rattle.markdown_inline.specs.Slices.{texts_of, AreFrom, StartIsFrom}
 use Rattle.markdown_inline.specs.declared.walk.Parser.{Parser}
 
--- an event is one of a reading of the source: by the bytes of its texts, and each text is of the origin that is read;
--- the destination of an autolink or a wikilink is a slice
+-- an event is this one of a reading of the source: its texts have the same bytes and the origins of the reading, and
+-- the destination of an autolink or a wikilink is a slice of the source
 pub record IsEventOf (source : List ℕ) (e : Event) (placed : Placed) : Type 0 where
   pub view : placed.0 ≡ event_view e
   pub texts : AreFrom source placed.2 (texts_of e)
   pub start : StartIsFrom source e
 
--- so is an event with its range
+-- the same for an event with its range
 pub record IsPlacedOf (source : List ℕ) (e : Event × Range ℕ) (placed : Placed) : Type 0 where
   pub is_event : IsEventOf source e.0 placed
   pub range : placed.1 ≡ e.1
 
--- From s to t an item was given: the callback went by these questions and answers, and, whatever answers
--- follow, what was left is these questions, the event that the item is, and then what is left now. The counts rose by
--- those of the chain that was resolved, if one was.
+-- From s to t an item was given: the callback returned these answers to these questions, and, whatever answers follow,
+-- what was left is the questions, then the event that the item is, and then what is left now. The counts rose by those
+-- of the chain that was resolved, if there was one.
 pub record GivesItem {F I : Type 0} (step : F → Question → Option Answer → F → Type 0) (is_of : List ℕ → I → Placed
     → Type 0)
     (s : Parser F) (item : I) (t : Parser F) : Type 0 where
@@ -41,8 +41,8 @@ pub record GivesItem {F I : Type 0} (step : F → Question → Option Answer →
       ++ event placed ∷ elements t later
   pub counts : (later : Answers) → WorkRises (parser_counts s (answers ++ later)) (parser_work s) (parser_work t)
 
--- an error came, which is one of memory: the callback went by these questions, with which what was left
--- begins, and these answers; and the walk is over. What it leaves of the counts is not said.
+-- an error was given, which is one of memory: the callback returned these answers to these questions, with which what
+-- was left begins, and the walk is over. Nothing is said of the counts.
 pub record GivesError {F : Type 0} (step : F → Question → Option Answer → F → Type 0) (s : Parser F) (fault : Fault)
     (t : Parser F) : Type 0 where
   pub memory : fault ≡ Memory
@@ -53,14 +53,15 @@ pub record GivesError {F : Type 0} (step : F → Question → Option Answer → 
       ++ others)
   pub over : IsOver t
 
--- None came: nothing was left, nothing was asked, and the walk is over. The counts rose as at an event.
+-- None was given: nothing was left, nothing was asked, and the walk is over. The counts rose as they do at an event.
 pub record GivesNone {F : Type 0} (s t : Parser F) : Type 0 where
   pub none_left : (answers : Answers) → elements s answers ≡ []
   pub callback : parser_callback t ≡ parser_callback s
   pub over : IsOver t
   pub counts : (answers : Answers) → WorkRises (parser_counts s answers) (parser_work s) (parser_work t)
 
--- the whole: beside this the text and its definitions stay, and where the walk is over None comes, and it stays over
+-- one of these three; also, the text and its reference definitions stay the same, and a walk that is over gives None
+-- and stays over
 pub record NextGives {F I : Type 0} (step : F → Question → Option Answer → F → Type 0) (is_of : List ℕ → I → Placed
     → Type 0)
     (s : Parser F) (r : Option (Result I Fault)) (t : Parser F) : Type 0 where

@@ -1,5 +1,5 @@
--- What a parser holds, and what is left of it: the elements of its reading that it has not given yet, for
--- the answers that its callback will give.
+-- What a parser holds, and what is left of it: the elements of its reading that it has not given yet, for the answers
+-- that its callback will give.
 use Rattle.std.specs.Prelude.{◌≡◌, ℕ, max, Bool, List, [], length, Option, is_some}
 use Rattle.std.specs.List.{list_any}
 use Rattle.markdown_base.specs.Arena.{Arena}
@@ -24,7 +24,7 @@ use Rattle.markdown_inline.specs.declared.walk.Parser.{Parser}
 use Rattle.markdown_inline.specs.declared.walk.OffsetIter.{OffsetIter}
 use Rattle.markdown_document.specs.declared.work.Work.{Work}
 
--- how many bytes references may expand to, at the start
+-- the number of bytes that references may expand to, at the start
 abbrev pub expansion_limit : List ℕ → ℕ
 expansion_limit source = max (length source) 100000
 
@@ -32,11 +32,11 @@ expansion_limit source = max (length source) 100000
 abbrev pub known_at_start : List ℕ → Answers → Known
 known_at_start source answers = record { limit = expansion_limit source; answers = answers; uses = λ name. 0 }
 
--- the definitions of a block result that can be found: of those with labels of equal folding the first
+-- the reference definitions of a block result that can be found: of those whose labels match, the first
 abbrev pub block_definitions : Blocks → List Labelled
 block_definitions blocks = firsts (block_parts blocks).definitions.items
 
--- what the rules of a chain go by in a block result, where there is somebody to ask and where not
+-- the rules by which the chains of a block result are resolved, with or without a callback
 abbrev pub rules_of : Blocks → Bool → Rules
 rules_of blocks asks = record {
   options = block_options blocks;
@@ -45,7 +45,7 @@ rules_of blocks asks = record {
   asks = asks;
 }
 
--- the reading of a block result, for these answers, where there is somebody to ask and where not
+-- the reading of a block result, for these answers, with or without a callback
 abbrev pub reading_of : Blocks → Bool → Answers → List Element
 reading_of blocks asks answers =
     reading (setting_of (block_text blocks) (rules_of blocks asks)) plain_tags (no_blocks (block_text blocks))
@@ -56,7 +56,7 @@ reading_of blocks asks answers =
 abbrev pub parser_text : {F : Type 0} → Parser F → List ℕ
 parser_text p = p.resolver.text.now
 
--- the definitions that its chains can find
+-- the reference definitions that its chains can find
 abbrev pub parser_definitions : {F : Type 0} → Parser F → List Labelled
 parser_definitions p = p.resolver.tables.refdefs
 
@@ -72,12 +72,12 @@ parser_work p = p.resolver.work
 abbrev pub parser_tree : {F : Type 0} → Parser F → Arena Item
 parser_tree p = p.tree
 
--- what the rules of its chains go by
+-- what resolving its chains depends on
 abbrev pub parser_setting : {F : Type 0} → Parser F → Setting
 parser_setting p = setting_of p.resolver.text.now (rules_from p.resolver.options p.resolver.tables
     (is_some p.resolver.callback))
 
--- what is known to the chain that comes next, where these answers are to come
+-- what is known when the next chain is reached, where these answers are still to come
 abbrev pub parser_known : {F : Type 0} → Parser F → Answers → Known
 parser_known p answers = record {
   limit = p.resolver.limit;
@@ -85,7 +85,7 @@ parser_known p answers = record {
   uses = uses_of p.resolver.tables.footdefs;
 }
 
--- the counts of the chain that it resolves before its next event, for these answers; none where it resolves none
+-- the counts of the chain that it resolves before its next event, for these answers; none where it resolves no chain
 abbrev pub parser_counts : {F : Type 0} → Parser F → Answers → ChainCounts
 parser_counts p answers = tree_counts (parser_setting p) (tables_of p.resolver.tables) p.tree (parser_known p answers)
 
@@ -98,8 +98,8 @@ abbrev pub ReadsBlocks : {F : Type 0} → Blocks → Parser F → Type 0
 ReadsBlocks blocks p = (answers : Answers)
     → elements p answers ≡ reading_of blocks (is_some (parser_callback p)) answers
 
--- the same of some block result of a text and options: one that is well formed and covers the text. The definitions
--- that can be found are those of this block result.
+-- the same of some block result of a text and options: one that is well formed and covers the text. The reference
+-- definitions that can be found are those of this block result.
 pub record ReadsText {F : Type 0} (text : List ℕ) (options : Options) (p : Parser F) : Type 0 where
   pub blocks : Blocks
   pub of_text : IsOfText text options blocks

@@ -1,5 +1,5 @@
 -- What the callback is asked over a whole document: no more questions than there are `]` items, none at a limit of 0,
--- and no two of one chain that end at the same byte.
+-- and no two of one chain that end at the same byte offset.
 use Rattle.std.specs.Prelude.{ℕ, List, count_by}
 use Rattle.markdown_base.specs.BlockTree.{tree_of}
 use Rattle.markdown_base.specs.Forest.{Forest, preorder}
@@ -18,7 +18,7 @@ use Rattle.markdown_inline.specs.Reading.{reading}
 use Rattle.markdown_resolver.specs.ChainQuestions.{EachChain}
 use Rattle.markdown_resolver.specs.Resolved.{resolved}
 
--- how many items of a block result are `]`
+-- the number of items of a block result that are a `]`
 abbrev pub closers_of : List (Node Item) → ℕ
 closers_of nodes = count_by (λ n. is_closer n.item.body) (preorder (tree_of nodes))
 
@@ -27,16 +27,17 @@ abbrev pub document_reading : List ℕ → List (Node Item) → Tables → Rules
 document_reading source nodes tables rules known =
     reading (setting_of source rules) plain_tags (no_blocks source) (document source tables nodes) nothing known
 
--- each `]` asks one question at most, and at a limit of 0 none asks
+-- at most one question is asked for each `]`, and none at a limit of 0
 abbrev pub DocumentCountLaw : Type 0
 DocumentCountLaw = (source : List ℕ) (nodes : List (Node Item)) (tables : Tables) (rules : Rules) (known : Known)
     → AsksAtMost (closers_of nodes) known.limit (questions_of (document_reading source nodes tables rules known))
 
--- no two questions of a chain end at the same byte, whatever blocks are open above it, and whatever is known to it
+-- no two questions of a chain end at the same byte offset, whatever blocks are open above it, and whatever is known
+-- when it is reached
 abbrev pub AsksApart : Setting → Forest Plain → Type 0
 AsksApart s chain = (above : Above) (known : Known) → EndApart (resolved s plain_tags above chain known).questions
 
--- so it is of each chain of a well-formed block result
+-- this is true of each chain of a well-formed block result
 abbrev pub DocumentEndsLaw : Type 0
 DocumentEndsLaw = (source : List ℕ) (nodes : List (Node Item)) (parts : BlockParts) (tables : Tables) (rules : Rules)
     → IsWellFormed source nodes parts → EachChain (AsksApart (setting_of source rules)) (document source tables nodes)

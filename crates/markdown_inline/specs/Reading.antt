@@ -1,5 +1,5 @@
--- The reading of a tree with open chains in it: its events with their ranges, in preorder, and the questions
--- between them.
+-- The reading of a tree with open chains in it: its events with their ranges, in preorder, and the questions between
+-- them.
 use Rattle.std.specs.Prelude.{ℕ, List, [], ◌++◌, map}
 use Rattle.std.specs.declared.ops.Range.{Range}
 use Rattle.markdown_base.specs.Event.{start, end, end_of, hard_break}
@@ -11,8 +11,8 @@ use Rattle.markdown_resolver.specs.Resolved.{resolved, all_paired}
 use Rattle.markdown_document.specs.Above.{Above, inside_label}
 use Rattle.markdown_document.specs.Setting.{Setting}
 
--- the reading of a tree over a range, where `inside` reads what is below it before what follows, `after`
--- follows, and `whole` is the reading of the chain from this tree on, where it is open
+-- the reading of a tree with this range: `inside` reads what is below the tree and then what follows, `after` is the
+-- reading of what follows the tree, and `whole` that of the chain from this tree on, where the tree is open
 abbrev pub opened : Shape → Range ℕ → (inside : Reading → Reading) → (after whole : Reading) → Reading
 opened (leaf e origins) range inside after whole = then_reads (e, range, origins) after
 opened (enclosed tag) range inside after whole = then_reads (start tag, range, [])
@@ -28,7 +28,8 @@ settled_reading (node a below later) after =
     opened a.part.shape a.part.range (λ inner. settled_reading below inner) (settled_reading later after)
     (settled_reading later after)
 
--- the questions of a chain, the forest that it is resolved to, and what comes after it, with what is known then
+-- the questions of a chain, then the reading of the forest that it is resolved to, and then what comes after it, with
+-- what is known then
 abbrev pub then_resolved : {A : Type 0} → Setting → Tags A → Outcome A → Reading → List Element
 then_resolved s tags r after = map question r.questions ++ settled_reading (all_paired s r.forest) after r.known
 

@@ -1,4 +1,4 @@
--- The law on which a walk rests that resolves a chain when it stands before it, and the chains of children later.
+-- The law that lets a walk resolve a chain when it reaches it, and pair the chains of children later.
 use Rattle.std.specs.Prelude.{◌≡◌}
 use Rattle.markdown_base.specs.Forest.{Forest}
 use Rattle.markdown_document.specs.Above.{Above}
@@ -9,8 +9,8 @@ use Rattle.markdown_inline.specs.Reading.{settled_reading, reading}
 use Rattle.markdown_resolver.specs.Kept.{IsQuietBelow}
 use Rattle.markdown_resolver.specs.Resolved.{resolved, all_paired}
 
--- what a chain is resolved to is read, with its chains of children paired when they are reached, as it is read with all
--- of them paired at once
+-- what a chain is resolved to reads the same whether its chains of children are paired when they are reached or all at
+-- once
 abbrev pub ReadingLaw : Type 0
 ReadingLaw = (s : Setting) (above : Above) (chain : Forest Plain) (known : Known) (after : Reading) → IsQuietBelow chain
     → reading s plain_tags above (resolved s plain_tags above chain known).forest after

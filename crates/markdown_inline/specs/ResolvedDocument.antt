@@ -1,6 +1,6 @@
 -- The tree of a document with its chains resolved: blocks stay, and each chain is what it is resolved to from its first
--- open item on, with its chains of children paired. Chains are taken in preorder, and what is known after one is known
--- to the next.
+-- open item on, with its chains of children paired. Chains are resolved in preorder, and what is known after one is
+-- known to the next.
 use Rattle.std.specs.Prelude.{Bool, List, [], ◌++◌}
 use Rattle.markdown_base.specs.Event.{LinkView}
 use Rattle.markdown_base.specs.Forest.{Forest, nil, node}
@@ -17,22 +17,23 @@ use Rattle.markdown_inline.specs.LookUps.{look_ups_from}
 use Rattle.markdown_inline.specs.ParserLeft.{known_at_start, rules_of}
 use Rattle.markdown_resolver.specs.Resolved.{all_paired, resolved}
 
--- what becomes of a part of a document: what was asked, what look-ups found, its trees, and what is known after it
+-- the result of resolving a part of a document: the questions, what look-ups found, the trees, and what is known after
+-- it
 pub record Resolution (A : Type 0) : Type 0 where
   pub questions : List Question
   pub found : List LinkView
   pub trees : Forest (Label A)
   pub known : Known
 
--- by what is known before it
+-- the same, from what is known before it
 abbrev pub Resolving : Type 0 → Type 0
 Resolving A = Known → Resolution A
 
--- nothing
+-- the result of resolving no trees
 abbrev pub no_trees : {A : Type 0} → Resolving A
 no_trees known = record { questions = []; found = []; trees = nil; known = known }
 
--- a tree over what was made of what is below it, and before what is made of what comes after it
+-- a tree with the trees below it, and before the trees of what comes after it
 abbrev pub before_others : {A : Type 0} → Label A → (inside later : Resolution A) → Resolution A
 before_others a inside later = record {
   questions = inside.questions ++ later.questions;
@@ -41,11 +42,11 @@ before_others a inside later = record {
   known = later.known;
 }
 
--- the same, where what comes after it goes by what is known behind what is below it
+-- the same, where what comes after it is resolved with what is known after what is below it
 abbrev pub tree_then : {A : Type 0} → Label A → (below after : Resolving A) → Resolving A
 tree_then a below after known = before_others a (below known) (after (below known).known)
 
--- a tree by its shape: what is below a leaf is not read, and goes; where it is open, it begins a chain
+-- a tree, by its shape: what is below a leaf is not read, and is left out; an open item begins a chain
 abbrev pub resolved_tree : {A : Type 0} → Shape → Label A → (below after chain : Resolving A) → Resolving A
 resolved_tree (leaf e origins) a below after chain known = tree_then a no_trees after known
 resolved_tree (enclosed tag) a below after chain known = tree_then a below after known
@@ -72,7 +73,7 @@ resolved_document s tags above (node a below after) known =
     (λ known. resolved_document s tags above after known)
     (λ known. resolved_chain s tags above (node a below after) known) known
 
--- those of a block result, for these answers, where there is somebody to ask and where not
+-- the trees of a block result, for these answers, with or without a callback
 abbrev pub resolved_blocks : Blocks → (asks : Bool) → Answers → Resolution (Unit {0})
 resolved_blocks blocks asks answers =
     resolved_document (setting_of (block_text blocks) (rules_of blocks asks)) plain_tags (no_blocks (block_text blocks))

@@ -1,5 +1,5 @@
--- What a chain is resolved to: what stood in it, and events and tags of what stands in a line. No heading and no block
--- is made.
+-- The shapes of what a chain is resolved to: those of the chain, and events and tags of inline markup. No heading and
+-- no block is made.
 use Rattle.std.specs.Prelude.{◌≡◌, ℕ, ⊤, Bool, true}
 use Rattle.markdown_base.specs.Event.{EventView, text, code, inline_math, display_math, inline_html}
 use Rattle.markdown_base.specs.Event.{footnote_reference}
@@ -11,7 +11,7 @@ use Rattle.markdown_document.specs.Document.{Tags, Shape, leaf, enclosed, Label}
 use Rattle.markdown_document.specs.Setting.{Known, Setting}
 use Rattle.markdown_inline.specs.ResolvedDocument.{resolved_chain}
 
--- an event that is made of open items
+-- the event can be made of open items
 abbrev pub IsMadeEvent : EventView → Type 0
 IsMadeEvent (text t) = ⊤
 IsMadeEvent (code t) = ⊤
@@ -21,7 +21,7 @@ IsMadeEvent (inline_html t) = ⊤
 IsMadeEvent (footnote_reference name) = ⊤
 IsMadeEvent other = ⊥
 
--- the tag of a pair of delimiters
+-- the tag is that of a pair of delimiters
 abbrev pub IsMark : TagView → Type 0
 IsMark emphasis = ⊤
 IsMark strong = ⊤
@@ -30,20 +30,21 @@ IsMark superscript = ⊤
 IsMark subscript = ⊤
 IsMark other = ⊥
 
--- a tag that is made of open items
+-- the tag can be made of open items
 abbrev pub IsMadeTag : TagView → Type 0
 IsMadeTag (link v) = ⊤
 IsMadeTag (image v) = ⊤
 IsMadeTag other = IsMark other
 
--- what is made of open items
+-- the shape can be made of open items
 abbrev pub IsMadeShape : Shape → Type 0
 IsMadeShape (leaf e origins) = IsMadeEvent e
 IsMadeShape (enclosed tag) = IsMadeTag tag
 IsMadeShape other = ⊥
 
--- each shape is made, or it stood in the chain, perhaps with more first bytes: so a test that passes all that is made
--- passes each shape of what a chain is resolved to, where it passes each of the chain and looks at no first bytes
+-- each shape is made, or comes from the chain, perhaps without its first bytes: so a test that accepts all that can be
+-- made accepts each shape of what a chain is resolved to, where it accepts each shape of the chain and does not depend
+-- on first bytes
 abbrev pub ShapesLaw : Type 0 → Type 0
 ShapesLaw A =
     (passes : Shape → Bool) → ((shape : Shape) → IsMadeShape shape → passes shape ≡ true)

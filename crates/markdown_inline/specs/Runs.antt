@@ -1,4 +1,4 @@
--- What all items of a parser are, from a call of `next` on to its None.
+-- All items of a parser, from a call of `next` up to its None.
 use Rattle.std.specs.Prelude.{◌≡◌, ◌⊎◌, ℕ, List, [], ◌∷◌, ◌++◌, map, Ok, Err, Option, Result}
 use Rattle.markdown_base.specs.Questions.{Question, Answer, Answers}
 use Rattle.markdown_base.specs.declared.fault.Fault.{Fault}
@@ -16,7 +16,7 @@ module _ {I : Type 0} (is_of : List ℕ → I → Placed → Type 0) where
   AreOf source (item ∷ items) [] = ⊥
   AreOf source (item ∷ items) (placed ∷ events) = is_of source item placed × AreOf source items events
 
-  -- the items are all events that were left, for the answers that the callback gave to all questions that were left
+  -- the items are all events that were left, for the answers of the callback to all questions that were left
   pub record GaveRest {F : Type 0} (step : F → Question → Option Answer → F → Type 0) (p : Parser F) (given : List I)
       (callback : Option F) : Type 0 where
     pub events : List Placed
@@ -25,8 +25,8 @@ module _ {I : Type 0} (is_of : List ℕ → I → Placed → Type 0) where
     pub asked : Asks step (parser_callback p) (questions_of (elements p answers)) answers callback
     pub left : (later : Answers) → events_of (elements p (answers ++ later)) ≡ events
 
-  -- the items are the events of a beginning of what was left, for the answers that the callback gave to the questions
-  -- of this beginning, and whatever answers would have followed
+  -- the items are the events of a beginning of what was left, for the answers of the callback to the questions of this
+  -- beginning, and for all answers that could have followed
   pub record GaveBeginning {F : Type 0} (step : F → Question → Option Answer → F → Type 0) (p : Parser F)
       (given : List I) (callback : Option F) : Type 0 where
     pub first : List Element
@@ -35,7 +35,7 @@ module _ {I : Type 0} (is_of : List ℕ → I → Placed → Type 0) where
     pub asked : Asks step (parser_callback p) (questions_of first) answers callback
     pub begins : (later : Answers) → (others : List Element) × (elements p (answers ++ later) ≡ first ++ others)
 
-  -- the items are all that was left
+  -- the items are all events that were left
   pub record GaveAll {F : Type 0} (step : F → Question → Option Answer → F → Type 0) (p : Parser F)
       (all : List (Result I Fault)) : Type 0 where
     pub given : List I
@@ -43,7 +43,7 @@ module _ {I : Type 0} (is_of : List ℕ → I → Placed → Type 0) where
     pub callback : Option F
     pub rest : GaveRest step p given callback
 
-  -- the items are a beginning of what was left, and then an error, after which nothing came
+  -- the items are the events of a beginning of what was left, and then an error, after which nothing came
   pub record WasRefused {F : Type 0} (step : F → Question → Option Answer → F → Type 0) (p : Parser F)
       (all : List (Result I Fault)) : Type 0 where
     pub given : List I
@@ -51,7 +51,7 @@ module _ {I : Type 0} (is_of : List ℕ → I → Placed → Type 0) where
     pub callback : Option F
     pub beginning : GaveBeginning step p given callback
 
-  -- there is no third way
+  -- a run ends in one of these two ways
   abbrev pub IsRun : {F : Type 0} → (F → Question → Option Answer → F → Type 0) → Parser F → List (Result I Fault)
       → Type 0
   IsRun step p all = GaveAll step p all ⊎ WasRefused step p all

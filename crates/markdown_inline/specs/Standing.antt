@@ -1,4 +1,4 @@
--- Where a walk stands in an arena, with what its items name: what it keeps from step to step.
+-- The invariant of a walk over an arena, with what its items refer to.
 use Rattle.std.specs.Prelude.{ℕ, ◌≤◌, List, [], ◌∷◌, Option, ⊤}
 use Rattle.std.specs.Coded.{Unit-prop}
 use Rattle.std.proofs.Props.{props}
@@ -27,8 +27,9 @@ AboveKept source tables nodes (ix ∷ deeper) = IsKept (trees_from source tables
 abbrev pub SpineLies : List ℕ → List (Node Item) → List ℕ → Type 0
 SpineLies source nodes spine = AllByRecursion (λ ix. LiesIn source (item_at nodes ix)) spine
 
--- a walk stands at a link below the nodes of a spine: in what is left each item is placed, no node stands twice,
--- no entry is named twice, below the items of an open chain nothing asks, and what was gone into lies in the text
+-- the invariant of a walk whose cursor is at a link below the nodes of a spine: in what is left each item is placed, no
+-- node occurs twice, no entry is referred to twice, nothing below the items of an open chain asks a question, and the
+-- nodes that were entered lie in the text
 pub record Stands (source : List ℕ) (tables : Tables) (nodes : List (Node Item)) (l : Option ℕ) (spine : List ℕ) : Type
     0 where
   pub walk : IsWalk (links_of nodes) (IsPlaced source tables nodes) l spine
@@ -38,7 +39,7 @@ pub record Stands (source : List ℕ) (tables : Tables) (nodes : List (Node Item
   pub above_kept : AboveKept source tables nodes spine
   pub spine_lies : SpineLies source nodes spine
 
--- it has one proof at most
+-- `IsQuiet` has at most one proof
 IsQuiet-prop : {A : Type 0} (f : Forest (Label A)) → IsProp (IsQuiet f)
 IsQuiet-prop nil = Unit-prop
 IsQuiet-prop (node a below after) =
@@ -46,13 +47,13 @@ IsQuiet-prop (node a below after) =
     let behind = IsQuiet-prop after in
     hlevel props
 
--- so has this
+-- `IsQuietBelow` has at most one proof
 IsQuietBelow-prop : {A : Type 0} (f : Forest (Label A)) → IsProp (IsQuietBelow f)
 IsQuietBelow-prop nil = Unit-prop
 IsQuietBelow-prop (node a below after) = let inside = IsQuiet-prop below in let behind = IsQuietBelow-prop after
     in hlevel props
 
--- and this
+-- `IsKept` has at most one proof
 IsKept-prop : {A : Type 0} (f : Forest (Label A)) → IsProp (IsKept f)
 IsKept-prop nil = Unit-prop
 IsKept-prop (node a below after) =
@@ -61,7 +62,7 @@ IsKept-prop (node a below after) =
     let behind = IsKept-prop after in
     hlevel
 
--- and this
+-- `AboveKept` has at most one proof
 AboveKept-prop : (source : List ℕ) (tables : Tables) (nodes : List (Node Item)) (spine : List ℕ)
     → IsProp (AboveKept source tables nodes spine)
 AboveKept-prop source tables nodes [] = Unit-prop
@@ -70,7 +71,7 @@ AboveKept-prop source tables nodes (ix ∷ deeper) =
     let others = AboveKept-prop source tables nodes deeper in
     hlevel
 
--- and that a walk stands in its tree
+-- `Stands` has at most one proof
 pub Stands-prop : (source : List ℕ) (tables : Tables) (nodes : List (Node Item)) (l : Option ℕ) (spine : List ℕ)
     → IsProp (Stands source tables nodes l spine)
 Stands-prop source tables nodes l spine =

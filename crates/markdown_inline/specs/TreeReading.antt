@@ -1,4 +1,4 @@
--- The reading of a document is the reading of its tree, and it can be read part by part.
+-- The reading of a document is the reading of its resolved tree, and it can be read in parts.
 use Rattle.std.specs.Prelude.{◌≡◌, ℕ, ⊤, Bool, List, [], ◌∷◌, ◌++◌}
 use Rattle.std.specs.declared.ops.Range.{Range}
 use Rattle.markdown_base.specs.Event.{EventView, start, end, end_of, hard_break}
@@ -16,7 +16,7 @@ use Rattle.markdown_inline.specs.ParserLeft.{reading_of}
 use Rattle.markdown_inline.specs.Reading.{reading}
 use Rattle.markdown_inline.specs.ResolvedDocument.{resolved_blocks, resolved_document}
 
--- the events of a tree over a range, by its shape, before those of what comes after it
+-- the events of a tree with this range, by its shape, before those of what comes after it
 abbrev pub tree_events : Shape → Range ℕ → (inside after : List Placed) → List Placed
 tree_events (leaf e origins) range inside after = (e, range, origins) ∷ after
 tree_events (enclosed tag) range inside after =
@@ -30,8 +30,8 @@ abbrev pub events_in : {A : Type 0} → Forest (Label A) → List Placed
 events_in nil = []
 events_in (node a below after) = tree_events a.part.shape a.part.range (events_in below) (events_in after)
 
--- the events of a document are those of its tree, its questions are those asked for the tree, and then what comes after
--- it is read, by what is known then
+-- the events of a document are those of its resolved tree, and its questions are those of resolving the tree; then what
+-- comes after it is read, with what is known then
 pub record ReadsTree (s : Setting) (above : Above) (f : Forest Plain) (known : Known) (after : Reading) : Type 0 where
   pub events : events_of (reading s plain_tags above f after known)
       ≡ events_in (resolved_document s plain_tags above f known).trees
@@ -43,13 +43,13 @@ pub record ReadsTree (s : Setting) (above : Above) (f : Forest Plain) (known : K
       ≡ reading s plain_tags above f nothing known
       ++ after (resolved_document s plain_tags above f known).known
 
--- so it is of each document
+-- this is true of each document
 abbrev pub TreeLaw : Type 0
 TreeLaw = (s : Setting) (above : Above) (f : Forest Plain) (known : Known) (after : Reading)
     → ReadsTree s above f known after
 
--- a document is read as its first trees, where none of them is open, and then the others, with the limit and the answers
--- that the first trees left
+-- a document can be read in parts: its first trees, where none of them is open, and then the others, with the limit and
+-- the answers that the first trees left
 abbrev pub SplitLaw : Type 0
 SplitLaw = (s : Setting) (above : Above) (first others : Forest Plain) (known : Known) (after : Reading)
     → NothingOpen first
@@ -57,24 +57,24 @@ SplitLaw = (s : Setting) (above : Above) (first others : Forest Plain) (known : 
     ≡ reading s plain_tags above first nothing known
     ++ reading s plain_tags above others after (resolved_document s plain_tags above first known).known
 
--- an event that stands for itself: no Start, and no End
+-- the event is neither a Start nor an End
 abbrev pub IsLone : EventView → Type 0
 IsLone (start tag) = ⊥
 IsLone (end e) = ⊥
 IsLone other = ⊤
 
--- a shape that gives no Start and no End alone
+-- the shape gives no Start and no End by itself: a leaf is neither
 abbrev pub GivesBoth : Shape → Type 0
 GivesBoth (leaf e origins) = IsLone e
 GivesBoth other = ⊤
 
--- the reading of a block result has the events of its tree, where each Start and its End are of one tree, and asks what
--- was asked for it
+-- the reading of a block result has the events of its resolved tree, where each Start and its End are of one tree, and
+-- the questions of resolving it
 pub record ReadsBlockTree (blocks : Blocks) (asks : Bool) (answers : Answers) : Type 0 where
   pub events : events_of (reading_of blocks asks answers) ≡ events_in (resolved_blocks blocks asks answers).trees
   pub both : Each (λ (a : Plain). GivesBoth a.part.shape) (resolved_blocks blocks asks answers).trees
   pub questions : questions_of (reading_of blocks asks answers) ≡ (resolved_blocks blocks asks answers).questions
 
--- so it does for each
+-- this is true of each block result
 abbrev pub BlockTreeLaw : Type 0
 BlockTreeLaw = (blocks : Blocks) (asks : Bool) (answers : Answers) → ReadsBlockTree blocks asks answers

@@ -1,4 +1,4 @@
--- What is left of a walk over an arena that stands at a cursor, below the nodes of a spine.
+-- What is left of a walk over an arena with this cursor, below the nodes of a spine.
 use Rattle.std.specs.Prelude.{ℕ, List, [], ◌∷◌, Option, Some, None}
 use Rattle.std.specs.declared.ops.Range.{Range}
 use Rattle.markdown_base.specs.Arena.{sibling_of}
@@ -18,7 +18,7 @@ use Rattle.markdown_document.specs.Setting.{Setting}
 use Rattle.markdown_document.specs.Places.{trees_from}
 use Rattle.markdown_document.specs.Tables.{Tables, no_tables}
 
--- the End of a tree that was begun
+-- the End of a tree of this shape that was begun
 abbrev pub end_of_shape : Shape → Option TagEnd
 end_of_shape (leaf e origins) = None
 end_of_shape (enclosed tag) = Some (end_of tag)
@@ -26,17 +26,17 @@ end_of_shape plain = None
 end_of_shape backslash_break = None
 end_of_shape (unresolved b) = None
 
--- its body alone tells it: what the Start named is gone by then
+-- the End depends on the body alone: what the Start referred to has been taken by then
 abbrev pub closing : ItemBody → Option TagEnd
 closing b = end_of_shape (shape_of no_tables [] b)
 
--- that End, and then what comes after it
+-- the End, where there is one, and then what comes after it
 abbrev pub ended : Option TagEnd → Range ℕ → Reading → Reading
 ended None range after = after
 ended (Some e) range after = then_reads (end e, range, []) after
 
--- what comes after the chain at hand, where these blocks are open above the spine: each tree that was begun ends,
--- from the innermost on, and the trees after it are read
+-- what comes after the chain at hand, where these blocks are open above the spine: each tree that was begun ends, the
+-- innermost first, and the trees after it are read
 abbrev pub around : Setting → Above → Tables → List (Node Item) → List ℕ → Reading → Reading
 around s above tables nodes [] after = after
 around s above tables nodes (ix ∷ deeper) after =

@@ -36,14 +36,14 @@ beginning plain = None
 beginning backslash_break = Some (hard_break, [])
 beginning (unresolved b) = None
 
--- an item of this shape begins with an event, whose texts are of the origins that the shape names
+-- an item of this shape begins with this event, whose texts have the origins that the shape determines
 pub record OpensWith (source : List ℕ) (shape : Shape) (e : Event) : Type 0 where
   pub origins : List Origin
   pub begins : beginning shape ≡ Some (event_view e, origins)
   pub texts : AreFrom source origins (texts_of e)
   pub start : StartIsFrom source e
 
--- how a walk goes at a tree of this shape
+-- how a walk moves at a tree of this shape
 abbrev pub way_at_shape : Shape → Way
 way_at_shape (leaf e origins) = way.Leaf
 way_at_shape (enclosed tag) = way.Start
@@ -51,21 +51,21 @@ way_at_shape plain = way.Plain
 way_at_shape backslash_break = way.Leaf
 way_at_shape (unresolved b) = way.Open
 
--- its body alone tells it
+-- the way depends on the body alone
 abbrev pub way_at : ItemBody → Way
 way_at b = way_at_shape (shape_of no_tables [] b)
 
--- the event of an item can be made: the item lies in the text, and what it names is there
+-- the event of an item can be made: the item lies in the text, and the entries that it refers to exist
 pub record CanBegin (source : List ℕ) (tables : Tables) (item : Item) : Type 0 where
   pub lies : LiesIn source item
   pub named : NamesEntries tables item.body
   pub slices : HasSlices source tables item.body
 
--- a tree of this body ends so
+-- a tree with this body at its root ends with this End, or without one
 abbrev pub ClosesTo : ItemBody → Option TagEnd → Type 0
 ClosesTo body e = closing body ≡ e
 
--- what is held, but for an entry that a body names
+-- only the entry that a body refers to may have changed
 pub record TakesOnly (body : ItemBody) (old new : Allocated) : Type 0 where
   pub tables : new ≡ record old { cows = new.cows; links = new.links; alignments = new.alignments }
   pub longer : IsNoShorter (tables_of old) (tables_of new)
@@ -79,16 +79,16 @@ tree_left s tables arena = left_of s tables arena.nodes arena.cursor arena.spine
 abbrev pub tree_steps : Arena Item → ℕ
 tree_steps arena = steps_of arena.nodes arena.cursor arena.spine
 
--- a walk stands in a tree, with these tables
+-- the invariant of the walk of a tree, with these tables
 abbrev pub TreeStands : List ℕ → Tables → Arena Item → Type 0
 TreeStands source tables arena = Stands source tables arena.nodes arena.cursor arena.spine
 
--- the walk is over: no node is in focus, and none is gone into
+-- the walk is over: it has no cursor, and no node is entered
 pub record HasEnded (arena : Arena Item) : Type 0 where
   pub cursor : arena.cursor ≡ None
   pub spine : arena.spine ≡ []
 
--- a step from s to t gave these events, whatever the rules of a chain
+-- a step from s to t gave these events, whatever the rules by which chains are resolved
 pub record Went (source : List ℕ) (s t : Arena Item) (held held' : Allocated) (given : List Placed) : Type 0 where
   pub stands : TreeStands source (tables_of held') t
   pub tables : held' ≡ record held { cows = held'.cows; links = held'.links; alignments = held'.alignments }
@@ -99,7 +99,7 @@ pub record Went (source : List ℕ) (s t : Arena Item) (held held' : Allocated) 
       → LeavesAhead given (tree_counts (setting_of source rules) (tables_of held) s known)
       (tree_counts (setting_of source rules) (tables_of held') t known)
 
--- a step gave this event over this range
+-- a step gave this event with this range
 pub record Gives (source : List ℕ) (s t : Arena Item) (held held' : Allocated) (e : Event) (range : Range ℕ) : Type 0
   where
     pub origins : List Origin
@@ -107,8 +107,8 @@ pub record Gives (source : List ℕ) (s t : Arena Item) (held held' : Allocated)
     pub start : StartIsFrom source e
     pub went : Went source s t held held' ((event_view e, range, origins) ∷ [])
 
--- a step went past the beginning of an item, whose event is still to be made: it is given, whatever entry that the
--- item names is taken then
+-- a step went past the beginning of an item, whose event is not made yet: the event is given once it is made, whatever
+-- remains of the entry that the item refers to
 pub record Passed (source : List ℕ) (s t : Arena Item) (held : Allocated) (item : Item) : Type 0 where
   pub can : CanBegin source (tables_of held) item
   pub stays : TreeStands source (tables_of held) t
@@ -118,12 +118,12 @@ pub record Passed (source : List ℕ) (s t : Arena Item) (held : Allocated) (ite
       → Went source s t held held' ((e, range_of item, origins) ∷ [])
   pub falls : tree_steps t < tree_steps s
 
--- a step that was refused memory: it left the tree as it was, and the walk was not over
+-- a step was refused memory: it left the tree unchanged, and the walk was not over
 pub record IsRefused (s t : Arena Item) : Type 0 where
   pub same : t ≡ s
   pub steps : 0 < tree_steps s
 
--- the walk stands before a chain, at its first open item
+-- the walk is before a chain, at its first open item
 pub record IsBefore (s : Arena Item) (first : ℕ) : Type 0 where
   pub cursor : s.cursor ≡ Some first
   pub is_open : is_open (item_at s.nodes first).body ≡ true

@@ -1,5 +1,5 @@
--- Sums over what is left of a walk: how often a number stands there, how often a text is named, how many steps there
--- are.
+-- Sums over what is left of a walk: how often a number occurs, how often an entry is referred to, and how many steps
+-- there are.
 use Rattle.std.specs.Prelude.{ℕ, ◌+◌, ◌*◌, Bool, true, false, List, [], ◌∷◌, Option, Some, None}
 use Rattle.markdown_base.specs.ArenaForest.{Links, links_of, forest_at}
 use Rattle.markdown_base.specs.BlockTree.{item_at}
@@ -9,7 +9,8 @@ use Rattle.markdown_base.specs.declared.node.Node.{Node}
 use Rattle.markdown_document.specs.Totals.{weight_at, total, same, naming}
 use Rattle.markdown_document.specs.Tables.{Named}
 
--- the sum over what is above the chain at hand: each node gone into counts `gone`, what follows it counts `count`
+-- the sum over what is above the chain at hand: `gone` of each node that was entered, and `count` of each node that
+-- follows it
 abbrev pub climbed : (gone count : ℕ → ℕ) → Links → List ℕ → ℕ
 climbed gone count k [] = 0
 climbed gone count k (ix ∷ deeper) = climbed gone count k deeper + (gone ix + total count (forest_at k (k.next ix)))
@@ -18,28 +19,28 @@ climbed gone count k (ix ∷ deeper) = climbed gone count k deeper + (gone ix + 
 unfoldable pub left_total : (gone count : ℕ → ℕ) → Links → Option ℕ → List ℕ → ℕ
 left_total gone count k l spine = total count (forest_at k l) + climbed gone count k spine
 
--- how often a number stands in what is left
+-- how often a number occurs in what is left
 abbrev pub times_left : Links → Option ℕ → List ℕ → ℕ → ℕ
 times_left k l spine n = left_total (same n) (same n) k l spine
 
--- how often an entry of a table is named there
+-- how often an entry of a table is referred to in what is left
 abbrev pub named_left : List (Node Item) → Option ℕ → List ℕ → Named → ℕ
 named_left nodes l spine n = left_total (λ ix. 0) (naming nodes n) (links_of nodes) l spine
 
--- what it weighs: of a node gone into the move out of it is left
+-- the weight of what is left: of a node that was entered, only the move out of it is left
 abbrev pub weight_left : List (Node Item) → Option ℕ → List ℕ → ℕ
 weight_left nodes l spine = left_total (λ ix. 1) (weight_at nodes) (links_of nodes) l spine
 
--- 1 where a chain is to be resolved next
+-- 1 where the condition is true, and otherwise 0
 abbrev pub one_if : Bool → ℕ
 one_if true = 1
 one_if false = 0
 
--- 1 where an open item stands
+-- 1 where the node is an open item, whose chain is to be resolved next, and otherwise 0
 abbrev pub waits_at : List (Node Item) → Option ℕ → ℕ
 waits_at nodes None = 0
 waits_at nodes (Some ix) = one_if (is_open (item_at nodes ix).body)
 
--- a bound on the steps of a walk: resolving a chain is one, so it need not make what is left lighter
+-- a bound on the steps of a walk: resolving a chain is a step of its own, so it need not make what is left lighter
 abbrev pub steps_of : List (Node Item) → Option ℕ → List ℕ → ℕ
 steps_of nodes l spine = 2 * weight_left nodes l spine + waits_at nodes l

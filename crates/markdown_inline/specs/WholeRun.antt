@@ -1,4 +1,4 @@
--- What callers may rely on in the events of a whole document, and in what is asked on the way.
+-- What callers may rely on in the events of a whole document, and in the questions that are asked on the way.
 use Rattle.std.specs.Prelude.{ℕ, Bool, List, map, Option, is_some}
 use Rattle.std.specs.declared.ops.Range.{Range}
 use Rattle.markdown_base.specs.Event.{event_view}
@@ -22,30 +22,30 @@ use Rattle.markdown_inline.specs.declared.walk.Parser.{Parser}
 use Rattle.markdown_resolver.specs.ChainQuestions.{EachChain}
 use Rattle.markdown_resolver.specs.Resolved.{resolved}
 
--- events without the memory that holds their texts
+-- events as views, which do not depend on the memory that holds their texts
 abbrev pub viewed : List (Event × Range ℕ) → List Ranged
 viewed given = map (λ (e : Event × Range ℕ). (event_view e.0, e.1)) given
 
--- they are balanced, no link stands in a link but an autolink, and references expand to few bytes
+-- events are balanced, a link within a link is an autolink, and references expand to few bytes
 pub record IsWhole (source : List ℕ) (events : List Ranged) : Type 0 where
   pub balanced : AreBalanced events
   pub links_apart : NoLinkInLink events
   pub expands : ExpandsBelow (expansion_limit source) events
 
--- a chain asks at most one question for each of its `]`, none where the limit is 0 by then, and no two that end at the
--- same byte
+-- a chain asks at most one question for each of its `]`, none where the limit is 0 when it is reached, and no two that
+-- end at the same byte offset
 pub record AsksApartAndOnce (s : Setting) (above : Above) (known : Known) (chain : Forest Plain) : Type 0 where
   pub at_most : AsksAtMost (closers_among (roots chain)) known.limit (resolved s plain_tags above chain known).questions
   pub apart : EndApart (resolved s plain_tags above chain known).questions
 
--- so it is of each chain of a block result; and all that is asked of it are no more questions than it has `]`
+-- this is true of each chain of a block result, and in all no more questions are asked than it has `]`
 pub record AsksOnce (blocks : Blocks) (asks : Bool) (questions : List Question) : Type 0 where
   pub at_most : AsksAtMost (closers_of (block_tree blocks).nodes) (expansion_limit (block_text blocks)) questions
   pub in_chains : EachChain (λ (chain : Forest Plain). (above : Above) (known : Known)
       → AsksApartAndOnce (setting_of (block_text blocks) (rules_of blocks asks)) above known chain)
       (document (block_text blocks) (tables_at_start (block_parts blocks)) (block_tree blocks).nodes)
 
--- these events were left of a parser of a block result, and the callback went by such questions
+-- these events keep the laws of the whole document of a block result, and the callback was asked questions that do
 pub record IsWholeRun {F : Type 0} (step : F → Question → Option Answer → F → Type 0) (blocks : Blocks) (p : Parser F)
     (given : List (Event × Range ℕ)) (callback : Option F) : Type 0 where
   pub events : IsWhole (block_text blocks) (viewed given)
@@ -54,7 +54,7 @@ pub record IsWholeRun {F : Type 0} (step : F → Question → Option Answer → 
   pub asked : Asks step (parser_callback p) questions answers callback
   pub once : AsksOnce blocks (is_some (parser_callback p)) questions
 
--- so it is if all of the reading of a block result was left of it
+-- this is true if all of the reading of a block result was left of the parser
 abbrev pub IsWholeFromStart : {F : Type 0} → (F → Question → Option Answer → F → Type 0) → Parser F
     → List (Event × Range ℕ) → Option F → Type 0
 IsWholeFromStart step p given callback = (blocks : Blocks) → ReadsBlocks blocks p

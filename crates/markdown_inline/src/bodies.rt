@@ -1,4 +1,4 @@
-//! How an item that is not open begins and ends, by its body.
+//! The events that an item that is not open begins and ends with, by its body.
 ghost use Rattle.std.specs.Prelude.{◌≡◌, ◌<◌, ◌∷◌, [], IfOk, IfSome, List, OnErr, slice_range, length, ℕ};
 ghost use Rattle.markdown_base.specs.Event.{event_view, tag_view, link, image};
 ghost use Rattle.markdown_base.specs.CowText.{text_of};
@@ -19,20 +19,20 @@ use markdown_base::tag::{CodeBlockKind, Tag, TagEnd};
 use markdown_defs::Allocations;
 use std::alloc::{AllocError, Global};
 
-/// How a walk goes at an item, by its body.
+/// How a walk moves at an item, by its body.
 #[derive(Clone, Copy, Drop)]
 pub enum Way {
-    /// Its chain is to be resolved first.
+    /// The item is open: its chain has to be resolved first.
     Open,
-    /// Over it: it is one event.
+    /// Over the item, which is one event.
     Leaf,
-    /// Into it, by a Start.
+    /// Into the item, with a Start.
     Start,
-    /// Into it: what is below it is read alone.
+    /// Into the item, without an event of its own: only what is below it is read.
     Plain,
 }
 
-/// How a walk goes at a body.
+/// Returns how a walk moves at an item with this body.
 pub fn way_of(body: ItemBody) -> Way
     ensures { way_at body ≡ result }
 {
@@ -64,7 +64,7 @@ pub fn way_of(body: ItemBody) -> Way
     }
 }
 
-/// The event of an item that is one. A text that it names is taken.
+/// Returns the event of an item that is one event. The text that the item refers to, if any, is taken out of its table.
 pub fn leaf_event<'a>(text: &'a str, tables: &mut Allocations<'a>, item: Item) -> Event<'a>
     requires can { CanBegin text.now (tables_of tables.old) item }
     requires leaf { way_at item.body ≡ Way.Leaf }
@@ -89,8 +89,9 @@ pub fn leaf_event<'a>(text: &'a str, tables: &mut Allocations<'a>, item: Item) -
     }
 }
 
-/// What the Start of an item opens. A text, a link or alignments that it names are taken, and heading attributes
-/// copied. After an error, where memory for the copies is refused, the tables are as before.
+/// Returns the tag of an item's Start. A text, a link or alignments that the item refers to are taken out of their
+/// tables, and heading attributes are copied. On an error, where memory for the copies is refused, the tables are
+/// unchanged.
 pub fn start_tag<'a>(
     alloc: Global,
     tables: &mut Allocations<'a>,
@@ -117,7 +118,7 @@ pub fn start_tag<'a>(
     }
 }
 
-/// What its Start opens, of a body that names nothing: of any other a paragraph.
+/// Returns the tag of a container that refers to nothing; for any other body, `Tag::Paragraph`.
 fn container_tag<'a>(body: ItemBody) -> Tag<'a>
     ensures tag { IfSome (container_of body) (λ tag. tag_view result ≡ tag) }
     ensures from { (source : List ℕ) → TagIsFrom source result }
@@ -145,7 +146,7 @@ fn container_tag<'a>(body: ItemBody) -> Tag<'a>
     }
 }
 
-/// The source's text over an item.
+/// Returns the source text of an item's range, borrowed.
 fn slice_of<'a>(text: &'a str, item: Item) -> CowStr<'a>
     requires { LiesIn text.now item }
     ensures { (slice : _) × (result ≡ CowStr.Borrowed slice)
@@ -154,7 +155,7 @@ fn slice_of<'a>(text: &'a str, item: Item) -> CowStr<'a>
     CowStr::Borrowed(&text[item.start..item.end])
 }
 
-/// Math, in a line or on lines of its own.
+/// Returns the event of display math or of inline math.
 fn math_event<'a>(display: bool, text: CowStr<'a>) -> Event<'a>
     ensures event { event_view result ≡ math display (text_of text.entry) }
     ensures text { texts_of result ≡ text.entry ∷ [] }
@@ -166,7 +167,7 @@ fn math_event<'a>(display: bool, text: CowStr<'a>) -> Event<'a>
     }
 }
 
-/// The tag of a link, which is taken.
+/// Returns the tag of a link, whose parts are taken out of the table.
 fn link_tag<'a>(tables: &mut Allocations<'a>, ix: LinkIndex) -> Tag<'a>
     requires { HasLink tables.old ix }
     ensures tag { tag_view result ≡ link (link_at tables.old.links ix.0) }
@@ -182,7 +183,7 @@ fn link_tag<'a>(tables: &mut Allocations<'a>, ix: LinkIndex) -> Tag<'a>
     }
 }
 
-/// The tag of an image, whose link is taken.
+/// Returns the tag of an image, whose parts are taken out of the table of links.
 fn image_tag<'a>(tables: &mut Allocations<'a>, ix: LinkIndex) -> Tag<'a>
     requires { HasLink tables.old ix }
     ensures tag { tag_view result ≡ image (link_at tables.old.links ix.0) }
@@ -198,7 +199,7 @@ fn image_tag<'a>(tables: &mut Allocations<'a>, ix: LinkIndex) -> Tag<'a>
     }
 }
 
-/// How a tree ends, by its root's body.
+/// Returns the End of an item, by its body; None where the item gives none.
 pub fn close_item(body: ItemBody) -> Option<TagEnd>
     ensures { ClosesTo body result }
 {

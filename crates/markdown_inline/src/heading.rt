@@ -1,5 +1,5 @@
-//! The Start of a heading, with what stands in braces behind it. Two headings may name the same attributes, so they
-//! are copied where texts are taken.
+//! The Start of a heading, with the attributes that follow it in braces. Two headings may refer to the same attributes,
+//! so these are copied, unlike texts, which are taken.
 ghost use Rattle.std.specs.Prelude.{◌≡◌, IfOk, IfSome, List, map, ℕ};
 ghost use Rattle.std.specs.Option.{option_map};
 ghost use Rattle.markdown_base.specs.CowText.{text_of};
@@ -15,7 +15,8 @@ use markdown_base::tag::{HeadingLevel, Tag};
 use markdown_defs::Allocations;
 use std::alloc::{AllocError, Global};
 
-/// A heading with the attributes that it names, or with none. An error where memory for copies is refused.
+/// Returns the tag of a heading, with copies of the attributes that it refers to, or with none. Returns an error where
+/// memory for the copies is refused.
 pub fn heading_start<'a>(
     alloc: Global,
     tables: &Allocations<'a>,
@@ -38,7 +39,7 @@ pub fn heading_start<'a>(
     }
 }
 
-/// A heading with a copy of its attributes.
+/// Returns the tag of a heading with a copy of the attributes. Returns an error where memory is refused.
 fn heading_copy<'a>(
     alloc: Global,
     level: HeadingLevel,
@@ -58,7 +59,7 @@ fn heading_copy<'a>(
     })
 }
 
-/// A copy of a text, where there is one.
+/// Returns a copy of a text, where there is one. Returns an error where memory is refused.
 fn copy_of<'a>(alloc: Global, text: &Option<CowStr<'a>>) -> Result<Option<CowStr<'a>>, AllocError>
     ensures { IfOk result (λ copy. option_map text_of copy ≡ option_map text_of text.now) }
 {
@@ -68,7 +69,7 @@ fn copy_of<'a>(alloc: Global, text: &Option<CowStr<'a>>) -> Result<Option<CowStr
     }
 }
 
-/// Copies of classes.
+/// Returns copies of classes. Returns an error where memory is refused.
 fn class_copies<'a>(alloc: Global, classes: &[CowStr<'a>]) -> Result<Vec<CowStr<'a>>, AllocError>
     ensures { IfOk result (λ copies. map text_of copies.items ≡ map text_of classes.now) }
 {
@@ -79,7 +80,7 @@ fn class_copies<'a>(alloc: Global, classes: &[CowStr<'a>]) -> Result<Vec<CowStr<
     Ok(copies)
 }
 
-/// A copy of a name with its value.
+/// Returns a copy of an attribute's name and value. Returns an error where memory is refused.
 fn attribute_copy<'a>(
     alloc: Global,
     attribute: &(CowStr<'a>, Option<CowStr<'a>>),
@@ -91,7 +92,7 @@ fn attribute_copy<'a>(
     Ok((name, value))
 }
 
-/// Copies of names with their values.
+/// Returns copies of attributes, each a name with its value. Returns an error where memory is refused.
 fn attribute_copies<'a>(
     alloc: Global,
     attributes: &[(CowStr<'a>, Option<CowStr<'a>>)],

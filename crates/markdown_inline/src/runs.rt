@@ -1,5 +1,5 @@
-//! Whole runs of a parser: its items in a list, as a site generator or a link checker reads them. Proved from what
-//! `next` promises alone.
+//! Whole runs of a parser: its items in a list, as a site generator or a link checker reads them. Proved only from what
+//! `next` promises.
 ghost use Rattle.std.specs.Prelude.{IfOk, IfSome};
 ghost use Rattle.markdown_inline.specs.NextGives.{IsEventOf, IsPlacedOf};
 ghost use Rattle.markdown_inline.specs.ParserLeft.{parser_callback, offset_parser};
@@ -12,7 +12,8 @@ use markdown_defs::BrokenLinkCallback;
 use std::alloc::{AllocError, Global};
 use std::ops::Range;
 
-/// All events that are left, in a list. An error item is the last.
+/// Returns all events that are left, in a list. If the parser is refused memory, its error is the last item of the
+/// list. Returns an error where memory for the list is refused.
 pub fn gather<'input, F: BrokenLinkCallback<'input>>(
     parser: Parser<'input, F>,
     alloc: Global,
@@ -23,7 +24,7 @@ pub fn gather<'input, F: BrokenLinkCallback<'input>>(
     parser.collect(alloc)
 }
 
-/// The same with the range of each event.
+/// Returns the same as `gather`, with the range of each event.
 pub fn gather_offsets<'input, F: BrokenLinkCallback<'input>>(
     iter: OffsetIter<'input, F>,
     alloc: Global,

@@ -10,24 +10,24 @@ use markdown_base::tag::TagEnd;
 use markdown_base::tree::Tree;
 use std::alloc::AllocError;
 
-/// Where one step of a walk has led.
+/// Where one step of a walk led.
 #[derive(Clone, Copy, Drop)]
 pub enum Step {
     /// Nowhere: the walk is over.
     Done,
-    /// Into a node or out of one that gives no event.
+    /// Into or out of a node, without an event.
     Skip,
-    /// Over an item that is one event, which is still to be made.
+    /// Past an item that is one event, which is not made yet.
     Leaf(Item),
-    /// Into an item that begins with a Start, which is still to be made.
+    /// Into an item that begins with a Start, which is not made yet.
     Start(Item),
-    /// Out of an item, which ends so.
+    /// Out of an item, which ends with this End.
     End(TagEnd, Item),
-    /// Before an open item, from which on the chain is to be resolved.
+    /// Before an open item, with this number, from which on its chain has to be resolved.
     Chain(usize),
 }
 
-/// A step out of the node gone into last.
+/// Moves out of the node that was entered last, to its next sibling.
 pub fn step_out(tree: &mut Tree<Item>) -> Step
     requires { tree.old.cursor ≡ None }
     ensures { (source : List ℕ) (held : Allocated) → TreeStands source (tables_of held) tree.old
@@ -46,7 +46,7 @@ pub fn step_out(tree: &mut Tree<Item>) -> Step
     }
 }
 
-/// A step at the node in focus.
+/// Takes a step at the node at the cursor. Returns an error where memory is refused; the tree is then unchanged.
 pub fn step_at(tree: &mut Tree<Item>, ix: usize) -> Result<Step, AllocError>
     requires within { ix < length tree.old.nodes }
     requires at_ix { tree.old.cursor ≡ Some ix }
@@ -71,7 +71,7 @@ pub fn step_at(tree: &mut Tree<Item>, ix: usize) -> Result<Step, AllocError>
     }
 }
 
-/// One step of the walk over a tree. After a refusal the tree is as before.
+/// Takes one step of the walk over a tree. Returns an error where memory is refused; the tree is then unchanged.
 pub fn take_step(tree: &mut Tree<Item>) -> Result<Step, AllocError>
     ensures { (source : List ℕ) (held : Allocated) → TreeStands source (tables_of held) tree.old
         → MatchResult result (StepGives source tree.old tree.new held) (λ _. IsRefused tree.old tree.new) }

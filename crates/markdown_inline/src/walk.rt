@@ -1,4 +1,4 @@
-//! The walk over a block result that gives its events, and resolves each chain when it stands before it.
+//! The walk over a block result that gives its events, and resolves each chain when it reaches it.
 ghost use Rattle.std.specs.Prelude.{◌≡◌, ◌<◌, ◌++◌, ◌∷◌, [], IfOk, IfErr, IfSome, IsTrue, None};
 ghost use Rattle.markdown_inline.specs.Standing.{Stands, Stands-prop};
 ghost use Rattle.markdown_document.specs.Tables.{tables_of};
@@ -23,23 +23,22 @@ use std::fmt;
 use std::iter::FusedIterator;
 use std::ops::Range;
 
-/// Where the walk of a parser stops.
+/// Where the walk of a parser stopped.
 #[derive(Clone, Copy, Drop)]
 pub enum Stop {
-    /// It is over.
+    /// At its end: the walk is over.
     Over,
-    /// Behind an item that is one event, which is still to be made.
+    /// After an item that is one event, which is not made yet.
     Leaf(Item),
-    /// In an item that begins with a Start, which is still to be made.
+    /// In an item that begins with a Start, which is not made yet.
     Start(Item),
-    /// Behind an item, which ends so.
+    /// After an item, which ends with this End.
     End(TagEnd, Item),
-    /// Memory was refused, and it is over.
+    /// Memory was refused, and the walk is over.
     Refused,
 }
 
-/// The events of a text, as an iterator. Its items are errors where memory is refused; after one nothing
-/// comes.
+/// The events of a text, as an iterator. An item is an error where memory is refused; no item follows it.
 ///
 /// ```
 /// let mut parser = Parser::new(alloc, "*a*")?;
@@ -50,7 +49,7 @@ pub enum Stop {
 /// ```
 #[derive(Drop)]
 pub struct Parser<'input, F = DefaultBrokenLinkCallback> {
-    /// For copies of heading attributes, and for the list of all that is left.
+    /// The allocator for copies of heading attributes, and for the list of all events that are left.
     alloc: Global,
     tree: Tree<Item>,
     resolver: Resolver<'input, F>,
@@ -59,7 +58,7 @@ pub struct Parser<'input, F = DefaultBrokenLinkCallback> {
             tree.nodes tree.cursor tree.spine },
 }
 
-/// The same events, each with the bytes of the source that it stands over.
+/// The same events, each with its range of byte offsets in the source.
 ///
 /// ```
 /// let mut events = Parser::new(alloc, "*a*")?.into_offset_iter();
@@ -82,7 +81,7 @@ impl<'input, F: BrokenLinkCallback<'input>> Parser<'input, F> {
     ghost use Rattle.markdown_inline.specs.Runs.{GaveRest};
     ghost use Rattle.markdown_inline.specs.declared.bodies.Way.TheVariants as way;
 
-    /// One step of the walk; None where it goes on.
+    /// Takes one step of the walk. Returns None where the walk goes on without an event.
     fn advance_once(&mut self) -> Option<Stop>
         requires { IfSome (parser_callback self.old) F.can_ask }
         ensures askable { IfSome (parser_callback self.new) F.can_ask }
@@ -109,7 +108,7 @@ impl<'input, F: BrokenLinkCallback<'input>> Parser<'input, F> {
         }
     }
 
-    /// Up to the next event, or to the end.
+    /// Walks up to the next event or to the end, and returns where the walk stopped.
     fn advance(&mut self) -> Stop
         requires { IfSome (parser_callback self.old) F.can_ask }
         ensures stops { Stops F.answers self.old self.new result }
@@ -122,7 +121,8 @@ impl<'input, F: BrokenLinkCallback<'input>> Parser<'input, F> {
         }
     }
 
-    /// The Start of an item that the walk has gone into. Where memory is refused the walk is over.
+    /// Returns the Start of an item that the walk has entered. Returns an error where memory is refused; the walk is
+    /// then over.
     fn start(&mut self, item: Item) -> Result<Event<'input>, Fault>
         requires begins { IsToBegin self.old item way.Start }
         ensures callback { parser_callback self.new ≡ parser_callback self.old }
@@ -137,7 +137,8 @@ impl<'input, F: BrokenLinkCallback<'input>> Parser<'input, F> {
         }
     }
 
-    /// The next event with its range.
+    /// Returns the next event with its range in the source, or None at the end. Returns an error where memory is
+    /// refused; the walk is then over.
     fn next_placed(&mut self) -> Option<Result<(Event<'input>, Range<usize>), Fault>>
         requires { IfSome (parser_callback self.old) F.can_ask }
         ensures gives { NextGives F.answers IsPlacedOf self.old result self.new }
@@ -159,7 +160,7 @@ impl<'input, F: BrokenLinkCallback<'input>> Parser<'input, F> {
         }
     }
 
-    /// All that is left, with its ranges. The only error is `Fault::Memory`.
+    /// Returns all events that are left, with their ranges. The only error is `Fault::Memory`.
     fn take_rest(&mut self) -> Result<Vec<(Event<'input>, Range<usize>)>, Fault>
         requires { IfSome (parser_callback self.old) F.can_ask }
         ensures all { IfOk result (λ given.
@@ -186,12 +187,13 @@ impl<'input, F> Parser<'input, F> {
     ghost use Rattle.markdown_inline.specs.OneForest.{ReadsOneForest};
     ghost use Rattle.markdown_inline.specs.ParserLeft.{parser_callback, parser_steps};
 
-    /// A fact of every parser, and no code: what is left of it is one forest, in which no item stands twice.
+    /// States a property of every parser, without code: what is left of it is one forest, in which no item occurs
+    /// twice.
     pub fn reads_one_forest(&self)
         ensures { ReadsOneForest self.now }
     {}
 
-    /// Whom it asks.
+    /// Returns the callback, where there is one.
     fn into_callback(self) -> Option<F>
         ensures { result ≡ parser_callback self.entry }
     {
@@ -200,9 +202,9 @@ impl<'input, F> Parser<'input, F> {
         callback
     }
 
-    /// A bound on the steps to come, None where no `usize` holds it. To sum them up would take a walk over what is
-    /// left; but no node is left twice. Each becomes two at most, which are gone into and left, and behind each of
-    /// these four moves a chain may be resolved, as one may be before the first.
+    /// Returns a bound on the steps to come, or None where it overflows `usize`. An exact sum would take a walk over
+    /// what is left; but no node occurs twice in that. Each becomes at most two nodes, a node takes a move into it and
+    /// one out of it, and a chain may be resolved after each of these four moves, and before the first.
     fn most_left(&self) -> Option<usize>
         ensures { IfSome result (λ most. parser_steps self.now ≤ most) }
     {
@@ -224,12 +226,13 @@ impl<'input, F: BrokenLinkCallback<'input>> Iterator for Parser<'input, F> {
 
     ghost remaining = { λ p. at_most (parser_steps p) };
 
-    /// At most eight events for each node of the tree, and one.
+    /// Returns a lower bound of 0, and an upper bound of eight items for each node of the tree and one more, unless
+    /// that overflows `usize`.
     fn size_hint(&self) -> (usize, Option<usize>) {
         (0, self.most_left())
     }
 
-    /// The next event; an error where memory is refused, after which nothing comes.
+    /// Returns the next event, or None at the end. Returns an error where memory is refused, and from then on None.
     fn next(&mut self) -> Option<Result<Event<'input>, Fault>> {
         match self.advance() {
             Stop::Over => None,
@@ -260,12 +263,14 @@ impl<'input, F: BrokenLinkCallback<'input>> Iterator for OffsetIter<'input, F> {
 
     ghost remaining = { λ o. at_most (parser_steps (offset_parser o)) };
 
-    /// At most eight events for each node of the tree, and one.
+    /// Returns a lower bound of 0, and an upper bound of eight items for each node of the tree and one more, unless
+    /// that overflows `usize`.
     fn size_hint(&self) -> (usize, Option<usize>) {
         (0, self.inner.most_left())
     }
 
-    /// The next event with its range; an error where memory is refused, after which nothing comes.
+    /// Returns the next event with its range in the source, or None at the end. Returns an error where memory is
+    /// refused, and from then on None.
     fn next(&mut self) -> Option<Result<(Event<'input>, Range<usize>), Fault>> {
         self.inner.next_placed()
     }
@@ -277,7 +282,8 @@ impl<'input, F> OffsetIter<'input, F> {
     ghost use Rattle.markdown_inline.specs.OneForest.{ReadsOneForest};
     ghost use Rattle.markdown_inline.specs.ParserLeft.{offset_parser};
 
-    /// A fact of every iterator, and no code: what is left of it is one forest, in which no item stands twice.
+    /// States a property of every iterator, without code: what is left of it is one forest, in which no item occurs
+    /// twice.
     pub fn reads_one_forest(&self)
         ensures { ReadsOneForest (offset_parser self.now) }
     {
@@ -285,7 +291,8 @@ impl<'input, F> OffsetIter<'input, F> {
     }
 }
 
-/// Without the tree and what it names, which may be as long as the text, and without the callback.
+/// Formats the text and the options, without the tree and what its items refer to, which may be as long as the text,
+/// and without the callback.
 impl<'input, F> fmt::Debug for Parser<'input, F> {
     fn fmt<W: fmt::Write>(&self, f: &mut fmt::Formatter<W>) -> fmt::Result {
         f.debug_struct("Parser")
@@ -295,7 +302,7 @@ impl<'input, F> fmt::Debug for Parser<'input, F> {
     }
 }
 
-/// That of the parser that it goes on as.
+/// Formats the parser inside.
 impl<'input, F> fmt::Debug for OffsetIter<'input, F> {
     fn fmt<W: fmt::Write>(&self, f: &mut fmt::Formatter<W>) -> fmt::Result {
         f.debug_struct("OffsetIter")
@@ -310,7 +317,7 @@ impl<'input> Parser<'input, DefaultBrokenLinkCallback> {
     ghost use Rattle.markdown_inline.specs.Counts.{no_work};
     ghost use Rattle.markdown_inline.specs.ParserLeft.{ReadsText, parser_text, parser_callback, parser_work};
 
-    /// A parser of a text, with no extension.
+    /// Returns a parser of a text, with no extension enabled. The only error is `Fault::Memory`.
     pub fn new(alloc: Global, text: &'input str) -> Result<Self, Fault>
         ensures left { IfOk result (ReadsText text.entry.now no_options) }
         ensures text { IfOk result (λ p. parser_text p ≡ text.entry.now) }
@@ -321,7 +328,7 @@ impl<'input> Parser<'input, DefaultBrokenLinkCallback> {
         Parser::new_ext(alloc, text, Options::empty())
     }
 
-    /// A parser of a text.
+    /// Returns a parser of a text, with the extensions that `options` enables. The only error is `Fault::Memory`.
     pub fn new_ext(alloc: Global, text: &'input str, options: Options) -> Result<Self, Fault>
         ensures left { IfOk result (ReadsText text.entry.now options) }
         ensures text { IfOk result (λ p. parser_text p ≡ text.entry.now) }
@@ -341,8 +348,8 @@ impl<'input, F: BrokenLinkCallback<'input>> Parser<'input, F> {
     ghost use Rattle.markdown_inline.specs.ParserLeft.{ReadsText, ReadsBlocks, parser_text, parser_callback};
     ghost use Rattle.markdown_inline.specs.ParserLeft.{block_definitions, parser_definitions, parser_work, offset_parser};
 
-    /// A parser of a text, which asks `callback`, where there is one, about each link label that is
-    /// defined nowhere.
+    /// Returns a parser of a text, which calls `callback`, where there is one, for each link label without a reference
+    /// definition. The only error is `Fault::Memory`.
     pub fn new_with_broken_link_callback(
         alloc: Global,
         text: &'input str,
@@ -359,7 +366,7 @@ impl<'input, F: BrokenLinkCallback<'input>> Parser<'input, F> {
         Parser::from_blocks(alloc, blocks, callback)
     }
 
-    /// A parser of a block result.
+    /// Returns a parser of a block result. The only error is `Fault::Memory`.
     pub fn from_blocks(
         alloc: Global,
         blocks: Blocks<'input>,
@@ -396,30 +403,31 @@ impl<'input, F: BrokenLinkCallback<'input>> Parser<'input, F> {
         })
     }
 
-    /// The same walk from where it stands, with the range of each event. Takes no memory.
+    /// Returns an iterator that continues the walk from where it is and gives each event with its range. Allocates no
+    /// memory.
     pub fn into_offset_iter(self) -> OffsetIter<'input, F>
         ensures { offset_parser result ≡ self.entry }
     {
         OffsetIter { inner: self }
     }
 
-    /// The definitions that references find, at any moment of the walk.
+    /// Returns the reference definitions, which stay the same throughout the walk.
     pub fn reference_definitions(&self) -> &RefDefs<'input>
         ensures { result.now ≡ parser_definitions self.now }
     {
         &self.resolver.tables.refdefs
     }
 
-    /// The counts of the work done so far.
+    /// Returns the counts of the work done so far.
     pub fn work(&self) -> Work
         ensures { result ≡ parser_work self.now }
     {
         self.resolver.work
     }
 
-    /// A law, and no code: no count of a walk that is not refused memory reaches the greatest value, so that each rises by
-    /// plain addition. It is said of a walk with fewer than 2^62 steps to come, as `size_hint` tells; one with more has a
-    /// tree that no memory holds.
+    /// States, without code, that as long as a walk is not refused memory none of its counts reaches the maximum, so
+    /// that each rises by plain addition. The law holds for a walk with fewer than 2^62 steps to come, by the bound
+    /// that `size_hint` returns; the tree of a longer walk fits in no memory.
     pub fn counts_stay_below_the_greatest(&self)
         ensures walk { CountsLaw F.answers self.now }
         ensures plainly { RisesPlainly }
@@ -433,22 +441,22 @@ impl<'input, F: BrokenLinkCallback<'input>> OffsetIter<'input, F> {
     ghost use Rattle.markdown_inline.specs.Runs.{GaveRest};
     ghost use Rattle.markdown_inline.specs.WholeRun.{IsWholeFromStart};
 
-    /// The definitions that references find, at any moment of the walk.
+    /// Returns the reference definitions, which stay the same throughout the walk.
     pub fn reference_definitions(&self) -> &RefDefs<'input>
         ensures { result.now ≡ parser_definitions (offset_parser self.now) }
     {
         self.inner.reference_definitions()
     }
 
-    /// The counts of the work done so far.
+    /// Returns the counts of the work done so far.
     pub fn work(&self) -> Work
         ensures { result ≡ parser_work (offset_parser self.now) }
     {
         self.inner.work()
     }
 
-    /// All that is left, and the callback, which was asked all questions that were left. After a refusal both are
-    /// gone.
+    /// Returns all events that are left, with their ranges, and the callback, which was asked all questions that were
+    /// left. Returns an error where memory is refused; the events and the callback are then lost.
     pub fn into_events(self) -> Result<(Vec<(Event<'input>, Range<usize>)>, Option<F>), Fault>
         requires { IfSome (parser_callback (offset_parser self)) F.can_ask }
         ensures all { IfOk result (λ given. GaveRest IsPlacedOf F.answers (offset_parser self.entry) given.0.items
@@ -465,7 +473,7 @@ impl<'input, F: BrokenLinkCallback<'input>> OffsetIter<'input, F> {
     }
 }
 
-/// Adds an item, if there is memory for it.
+/// Appends an item, and returns whether there was memory for it.
 fn add<T: Drop>(items: &mut Vec<T>, item: T) -> bool
     ensures { IsTrue result → items.new.items ≡ items.old.items ++ item ∷ [] }
 {

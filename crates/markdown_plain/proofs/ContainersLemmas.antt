@@ -1,4 +1,4 @@
--- How containers go on, by places in a text and by what is left of the line there.
+-- How containers continue, by places in a text and by the rest of the line there.
 use Rattle.std.proofs.Common.{◌≡◌, ℕ, ◌+◌, ◌-◌, ◌<◌, ◌≤◌, ◌%◌, List, Some, true, ◌==◌, length, take, drop, slice_range, codes, nat_lt}
 use Rattle.std.proofs.Common.{refl, sym, ◌∙◌, ap, arith, Bool, false, ◌&&◌, None, [], ◌∷◌, zero, suc, nat_le, get_or, drop-cons}
 use Rattle.std.proofs.lemmas.Bool.Decides.{nat_tests}
@@ -25,7 +25,7 @@ rest_of_part text at stop count within =
 column_is : (column : ℕ) → column < 4 → (column + 1) % 4 ≡ next_column column
 column_is column low = grind (arith, nat_tests)
 
--- behind bytes of one column each that stand at a place
+-- the rest after bytes of one column each, from a place on
 pub past_bytes_is : (text : List ℕ) (place behind : Place) (stop count : ℕ) → place.at + count ≤ stop
     → behind.at ≡ place.at + count → behind.column ≡ (place.column + count) % 4 → behind.owed ≡ 0
     → left_from text behind stop ≡ past_bytes count (left_from text place stop)
@@ -33,7 +33,7 @@ past_bytes_is text place behind stop count within at column owed =
     let bytes = ap (λ n. slice_range text n stop) at ∙ sym (rest_of_part text place.at stop count within) in
     cc
 
--- behind one byte
+-- the rest after one byte
 pub past_byte_is : (text : List ℕ) (place behind : Place) (stop : ℕ) → place.at < stop → behind.at ≡ place.at + 1
     → behind.column ≡ (place.column + 1) % 4 → behind.owed ≡ 0
     → left_from text behind stop ≡ past_byte (left_from text place stop)
@@ -42,7 +42,7 @@ past_byte_is text place behind stop more at column owed =
     let columns = column ∙ column_is place.column place.before_stop in
     cc
 
--- behind that and a column of space
+-- the rest after that and a column of space
 pub past_marker_is : (text read_in : List ℕ) (here after : Place) (stop : ℕ) (read : Space) → read_in ≡ text
     → left_from text after stop ≡ past_byte (left_from text here stop) → IsSpaceAt read_in after stop 1 read
     → left_from text read.behind stop ≡ past_marker (left_from text here stop)
@@ -51,7 +51,7 @@ past_marker_is text read_in here after stop read same past space =
     ∙ (space.behind
     ∙ (ap (λ (t : List ℕ). (scan.space 1 (left_from t after stop)).after) same ∙ ap (λ (l : LineLeft). (scan.space 1 l).after) past))
 
--- behind the space that follows a marker of a list
+-- the rest after the space that follows a marker of a list
 pub past_item_is : (text read_in : List ℕ) (place behind inside : Place) (stop count : ℕ) → read_in ≡ text
     → left_from text behind stop ≡ past_bytes count (left_from text place stop)
     → left_from read_in inside stop ≡ (item_space stop (left_from read_in behind stop)).after
@@ -62,7 +62,7 @@ past_item_is text read_in place behind inside stop count same past content =
     ∙ (ap (λ (t : List ℕ). (item_space stop (left_from t behind stop)).after) same
     ∙ ap (λ (l : LineLeft). (item_space stop l).after) past))
 
--- behind the marker of a block quote and the space that is a part of it
+-- the rest after the marker of a block quote and the space that is a part of it
 pub marker_behind_is : (text : List ℕ) (before : scan.Space) (columns : ℕ) (place after : Place) (stop : ℕ) (read : Space)
     → columns ≡ before.columns → left_from text place stop ≡ before.after → columns < 4
     → begins_with (codes ">") (slice_range text place.at stop) ≡ true → left_from text after stop ≡ past_byte (left_from text place stop)
@@ -116,7 +116,7 @@ next_is_leaf old empty stop blocks number or reach more leaf =
     ap (λ (b : List OpenBlock). reach_from old empty stop b reach) (inside_of blocks number or more)
     ∙ leaf_is_reached old empty stop (get_or blocks number or) (drop (number + 1) blocks) reach leaf
 
--- it is a container that does not go on
+-- it is a container that does not continue
 container_ends : (old empty last : Bool) (stop : ℕ) (block : OpenBlock) (blocks : List OpenBlock) (reach : Reach)
     → is_container block.body ≡ true → is_innermost blocks ≡ last
     → past_container old (last && empty) (nat_le stop reach.content) block.body reach.left ≡ None
@@ -134,7 +134,7 @@ next_ends old empty stop blocks number or reach more container none =
     ∙ container_ends old empty (number + 1 == length blocks) stop (get_or blocks number or) (drop (number + 1) blocks) reach
     container (innermost_at blocks number more) none
 
--- it goes on
+-- it continues
 container_goes_on : (old empty last : Bool) (stop : ℕ) (block : OpenBlock) (blocks : List OpenBlock) (reach : Reach)
     (left : LineLeft) → is_container block.body ≡ true → is_innermost blocks ≡ last
     → past_container old (last && empty) (nat_le stop reach.content) block.body reach.left ≡ Some left

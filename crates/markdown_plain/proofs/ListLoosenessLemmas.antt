@@ -24,19 +24,19 @@ or_true : (b : Bool) → (b || true) ≡ true
 or_true true = refl
 or_true false = refl
 
--- one behind others is separated from them by a blank line before it
+-- one after others is separated from them by a blank line before it
 separated_more : (first : Bool) (others : List Bool) (blank : Bool)
     → are_separated ((first ∷ others) ++ blank ∷ []) ≡ (are_separated (first ∷ others) || blank)
 separated_more first others blank =
     list_any-append (λ b. b) others (blank ∷ []) ∙ ap (λ b. list_any (λ x. x) others || b) (or_false blank)
 
--- a block is, where others stand in its item
+-- a block is separated from others that precede it in its item
 block_separated : (blocks : List Bool) (blank : Bool)
     → are_separated (blocks ++ blank ∷ []) ≡ (are_separated blocks || (not (is_empty blocks) && blank))
 block_separated [] blank = refl
 block_separated (first ∷ others) blank = separated_more first others blank
 
--- an item is, behind another
+-- an item is separated from another that precedes it
 item_separated : (items : List ItemRead) (last : ItemRead) (blank : Bool)
     → are_separated (map (λ item. item.blank) (items ++ last ∷ []) ++ blank ∷ [])
     ≡ (are_separated (map (λ item. item.blank) (items ++ last ∷ [])) || blank)
@@ -63,7 +63,8 @@ one_of_three false true true = refl
 one_of_three false true false = refl
 one_of_three false false d = or_false d
 
--- a list is loose with a block more in its last item where it was, or where a blank line separates it from another
+-- with one more block in its last item, a list is loose where it was, or where a blank line separates that block from
+-- another
 loose_with_block : (items : List ItemRead) (last : ItemRead) (blank : Bool)
     → is_loose (items ++ with_block last blank ∷ [])
     ≡ (is_loose (items ++ last ∷ []) || (not (is_empty last.blocks) && blank))
@@ -74,7 +75,7 @@ loose_with_block items last blank =
     (one_of_four (are_separated (map (λ item. item.blank) (items ++ last ∷ [])))
     (list_any (λ item. are_separated item.blocks) items) (are_separated last.blocks) (not (is_empty last.blocks) && blank))
 
--- and with an item more where it was, or where a blank line stands before that
+-- with one more item, a list is loose where it was, or where a blank line precedes that item
 loose_with_item : (items : List ItemRead) (last : ItemRead) (blank : Bool)
     → is_loose ((items ++ last ∷ []) ++ new_item blank ∷ []) ≡ (is_loose (items ++ last ∷ []) || blank)
 loose_with_item items last blank =
@@ -86,12 +87,12 @@ loose_with_item items last blank =
     (one_of_three (are_separated (map (λ item. item.blank) (items ++ last ∷ [])))
     (list_any (λ item. are_separated item.blocks) (items ++ last ∷ [])) blank)
 
--- something stands in an item with a block more
+-- an item with one more block is not empty
 not_empty : (blocks : List Bool) (blank : Bool) → is_empty (blocks ++ blank ∷ []) ≡ false
 not_empty [] blank = refl
 not_empty (first ∷ others) blank = refl
 
--- an item was added, and the list is loose where a blank line stands before it
+-- an item was added, and the list is loose where a blank line precedes it
 pub item_added : (outer : List Bool) (items : List ItemRead) (last : ItemRead) (old new : Looseness) (blank : Bool)
     → IsRead outer items last old → (blank ≡ true → new.lists.items ≡ outer ++ true ∷ [])
     → (blank ≡ false → new.lists.items ≡ old.lists.items) → new.item_is_empty ≡ true

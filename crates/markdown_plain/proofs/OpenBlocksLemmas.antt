@@ -1,11 +1,11 @@
--- The open blocks, where one was opened and where the innermost is closed or written anew.
+-- The open blocks, where one was opened and where the innermost is closed or replaced.
 use Rattle.std.proofs.Common.{◌≡◌, ℕ, zero, suc, ◌-◌, ◌<◌, List, [], ◌∷◌, ◌++◌, Some, length, take, refl, ap, arith}
 use native.Mathlib.Numerals.{unary_clauses}
 use Rattle.markdown_builder.specs.declared.open_block.OpenBlock.{OpenBlock}
 use Rattle.markdown_builder.specs.BuilderView.{innermost_block}
 use Rattle.markdown_plain.specs.OpenBlocks.{outer_of}
 
--- of a block behind others, those stand outside it
+-- the blocks before the last one are those outside it
 pub outer_of_opened : (outer : List OpenBlock) (block : OpenBlock) → outer_of (outer ++ block ∷ []) ≡ outer
 unfolding outer_of
 outer_of_opened [] block = refl
@@ -17,7 +17,7 @@ pub outer_of_these : (blocks outer : List OpenBlock) (block : OpenBlock) → blo
     → outer_of blocks ≡ outer
 outer_of_these blocks outer block e = rw e (outer_of_opened outer block)
 
--- and it is the innermost
+-- the last block is the innermost
 pub innermost_of_opened : (outer : List OpenBlock) (block : OpenBlock)
     → innermost_block (outer ++ block ∷ []) ≡ Some block
 innermost_of_opened [] block = refl
@@ -25,14 +25,14 @@ innermost_of_opened (first ∷ []) block = refl
 innermost_of_opened (first ∷ second ∷ outer) block =
     simp unary_clauses (simp unary_clauses at (innermost_of_opened (second ∷ outer) block))
 
--- one is less
+-- there is one block less outside the innermost
 pub length_of_outer : (blocks : List OpenBlock) → length (outer_of blocks) ≡ length blocks - 1
 unfolding outer_of
 length_of_outer [] = simp unary_clauses
 length_of_outer (block ∷ []) = simp unary_clauses
 length_of_outer (block ∷ inner ∷ blocks) = let h = length_of_outer (inner ∷ blocks) in omega (arith, h)
 
--- and the outermost stay
+-- the outermost blocks are the same without the innermost
 pub take_of_outer : (depth : ℕ) (blocks : List OpenBlock) → depth < length blocks
     → take depth (outer_of blocks) ≡ take depth blocks
 unfolding outer_of
@@ -54,7 +54,7 @@ parted first (second ∷ blocks) =
     let p = parted second blocks in
     record { block = p.block; is = ap (λ (b : List OpenBlock). first ∷ b) p.is }
 
--- blocks that are some have a last
+-- a list of blocks that is not empty has a last one
 pub last_apart : (blocks : List OpenBlock) → (blocks ≡ [] → ⊥) → Parted blocks
 last_apart [] some = absurd (some refl)
 last_apart (first ∷ blocks) some = parted first blocks

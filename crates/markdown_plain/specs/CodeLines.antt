@@ -1,4 +1,4 @@
--- Lines of code and HTML blocks: what is left of a line from a place on, and where it stops.
+-- Lines of code and HTML blocks: what is left of a line from a place on, and where it ends.
 use Rattle.std.specs.Prelude.{ℕ, max, Bool, ◌==◌, ◌&&◌, nat_lt, List, codes, slice_range, if◌then◌else◌}
 use Rattle.markdown_scan.specs.LineStart.{LineLeft, space}
 use Rattle.markdown_lines.specs.declared.fence.Fence.{Fence}
@@ -10,29 +10,29 @@ use Rattle.markdown_lines.specs.CodeFences.{closes_fence}
 use Rattle.markdown_lines.specs.HtmlKinds.{ends_in}
 use Rattle.markdown_lines.specs.Places.{left_from}
 
--- behind a line of which what is left begins at a place
+-- the byte offset after a line whose rest begins at `start`
 abbrev pub behind_line : ℕ → ℕ → ℕ
 behind_line start next = max start next
 
--- what is left of a line behind at most so many columns of space from a place on
+-- the rest of a line after at most this many columns of space, from a place on
 abbrev pub code_behind : List ℕ → Place → Line → ℕ → LineLeft
 code_behind text place line columns = (space columns (left_from text place line.stop)).after
 
--- a line that is held back, of which this is left
+-- a line that is held back, with this rest
 abbrev pub held : Line → LineLeft → HeldLine
 held line left = record { start = left.scanned; stop = line.stop; next = line.next; owed = left.owed }
 
--- less than four columns of space stand at a place, and behind them a fence that closes a code block
+-- a fence that closes a code block follows less than four columns of space, from a place on
 abbrev pub is_closed_at : List ℕ → Place → Line → Fence → Bool
 is_closed_at text place line fence =
     nat_lt (space 4 (left_from text place line.stop)).columns 4
     && closes_fence text (code_behind text place line 4).scanned line.stop fence
 
--- the columns of space that a cut tab owes: one to three
+-- the columns that a partly read tab owes, one to three, as spaces
 abbrev pub owed_spaces : ℕ → List ℕ
 owed_spaces columns =
     if columns == 1 then codes " " else if columns == 2 then codes "  " else codes "   "
 
--- what is left of a line from a place on ends an HTML block of a kind
+-- the rest of a line from a place on ends an HTML block of this kind
 abbrev pub ends_html_at : List ℕ → Place → Line → HtmlKind → Bool
 ends_html_at text place line kind = ends_in kind (slice_range text place.at line.stop)

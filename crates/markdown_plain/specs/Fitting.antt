@@ -1,5 +1,5 @@
--- Calls that fit where they come. What a call does is said where it and all calls before it fitted: one that does not
--- fit is counted, and nothing is made then.
+-- Calls that fit. What a call does is stated for the case that it and all calls before it fitted: one that does not fit
+-- is counted, and makes nothing.
 use Rattle.std.specs.Prelude.{◌≡◌, ℕ, ◌≤◌, false, [], ◌∷◌, ◌++◌, List, Some, None, length}
 use Rattle.std.specs.Str.{IsCharBoundary}
 use Rattle.markdown_base.specs.declared.item.ItemBody.{ItemBody}
@@ -11,11 +11,11 @@ use Rattle.markdown_plain.specs.declared.placing.Placing.{Placing}
 use Rattle.markdown_plain.specs.CodeLines.{behind_line}
 use Rattle.markdown_plain.specs.OpenBlocks.{outer_of, InnermostBecomes}
 
--- a place lies ahead, between characters
+-- a byte offset is not before the current one, and lies between characters
 abbrev pub IsAhead : BuilderView → ℕ → Type 0
 IsAhead builder to = (builder.at ≤ to) × IsCharBoundary builder.text to
 
--- where no block is open, only white space lies before a place
+-- where no block is open, there is only white space before a byte offset
 abbrev pub IsWhiteOutside : BuilderView → ℕ → Type 0
 IsWhiteOutside builder to = builder.blocks ≡ [] → AllPass is_in_blank_line builder.text builder.at to
 
@@ -23,27 +23,27 @@ IsWhiteOutside builder to = builder.blocks ≡ [] → AllPass is_in_blank_line b
 abbrev pub AllFitted : Placing → Type 0
 AllFitted placing = placing.misfits ≡ 0
 
--- where all have fitted after a call, all had before it, and this holds
+-- if all calls have fitted after a call, all had before it, and this is true
 abbrev pub IfFitted : Placing → Placing → Type 0 → Type 0
 IfFitted old new Done = AllFitted new → AllFitted old × Done
 
--- a builder that has stepped on to a place
+-- a builder that has moved to a byte offset
 abbrev pub stepped : BuilderView → ℕ → BuilderView
 stepped builder to = record builder { at = to }
 
--- one to which something was appended up to a place
+-- a builder with an item appended up to a byte offset
 abbrev pub extended : BuilderView → ℕ → BuilderView
 extended builder to = record builder { at = to; run = None }
 
--- one of which the innermost open block was closed
+-- a builder whose innermost open block was closed
 abbrev pub closed : BuilderView → BuilderView
 closed builder = record builder { blocks = outer_of builder.blocks; leaf = false; run = None }
 
--- one to which more was appended in the open leaf, up to a place
+-- more was appended to the open leaf, up to a byte offset
 abbrev pub GoesOn : BuilderView → BuilderView → ℕ → Type 0
 GoesOn old new to = new ≡ record old { at = to; run = new.run; texts = new.texts }
 
--- one in which a block was opened at a place
+-- a builder in which a block was opened at a byte offset
 abbrev pub opened : BuilderView → ℕ → ItemBody → BuilderView
 opened builder at block = record builder {
   at = at;
@@ -56,19 +56,19 @@ opened builder at block = record builder {
 abbrev pub HasBody : BuilderView → BuilderView → ItemBody → Type 0
 HasBody old new now = InnermostBecomes old.blocks new.blocks (λ block. record block { body = now })
 
--- the innermost open block begins at its first content byte
+-- the innermost open block starts at its first content byte
 pub record BeginsAtContent (old new : BuilderView) : Type 0 where
   pub start : ℕ
   pub blocks : InnermostBecomes old.blocks new.blocks (λ block. record block { start = start })
   pub content : IsNextContent old.text blocks.block.start (Some start)
 
--- a fenced code block was opened at a place, with an info string, and its first line stops before another
+-- a fenced code block was opened at a byte offset, with an info string, and its first line ends before `next`
 abbrev pub OpensFenced : BuilderView → BuilderView → (at next : ℕ) → List ℕ → Type 0
 OpensFenced old new at next info =
     new ≡ record (opened old at (body.FencedCodeBlock (record { 0 = length old.texts })))
     { at = next; texts = old.texts ++ info ∷ [] }
 
--- an HTML block was opened with a line of which what is left begins at a place, and it begins at its first content byte
+-- an HTML block was opened with a line whose rest begins at a byte offset, and it starts at its first content byte
 pub record OpensHtml (old new : BuilderView) (from next : ℕ) : Type 0 where
   pub start : ℕ
   pub content : IsNextContent old.text from (Some start)

@@ -1,4 +1,4 @@
--- the builder, and the calls asked of it
+-- the builder, and the calls of it
 pub mod OpenBlocks
 pub mod CodeLines
 pub mod Fitting

@@ -15,22 +15,22 @@ use Rattle.markdown_lines.specs.Places.{left_from}
 use Rattle.markdown_lines.specs.HtmlBeginnings.{in_one_line}
 use Rattle.markdown_plain.specs.OpenBlocks.{innermost_is, without_list}
 
--- a list whose markers have this character
+-- the body is that of a list whose markers have this character
 abbrev pub is_list_of : ℕ → ItemBody → Bool
 is_list_of character (body.List tight other first) = other == character
 is_list_of character other = false
 
--- a list begins at a place
+-- a list that begins at a byte offset
 abbrev pub new_list : ℕ → ListMarker → OpenBlock
 new_list at marker = record { start = at; body = body.List true marker.character marker.first }
 
--- the blocks around an item: the list that goes on, or else a new one
+-- the blocks around an item: with the list that continues, or else with a new one
 abbrev pub around_item : ℕ → ListMarker → List OpenBlock → List OpenBlock
 around_item at marker blocks =
     if innermost_is (is_list_of marker.character) blocks then blocks
     else without_list blocks ++ new_list at marker ∷ []
 
--- behind so many bytes of one column each
+-- the rest after `count` bytes of one column each
 abbrev pub past_bytes : ℕ → LineLeft → LineLeft
 past_bytes count left = record {
   scanned = left.scanned + count;
@@ -51,19 +51,19 @@ abbrev pub is_colon : Option ℕ → Bool
 is_colon None = false
 is_colon (Some byte) = byte == colon
 
--- the label of a footnote definition, and the length of its marker, by what the label was found to be
+-- the label of a footnote definition, and the length of its marker in bytes, from the label that was read
 abbrev pub note_marker : List ℕ → Option (ℕ × List ℕ) → Option (List ℕ × ℕ)
 note_marker content None = None
 note_marker content (Some label) =
     if is_colon (slice_get content (label.0 + 2)) then Some (label.1, label.0 + 3) else None
 
--- of the definition with which a line's content begins: a `[^`, a label in this line, and a colon
+-- the same for the footnote definition with which a line's content begins: a `[^`, a label in this line, and a colon
 abbrev pub note_of : List ℕ → Option (List ℕ × ℕ)
 note_of content =
     if begins_with (codes "[^") content then note_marker content (link_label in_one_line false (drop 2 content))
     else None
 
--- such a definition begins at a place in a line, and another place is inside it
+-- a footnote definition begins at a place in a line, and `inside` is the place after its marker
 pub record InsideNote (text : List ℕ) (here : Place) (stop : ℕ) (content : List ℕ) (inside : Place) : Type 0 where
   pub label : List ℕ
   pub width : ℕ

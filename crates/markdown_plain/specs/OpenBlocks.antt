@@ -7,18 +7,18 @@ use Rattle.markdown_base.specs.declared.item.ItemBody.TheVariants as body
 use Rattle.markdown_builder.specs.declared.open_block.OpenBlock.{OpenBlock}
 use Rattle.markdown_builder.specs.BuilderView.{BuilderView, innermost_block}
 
--- all but the last, as the open blocks without the innermost
+-- all but the last, such as the open blocks without the innermost
 unfoldable pub outer_of : {A : Type 0} → List A → List A
 outer_of [] = []
 outer_of (block ∷ []) = []
 outer_of (block ∷ inner ∷ blocks) = block ∷ outer_of (inner ∷ blocks)
 
--- a list's body
+-- the body is that of a list
 abbrev pub is_list : ItemBody → Bool
 is_list (body.List tight character first) = true
 is_list other = false
 
--- a block quote's
+-- the body is that of a block quote
 abbrev pub is_quote : ItemBody → Bool
 is_quote (body.BlockQuote kind) = true
 is_quote other = false
@@ -27,20 +27,20 @@ is_quote other = false
 abbrev pub innermost_is : (ItemBody → Bool) → List OpenBlock → Bool
 innermost_is test blocks = option_map_or (λ block. test block.body) (innermost_block blocks) false
 
--- the innermost block is written anew, and those outside it stay
+-- the innermost block is replaced, and those outside it stay
 pub record InnermostBecomes (old new : List OpenBlock) (now : OpenBlock → OpenBlock) : Type 0 where
   pub block : OpenBlock
   pub was : old ≡ outer_of old ++ block ∷ []
   pub becomes : new ≡ outer_of old ++ now block ∷ []
 
--- the open blocks but for a leaf
+-- the open blocks without a leaf
 abbrev pub without_leaf : BuilderView → List OpenBlock
 without_leaf builder = if builder.leaf then outer_of builder.blocks else builder.blocks
 
--- open blocks but for a list that is the innermost
+-- the open blocks without the innermost, where that is a list
 abbrev pub without_list : List OpenBlock → List OpenBlock
 without_list blocks = if innermost_is is_list blocks then outer_of blocks else blocks
 
--- the outermost so many blocks, but for a list that is the innermost of them
+-- the outermost `depth` blocks, without the innermost of them where that is a list
 abbrev pub room_in : ℕ → List OpenBlock → List OpenBlock
 room_in depth blocks = without_list (take depth blocks)

@@ -8,20 +8,20 @@ use Rattle.markdown_lines.specs.declared.line.Line.{Line}
 use Rattle.markdown_builder.specs.BuilderView.{BuilderView}
 use Rattle.markdown_plain.specs.declared.pass.Pass.{Pass}
 
--- behind the first so many of some lines, one or more
+-- the byte offset after the first `count` of some lines, for a count of one or more
 abbrev pub end_of : List HeldLine → ℕ → ℕ
 end_of lines count = option_map_or (λ line. line.next) (slice_get lines (count - 1)) 0
 
--- behind the last of some lines
+-- the byte offset after the last of some lines
 abbrev pub lines_end : List HeldLine → ℕ
 lines_end lines = end_of lines (length lines)
 
--- behind a paragraph, or behind the underline of the heading that it is
+-- the byte offset after a paragraph, or after the underline of the heading that it is
 abbrev pub paragraph_end : List HeldLine → Option (HeadingLevel × Line) → ℕ
 paragraph_end lines None = lines_end lines
 paragraph_end lines (Some heading) = heading.1.next
 
--- a block was opened, filled and closed, and stops at a place
+-- a block was opened, filled and closed, and ends at a byte offset
 abbrev pub IsPlacedTo : BuilderView → BuilderView → ℕ → Type 0
 IsPlacedTo old new to = new ≡ record old { at = to; leaf = false; run = None; texts = new.texts }
 

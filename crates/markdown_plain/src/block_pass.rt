@@ -1,5 +1,6 @@
-//! The block pass, line by line: which open blocks go on, which blocks begin, and what a lazy line goes on with
-//! (CommonMark, appendix on parsing).
+//! The block pass, line by line: which open blocks continue, which blocks begin, and what a lazy continuation line
+//! continues (CommonMark, appendix on parsing). Functions that return a `Result` fail only where memory is refused;
+//! what was built by then is not used.
 ghost use Rattle.std.specs.Prelude.{◌≡◌, [], length, IfOk};
 ghost use Rattle.markdown_base.specs.Coverage.{Covers};
 ghost use Rattle.markdown_base.specs.WellFormed.{IsWellFormed};
@@ -23,21 +24,21 @@ use markdown_lines::space::{Space, read_space};
 use markdown_lines::thematic_break::{setext_underline, thematic_break};
 use std::alloc::{AllocError, Global};
 
-/// What is left of a line.
+/// The rest of a line.
 #[derive(Clone, Copy, Drop)]
 struct Rest {
     line: Line,
     /// where it begins
     place: Place,
-    /// so many of the open blocks go on, or were opened in this line
+    /// the number of open blocks that continue, or were opened in this line
     depth: usize,
-    /// before this byte no thematic break begins in this line
+    /// no thematic break begins in this line before this byte offset
     unbroken: usize,
-    /// whether a paragraph goes on here unless a block begins
+    /// whether a paragraph continues here unless a block begins
     in_paragraph: bool,
 }
 
-/// Whether a line whose first byte this is, but for white space, may begin another block than a paragraph.
+/// Returns whether a line with this first byte after white space may begin a block other than a paragraph.
 fn may_begin_block(byte: u8) -> bool {
     match byte {
         b'>' | b'#' | b'`' | b'~' | b'<' | b'[' => true,
@@ -46,8 +47,8 @@ fn may_begin_block(byte: u8) -> bool {
     }
 }
 
-/// Whether a place in a line has a byte that is no white space and begins no other block than a paragraph: in most
-/// lines the first one is a letter.
+/// Returns whether the byte at an offset in a line is not white space and begins no block other than a paragraph. In
+/// most lines the first byte is a letter.
 fn begins_text(text: &str, at: usize, stop: usize) -> bool {
     at < stop
         && match byte_at(text, at) {
@@ -58,7 +59,7 @@ fn begins_text(text: &str, at: usize, stop: usize) -> bool {
 }
 
 impl<'a> Pass<'a> {
-    /// Reads a line. Outside of all blocks most lines are text, as their first byte tells.
+    /// Reads a line. Where no block is open, the first byte of most lines shows that they are text.
     fn read_line(&mut self, line: Line) -> Result<(), AllocError>
         ensures { IfOk result (λ _. self.new.placing.builder.text ≡ self.old.placing.builder.text) }
     {
@@ -72,7 +73,7 @@ impl<'a> Pass<'a> {
         Ok(())
     }
 
-    /// A line was read that is not blank for the innermost blocks that go on in it.
+    /// Records that a line was read that is not blank for the innermost blocks that continue in it.
     fn see_content(&mut self, line: Line)
         ensures { self.new.placing ≡ self.old.placing }
     {
@@ -80,7 +81,7 @@ impl<'a> Pass<'a> {
         self.looseness.see_content();
     }
 
-    /// Reads a line, whatever blocks go on or begin in it.
+    /// Reads a line, whatever blocks continue or begin in it.
     #[inline(never)]
     fn read_any_line(&mut self, line: Line) -> Result<(), AllocError>
         ensures { IfOk result (λ _. self.new.placing.builder.text ≡ self.old.placing.builder.text) }
@@ -104,7 +105,7 @@ impl<'a> Pass<'a> {
         Ok(())
     }
 
-    /// Adds a line to the code or HTML block that is open, if it goes on in it. Answers whether it does.
+    /// Adds a line to the open code or HTML block, if that continues in it, and returns whether it does.
     fn goes_on(&mut self, line: Line, reached: Reached) -> Result<bool, AllocError>
         ensures { IfOk result (λ _. self.new.placing.builder.text ≡ self.old.placing.builder.text) }
     {
@@ -128,7 +129,7 @@ impl<'a> Pass<'a> {
         Ok(true)
     }
 
-    /// Reads a line that is blank for the innermost blocks that go on in it.
+    /// Reads a line that is blank for the innermost blocks that continue in it.
     fn read_blank(&mut self, line: Line, reached: Reached) -> Result<(), AllocError>
         ensures { IfOk result (λ _. self.new.placing.builder.text ≡ self.old.placing.builder.text) }
     {
@@ -153,7 +154,7 @@ impl<'a> Pass<'a> {
         ensures { IfOk result (λ _. self.new.placing.builder.text ≡ self.old.placing.builder.text) }
     {
         let mut here = rest;
-        // each container takes a byte of the line, and what is left behind the last one is read too
+        // each container takes at least one byte of the line, and what is left after the last one is read too
         'blocks: for _ in rest.line.start..rest.line.next.saturating_add(1) {
             if here.place.owed == 0
                 && begins_text(self.placing.text(), here.place.at, here.line.stop)
@@ -167,7 +168,8 @@ impl<'a> Pass<'a> {
         Ok(())
     }
 
-    /// Reads the block that begins here. Answers whether it is a container, which leaves the rest of the line.
+    /// Reads the block that begins here. Returns whether it is a container, inside which the rest of the line is still
+    /// to be read.
     fn read_block(&mut self, rest: &mut Rest) -> Result<bool, AllocError>
         ensures { IfOk result (λ _. self.new.placing.builder.text ≡ self.old.placing.builder.text) }
     {
@@ -195,7 +197,7 @@ impl<'a> Pass<'a> {
         }
     }
 
-    /// Reads a line that is no other block's beginning.
+    /// Reads a line that begins no other block. Returns false, as for all blocks that are not containers.
     fn read_text(&mut self, rest: Rest, at: usize) -> Result<bool, AllocError>
         ensures { IfOk result (λ _. self.new.placing.builder.text ≡ self.old.placing.builder.text) }
     {
@@ -203,7 +205,7 @@ impl<'a> Pass<'a> {
         Ok(false)
     }
 
-    /// Reads a line that is indented: code, but in a paragraph.
+    /// Reads an indented line: as code, or as text where a paragraph is open.
     fn read_indented(&mut self, rest: Rest, before: Space) -> Result<(), AllocError>
         ensures { IfOk result (λ _. self.new.placing.builder.text ≡ self.old.placing.builder.text) }
     {
@@ -215,14 +217,14 @@ impl<'a> Pass<'a> {
         self.open_indented(rest.line, before.behind)
     }
 
-    /// Goes to a place inside the container opened last.
+    /// Moves to a place inside the container that was opened last.
     fn go_inside(&self, rest: &mut Rest, place: Place) {
         rest.place = place;
         rest.depth = self.depth();
         rest.in_paragraph = false;
     }
 
-    /// Reads the marker of a block quote.
+    /// Reads the marker of a block quote, and returns true.
     fn read_quote(&mut self, rest: &mut Rest, before: Space) -> Result<bool, AllocError>
         ensures { IfOk result (λ _. self.new.placing.builder.text ≡ self.old.placing.builder.text) }
     {
@@ -232,7 +234,7 @@ impl<'a> Pass<'a> {
         Ok(true)
     }
 
-    /// Reads a line that begins with a `#`.
+    /// Reads a line that begins with a `#`: an ATX heading or text. Returns false.
     fn read_atx(&mut self, rest: Rest, at: usize) -> Result<bool, AllocError>
         ensures { IfOk result (λ _. self.new.placing.builder.text ≡ self.old.placing.builder.text) }
     {
@@ -245,7 +247,7 @@ impl<'a> Pass<'a> {
         Ok(false)
     }
 
-    /// Reads a line that begins with a backtick or a tilde.
+    /// Reads a line that begins with a backtick or a tilde: an opening code fence or text. Returns false.
     fn read_fence(&mut self, rest: Rest, before: Space) -> Result<bool, AllocError>
         ensures { IfOk result (λ _. self.new.placing.builder.text ≡ self.old.placing.builder.text) }
     {
@@ -261,13 +263,13 @@ impl<'a> Pass<'a> {
         Ok(false)
     }
 
-    /// Reads a line that begins with a `<`.
+    /// Reads a line that begins with a `<`: the first line of an HTML block, or text. Returns false.
     fn read_html(&mut self, rest: Rest, before: Space) -> Result<bool, AllocError>
         ensures { IfOk result (λ _. self.new.placing.builder.text ≡ self.old.placing.builder.text) }
     {
         let at = before.behind.at;
         let content = part_of(self.placing.text(), at, rest.line.stop);
-        // also where the paragraph would go on lazily
+        // also where the line would be a lazy continuation line of the paragraph
         let in_paragraph = self.has_paragraph();
         let Some(kind) = html_kind(self.alloc, content, in_paragraph)? else {
             return self.read_text(rest, at);
@@ -277,7 +279,7 @@ impl<'a> Pass<'a> {
         Ok(false)
     }
 
-    /// Reads a line that begins with a `[`.
+    /// Reads a line that begins with a `[`: text, unless it begins a footnote definition. Returns whether it does.
     fn read_bracket(&mut self, rest: &mut Rest, before: Space) -> Result<bool, AllocError>
         ensures { IfOk result (λ _. self.new.placing.builder.text ≡ self.old.placing.builder.text) }
     {
@@ -291,7 +293,8 @@ impl<'a> Pass<'a> {
         }
     }
 
-    /// Reads a line that begins with a character of underlines, thematic breaks and bullet list markers.
+    /// Reads a line that begins with a character of setext heading underlines, thematic breaks or bullet list markers.
+    /// Returns whether a list item begins.
     fn read_line_of_marks(&mut self, rest: &mut Rest, before: Space) -> Result<bool, AllocError>
         ensures { IfOk result (λ _. self.new.placing.builder.text ≡ self.old.placing.builder.text) }
     {
@@ -307,7 +310,7 @@ impl<'a> Pass<'a> {
         self.read_break(rest, before)
     }
 
-    /// Reads a line that may be a thematic break, and else may begin with a list marker.
+    /// Reads a line that may be a thematic break, or begin with a list marker. Returns whether a list item begins.
     fn read_break(&mut self, rest: &mut Rest, before: Space) -> Result<bool, AllocError>
         ensures { IfOk result (λ _. self.new.placing.builder.text ≡ self.old.placing.builder.text) }
     {
@@ -326,7 +329,7 @@ impl<'a> Pass<'a> {
         self.read_item(rest, before)
     }
 
-    /// Reads a line that may begin with a list marker.
+    /// Reads a line that may begin with a list marker, and is text otherwise. Returns whether a list item begins.
     fn read_item(&mut self, rest: &mut Rest, before: Space) -> Result<bool, AllocError>
         ensures { IfOk result (λ _. self.new.placing.builder.text ≡ self.old.placing.builder.text) }
     {
@@ -340,7 +343,7 @@ impl<'a> Pass<'a> {
         Ok(true)
     }
 
-    /// Reads the lines of the text.
+    /// Reads all lines of the text, and closes all blocks.
     fn read_lines(&mut self) -> Result<(), AllocError>
         ensures { IfOk result (λ _. self.new.placing.builder.text ≡ self.old.placing.builder.text) }
     {
@@ -355,7 +358,7 @@ impl<'a> Pass<'a> {
     }
 }
 
-/// A text's blocks, all of them placed and closed.
+/// Returns a text's blocks, all of them placed and closed.
 fn place_all<'a>(alloc: Global, text: &'a str, options: Options) -> Result<Placing<'a>, AllocError>
     ensures text { IfOk result (λ made. made.builder.text ≡ text.now) }
     ensures closed { IfOk result (λ made. made.builder.blocks ≡ []) }
@@ -369,22 +372,20 @@ fn place_all<'a>(alloc: Global, text: &'a str, options: Options) -> Result<Placi
     Ok(placing)
 }
 
-/// The tree of a text's blocks, and the parts that its items name.
+/// Returns the tree of a text's blocks, and the parts that its items refer to. Fails where memory is refused.
 ///
-/// Blocks are those of CommonMark 0.31.2, chapters 4 and 5, and with footnotes on footnote definitions. In a tight
-/// list paragraphs are tight. A block's range runs from its marker or first content byte to the end of its last
-/// line, with the line ending: a line feed, a carriage return, or both. Code and HTML blocks hold one Text or Html
-/// a line, with its line ending and without the prefixes of containers; columns left over from a cut tab are a
-/// SynthesizeText. Between two lines of a paragraph stands a hard break (6.7), from a backslash on or from two or
-/// more spaces on, else a soft one (6.8) over the line ending; other spaces and tabs at a line's ends stand in no
-/// item. A definition's span begins at its `[`; those of a repeated label are kept. All ranges are byte offsets
-/// into `text`.
+/// The blocks are those of CommonMark 0.31.2, chapters 4 and 5, and, with footnotes enabled, footnote definitions. In a
+/// tight list paragraphs are tight. A block's range extends from its marker or first content byte to the end of its
+/// last line, with the line ending: a line feed, a carriage return, or both. Code and HTML blocks contain one Text or
+/// Html for each line, with its line ending and without the prefixes of containers; the columns that a partly read tab
+/// owes are a SynthesizeText. Between two lines of a paragraph there is a hard break (6.7), which starts with a
+/// backslash or with two or more spaces, or otherwise a soft break (6.8) for the line ending; other spaces and tabs at
+/// the beginning or end of a line are in no item. A definition's span begins at its `[`; all definitions of a repeated
+/// label are kept. All ranges are byte offsets into `text`.
 ///
-/// With footnotes on, at most 3 spaces and `[^label]:` open a footnote definition, which may interrupt a paragraph.
-/// In the style of GFM it goes on in lines behind 4 columns of space, in blank and in lazy ones; in the old style
-/// up to the first blank line. The other options change no block.
-///
-/// An error says that memory was refused.
+/// With footnotes enabled, at most 3 spaces and `[^label]:` open a footnote definition, which may interrupt a
+/// paragraph. In GitHub's style it continues in lines that begin with 4 columns of space, in blank lines and in lazy
+/// continuation lines; in the old style up to the first blank line. The other options do not change blocks.
 pub fn blocks<'a>(
     alloc: Global,
     text: &'a str,
@@ -401,8 +402,8 @@ pub fn blocks<'a>(
     Ok(builder.finish())
 }
 
-/// How many calls the block pass asked of its builder that did not fit where they came, so that nothing was made: none,
-/// as tests over many texts show. An error says that memory was refused.
+/// Returns the number of builder calls of the block pass that did not fit, so that nothing was made: 0, as tests over
+/// many texts show. Fails where memory is refused.
 pub fn misfits(alloc: Global, text: &str, options: Options) -> Result<usize, AllocError> {
     Ok(place_all(alloc, text, options)?.misfits)
 }

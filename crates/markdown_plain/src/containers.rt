@@ -1,5 +1,5 @@
-//! Block quotes (CommonMark 5.1), list items (5.2), and footnote definitions: how they go on in a line, and how
-//! they are opened.
+//! Block quotes (CommonMark 5.1), list items (5.2), and footnote definitions: how they continue in a line, and how they
+//! are opened. Functions that return a `Result` fail only where memory is refused.
 ghost use Rattle.std.specs.Prelude.{◌≡◌, ℕ, ◌+◌, ◌<◌, ◌≤◌, ◌^◌, ◌++◌, ◌∷◌, [], true, false, None, List};
 ghost use Rattle.std.specs.Prelude.{nat_le, take, IfOk, IfSome, MatchOption};
 ghost use Rattle.std.specs.Option.{option_map};
@@ -28,22 +28,23 @@ use markdown_scan::label::scan_link_label;
 use markdown_scan::line_rule::OneLine;
 use std::alloc::{AllocError, Global};
 
-/// How far the open containers go on in a line.
+/// How far the open containers continue in a line.
 #[derive(Clone, Copy, Drop)]
 pub struct Reached {
-    /// how many of the open blocks go on
+    /// the number of open blocks that continue
     pub depth: usize,
     /// whether all open containers are among them
     pub all: bool,
-    /// where what is left of the line begins
+    /// where the rest of the line begins
     pub place: Place,
-    /// the first byte of that which is no space or tab
+    /// the byte offset of the first byte of the rest that is not a space or tab
     pub content: usize,
-    /// how many of the open blocks stand outside the innermost block quote that goes on, and it with them
+    /// the number of open blocks down to the innermost block quote that continues, with that included; 0 where there is
+    /// none
     pub quoted: usize,
 }
 
-/// Whether a body is a container's; lists count as such.
+/// Returns whether a body is that of a container; lists count as such.
 fn is_container(body: ItemBody) -> bool
     ensures { result ≡ spec.is_container body }
 {
@@ -54,7 +55,8 @@ fn is_container(body: ItemBody) -> bool
     }
 }
 
-/// Behind the marker of a block quote, of which at most one column of space is a part.
+/// Returns the place after the marker of a block quote, with at most one column of space after it; `None` where there
+/// is no marker.
 fn past_quote(text: &str, place: Place, stop: usize) -> Option<Place>
     ensures { spec.LeftAt text.now stop (spec.past_quote (left_from text.now place stop)) result }
 {
@@ -66,7 +68,8 @@ fn past_quote(text: &str, place: Place, stop: usize) -> Option<Place>
     }
 }
 
-/// Behind so many columns of space, or the white space of a line that is blank from here on.
+/// Returns the place after `indent` columns of space, or, where the line is blank from here on, after at most as many;
+/// `None` where there are fewer.
 fn past_indent(text: &str, place: Place, stop: usize, indent: usize, blank: bool) -> Option<Place>
     ensures { spec.LeftAt text.now stop (spec.past_indent indent blank (left_from text.now place stop)) result }
 {
@@ -78,8 +81,8 @@ fn past_indent(text: &str, place: Place, stop: usize, indent: usize, blank: bool
     }
 }
 
-/// Behind what a footnote definition takes of a line: in the style of GFM four columns, in the old style
-/// nothing, but that a blank line ends it.
+/// Returns the place after what a footnote definition takes of a line: in GitHub's style four columns of space, in the
+/// old style nothing; `None` where the definition does not continue, in the old style at a blank line.
 fn past_footnote(text: &str, place: Place, stop: usize, old: bool, blank: bool) -> Option<Place>
     ensures { spec.LeftAt text.now stop (spec.past_footnote old blank (left_from text.now place stop)) result }
 {
@@ -92,8 +95,9 @@ fn past_footnote(text: &str, place: Place, stop: usize, old: bool, blank: bool) 
     }
 }
 
-/// Behind what an open container takes of a line, if it goes on in it; what was reached so far, whether footnote
-/// definitions are those of the old style, and whether it is an item in which nothing stands.
+/// Returns the place after what an open container takes of a line, or `None` where it does not continue. `reached` is
+/// what was reached outside it; `old`, whether footnote definitions are those of the old style; `empty`, whether the
+/// container is an item that is empty so far.
 fn past_container(
     text: &str,
     body: ItemBody,
@@ -117,7 +121,7 @@ fn past_container(
     }
 }
 
-/// What is reached behind one container more, which goes on up to a place.
+/// Returns what is reached with one more container, which continues up to a place.
 fn behind_container(
     text: &str,
     body: ItemBody,
@@ -148,8 +152,8 @@ fn behind_container(
     }
 }
 
-/// How far open blocks go on in a line: with footnote definitions of the old style or not, and whether nothing
-/// stands in the item opened last.
+/// Returns how far open blocks continue in a line. `old` is whether footnote definitions are those of the old style,
+/// and `item_is_empty`, whether the item that was opened last is empty so far.
 fn reach_blocks(
     text: &str,
     blocks: &[OpenBlock],
@@ -191,7 +195,7 @@ fn reach_blocks(
     reached
 }
 
-/// How far the open containers go on in a line.
+/// Returns how far the open containers continue in a line.
 pub fn reach(pass: &Pass<'_>, line: Line) -> Reached
     ensures { spec.reach_of pass.now.placing.builder.text line.stop result
         ≡ spec.reach_from (old_footnotes_on pass.now.options) pass.now.looseness.item_is_empty line.stop
@@ -206,8 +210,8 @@ pub fn reach(pass: &Pass<'_>, line: Line) -> Reached
     )
 }
 
-/// Where the content of an item begins, by the place behind its marker, and how many columns of space part them.
-/// An item that begins with a blank line or with indented code is parted by one.
+/// Returns the space between an item's marker, which ends at the place `behind`, and its content: one to four columns,
+/// or one column where the item begins with a blank line or with indented code.
 fn item_content(text: &str, behind: Place, stop: usize) -> Space
     ensures columns { result.columns ≡ (opening.item_space stop (left_from text.now behind stop)).columns }
     ensures behind { left_from text.now result.behind stop
@@ -224,7 +228,8 @@ fn item_content(text: &str, behind: Place, stop: usize) -> Space
     }
 }
 
-/// The label of the footnote definition that begins in a line, and the length of its marker.
+/// Returns the label of the footnote definition with which a line's content begins, and the length of its marker in
+/// bytes; `None` where it begins with none.
 fn footnote_label<'a>(
     alloc: Global,
     content: &'a str,
@@ -247,7 +252,7 @@ fn footnote_label<'a>(
 }
 
 impl<'a> Pass<'a> {
-    /// Opens a block quote whose marker stands here, and goes behind it.
+    /// Opens a block quote whose marker is at the place `here`, and returns the place after the marker.
     pub fn open_quote(&mut self, line: Line, here: Place) -> Result<Place, AllocError>
         ensures text { IfOk result (λ _. self.new.placing.builder.text ≡ self.old.placing.builder.text) }
         ensures opens { IfOk result (λ _. IfFitted self.old.placing self.new.placing (self.new.placing.builder
@@ -262,8 +267,8 @@ impl<'a> Pass<'a> {
         Ok(read_space(self.placing.text(), here.past(1), line.stop, 1).behind)
     }
 
-    /// Opens an item whose marker stands behind the space before it, and the list if none goes on; goes to
-    /// where the item's content begins.
+    /// Opens an item whose marker follows the space `before`, and a list unless one continues. Returns the place where
+    /// the item's content begins.
     pub fn open_item(
         &mut self,
         line: Line,
@@ -303,8 +308,8 @@ impl<'a> Pass<'a> {
         Ok(content.behind)
     }
 
-    /// Adds an item to the list that is the innermost open block, or where that is none of its kind, to one that is
-    /// opened. Of the item itself nothing is opened yet.
+    /// Adds an item to the innermost open block, if that is a list with this character, and otherwise opens a list. The
+    /// item itself is not opened yet.
     fn open_list(&mut self, marker: ListMarker, at: usize) -> Result<(), AllocError>
         ensures text { IfOk result (λ _. self.new.placing.builder.text ≡ self.old.placing.builder.text) }
         ensures around { IfOk result (λ _. IfFitted self.old.placing self.new.placing
@@ -329,7 +334,7 @@ impl<'a> Pass<'a> {
         self.looseness.open_list()
     }
 
-    /// Opens the footnote definition that begins here, if one does. Answers where its content begins.
+    /// Opens the footnote definition that begins here, if one does, and returns the place where its content begins.
     pub fn open_footnote(
         &mut self,
         line: Line,

@@ -1,4 +1,5 @@
-//! Leaf blocks other than paragraphs (CommonMark 4.1 to 4.6): how they are opened, and how they go on.
+//! Leaf blocks other than paragraphs (CommonMark 4.1 to 4.6): how they are opened, and how they continue. Functions
+//! that return a `Result` fail only where memory is refused.
 ghost use Rattle.std.specs.Prelude.{◌≡◌, ◌++◌, ◌∷◌, [], true, false, ℕ, List, IfOk};
 ghost use Rattle.markdown_base.specs.declared.item.ItemBody.TheVariants as body;
 ghost use Rattle.markdown_scan.specs.Unescape.{unescaped};
@@ -22,7 +23,7 @@ use markdown_lines::space::read_space;
 use markdown_scan::unescape::unescape;
 use std::alloc::AllocError;
 
-/// Appends a line of a code block, with its line ending: a Text, behind the columns that a cut tab owes.
+/// Appends a line of a code block, with its line ending: a Text, after the columns that a partly read tab owes.
 fn add_code(placing: &mut Placing<'_>, line: HeldLine) -> Result<(), AllocError>
     ensures text { IfOk result (λ _. placing.new.builder.text ≡ placing.old.builder.text) }
     ensures goes_on { IfOk result (λ _. IfFitted placing.old placing.new
@@ -51,7 +52,7 @@ fn add_codes(placing: &mut Placing<'_>, lines: &[HeldLine]) -> Result<(), AllocE
     Ok(())
 }
 
-/// What is left of a line from a place on.
+/// Returns the rest of a line from a place on.
 fn rest_of(line: Line, place: Place) -> HeldLine
     ensures { result ≡ record { start = place.at; stop = line.stop; next = line.next; owed = place.owed } }
 {
@@ -91,7 +92,7 @@ impl<'a> Pass<'a> {
         Ok(())
     }
 
-    /// Opens a fenced code block that begins here.
+    /// Opens a fenced code block that begins at byte offset `at`.
     pub fn open_fenced(
         &mut self,
         line: Line,
@@ -115,7 +116,7 @@ impl<'a> Pass<'a> {
         Ok(())
     }
 
-    /// Adds a line to the fenced code block that is open, or closes it.
+    /// Adds a line to the open fenced code block, or closes the block where the line is a closing fence.
     pub fn add_fenced(&mut self, fence: Fence, line: Line, place: Place) -> Result<(), AllocError>
         ensures text { IfOk result (λ _. self.new.placing.builder.text ≡ self.old.placing.builder.text) }
         ensures closes { IfOk result (λ _. is_closed_at self.old.placing.builder.text place line fence ≡ true →
@@ -137,8 +138,8 @@ impl<'a> Pass<'a> {
         add_code(&mut self.placing, rest_of(line, code))
     }
 
-    /// Opens an HTML block with a line that begins here. The block begins at the line's first content byte, its Html
-    /// with the spaces before that.
+    /// Opens an HTML block with a line whose rest begins at a place. The block starts at the line's first content byte;
+    /// its first Html includes the spaces before that.
     #[tactic(auto, using(crate::proofs::OpenBlocksLemmas::outer_of_opened))]
     pub fn open_html(&mut self, line: Line, place: Place, kind: HtmlKind) -> Result<(), AllocError>
         ensures text { IfOk result (λ _. self.new.placing.builder.text ≡ self.old.placing.builder.text) }
@@ -160,7 +161,7 @@ impl<'a> Pass<'a> {
         Ok(())
     }
 
-    /// Adds a line to the HTML block that is open, and closes it if the line ends it.
+    /// Adds a line to the open HTML block, and closes the block if the line ends it.
     pub fn add_html(&mut self, kind: HtmlKind, line: Line, place: Place) -> Result<(), AllocError>
         ensures text { IfOk result (λ _. self.new.placing.builder.text ≡ self.old.placing.builder.text) }
         ensures ends { IfOk result (λ _. ends_html_at self.old.placing.builder.text place line kind ≡ true →
@@ -179,7 +180,7 @@ impl<'a> Pass<'a> {
         Ok(())
     }
 
-    /// Appends what is left of a line from a place on: an Html, behind the columns that a cut tab owes.
+    /// Appends the rest of a line from a place on: an Html, after the columns that a partly read tab owes.
     fn add_html_line(&mut self, line: Line, place: Place) -> Result<(), AllocError>
         ensures text { IfOk result (λ _. self.new.placing.builder.text ≡ self.old.placing.builder.text) }
         ensures goes_on { IfOk result (λ _. IfFitted self.old.placing self.new.placing
@@ -194,7 +195,7 @@ impl<'a> Pass<'a> {
         Ok(())
     }
 
-    /// Closes the HTML block that is open, if its kind ends with a line that holds what is left of this one.
+    /// Closes the open HTML block, if a block of its kind ends with the rest of a line from a place on.
     fn end_html(&mut self, kind: HtmlKind, line: Line, place: Place)
         ensures text { self.new.placing.builder.text ≡ self.old.placing.builder.text }
         ensures ends { ends_html_at self.old.placing.builder.text place line kind ≡ true
@@ -208,7 +209,7 @@ impl<'a> Pass<'a> {
         }
     }
 
-    /// Opens an indented code block with a line whose code begins here.
+    /// Opens an indented code block with a line whose code begins at a place.
     pub fn open_indented(&mut self, line: Line, place: Place) -> Result<(), AllocError>
         ensures text { IfOk result (λ _. self.new.placing.builder.text ≡ self.old.placing.builder.text) }
         ensures opens { IfOk result (λ _. IfFitted self.old.placing self.new.placing
@@ -226,7 +227,7 @@ impl<'a> Pass<'a> {
         add_code(&mut self.placing, rest_of(line, place))
     }
 
-    /// Adds a line to the indented code block that is open, behind the blank lines that were held back.
+    /// Adds a line to the open indented code block, after the blank lines that were held back.
     pub fn add_indented(&mut self, line: Line, place: Place) -> Result<(), AllocError>
         ensures text { IfOk result (λ _. self.new.placing.builder.text ≡ self.old.placing.builder.text) }
         ensures goes_on { IfOk result (λ _. IfFitted self.old.placing self.new.placing
@@ -239,7 +240,7 @@ impl<'a> Pass<'a> {
         add_code(&mut self.placing, rest_of(line, place))
     }
 
-    /// Holds back a blank line of the indented code block that is open.
+    /// Holds back a blank line of the open indented code block.
     pub fn hold_blank(&mut self, line: Line, place: Place) -> Result<(), AllocError>
         ensures held { IfOk result (λ _. self.new.lines.items ≡ self.old.lines.items
             ++ held line (code_behind self.old.placing.builder.text place line 4) ∷ []) }

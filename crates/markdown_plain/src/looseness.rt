@@ -1,5 +1,5 @@
-//! What decides whether lists are loose (CommonMark 5.3): blank lines between the items of a list, or between
-//! two blocks directly in an item.
+//! What makes lists loose (CommonMark 5.3): blank lines between the items of a list, or between two blocks directly in
+//! an item.
 ghost use Rattle.std.specs.Prelude.{◌≡◌, ◌++◌, ◌∷◌, [], true, false, List, Bool, Some, None, IfOk};
 ghost use Rattle.markdown_plain.specs.ListLooseness.{ItemRead, IsRead, blank_from, is_behind_blank, is_empty};
 ghost use Rattle.markdown_plain.specs.ListLooseness.{is_item, is_loose, new_item, with_block};
@@ -9,19 +9,19 @@ use markdown_base::item::ItemBody;
 use markdown_builder::open_block::OpenBlock;
 use std::alloc::{AllocError, Global};
 
-/// Which open lists are loose, and what the lines read last tell of them.
+/// Which open lists are loose, and what the last lines mean for them.
 #[derive(Drop)]
 pub struct Looseness {
     /// for each open list, the outermost first, whether it is loose
     lists: Vec<bool>,
-    /// after blank lines, from which number on the open blocks had such a line
+    /// after blank lines, the number of open blocks outside those that had one; `None` after a line that is not blank
     blank_from: Option<usize>,
-    /// whether nothing stands yet in the last item of the innermost open list
+    /// whether the last item of the innermost open list is empty so far
     item_is_empty: bool,
 }
 
 impl Looseness {
-    /// No list is open.
+    /// Returns the state where no list is open.
     pub fn new(alloc: Global) -> Looseness
         ensures lists { result.lists.items ≡ [] }
         ensures blank { result.blank_from ≡ None }
@@ -34,14 +34,15 @@ impl Looseness {
         }
     }
 
-    /// Whether nothing stands yet in the last item of the innermost open list.
+    /// Returns whether the last item of the innermost open list is empty so far.
     pub fn is_item_empty(&self) -> bool
         ensures { result ≡ self.now.item_is_empty }
     {
         self.item_is_empty
     }
 
-    /// A list is opened with its first item: it is tight, whether or not a blank line stands before it.
+    /// Records that a list was opened with its first item: it is tight, whether or not a blank line precedes it. Fails
+    /// where memory is refused.
     pub fn open_list(&mut self) -> Result<(), AllocError>
         ensures read { IfOk result (λ _. (blank : Bool) → IsRead self.old.lists.items [] (new_item blank) self.new) }
         ensures same { IfOk result (λ _. self.new
@@ -52,7 +53,7 @@ impl Looseness {
         Ok(())
     }
 
-    /// An item is added to the innermost list, which is the innermost of the open blocks.
+    /// Records that an item is added to the innermost list, which is the innermost of the open blocks.
     #[tactic(auto, using(crate::proofs::ListLoosenessLemmas::item_added))]
     pub fn add_item(&mut self, blocks: &[OpenBlock])
         ensures read { (outer : List Bool) (items : List ItemRead) (last : ItemRead) → IsRead outer items last self.old
@@ -65,7 +66,8 @@ impl Looseness {
         self.item_is_empty = true;
     }
 
-    /// A block is added to the innermost of the open blocks: an item, or none of which a list is loose.
+    /// Records that a block is added to the innermost of the open blocks; it can make a list loose only where that is
+    /// an item.
     #[tactic(auto, using(crate::proofs::ListLoosenessLemmas::block_added))]
     pub fn add_block(&mut self, blocks: &[OpenBlock])
         ensures inside { innermost_is is_item blocks.now ≡ true
@@ -80,8 +82,8 @@ impl Looseness {
         self.item_is_empty = false;
     }
 
-    /// The innermost list is closed. Answers whether it is loose. The list outside it is read on: this one stands in
-    /// its last item.
+    /// Records that the innermost list is closed, and returns whether it is loose. The list outside it continues, with
+    /// this one in its last item.
     pub fn close_list(&mut self) -> bool
         ensures decides { (outer : List Bool) (items : List ItemRead) (last : ItemRead)
             → IsRead outer items last self.old
@@ -99,7 +101,7 @@ impl Looseness {
         }
     }
 
-    /// A line was blank for the open blocks from a number on.
+    /// Records a line that was blank for the open blocks from the number `from` on.
     pub fn see_blank(&mut self, from: usize)
         ensures { self.new ≡ record self.old { blank_from = Some (blank_from self.old.blank_from from) } }
     {
@@ -109,14 +111,14 @@ impl Looseness {
         };
     }
 
-    /// A line was read that is not blank.
+    /// Records a line that was not blank.
     pub fn see_content(&mut self)
         ensures { self.new ≡ record self.old { blank_from = None } }
     {
         self.blank_from = None;
     }
 
-    /// The innermost list is loose.
+    /// Makes the innermost list loose.
     fn loosen(&mut self)
         ensures loose { (outer : List Bool) (before : Bool) → self.old.lists.items ≡ outer ++ before ∷ []
             → self.new.lists.items ≡ outer ++ true ∷ [] }
@@ -129,7 +131,7 @@ impl Looseness {
         self.lists[last] = true;
     }
 
-    /// Whether the innermost of the open blocks had a blank line behind the last line that is not blank.
+    /// Returns whether the innermost of the open blocks had a blank line after the last line that was not blank.
     fn is_behind_blank(&self, blocks: &[OpenBlock]) -> bool
         ensures { result ≡ is_behind_blank self.now.blank_from blocks.now }
     {
@@ -140,7 +142,7 @@ impl Looseness {
     }
 }
 
-/// Whether the innermost of some open blocks is an item.
+/// Returns whether the innermost of the open blocks is an item.
 fn is_in_item(blocks: &[OpenBlock]) -> bool
     ensures { result ≡ innermost_is is_item blocks.now }
 {

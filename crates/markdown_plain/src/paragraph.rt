@@ -1,4 +1,5 @@
 //! A paragraph: its lines, the breaks between them, and what else it may turn out to be (CommonMark 4.3, 4.7, 4.8).
+//! Functions that return a `Result` fail only where memory is refused.
 ghost use Rattle.std.specs.Prelude.{◌≡◌, ◌<◌, ◌≤◌, ◌++◌, ◌∷◌, [], true, false, None, length, IfOk, MatchOption};
 ghost use Rattle.std.specs.Prelude.{if◌then◌else◌};
 ghost use Rattle.markdown_base.specs.declared.item.ItemBody.TheVariants as body;
@@ -20,8 +21,8 @@ use markdown_lines::line::Line;
 use markdown_lines::line_break::line_break;
 use std::alloc::{AllocError, Global};
 
-/// Takes the definition that begins a paragraph's lines, up to where its last line ends. Answers how many lines it takes:
-/// none where there is none.
+/// Takes the definition at the beginning of a paragraph's lines, up to the end of its last line, and returns its number
+/// of lines: 0 where there is none.
 fn take_definition<'a>(
     alloc: Global,
     placing: &mut Placing<'a>,
@@ -52,7 +53,7 @@ fn take_definition<'a>(
     Ok(taken)
 }
 
-/// Takes the definitions at the beginning of a paragraph's lines. Answers how many lines they take.
+/// Takes all definitions at the beginning of a paragraph's lines, and returns their number of lines.
 #[tactic(auto, using(crate::proofs::ParagraphsLemmas::end_of_more))]
 fn take_definitions<'a>(
     alloc: Global,
@@ -80,7 +81,7 @@ fn take_definitions<'a>(
     Ok(taken)
 }
 
-/// Appends a line after which the paragraph goes on, and the break behind it.
+/// Appends a line that is not the paragraph's last, and the break after it.
 fn add_broken_line(
     placing: &mut Placing<'_>,
     line: HeldLine,
@@ -118,7 +119,7 @@ fn add_last_line(
     Ok(())
 }
 
-/// Appends the lines from a number on of the paragraph or heading that is open.
+/// Appends the lines of the open paragraph or heading from the number `from` on.
 fn add_lines(
     placing: &mut Placing<'_>,
     lines: &[HeldLine],
@@ -141,7 +142,7 @@ fn add_lines(
     Ok(())
 }
 
-/// The body of a paragraph, or of the heading that it is.
+/// Returns the body of a paragraph, or of the heading that it turned out to be.
 fn body_of(heading: Option<(HeadingLevel, Line)>) -> ItemBody
     ensures value { MatchOption heading (result ≡ body.Paragraph) (λ h. result ≡ body.Heading h.0 None) }
     ensures plain { is_plain_block result ≡ true }
@@ -152,7 +153,7 @@ fn body_of(heading: Option<(HeadingLevel, Line)>) -> ItemBody
     }
 }
 
-/// Places lines from a number on as a paragraph, or as a heading that ends with the line of its underline.
+/// Places the lines from the number `from` on as a paragraph, or as a heading that ends with the line of its underline.
 #[tactic(auto, using(crate::proofs::OpenBlocksLemmas::outer_of_opened))]
 fn place_paragraph(
     placing: &mut Placing<'_>,
@@ -178,8 +179,8 @@ fn place_paragraph(
 }
 
 impl<'a> Pass<'a> {
-    /// Begins a paragraph with what stands in a line from its first content byte at `start` on, where the blocks
-    /// outside it are so many of those that are open; or goes on with the one that is open.
+    /// Adds a line, from its first content byte at byte offset `start` on, to the open paragraph; where none is open,
+    /// begins one inside the outermost `depth` of the open blocks.
     pub fn add_text(&mut self, line: Line, start: usize, depth: usize) -> Result<(), AllocError>
         ensures text { IfOk result (λ _. self.new.placing.builder.text ≡ self.old.placing.builder.text) }
         ensures goes_on { has_paragraph self.old ≡ true → self.new ≡ record self.old { lines = self.new.lines } }
@@ -204,8 +205,8 @@ impl<'a> Pass<'a> {
         Ok(())
     }
 
-    /// Ends the open paragraph, or makes it a heading that ends with the line of its underline. Answers
-    /// whether it had more than definitions, which end with their last line.
+    /// Ends the open paragraph, or makes it a heading that ends with the line of its underline. Returns whether it
+    /// contained more than definitions; otherwise it ends with the last line of these.
     pub fn end_paragraph(
         &mut self,
         heading: Option<(HeadingLevel, Line)>,

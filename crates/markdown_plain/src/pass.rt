@@ -1,4 +1,5 @@
-//! The state of the block pass between two lines, and the closing of blocks.
+//! The state of the block pass between two lines, and the closing of blocks. Functions that return a `Result` fail only
+//! where memory is refused.
 ghost use Rattle.std.specs.Prelude.{◌≡◌, [], ◌&&◌, false, not, length, take, IfOk};
 ghost use Rattle.std.specs.Option.{option_map};
 ghost use Rattle.markdown_base.specs.declared.item.ItemBody.TheVariants as body;
@@ -17,35 +18,35 @@ use markdown_lines::held_line::HeldLine;
 use markdown_lines::html_kind::HtmlKind;
 use std::alloc::{AllocError, Global};
 
-/// How the code or HTML block that is open goes on.
+/// How the open code or HTML block continues.
 #[derive(Clone, Copy, Drop)]
 pub enum LeafKind {
-    /// lines that are indented, and blank ones between them
+    /// in indented lines, and in blank lines between them
     Indented,
-    /// all lines up to a closing fence
+    /// in all lines up to a closing fence
     Fenced(Fence),
-    /// all lines up to one by which its kind ends
+    /// in all lines up to one that ends a block of its kind
     Html(HtmlKind),
 }
 
-/// The block pass between two lines. Open blocks are those of the builder; a paragraph is not opened before it
+/// The block pass between two lines. The builder has the open blocks, except that a paragraph is not opened before it
 /// ends, since it may turn out to be definitions or a heading.
 #[derive(Drop)]
 pub struct Pass<'a> {
     pub alloc: Global,
     pub options: Options,
     pub placing: Placing<'a>,
-    /// the lines of the open paragraph; in an indented code block blank ones, with which it may go on
+    /// the lines of the open paragraph; in an indented code block, the blank lines after which it may continue
     pub lines: Vec<HeldLine>,
-    /// the kind of the code or HTML block opened last
+    /// the kind of the code or HTML block that was opened last
     pub leaf: LeafKind,
     pub looseness: Looseness,
-    /// from here on only lines were read that are blank for all open blocks
+    /// the byte offset from which on all lines that were read are blank for all open blocks
     pub placed: usize,
 }
 
 impl<'a> Pass<'a> {
-    /// Nothing is read yet.
+    /// Returns the state in which nothing is read yet.
     pub fn new(alloc: Global, text: &'a str, options: Options) -> Result<Pass<'a>, AllocError>
         ensures made { IfOk result (λ made. made.placing.builder ≡ nothing_made text.now) }
         ensures fitted { IfOk result (λ made. AllFitted made.placing) }
@@ -64,28 +65,28 @@ impl<'a> Pass<'a> {
         })
     }
 
-    /// What was built.
+    /// Returns what was built.
     pub fn into_placing(self) -> Placing<'a>
         ensures { result ≡ self.entry.placing }
     {
         self.placing
     }
 
-    /// Whether a paragraph is open.
+    /// Returns whether a paragraph is open.
     pub fn has_paragraph(&self) -> bool
         ensures { result ≡ has_paragraph self.now }
     {
         !self.placing.is_in_leaf() && !self.lines.is_empty()
     }
 
-    /// How many blocks are open.
+    /// Returns the number of open blocks.
     pub fn depth(&self) -> usize
         ensures { result ≡ length self.now.placing.builder.blocks }
     {
         self.placing.open_blocks().len()
     }
 
-    /// Whether the innermost open block is a list.
+    /// Returns whether the innermost open block is a list.
     fn is_in_list(&self) -> bool
         ensures { result ≡ innermost_is is_list self.now.placing.builder.blocks }
     {
@@ -95,7 +96,7 @@ impl<'a> Pass<'a> {
         }
     }
 
-    /// Closes the innermost open block, of which the last line was read.
+    /// Closes the innermost open block, whose last line was read.
     pub fn close_block(&mut self)
         ensures text { self.new.placing.builder.text ≡ self.old.placing.builder.text }
         ensures closes { IfFitted self.old.placing self.new.placing (self.new.placing.builder
@@ -121,7 +122,7 @@ impl<'a> Pass<'a> {
         }
     }
 
-    /// Ends the open leaf, and closes the open blocks down to so many.
+    /// Ends the open leaf, and closes the open blocks except the outermost `depth`.
     pub fn close_down(&mut self, depth: usize) -> Result<(), AllocError>
         ensures text { IfOk result (λ _. self.new.placing.builder.text ≡ self.old.placing.builder.text) }
         ensures closes { IfOk result (λ _. IfFitted self.old.placing self.new.placing
@@ -146,7 +147,8 @@ impl<'a> Pass<'a> {
         Ok(())
     }
 
-    /// Closes down to so many blocks, and the list that is then the innermost one, for a block that is no item.
+    /// Makes room for a block that is not an item: ends the open leaf, closes the open blocks except the outermost
+    /// `depth`, and also closes the innermost of these if it is a list.
     pub fn make_room(&mut self, depth: usize) -> Result<(), AllocError>
         ensures text { IfOk result (λ _. self.new.placing.builder.text ≡ self.old.placing.builder.text) }
         ensures closes { IfOk result (λ _. IfFitted self.old.placing self.new.placing
@@ -170,7 +172,8 @@ impl<'a> Pass<'a> {
         Ok(())
     }
 
-    /// Ends the leaf that is open: what is held back of it is placed, or was no part of it.
+    /// Ends the open leaf: places a paragraph, or closes another leaf without the blank lines held back at its end,
+    /// which are not part of it.
     pub fn end_leaf(&mut self) -> Result<(), AllocError>
         ensures text { IfOk result (λ _. self.new.placing.builder.text ≡ self.old.placing.builder.text) }
         ensures ends { IfOk result (λ _. IfFitted self.old.placing self.new.placing
@@ -190,7 +193,7 @@ impl<'a> Pass<'a> {
     }
 }
 
-/// The body of the innermost open block.
+/// Returns the body of the innermost open block.
 pub fn innermost(placing: &Placing<'_>) -> Option<ItemBody>
     ensures { result ≡ option_map (λ block. block.body) (innermost_block placing.now.builder.blocks) }
 {
@@ -200,7 +203,7 @@ pub fn innermost(placing: &Placing<'_>) -> Option<ItemBody>
     }
 }
 
-/// Closes the innermost open block, a list that is loose or not.
+/// Closes the innermost open block, which is a list, loose or tight.
 #[tactic(auto, using(crate::proofs::OpenBlocksLemmas::outer_of_opened))]
 fn close_list(placing: &mut Placing<'_>, character: u8, first: u64, loose: bool)
     ensures text { placing.new.builder.text ≡ placing.old.builder.text }

@@ -1,6 +1,7 @@
-//! What the pass asks of its builder, each call where it fits: places lie ahead and between characters, inline
-//! items stand in a leaf, and blocks outside of one. A call that does not fit is counted, and nothing is made then:
-//! the tests show that none is.
+//! The block pass's calls of its builder, each made only where it fits: byte offsets are not before the current one and
+//! lie between characters, inline items are put into a leaf, and blocks outside one. A call that does not fit is
+//! counted, and makes nothing; the tests show that there is none. Functions that return a `Result` fail only where
+//! memory is refused.
 ghost use Rattle.std.specs.Prelude.{◌≡◌};
 
 use markdown_base::cow_str::CowStr;
@@ -13,7 +14,7 @@ use markdown_lines::definition::Definition;
 use markdown_lines::line::next_content;
 use std::alloc::{AllocError, Global};
 
-/// A builder, and how many of the calls asked of it did not fit.
+/// A builder, and the number of calls that did not fit.
 #[derive(Drop)]
 pub struct Placing<'a> {
     pub builder: Builder<'a>,
@@ -33,7 +34,7 @@ impl<'a> Placing<'a> {
     ghost use Rattle.markdown_plain.specs.Fitting.{AllFitted, IfFitted, IsAhead, IsWhiteOutside};
     ghost use Rattle.markdown_plain.specs.Fitting.{BeginsAtContent, GoesOn, HasBody, closed, extended, stepped};
 
-    /// Nothing is made yet.
+    /// Returns a builder that has made nothing yet.
     pub fn new(alloc: Global, text: &'a str) -> Result<Placing<'a>, AllocError>
         ensures made { IfOk result (λ made. made.builder ≡ nothing_made text.now) }
         ensures fitted { IfOk result (λ made. AllFitted made) }
@@ -44,28 +45,28 @@ impl<'a> Placing<'a> {
         })
     }
 
-    /// The text.
+    /// Returns the text.
     pub fn text(&self) -> &'a str
         ensures { result.now ≡ self.now.builder.text }
     {
         self.builder.text()
     }
 
-    /// The open blocks, the outermost first.
+    /// Returns the open blocks, the outermost first.
     pub fn open_blocks(&self) -> &[OpenBlock]
         ensures { result.now ≡ self.now.builder.blocks }
     {
         self.builder.open_blocks()
     }
 
-    /// Whether the innermost open block is a leaf.
+    /// Returns whether the innermost open block is a leaf.
     pub fn is_in_leaf(&self) -> bool
         ensures { result ≡ self.now.builder.leaf }
     {
         self.builder.is_in_leaf()
     }
 
-    /// A call does not fit.
+    /// Counts a call that does not fit.
     pub fn miss(&mut self)
         ensures nothing { self.new.builder ≡ self.old.builder }
         ensures counted { AllFitted self.new → ⊥ }
@@ -73,7 +74,7 @@ impl<'a> Placing<'a> {
         self.misfits = self.misfits.saturating_add(1);
     }
 
-    /// Whether a place lies ahead, between characters.
+    /// Returns whether a byte offset is not before the current one, and lies between characters.
     fn is_ahead(&self, to: usize) -> bool
         ensures low { result ≡ true → self.now.builder.at ≤ to }
         ensures boundary { result ≡ true → IsCharBoundary self.now.builder.text to }
@@ -82,7 +83,7 @@ impl<'a> Placing<'a> {
         self.builder.at() <= to && self.builder.text().is_char_boundary(to)
     }
 
-    /// Steps on to a place. Where no block is open, only white space lies before it.
+    /// Moves to byte offset `to`; where no block is open, only white space may be before it.
     pub fn step_to(&mut self, to: usize)
         ensures text { self.new.builder.text ≡ self.old.builder.text }
         ensures steps { IfFitted self.old self.new (self.new.builder ≡ stepped self.old.builder to) }
@@ -106,7 +107,7 @@ impl<'a> Placing<'a> {
         }
     }
 
-    /// Opens a block here.
+    /// Opens a block at the current byte offset.
     pub fn open_block(&mut self, body: ItemBody) -> Result<(), AllocError>
         requires { is_plain_block body ≡ true }
         ensures text { IfOk result (λ _. self.new.builder.text ≡ self.old.builder.text) }
@@ -121,7 +122,7 @@ impl<'a> Placing<'a> {
         Ok(())
     }
 
-    /// Opens a fenced code block here.
+    /// Opens a fenced code block at the current byte offset.
     pub fn open_code(&mut self, info: CowStr<'a>) -> Result<(), AllocError>
         ensures text { IfOk result (λ _. self.new.builder.text ≡ self.old.builder.text) }
         ensures opens { IfOk result (λ _. IfFitted self.old self.new
@@ -138,7 +139,7 @@ impl<'a> Placing<'a> {
         Ok(())
     }
 
-    /// Opens a footnote definition here.
+    /// Opens a footnote definition at the current byte offset.
     pub fn open_note(&mut self, name: CowStr<'a>, listed: CowStr<'a>) -> Result<(), AllocError>
         ensures text { IfOk result (λ _. self.new.builder.text ≡ self.old.builder.text) }
         ensures opens { IfOk result (λ _. IfFitted self.old self.new
@@ -157,7 +158,8 @@ impl<'a> Placing<'a> {
         Ok(())
     }
 
-    /// Where the content of the innermost open block begins, if that is behind us.
+    /// Returns the byte offset at which the content of the innermost open block begins, if that is not after the
+    /// current one.
     fn content_of_block(&self) -> Option<usize>
         ensures low { IfSome result (λ content. content ≤ self.now.builder.at) }
         ensures boundary { IfSome result (λ content. IsCharBoundary self.now.builder.text content) }
@@ -180,7 +182,7 @@ impl<'a> Placing<'a> {
         }
     }
 
-    /// Lets the innermost open block begin at its first content byte, though its first item begins before.
+    /// Moves the start of the innermost open block to its first content byte, though its first item starts before that.
     pub fn begin_at_content(&mut self)
         ensures same { self.new.builder ≡ record self.old.builder { blocks = self.new.builder.blocks } }
         ensures begins { IfFitted self.old self.new (BeginsAtContent self.old.builder self.new.builder) }
@@ -191,7 +193,7 @@ impl<'a> Placing<'a> {
         }
     }
 
-    /// Gives the innermost open block, which is no leaf, another body.
+    /// Replaces the body of the innermost open block, which is not a leaf.
     pub fn change(&mut self, body: ItemBody)
         requires block { is_plain_block body ≡ true }
         requires outside { is_leaf body ≡ false }
@@ -206,7 +208,7 @@ impl<'a> Placing<'a> {
         self.builder.change(body);
     }
 
-    /// Appends a settled inline item up to a place.
+    /// Appends a settled inline item up to byte offset `end`.
     pub fn add_inline(&mut self, body: ItemBody, end: usize) -> Result<(), AllocError>
         requires { is_settled body ≡ true }
         ensures text { IfOk result (λ _. self.new.builder.text ≡ self.old.builder.text) }
@@ -223,7 +225,7 @@ impl<'a> Placing<'a> {
         Ok(())
     }
 
-    /// Appends the columns that a cut tab owes here.
+    /// Appends the columns that a partly read tab owes, as spaces.
     pub fn add_owed(&mut self, owed: usize) -> Result<(), AllocError>
         ensures text { IfOk result (λ _. self.new.builder.text ≡ self.old.builder.text) }
         ensures owed { IfOk result (λ _. 0 < owed → IfFitted self.old self.new
@@ -247,7 +249,7 @@ impl<'a> Placing<'a> {
         Ok(())
     }
 
-    /// Appends the inline items of a line's content up to a place.
+    /// Appends the inline items of a line's content up to byte offset `end`.
     pub fn add_items(&mut self, end: usize, options: Options) -> Result<(), AllocError>
         ensures text { IfOk result (λ _. self.new.builder.text ≡ self.old.builder.text) }
         ensures appends { IfOk result (λ _. IfFitted self.old self.new
@@ -263,7 +265,7 @@ impl<'a> Placing<'a> {
         Ok(())
     }
 
-    /// Appends a thematic break up to a place.
+    /// Appends a thematic break up to byte offset `end`.
     pub fn add_rule(&mut self, end: usize) -> Result<(), AllocError>
         ensures text { IfOk result (λ _. self.new.builder.text ≡ self.old.builder.text) }
         ensures appends { IfOk result (λ _. IfFitted self.old self.new
@@ -279,7 +281,7 @@ impl<'a> Placing<'a> {
         Ok(())
     }
 
-    /// Whether a `[` stands here.
+    /// Returns whether the byte at the current offset is a `[`.
     fn is_at_bracket(&self) -> bool
         ensures here { result ≡ true → slice_index self.now.builder.text self.now.builder.at ≡ 91 }
         ensures elsewhere { result ≡ false → slice_get self.now.builder.text self.now.builder.at ≡ Some 91 → ⊥ }
@@ -289,7 +291,7 @@ impl<'a> Placing<'a> {
         at < bytes.len() && bytes[at] == b'['
     }
 
-    /// Adds a link reference definition whose `[` stands here.
+    /// Adds a link reference definition whose `[` is at the current byte offset.
     pub fn add_definition(&mut self, found: Definition<'a>) -> Result<(), AllocError>
         ensures text { IfOk result (λ _. self.new.builder.text ≡ self.old.builder.text) }
         ensures adds { IfOk result (λ _. IfFitted self.old self.new
@@ -316,7 +318,7 @@ impl<'a> Placing<'a> {
         Ok(())
     }
 
-    /// Closes the innermost open block, which ends here.
+    /// Closes the innermost open block, which ends at the current byte offset.
     #[tactic(auto, using(crate::proofs::OpenBlocksLemmas::outer_of_these))]
     pub fn close(&mut self)
         ensures text { self.new.builder.text ≡ self.old.builder.text }
@@ -328,7 +330,7 @@ impl<'a> Placing<'a> {
         }
     }
 
-    /// Closes all open blocks.
+    /// Closes all open blocks, each of which counts as a call that does not fit.
     pub fn close_all(&mut self)
         ensures text { self.new.builder.text ≡ self.old.builder.text }
         ensures closed { self.new.builder.blocks ≡ [] }
@@ -341,7 +343,7 @@ impl<'a> Placing<'a> {
         }
     }
 
-    /// Goes over what is left of the text, where no block is open: white space, once all lines were read.
+    /// Skips what is left of the text, where no block is open: white space, once all lines were read.
     pub fn step_to_end(&mut self) -> Result<(), AllocError>
         requires { self.old.builder.blocks ≡ [] }
         ensures text { IfOk result (λ _. self.new.builder.text ≡ self.old.builder.text) }

@@ -1,4 +1,4 @@
--- What is put behind a left list changes the whole chain: the nodes of the left list stay, and so does what they read as.
+-- What is put after a left list changes the whole chain: the nodes of the left list stay, and read as they did.
 use Rattle.std.proofs.Common.{◌≡◌, ℕ, ◌<◌, ◌≤◌, List, length, Option, Some, None, ⊎_elim, refl, sym, ap, ◌∙◌, subst, arith}
 use Rattle.std.proofs.lemmas.Bool.{cases_lt}
 use Rattle.markdown_base.specs.Arena.{child_of, sibling_of}
@@ -41,7 +41,8 @@ module _ (source : List ℕ) (old new : List (Node Item)) (tables tables' : Tabl
       ap (λ (a : Plain). let b : Label ℕ = record { tag = n; part = a.part } in b) (label-same source tables tables' old new n h.0) in
       rw (same, numbered_stays below h.1, numbered_stays after h.2) refl
 
-  -- what follows a first node was changed, and so the chain from that node on was: it stays, and so does what is below it
+  -- what follows a first node was changed, and so the chain from that node on was changed: the node stays, with what is
+  -- below it
   record Further (ix : ℕ) : Type 0 where
     changes : ChangesChain source (Some ix) old new tables tables'
     runs : RunsGoOn source old new (Some ix)
@@ -103,7 +104,7 @@ module _ (source : List ℕ) (old new : List (Node Item)) (tables tables' : Tabl
         trees = numbered_opens source tables' new ix hm.moves.stands ∙ rw (here.child, here.next, label, below) refl;
       }
 
-  -- so it was with all that stands before a link
+  -- the same for all trees that precede what was changed
   pub record Behind (ix : ℕ) (head : Forest (Label ℕ)) (l : Option ℕ) : Type 0 where
     pub changes : ChangesChain source l old new tables tables'
     pub runs : RunsGoOn source old new l
@@ -134,7 +135,7 @@ module _ (source : List ℕ) (old new : List (Node Item)) (tables tables' : Tabl
         trees = more.trees ∙ rw (is_label, is_below, r.trees) refl;
       }
 
--- an opener of a left list stays where what is behind the left list is changed
+-- an opener of a left list stays where what follows the left list is changed
 pub openers_stay : (source : List ℕ) (tables tables' : Tables) (old new : List (Node Item)) (first ix : ℕ) (before : List (Entry ℕ))
     → StandsTo source tables old first (Some ix) before
     → ChangesChain source (Some ix) old new tables tables' → EachWaits (IsOpener source new) before
@@ -162,7 +163,7 @@ openers_stay source tables tables' old new first ix before h c =
     })
     h.waiting
 
--- trees were put behind a left list where they were put in place of what stood there
+-- trees were put after a left list where they were put in place of what was there
 pub puts_behind : (source : List ℕ) (first ix : ℕ) (next : Option ℕ) (before : List (Entry ℕ)) (trees rest : Forest Plain)
     (old new : List (Node Item)) (tables tables' : Tables)
     → StandsTo source tables old first (Some ix) before → PutsTrees source ix next trees rest old new tables tables'

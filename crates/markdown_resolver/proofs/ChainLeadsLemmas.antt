@@ -1,5 +1,4 @@
--- A chain that may be resolved is one along which links lead, and what searches have learned of it stays true as it is
--- read on.
+-- Links lead along a chain that can be resolved, and what searches have learned of it stays true as it is read on.
 use Rattle.std.proofs.Common.{◌≡◌, ℕ, suc, ◌≤◌, Bool, true, false, List, [], ◌∷◌, Option, Some, None, refl, arith}
 use Rattle.std.specs.Prelude.{IfSome, is_some, if◌then◌else◌, nat_le}
 use Rattle.std.specs.Option.{option_map}
@@ -29,7 +28,7 @@ abbrev pub items_along : List (Node Item) → Forest ℕ → List Numbered
 items_along nodes nil = []
 items_along nodes (node ix below after) = numbered nodes ix ∷ items_along nodes after
 
--- an item that is no block, as it reads
+-- an item that is not a block, as it reads
 pub no_block : (b : ItemBody) → is_some (block_of b) ≡ false → is_block b ≡ false
 no_block b h = by_block (is_block b) h
   where
@@ -37,7 +36,7 @@ no_block b h = by_block (is_block b) h
     by_block true h = cc h
     by_block false h = refl
 
--- the numbers of a chain rise, since each item stands before the next one
+-- the numbers of a chain rise, since each item precedes the next one
 pub next_above : (source : List ℕ) (tables : Tables) (nodes : List (Node Item)) (ix : ℕ) (l : Option ℕ) (f : Forest ℕ)
     → Spells (links_of nodes) l f → is_block (item_at nodes ix).body ≡ false
     → IsQuietBelow (relabelled (label_at source tables nodes) f) → StandsBefore (numbered nodes ix) (option_map (numbered nodes) l)
@@ -65,7 +64,7 @@ pub any_link : (l : Option ℕ) → IfSome l (λ n. 0 ≤ n)
 any_link None = tt
 any_link (Some n) = omega arith
 
--- links lead along the items of a chain that may be resolved
+-- links lead along the items of a chain that can be resolved
 pub leads_items : (source : List ℕ) (tables : Tables) (nodes : List (Node Item)) (l : Option ℕ) → CanResolve source tables nodes l
     → LeadsThrough nodes 0 l (items_along nodes (forest_at (links_of nodes) l))
 leads_items source tables nodes l ready =
@@ -80,7 +79,7 @@ chain_leads source tables nodes l ready =
 abbrev begun_number : ℕ → Numbered → Numbered
 begun_number i a = record { number = a.number; item = begun_item i a.item }
 
--- what was learned of a chain is true of what is left of it past a byte
+-- what was learned of a chain is true of what is left of it past a byte offset
 holds_past_byte : (kind : SpanKind) (learned : Learned) (nodes : List (Node Item)) (i low : ℕ) (l : Option ℕ) (chain : List Numbered)
     → LeadsThrough nodes low l chain → HoldsOf kind learned chain → HoldsOf kind learned (numbered_past_byte i chain)
 holds_past_byte kind learned nodes i low l [] h holds = holds
@@ -100,7 +99,7 @@ holds_of_past : (kind : SpanKind) (learned : Learned) (nodes : List (Node Item))
 holds_of_past kind learned nodes None low l chain h holds = holds
 holds_of_past kind learned nodes (Some i) low l chain h holds = holds_past_byte kind learned nodes i low l chain h holds
 
--- so it is where the chain was rewritten up to that byte
+-- so it is where the chain was rewritten up to that offset
 pub holds_past : (kind : SpanKind) (learned : Learned) (old new : List (Node Item)) (ix : ℕ) (goes_on next : Option ℕ)
     → HasChain old (sibling_of old ix)
     → ((low : ℕ) (after : List Numbered) → LeadsThrough old low (sibling_of old ix) after

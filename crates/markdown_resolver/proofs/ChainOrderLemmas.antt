@@ -23,7 +23,7 @@ use Rattle.markdown_resolver.specs.Chains.{CanResolve}
 use Rattle.markdown_resolver.specs.Kept.{IsQuietBelow}
 use Rattle.markdown_resolver.specs.Rewritten.{begun_item, first_past, numbered_past_byte}
 
--- numbers stand past a number, and their items past a byte
+-- numbers are past a number, and their items past a byte offset
 pub record StandsPast (nodes : List (Node Item)) (low byte n : ℕ) : Type 0 where
   pub number : low < n
   pub start : byte ≤ (item_at nodes n).start
@@ -36,7 +36,7 @@ no_block : (is : Bool) (b : ItemBody) → is_some (if is then Some b else None) 
 no_block true b h = cc h
 no_block false b h = refl
 
--- the item after one stands past it
+-- the item after one is past it
 next_past : (source : List ℕ) (tables : Tables) (nodes : List (Node Item)) (ix : ℕ) (l : Option ℕ) (f : Forest ℕ)
     → is_block (item_at nodes ix).body ≡ false → Spells (links_of nodes) l f
     → IsQuietBelow (relabelled (label_at source tables nodes) f) → StandsBefore (numbered nodes ix) (option_map (numbered nodes) l)
@@ -68,7 +68,7 @@ all_past source tables nodes low byte l (node ix below after) s placed quiet fir
           (past_more nodes low ix byte (item_at nodes ix).end (sibling_of nodes ix) (omega arith) (omega arith) next),
     )
 
--- all that follow the first item of a chain stand past it
+-- all that follow the first item of a chain are past it
 pub rest_past : (source : List ℕ) (tables : Tables) (nodes : List (Node Item)) (ix : ℕ) → CanResolve source tables nodes (Some ix)
     → AllPast nodes ix (item_at nodes ix).end (roots (forest_at (links_of nodes) (sibling_of nodes ix)))
 rest_past source tables nodes ix ready =
@@ -80,7 +80,7 @@ rest_past source tables nodes ix ready =
     (no_block (is_block (item_at nodes ix).body) (item_at nodes ix).body quiet.0)
     o.after.spelled quiet.2 o.holds.keeps.in_order)
 
--- the first of them that ends past a byte does
+-- so is the first of them that ends past a byte offset
 pub record IsFirstPast (nodes : List (Node Item)) (low byte i ix : ℕ) : Type 0 where
   pub place : StandsPast nodes low byte ix
   pub ends : i < (item_at nodes ix).end
@@ -135,7 +135,7 @@ leads_above old new l low (a ∷ after) more kept h =
     let go = leads_above old new (sibling_of old a.number) (suc a.number) after more (λ n le. kept n (omega (arith, le, least))) h.4 in
     (h.0, h.1, omega (arith, h.2, more), at.item ∙ h.3, rw at.next go)
 
--- what is left of a chain past a byte, with the first item as it is; and that begun there
+-- what is left of a chain past a byte offset, with the first item as it is; and with that begun there
 abbrev pub numbered_left : ℕ → List Numbered → List Numbered
 numbered_left i [] = []
 numbered_left i (a ∷ after) = if nat_le a.item.end i then numbered_left i after else a ∷ after

@@ -1,5 +1,5 @@
--- What stands above a chain: of the nodes gone into only the blocks take part of a line's prefix, and each is a node of
--- the tree.
+-- What is above a chain: of the nodes that were entered, only the blocks contribute to a line's prefix, and each is a
+-- node of the tree.
 use Rattle.std.proofs.Common.{◌≡◌, ℕ, zero, suc, ◌<◌, ◌≤◌, ◌+◌, Bool, true, false, List, [], ◌∷◌, ◌++◌, Option, Some, None, length, map}
 use Rattle.std.proofs.Common.{drop, get_or, refl, sym, ap, ◌∙◌, arith, append_assoc, append-nil}
 use Rattle.std.specs.Prelude.{if◌then◌else◌, slice_index}
@@ -50,7 +50,7 @@ bodies_inside nodes (ix ∷ deeper) above =
     added None = refl
     added (Some block) = append_assoc above.bodies (block ∷ []) (blocks_in nodes deeper)
 
--- what is no block takes nothing of a line
+-- what is not a block takes nothing of a line
 takes_nothing : (gfm : Bool) (b : ItemBody) (line : LineLeft) → is_block b ≡ false → past_block gfm b line ≡ Some line
 takes_nothing gfm (body.BlockQuote kind) line h = cc h
 takes_nothing gfm (body.ListItem indent) line h = cc h
@@ -94,7 +94,7 @@ prefix_is prefix s e bytes =
     (sym (bodies_inside tree.nodes tree.spine (no_blocks s.text)))
     ∙ ap (λ (gfm : Bool). prefix_length gfm (above_cursor s.text tree).bodies bytes) e
 
--- each node gone into is a node of the tree
+-- each node that was entered is a node of the tree
 within_nodes : (source : List ℕ) (nodes : List (Node Item)) (l : Option ℕ) (spine : List ℕ) → AreAbove source nodes l spine
     → (k : ℕ) → k < length spine → slice_index spine k < length nodes
 within_nodes source nodes l [] above k h = absurd (omega (arith, h))
@@ -112,7 +112,7 @@ pub record IsReadUpTo (source : List ℕ) (place : ChainPlace) (nodes : List (No
   pub boundary : IsCharBoundary source place.block_end
   pub text : place.text.now ≡ source
 
--- before the first the whole text is at hand
+-- before the first, the whole text is in reach
 pub nothing_read : (source : List ℕ) (place : ChainPlace) (nodes : List (Node Item)) (spine : List ℕ) (i : ℕ) → i ≡ 0
     → place.text.now ≡ source → place.block_end ≡ length source → place.in_table ≡ false → IsReadUpTo source place nodes spine i
 nothing_read source place nodes spine i first text ends table = record {
@@ -130,7 +130,7 @@ lies_above source nodes l [] i above h = absurd (omega (arith, h))
 lies_above source nodes l (ix ∷ deeper) zero above h = above.0.lies
 lies_above source nodes l (ix ∷ deeper) (suc i) above h = lies_above source nodes l deeper i above.1 (omega (arith, h))
 
--- what is inside a node more
+-- what is inside one more node
 read_next : (nodes : List (Node Item)) (spine : List ℕ) (i : ℕ) (above : Above) (block : Option ItemBody) → i < length spine
     → block_of (item_at nodes (get_or spine i 0)).body ≡ block
     → inside_all nodes (drop i spine) above ≡ inside_all nodes (drop (i + 1) spine)
@@ -139,7 +139,7 @@ read_next nodes spine i above block within is =
     ap (λ (rest : List ℕ). inside_all nodes rest above) (drop_more spine i 0 within)
     ∙ ap (λ (b : Option ItemBody). inside_all nodes (drop (i + 1) spine) (inside b (range_of (item_at nodes (get_or spine i 0))) above)) is
 
--- a block more: the place is that of its end
+-- one more block: the place is that of its end
 pub block_read : (source : List ℕ) (place place' : ChainPlace) (nodes : List (Node Item)) (l : Option ℕ) (spine : List ℕ) (i : ℕ)
     (item : Item) → AreAbove source nodes l spine → i < length spine
     → item ≡ item_at nodes (get_or spine i 0) → is_block item.body ≡ true
@@ -157,7 +157,7 @@ block_read source place place' nodes l spine i item above within same is text en
       text = text ∙ r.text;
     }
 
--- another node more: the place is as it was
+-- one more node that is not a block: the place is unchanged
 pub other_read : (source : List ℕ) (place : ChainPlace) (nodes : List (Node Item)) (spine : List ℕ) (i : ℕ) (item : Item) → i < length spine
     → item ≡ item_at nodes (get_or spine i 0) → is_block item.body ≡ false → IsReadUpTo source place nodes spine i
     → IsReadUpTo source place nodes spine (i + 1)

@@ -1,5 +1,5 @@
--- What pass one asks is what brackets ask of the chain; and in a chain of a well-formed block result in which an item is open
--- all items are inline, so they stand in order.
+-- What pass one asks is what brackets ask of the chain; and in a chain of a well-formed block result in which an item
+-- is open, all items are inline, so they are in order.
 use Rattle.std.proofs.Common.{◌≡◌, ℕ, Bool, true, false, ◌&&◌, ◌||◌, List, ◌≤◌, refl}
 use Rattle.std.specs.Prelude.{IfSome, IsTrue, slice_range}
 use Rattle.std.specs.List.{list_all}
@@ -28,11 +28,11 @@ use Rattle.markdown_resolver.specs.PassOne.{around, pass_one, read_other}
 use Rattle.markdown_resolver.specs.Resolved.{resolved}
 
 module _ {A : Type 0} (s : Setting) (tags : Tags A) (above : Above) where
-  -- an item that is no bracket asks nothing
+  -- an item that is not a bracket asks nothing
   other_asks_nothing : AsksNothing (read_other s tags above)
   other_asks_nothing a below rest p = refl
 
-  -- and the prefix of a line holds no `[`
+  -- the prefix of a line contains no `[`
   prefix_holds_none : HoldsNoOpener (around s above).skipped
   prefix_holds_none bytes = prefix_opens_none (gfm_footnotes_on s.rules.options) above.bodies bytes
 
@@ -94,7 +94,7 @@ module _ (source : List ℕ) (tables : Tables) (counts : PartCounts) where
         in_line after h.2 inline.1,
       )
 
-  -- in a chain in which an item is open all are inline, and so it is below
+  -- in a chain in which an item is open all items are inline, and so it is below
   chains_in_line : (f : Forest Numbered) → AllKeepRules source counts f → (IsTrue (has_open f) → IsTrue (all_inline f))
       → EachChain (StandInLine source) (relabelled seen f)
   chains_in_line nil h kept = tt

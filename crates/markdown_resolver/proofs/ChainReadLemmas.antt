@@ -1,5 +1,5 @@
--- A chain is read where it stands, from its first node on: what is so of what was read and of what is left, item by item, and
--- that the rules and the blocks above the chain stay the same.
+-- A chain is read in place, from its first node on: what is true of what was read and of what is left, item by item,
+-- and that the rules and the blocks above the chain stay the same.
 use Rattle.std.proofs.Common.{◌≡◌, ℕ, Bool, List, [], ◌∷◌, Option, Some, None, refl, sym, ap, ◌∙◌, subst}
 use Rattle.std.proofs.Math.Path.{fun_ext}
 use Rattle.std.specs.Prelude.{is_some}
@@ -28,8 +28,8 @@ use Rattle.markdown_resolver.proofs.StandsToLemmas.{above_changed, above_rest, s
 use Rattle.markdown_defs.specs.Allocations.{Allocated}
 use Rattle.markdown_defs.specs.Footnotes.{footnote_at}
 
--- the setting of a chain stays where its text, the options, the definitions, the names of its footnotes, and whether there is
--- somebody to ask stay
+-- the setting of a chain stays where its text, the options, the reference definitions, the names of its footnotes, and
+-- whether there is a callback stay
 pub same_setting : (text text' : List ℕ) (options options' : Options) (held held' : Allocated) (asks asks' : Bool) → text' ≡ text
     → options' ≡ options → held'.refdefs ≡ held.refdefs
     → ((name : List ℕ) → is_some (footnote_at held'.footdefs name) ≡ is_some (footnote_at held.footdefs name)) → asks' ≡ asks
@@ -49,7 +49,7 @@ inside_changed source l old new tables tables' (n ∷ deeper) outer c above =
     ap (λ (item : Item). inside_all new deeper (inside_item item outer)) (c.outside n at.within at.apart).item
     ∙ inside_changed source l old new tables tables' deeper (inside_item (item_at old n) outer) c above.1
 
--- where a chain was read up to an item, that item may be read
+-- where a chain was read up to an item, that item can be read
 pub can_read_item : {place : ChainPlace} {tree : Arena Item} {held : Allocated} {brackets wikilinks : List Waiting} {first ix : ℕ}
     {left : List (Entry ℕ)}
     → CanReadOn place tree held brackets wikilinks first ix left → CanReadItem place tree held ix
@@ -59,7 +59,7 @@ can_read_item {place} {tree} {held} {brackets} {wikilinks} {first} {ix} {left} c
   above = above_rest place.text.now (tables_of held) tree.nodes first (Some ix) left tree.spine can.so_far can.above;
 }
 
--- a chain was read where it stands from the node `first` up to a link
+-- a chain was read in place from the node `first` up to a link
 pub record ReadsUpTo {C : Type 0} (step : C → Question → Option Answer → C → Type 0) (s : Setting) (first : ℕ) (at : Option ℕ)
     (old now : Arena Item) (held held' : Allocated) (limit limit' : ℕ)
     (callback callback' : Option C) (spent : SpentEnds) (brackets wikilinks : List Waiting) : Type 0 where
@@ -93,7 +93,7 @@ module _ {C : Type 0} {step : C → Question → Option Answer → C → Type 0}
   same_spine : now.spine ≡ old.spine
   same_spine = ap (λ (t : Arena Item). t.spine) r.tree
 
-  -- the same blocks stand above it
+  -- the same blocks are above it
   pub still_above : AreAbove s.text now.nodes (Some first) now.spine
   still_above = rw same_spine (above_changed s.text (Some first) old.nodes now.nodes (tables_of held) (tables_of held') old.spine
       r.reads.changes is_above)
@@ -104,11 +104,11 @@ module _ {C : Type 0} {step : C → Question → Option Answer → C → Type 0}
       ∙ inside_changed s.text (Some first) old.nodes now.nodes (tables_of held) (tables_of held') old.spine (no_blocks s.text)
       r.reads.changes is_above
 
-  -- and there is still somebody to ask, or not
+  -- there is still a callback, or still none
   pub still_asks : is_some callback' ≡ is_some callback
   still_asks = sym (Asks-some step callback callback' r.reads.questions r.reads.answers r.reads.asked)
 
-  -- what is left may be read
+  -- what is left can be read
   pub can_read_on : (place : ChainPlace) (ix : ℕ) → at ≡ Some ix → place.text.now ≡ s.text → IsPlaceOf place old
       → CanReadOn place now held' brackets wikilinks first ix r.reads.left_then
   can_read_on place ix is text stands =

@@ -1,4 +1,5 @@
--- A `]` behind a left list that stands in an arena: by what rules it is decided, that its openers may be tried, and what is put.
+-- A `]` after a left list in an arena: the rules by which it is decided, that its openers can be tried, and what is put
+-- in place.
 use Rattle.markdown_base.specs.declared.item.ItemBody.TheVariants as body
 use Rattle.std.proofs.Common.{◌≡◌, ℕ, ◌-◌, ◌<◌, Bool, not, ◌&&◌, List, [], ◌++◌, Option, Some, None, length, drop, refl, sym, ap, ◌∙◌}
 use Rattle.std.proofs.Common.{subst, arith}
@@ -100,7 +101,7 @@ module _ {place : ChainPlace} {tree : Arena Item} {held : Allocated} {brackets w
   here_ready : CanResolve place.text.now (tables_of held) tree.nodes (Some ix)
   here_ready = stands_rest place.text.now (tables_of held) tree.nodes first (Some ix) left can.so_far
 
-  -- each opener that a stack holds may be tried, and a wikilink looked for
+  -- each opener that a stack holds can be tried, and a wikilink looked for
   pub tries_each : EachOpener (CanTry tree.nodes place ix) brackets
   tries_each =
       let source = place.text.now in
@@ -120,8 +121,8 @@ module _ {place : ChainPlace} {tree : Arena Item} {held : Allocated} {brackets w
       (each_follows (StandsOpen source (tables_of held) tree.nodes ix) (λ n. CanFindWikilink tree.nodes source n ix) _
       (λ n o. can_find source (tables_of held) tree.nodes ix n here_ready o) each)
 
--- it was decided what becomes of a `]`: the left list that is left stands where the first did, its numbers rise, and that may
--- be put there
+-- it was decided what becomes of a `]`: the left list that is left is where the first was, its numbers rise, and the
+-- result can be put in place
 pub record MayClose (source : List ℕ) (tables : Tables) (nodes : List (Node Item)) (first ix : ℕ) (w : Around) (c : Closing ℕ)
     (left_then : List (Entry ℕ)) (becomes : Becomes ℕ) : Type 0 where
   pub stands : StandsTo source tables nodes first (Some ix) left_then
@@ -261,7 +262,7 @@ module _ {C : Type 0} (step : C → Question → Option Answer → C → Type 0)
       subst (λ (t : Tables). ClosesAt old.text.now t tree.nodes first ix d.left_then around_here closing_here d.becomes) (sym tables)
       (closes_here first left was_read).closes
 
-  -- it may be put: the openers that are left are nodes
+  -- it can be put in place: the openers that are left are nodes
   pub record MayPut : Type 0 where
     pub within : EachOpener (λ n. n < length tree.nodes) mid.openers.wikilinks
     pub left_then : List (Entry ℕ)
@@ -282,9 +283,9 @@ module _ {C : Type 0} (step : C → Question → Option Answer → C → Type 0)
         is_become = d.is;
       }
 
-  -- and then it was put, or memory was refused
+  -- it was put in place, or memory was refused
   module _ (tree' : Arena Item) (held : Allocated) (openers : ChainOpeners) where
-    -- what is put there, whatever was decided
+    -- what is put in place, whatever was decided
     abbrev pub PutsEach : Option ℕ → Type 0
     PutsEach next = (source : List ℕ) (first : ℕ) (left : List (Entry ℕ)) (w : Around) (c : Closing ℕ) (becomes : Becomes ℕ)
         → ClosesAt source (tables_of mid.tables) tree.nodes first ix left w c becomes → IsBecome w becomes found

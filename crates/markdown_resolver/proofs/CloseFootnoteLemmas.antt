@@ -1,4 +1,4 @@
--- A footnote reference, put where its opener stands, or behind a Text over the `!` of an opener `![`.
+-- A footnote reference, put in the place of its opener, or after a Text for the `!` of an opener `![`.
 use Rattle.std.proofs.Common.{◌≡◌, ℕ, ◌+◌, ◌-◌, ◌<◌, ◌≤◌, Bool, true, false, List, [], ◌∷◌, length, Option, Some, None, refl, sym, ap, ◌∙◌}
 use Rattle.std.proofs.Common.{subst, arith}
 use Rattle.std.specs.Prelude.{IsCharBoundary, codes, drop, slice_range}
@@ -53,7 +53,7 @@ footnote_over number start end = record { start = start; end = end; body = body.
 abbrev pub text_item_over : (start end : ℕ) → Item
 text_item_over start end = record { start = start; end = end; body = body.Text false }
 
--- a Text may be put where it lies in the text, and names nothing
+-- a Text can be put in place where it lies in the text; it refers to nothing
 pub names_none : (n : Named) → times_named n (body.Text false) ≡ 0
 names_none (some_text n) = refl
 names_none (some_link n) = refl
@@ -71,7 +71,7 @@ can_put_text source tables tables' start end ordered from to = record {
   new_names = λ n h. names_none n;
 }
 
--- so may the footnote reference
+-- so can the footnote reference
 pub can_put_footnote : (source : List ℕ) (tables tables' : Tables) (number : CowIndex) (name : List ℕ) (start end : ℕ)
     → PutsText tables tables' number name → start ≤ end
     → IsCharBoundary source start → IsCharBoundary source end → CanPut source tables tables' (footnote_over number start end)
@@ -120,7 +120,7 @@ closer_byte source tables nodes first closer left w c o name closes at =
     let size : length (slice_range source item.start item.end) ≡ 1 = ap length bytes in
     omega (arith, size, length-take (item.end - item.start) (drop item.start source), length-drop item.start source)
 
--- what may be put over an opener `[`
+-- what can be put in place of an opener `[`
 record CanFootnote (source : List ℕ) (tables tables' : Tables) (nodes : List (Node Item)) (closer : ℕ) (o : Split ℕ) (opener : Opener)
     (number : CowIndex) : Type 0 where
   pub close : CanClose source tables nodes opener.node closer (inside_numbers o) (item_at nodes closer).end
@@ -165,8 +165,8 @@ can_footnote source tables tables' nodes first closer left w c o opener number n
       };
     })
 
--- a footnote reference may be put over the bytes from its opener's start to the `]`, once its name is held: in place of an opener
--- `[`, or behind a Text over the `!` of an opener `![`
+-- a footnote reference can be put in place from its opener's start to the `]`, once its name is in its table: in place
+-- of an opener `[`, or after a Text for the `!` of an opener `![`
 pub record MayRefer (source : List ℕ) (tables tables' : Tables) (nodes : List (Node Item)) (closer : ℕ) (o : Split ℕ) (opener : Opener)
     (number : CowIndex) (name : List ℕ) (start end : ℕ) : Type 0 where
   pub put : PutsText tables tables' number name
@@ -211,7 +211,7 @@ two_onto : (w : Around) (c : Closing ℕ) (is_image : Bool) (opener : Label ℕ)
 two_onto w c true opener name left e = refl
 two_onto w c false opener name left e = cc e
 
--- so it stands in the left list
+-- so it is in the left list
 footnote_closed : (source : List ℕ) (tables tables' : Tables) (old new : List (Node Item)) (first closer : ℕ) (next : Option ℕ)
     (left : List (Entry ℕ)) (w : Around) (c : Closing ℕ) (o : Split ℕ)
     (opener : Opener) (number : CowIndex) (name : List ℕ) → ClosesAt source tables old first closer left w c (a_footnote o name)
@@ -283,7 +283,7 @@ image_footnote_closed source tables tables' old new first closer next left w c o
     (record { left_is = λ p e. two_onto w c o.mark.is_image o.opener name (before_footnote o.before) mark; goes = λ p. ap Some ends }) reads
     (refl, refl, tt, (refl, refl, tt, tt)) (λ a i. refl) here
 
--- so it does over those bytes
+-- so it is with that range
 pub reference_closed : {source : List ℕ} {tables tables' : Tables} {old new : List (Node Item)} {first closer : ℕ} {next : Option ℕ}
     {left : List (Entry ℕ)} {w : Around} {c : Closing ℕ} {o : Split ℕ} {opener : Opener} {number : CowIndex} {name : List ℕ}
     {start end : ℕ} → ClosesAt source tables old first closer left w c (a_footnote o name) → opener ≡ opener_of o

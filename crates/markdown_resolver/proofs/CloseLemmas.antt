@@ -1,5 +1,5 @@
--- What a `]` becomes is put where its opener stands in the left list, over what is inside: what may be put there, and
--- what stands there then.
+-- What a `]` becomes is put in the place of its opener in the left list, over what is inside: what can be put there,
+-- and what is there then.
 use Rattle.std.proofs.Common.{◌≡◌, ℕ, suc, ◌<◌, ◌≤◌, Bool, true, false, List, [], ◌∷◌, length, Option, Some, refl, sym, ap, ◌∙◌, subst}
 use Rattle.std.proofs.Common.{arith, if◌then◌else◌, nat_le}
 use Rattle.std.specs.Prelude.{slice_range}
@@ -40,7 +40,7 @@ use Rattle.markdown_resolver.proofs.PutLemmas.{as_many, few_past_byte}
 use Rattle.markdown_resolver.proofs.StandsToLemmas.{stands_at_opener, stands_rest}
 use Rattle.markdown_resolver.proofs.SplitLemmas.{InsideOf, inside_numbers, inside_of, opens_numbered}
 
--- an opener of a left list, where it stands in an arena, with what is inside and a `]` behind that
+-- an opener of a left list in an arena, with what is inside and a `]` after that
 pub record OpenerAt (source : List ℕ) (tables : Tables) (nodes : List (Node Item)) (first closer : ℕ) (o : Split ℕ) : Type 0 where
   pub stands : StandsTo source tables nodes first (Some o.opener.tag) o.before
   pub opener : IsOpener source nodes o.opener.tag
@@ -95,7 +95,7 @@ none_open source tables nodes byte next (node n below after) h first before =
         (not_open tables (slice_range source item.start item.end) item.body
         (h (subst (λ (m : ℕ). (item_at nodes m).start < byte) (sym same) before)))
 
--- something that is found may end at a byte there
+-- something that is found can end at a byte offset there
 pub can_close : (source : List ℕ) (tables : Tables) (nodes : List (Node Item)) (first closer : ℕ) (left : List (Entry ℕ)) (w : Around)
     (c : Closing ℕ) (becomes : Becomes ℕ) (o : Split ℕ) (byte : ℕ)
     → ClosesAt source tables nodes first closer left w c becomes → OpenerAt source tables nodes first closer o → CanGoOn source c byte
@@ -150,7 +150,7 @@ quiet_inside left o splits quiet =
     ∙ ap (λ (f : Forest (Label ℕ)). trees_onto o.before (node o.opener nil f)) (splits.same_trees nil) in
     (quiet_later o.before (node o.opener nil (inside o)) (subst IsQuiet whole quiet)).3
 
--- what is put: these trees behind this left list, up to a byte
+-- what is put in place: these trees after this left list, up to a byte offset
 pub record PutsWhat (w : Around) (c : Closing ℕ) (left : List (Entry ℕ)) (becomes : Becomes ℕ) (trees : Forest (Label ℕ))
     (before : List (Entry ℕ)) (goes_on : ℕ) : Type 0 where
   pub left_is : (p : Progress ℕ) → p.left ≡ left → (put w c becomes p).left ≡ all_done trees before
@@ -173,7 +173,7 @@ fewer_past source tables tables' old new closer byte next ready rest =
     let few = few_past_byte byte behind in
     rw here (omega (arith, many, many', read, few))
 
--- so it stands in the left list
+-- so it is in the left list
 pub puts_closed : (source : List ℕ) (first closer : ℕ) (next : Option ℕ) (left : List (Entry ℕ)) (w : Around) (c : Closing ℕ)
     (becomes : Becomes ℕ) (o : Split ℕ) (old new : List (Node Item))
     (tables tables' : Tables) (before : List (Entry ℕ)) (trees : Enclosing) (what : Forest (Label ℕ)) (goes_on : ℕ) (standing : List ℕ)

@@ -1,4 +1,4 @@
--- A link or an image, put where its opener stands: what may be put there, and what it reads as.
+-- A link or an image, put in the place of its opener: what can be put there, and what it reads as.
 use Rattle.std.proofs.Common.{◌≡◌, ℕ, ◌<◌, ◌≤◌, Bool, true, false, List, [], ◌∷◌, length, Option, Some, None, refl, sym, ap, subst, arith}
 use Rattle.std.proofs.Common.{if◌then◌else◌}
 use Rattle.std.specs.Prelude.{IsCharBoundary}
@@ -49,7 +49,7 @@ becomes_link w (a_link o target e n) opener found end next h = record { split = 
 becomes_link w (a_footnote o name) opener found end next h = absurd h
 becomes_link w (a_wikilink o v e) opener found end next h = absurd h
 
--- a link or an image of an entry, over bytes
+-- a link or an image with an entry and a range
 abbrev pub link_over : (is_image : Bool) → LinkIndex → (start end : ℕ) → Item
 link_over is_image number start end = record { start = start; end = end; body = if is_image then body.Image number else body.Link number }
 
@@ -57,7 +57,7 @@ link_over is_image number start end = record { start = start; end = end; body = 
 abbrev pub link_from : List (Node Item) → Opener → LinkIndex → (end : ℕ) → Item
 link_from nodes opener number end = link_over opener.is_image number (item_at nodes opener.node).start end
 
--- an item over bytes; and the one that is made of the start of an opener's item and of a link's body
+-- an item with a range; and the one that is made of the start of an opener's item and of a link's body
 abbrev pub item_over : (start end : ℕ) → ItemBody → Item
 item_over start end b = record { start = start; end = end; body = b }
 
@@ -70,7 +70,7 @@ link_item nodes opener number end begin b begins is = rw (begins, is) refl
 made_link : (source : List ℕ) (origin : Origin) (view : LinkView) → destination_origin view.kind ≡ made → IsLinkFrom source origin view
 made_link source origin view other slice = cc (other, slice)
 
--- it may be put, where it lies in the text
+-- it can be put in place, where it lies in the text
 pub can_put_link : (source : List ℕ) (tables tables' : Tables) (is_image : Bool) (number : LinkIndex) (view : LinkView) (start end : ℕ)
     → PutsLink source tables tables' number view
     → start ≤ end → IsCharBoundary source start → IsCharBoundary source end
@@ -145,7 +145,7 @@ link_over_opener source tables tables' nodes first closer o number view end byte
       ends = le;
     }
 
--- it may be put in place of an opener, up to a byte, once its entry is held
+-- it can be put in place of an opener, up to a byte offset, once its entry is in its table
 pub record MayLink (source : List ℕ) (tables tables' : Tables) (nodes : List (Node Item)) (closer : ℕ) (o : Split ℕ) (opener : Opener)
     (number : LinkIndex) (view : LinkView) (end byte : ℕ) (item : Item) : Type 0 where
   pub put : PutsLink source tables tables' number view
@@ -176,7 +176,7 @@ may_link {source} {nodes} {first} {closer} {left} {w} {c} {o} {opener} {view} {e
           (link_over_opener source tables tables' nodes first closer o number view end byte at there closes.ends.1 behind closes.ends.3));
     }
 
--- so it stands in the left list
+-- so it is in the left list
 pub link_closed : {source : List ℕ} {tables tables' : Tables} {old new : List (Node Item)} {first closer : ℕ} {next : Option ℕ}
     {left : List (Entry ℕ)} {w : Around} {c : Closing ℕ} {o : Split ℕ} {opener : Opener} {number : LinkIndex} {view : LinkView}
     {end byte : ℕ} {item : Item} → ClosesAt source tables old first closer left w c (a_link o view end byte) → opener ≡ opener_of o

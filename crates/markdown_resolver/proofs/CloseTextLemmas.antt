@@ -1,4 +1,4 @@
--- A `]` that is a Text, where it stands behind a left list.
+-- A `]` that is a Text, after a left list in an arena.
 use Rattle.std.proofs.Common.{◌≡◌, ℕ, Bool, false, List, Option, Some, None, refl, sym, ap, ◌∙◌, subst}
 use Rattle.std.specs.Prelude.{is_some, slice_range}
 use Rattle.markdown_base.specs.Arena.{child_of, sibling_of}

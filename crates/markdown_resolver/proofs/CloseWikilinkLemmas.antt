@@ -1,4 +1,4 @@
--- A wikilink, put where its opener stands: over a Text, or over what stands inside from a byte on.
+-- A wikilink, put in the place of its opener: over a Text, or over what is inside from a byte offset on.
 use Rattle.std.proofs.Common.{◌≡◌, ℕ, zero, suc, ◌<◌, ◌≤◌, Bool, true, false, List, [], ◌∷◌, ◌++◌, length, max, Option, Some, Bor, refl}
 use Rattle.std.proofs.Common.{sym, ap, ◌∙◌, subst, arith, if◌then◌else◌, nat_le}
 use Rattle.std.proofs.lemmas.Bool.Decides.{nat_tests}
@@ -123,7 +123,7 @@ inside_is source tables nodes first closer o at =
       listed = ap (λ (f : Forest (Label ℕ)). roots (numbers_of f)) is ∙ ap roots (numbers_are source tables nodes (first_trees k all));
     }
 
--- a chain from a byte on, and the node that it begins in
+-- a chain from a byte offset on, and the node that it begins in
 pub record ShownAt (source : List ℕ) (tables : Tables) (nodes : List (Node Item)) (at first : ℕ) (g : Forest ℕ) : Type 0 where
   pub skipped : List ℕ
   pub shown : List ℕ
@@ -175,7 +175,7 @@ shown_at source tables nodes at first (node n under g) e = by (nat_le (item_at n
           first_is = rw ends refl;
         })
 
--- what may be put over the opener of a wikilink
+-- what can be put over the opener of a wikilink
 record CanWikilink (source : List ℕ) (tables tables' : Tables) (nodes : List (Node Item)) (closer : ℕ) (o : Split ℕ) (opener : Opener)
     (number : LinkIndex) (end : ℕ) : Type 0 where
   pub close : CanClose source tables nodes opener.node closer (inside_numbers o) end
@@ -216,7 +216,7 @@ opener_there {source} {tables} {nodes} {first} {closer} {left} {w} {c} {becomes}
     let so = subst (ClosesAt source tables nodes first closer left w c) i.is closes in
     rw i.opener_is (opener_at source tables nodes first closer left i.split so.stands so.splits).opener.within
 
--- what becomes a wikilink may be put there, as an item, once its entry is held
+-- what becomes a wikilink can be put in place, as an item, once its entry is in its table
 pub record MayShow (source : List ℕ) (tables tables' : Tables) (nodes : List (Node Item)) (first closer : ℕ) (left : List (Entry ℕ))
     (w : Around) (c : Closing ℕ) (becomes : Becomes ℕ) (opener : Opener) (shown : ShownNodes) (number : LinkIndex) (end : ℕ)
     (item : Item) : Type 0 where
@@ -328,7 +328,7 @@ named_over {source} {tables} {tables'} {nodes} {first} {closer} {left} {w} {c} {
     (subst (λ (s : ShownNodes). shown_of w (past_second (inside r.split)) s ≡ r.found.children) is r.shown_is) (r.first_is
     ∙ ap (λ (s : ShownNodes). Some (first_shown s)) is)
 
--- so the wikilink stands in the left list
+-- so the wikilink is in the left list
 by_name : (source : List ℕ) (tables tables' : Tables) (old new : List (Node Item)) (first closer : ℕ) (next : Option ℕ)
     (left : List (Entry ℕ)) (w : Around) (c : Closing ℕ) (o : Split ℕ)
     (opener : Opener) (number : LinkIndex) (v : Wikilink ℕ) (end n from to : ℕ)
@@ -372,7 +372,7 @@ name_closed {source} {tables} {tables'} {old} {new} {first} {closer} {next} {lef
     (by_name source tables tables' old new first closer next left w c r.split opener number r.found end n from to r.closes r.opener_is r.put
     can (rw (text, r.item_is) at over))
 
--- what stands inside from a byte on
+-- what is inside from a byte offset on
 pub record ShowsFrom (source : List ℕ) (nodes : List (Node Item)) (o : Split ℕ) (v : Wikilink ℕ) (n from : ℕ) : Type 0 where
   pub skipped : List ℕ
   pub can : CanShow source nodes (inside_numbers o) skipped n from
@@ -383,7 +383,7 @@ is_past : (w : Around) (body : Forest (Label ℕ)) (n at : ℕ) → shown_of w b
 is_past w nil n at = refl
 is_past w (node a below after) n at = refl
 
--- of what begins at a byte at the earliest that byte is between characters, where it begins there
+-- where an item is cut at a byte offset and begins there, the offset is between characters
 begins_there : (source : List ℕ) (at : ℕ) (a : Label ℕ) (below after : Forest (Label ℕ))
     → FirstLies source (node (begun_at at a) below after) → start_of a < at → IsCharBoundary source at
 begins_there source at a below after lies before =

@@ -1,5 +1,5 @@
--- From what was decided and put for a `]` to how far the chain was read: the left list holds what it became, the stacks the
--- openers that still wait, and what is left of the chain is what follows what it became.
+-- From what was decided and put in place for a `]` to how far the chain was read: the left list holds what it became,
+-- the stacks the openers that still wait, and what is left of the chain is what follows what it became.
 use Rattle.markdown_base.specs.declared.item.ItemBody.TheVariants as body
 use Rattle.std.proofs.Common.{◌≡◌, ℕ, ◌+◌, Bool, not, ◌&&◌, List, [], ◌++◌, Option, Some, None, refl, sym, ap, ◌∙◌, arith}
 use Rattle.std.specs.Prelude.{slice_range}
@@ -34,7 +34,7 @@ use Rattle.markdown_resolver.proofs.ReadOnLemmas.{trees_unnumbered}
 use Rattle.markdown_resolver.proofs.StandsToLemmas.{stands_rest}
 use Rattle.markdown_resolver.proofs.StopsLemmas.{all_asks}
 
--- putting changes the left list alone, and where the chain goes on
+-- putting changes only the left list, and where the chain continues
 put_keeps : {A : Type 0} (w : Around) (c : Closing A) (becomes : Becomes A) (p : Progress A)
     → put w c becomes p ≡ record p { left = (put w c becomes p).left; goes_on = (put w c becomes p).goes_on }
 put_keeps w c a_text p = refl

@@ -1,4 +1,4 @@
--- A code span that a search finds in a chain is what pass one finds there, and may be put where its opener stands.
+-- A code span that a search finds in a chain is what pass one finds there, and can be put in the place of its opener.
 use Rattle.std.proofs.Common.{◌≡◌, ℕ, zero, suc, ◌+◌, ◌-◌, ◌<◌, ◌≤◌, Bool, true, false, ◌==◌, List, [], ◌∷◌, ◌++◌, map, length, get_or}
 use Rattle.std.proofs.Common.{take, drop, Option, Some, None, refl, sym, ap, ◌∙◌, arith, subst}
 use Rattle.std.specs.Prelude.{replicate, slice_range, IfOk, IfSome, Result, Ok, Err}
@@ -125,7 +125,7 @@ next_byte text start end count byte is two low ordered within =
           (omega (arith, read, same, low)),
     )
 
--- nothing open stands around the end of an item of a chain
+-- no open item has bytes both before and after the end of an item of a chain
 pub found_at : (source : List ℕ) (tables : Tables) (nodes : List (Node Item)) (ix x : ℕ) → CanResolve source tables nodes (Some ix)
     → is_open (item_at nodes ix).body ≡ true → run_character (item_at nodes ix).body ≡ None → StandsAmong (followers nodes ix) x
     → IsFoundAt source tables nodes ix (item_at nodes x).end
@@ -144,7 +144,7 @@ found_at source tables nodes ix x ready opens no_run among =
           absurd (omega (arith, later, around));
     }
 
--- where what closes code stands
+-- what closes code is in the chain
 pub record ClosedCode (source : List ℕ) (tables : Tables) (nodes : List (Node Item)) (ix x : ℕ) : Type 0 where
   pub among : StandsAmong (followers nodes ix) x
   pub closer_open : is_open (item_at nodes x).body ≡ true
@@ -180,7 +180,7 @@ closed_code source tables nodes ix x count escaped ready is closes =
       },
     )
 
--- a text that was put into its table is found there, and so far nothing names it
+-- a text that was put into its table is found there, and nothing refers to it so far
 text_pushed : (cows : List CowStr) (cow : CowStr) (n : ℕ) → n ≡ length cows → text_at (cows ++ cow ∷ []) n ≡ text_of cow
 text_pushed [] cow n e = rw e refl
 text_pushed (c ∷ cows) cow zero e = cc e
@@ -223,7 +223,7 @@ pub origin_put : (held held' : Allocated) (cow : CowStr) (ix : CowIndex) → hel
 origin_put held held' cow ix put number =
     ap (λ (h : Allocated). origin_at h.cows ix.0) put ∙ origin_pushed held.cows cow ix.0 number
 
--- so of what putting it in answers
+-- the same for the number that putting it in returns
 pub cow_stored : (source : List ℕ) (held held' : Allocated) (cow : CowStr) (origin : Origin) (r : Result CowIndex Fault)
     → origin_of cow ≡ origin → IsSlicedOf source (origin_of cow) (text_of cow) → IfOk r (λ ix. ix.0 ≡ length held.cows)
     → IfOk r (λ ix. held' ≡ with_cow held cow) → IfOk r (λ ix. StoresText source (tables_of held) (tables_of held') ix origin)
@@ -253,7 +253,7 @@ same_below zero (suc m) h = refl
 same_below (suc n) zero h = refl
 same_below (suc n) (suc m) h = same_below n m (omega (arith, h))
 
--- so a body that names it alone names nothing that was there
+-- so a body that refers only to it refers to nothing that was there
 code_names : (tables : Tables) (cow : CowIndex) (n : Named) → cow.0 ≡ length tables.cows → number_of n < size_for tables n
     → times_named n (body.Code cow) ≡ 0
 code_names tables cow (some_text n) e h = same_below n cow.0 (omega (arith, h, e))
@@ -265,7 +265,7 @@ text_names (some_text n) = refl
 text_names (some_link n) = refl
 text_names (some_alignments n) = refl
 
--- the code span may be put where its opener stands
+-- the code span can be put in the place of its opener
 two_at_least : (count : ℕ) → (closing_count count true == 0) ≡ false → 2 ≤ count
 two_at_least zero h = cc h
 two_at_least (suc zero) h = cc h
@@ -341,7 +341,7 @@ can_put_code source tables tables' nodes ix x count escaped cow origin ready is 
           closer_no_run = there.closer_no_run;
         }
 
--- the bytes between the opener and what closes it may be cut out
+-- the bytes between the opener and what closes it can be cut out
 pub code_cut : (source : List ℕ) (tables : Tables) (nodes : List (Node Item)) (ix x count : ℕ) (escaped : Bool) (opener closer : Item)
     (found : Option ℕ)
     → CanResolve source tables nodes (Some ix) → (item_at nodes ix).body ≡ body.MaybeCode count escaped → ClosesCode nodes ix found

@@ -1,5 +1,5 @@
--- A chain that is changed where it stands: from one link on it becomes what another link leads to. Such changes follow
--- one another, and a first item is written before a rest that changes.
+-- A chain that is changed in place: from one link on it becomes what another link leads to. Such changes follow one
+-- another, and a first item is written before a rest that changes.
 use Rattle.std.proofs.Common.{◌≡◌, ℕ, ◌+◌, ◌<◌, ◌≤◌, true, List, length, Option, Some, None, ⊎_elim, refl, sym, ◌∙◌, subst, arith}
 use Rattle.std.proofs.lemmas.Bool.{cases_lt}
 use Rattle.std.specs.Option.{option_map}
@@ -31,7 +31,7 @@ use Rattle.markdown_resolver.specs.Chains.{CanResolve, ChangesChain}
 pub same_trans : (a b c : List (Node Item)) (n : ℕ) → IsSameAt a b n → IsSameAt b c n → IsSameAt a c n
 same_trans a b c n p q = record { child = q.child ∙ p.child; next = q.next ∙ p.next; item = q.item ∙ p.item }
 
--- the chain from a link on is there, and nothing stands or is named twice in it
+-- the chain from a link on exists, and nothing occurs or is referred to twice in it
 pub record Stands (source : List ℕ) (tables : Tables) (nodes : List (Node Item)) (l : Option ℕ) : Type 0 where
   pub reaches : Reaches (links_of nodes) (IsPlaced source tables nodes) l
   pub once : (n : ℕ) → times_in nodes l n ≤ 1
@@ -51,7 +51,7 @@ pub record Moves (source : List ℕ) (l l' : Option ℕ) (old new : List (Node I
   pub named : (n : Named) → number_of n < size_for tables n → named_in new l' n ≤ named_in old l n
   pub no_heavier : weight_in new l' ≤ weight_in old l
 
--- a change from a link on that stays is such a one
+-- a change from a link on that stays is such a change
 pub changes_move : (source : List ℕ) (l : Option ℕ) (old new : List (Node Item)) (tables tables' : Tables)
     → ChangesChain source l old new tables tables' → Moves source l l old new tables tables'
 changes_move source l old new tables tables' c = record {
@@ -129,7 +129,8 @@ first_leaves source ix nodes tables s =
       no_heavier = rw o.here (omega arith);
     }
 
--- one node was written, and others may have been added; its item may stand there, but for what follows it
+-- one node was written, and others may have been added; its item can be there, as far as it does not depend on what
+-- follows
 pub record HeadWritten (source : List ℕ) (ix : ℕ) (nodes nodes' : List (Node Item)) (tables tables' : Tables) : Type 0 where
   pub others : (n : ℕ) → n < length nodes → (n ≡ ix → ⊥) → IsSameAt nodes nodes' n
   pub more : length nodes ≤ length nodes'
@@ -145,7 +146,7 @@ pub head_longer : (source : List ℕ) (ix : ℕ) (nodes nodes' : List (Node Item
     → HeadWritten source ix nodes nodes' tables tables' → IsNoShorter tables tables'
 head_longer source ix nodes nodes' tables tables' h = grown-longer tables tables' h.grown
 
--- a forest in which that node does not stand stays
+-- a forest without that node stays
 rest_stays : (source : List ℕ) (ix : ℕ) (nodes nodes' : List (Node Item)) (tables tables' : Tables) (l : Option ℕ) (f : Forest ℕ)
     → HeadWritten source ix nodes nodes' tables tables'
     → total (same ix) f ≡ 0 → Spells (links_of nodes) l f → Each (IsPlaced source tables nodes) f
@@ -200,7 +201,7 @@ after_head source ix nodes nodes' tables tables' s h =
       };
     }
 
--- what stands below the written node once all is done
+-- what is below the written node in the end
 pub record Below (source : List ℕ) (ix : ℕ) (old mid new : List (Node Item)) (later : Tables) : Type 0 where
   pub reaches : Reaches (links_of new) (IsPlaced source later new) (child_of mid ix)
   pub once : (n : ℕ) → times_in new (child_of mid ix) n ≤ 1
@@ -238,7 +239,7 @@ module _ (source : List ℕ) (ix : ℕ) (old mid new : List (Node Item)) (tables
   rest_named : (n : Named) → number_of n < size_for tables' n → named_in new (sibling_of mid ix) n ≤ named_in old (sibling_of old ix) n
   rest_named n l = rw (← (after_head source ix old mid tables tables' s h).rest.naming n) (m.named n l)
 
-  -- nothing stands twice in the whole
+  -- nothing occurs twice in the whole
   abbrev now : Forest ℕ
   now = node ix (forest_at (links_of new) (child_of mid ix)) (forest_at (links_of new) (sibling_of mid ix))
 
@@ -266,7 +267,7 @@ module _ (source : List ℕ) (ix : ℕ) (old mid new : List (Node Item)) (tables
   now_here : forest_at (links_of new) (Some ix) ≡ now
   now_here = found (links_of new) (Some ix) now now_spelled now_once
 
-  -- nor is anything named twice
+  -- nothing is referred to twice either
   now_named_once : (n : Named) → naming mid n ix + (named_in new (child_of mid ix) n + named_in new (sibling_of mid ix) n) ≤ 1
   now_named_once n =
       let a = after_head source ix old mid tables tables' s h in
@@ -285,7 +286,7 @@ module _ (source : List ℕ) (ix : ℕ) (old mid new : List (Node Item)) (tables
       (cases_lt (number_of n) (size_for tables' n)))
       (cases_lt (number_of n) (size_for tables n))
 
-  -- its item is placed, if it stands right before what follows it
+  -- its item is placed, if it directly precedes what follows it
   head_placed : StandsBefore (numbered mid ix) (option_map (numbered new) (sibling_of mid ix))
       → RunsAreWhole source (numbered mid ix) (option_map (numbered new) (sibling_of mid ix)) → IsPlaced source later new ix
   head_placed follows goes_on = record {

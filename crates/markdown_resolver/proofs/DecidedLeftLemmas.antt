@@ -1,5 +1,5 @@
--- What is decided at a `]` leaves a left list from which openers that were tried were taken off: what holds of a left list and
--- stays where one is taken off holds of that.
+-- What is decided at a `]` leaves a left list from which openers that were tried were taken off: a property of a left
+-- list that stays true where an opener is taken off is true of what is left.
 use Rattle.std.proofs.Common.{◌≡◌, ℕ, Bool, true, false, ◌&&◌, List, Option, Some, None, sym, subst}
 use Rattle.std.specs.Prelude.{if◌then◌else◌}
 use Rattle.markdown_base.specs.Event.{LinkView}
@@ -25,7 +25,7 @@ use Rattle.markdown_document.specs.Tables.{Tables}
 use Rattle.markdown_resolver.specs.ReadOn.{StandsTo}
 use Rattle.markdown_resolver.proofs.StandsToLemmas.{taken_stands}
 
--- it stays where an opener is taken off
+-- the property stays true where an opener is taken off
 pub record Stays {A : Type 0} (p : List (Entry A) → Type 0) : Type 0 where
   pub bracket : (left : List (Entry A)) → p left → p (bracket_taken left)
   pub wikilink : (left : List (Entry A)) → p left → p (wikilink_taken left)
@@ -97,7 +97,7 @@ module _ {A : Type 0} (w : Around) (c : Closing A) (p : List (Entry A) → Type 
   unfolding decided
   decided_left q h = before_left c.rest q h
 
--- so the left list still stands where it stood
+-- so the left list is still where it was
 pub decided_stands : (source : List ℕ) (tables : Tables) (nodes : List (Node Item)) (first : ℕ) (at : Option ℕ)
     (left left_then : List (Entry ℕ)) (w : Around) (c : Closing ℕ) (becomes : Becomes ℕ)
     (p q : Progress ℕ) → p.left ≡ left → q.left ≡ left_then → decided w c p ≡ record { becomes = becomes; progress = q }

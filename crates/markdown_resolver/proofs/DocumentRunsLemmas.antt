@@ -1,5 +1,5 @@
--- The runs of a well-formed block result are whole in the tree of its labels: a label is a run's character just where its
--- item is one, and begins and ends where that does.
+-- The runs of a well-formed block result are whole in the tree of its labels: a label is a run's character just where
+-- its item is one, and begins and ends where that does.
 use Rattle.std.proofs.Common.{◌≡◌, ℕ, zero, suc, Bool, true, false, List, Option, Some, None, refl, sym, subst, ◌∙◌, ◌==◌}
 use Rattle.std.specs.Prelude.{IfSome}
 use Rattle.std.specs.Option.{option_map}
@@ -34,7 +34,7 @@ module _ (source : List ℕ) (tables : Tables) where
   run_placed : (a : Numbered) → run_character (placed a).item.body ≡ run_character a.item.body
   run_placed a = run_seen tables _ a.item.body
 
-  -- a run ends where it ended, and goes on where it went on
+  -- a run ends where it ended, and continues where it continued
   ends : (a b : Numbered) → EndsRun source a (Some b) → EndsRun source (placed a) (Some (placed b))
   ends a b h = subst (λ o. IfSome o (λ c. (byte_of source b.item == byte_of source a.item) ≡ false)) (sym (run_placed b)) h
 

@@ -1,4 +1,4 @@
--- What stands inside an opener and its closer goes below the opener's node: the chain as it is then.
+-- What is between an opener and its closer goes below the opener's node: the chain as it is then.
 use Rattle.std.proofs.Common.{◌≡◌, ℕ, zero, suc, ◌+◌, ◌<◌, ◌≤◌, Bool, true, false, List, [], ◌∷◌, ◌++◌, length, Option, Some, None, refl}
 use Rattle.std.proofs.Common.{sym, ap, ◌∙◌, subst, ⊎_elim, arith}
 use Rattle.std.proofs.lemmas.Bool.{cases_eq, cases_lt}
@@ -54,7 +54,7 @@ read_equal : {A : Type 0} (g h : ℕ → A) (f : Forest ℕ) → ((n : ℕ) → 
 read_equal g h nil e = refl
 read_equal g h (node n below after) e = rw (e n, read_equal g h below e, read_equal g h after e) refl
 
--- a fact of each number that stands in a forest
+-- a fact of each number that is in a forest
 same_equal : (n m : ℕ) → 0 < same n m → n ≡ m
 same_equal zero zero h = refl
 same_equal zero (suc m) h = absurd (omega (arith, h))
@@ -80,7 +80,7 @@ each_at p (node ix below after) e n some =
     by zero (suc deeper) q r in_below in_after = in_below (omega (arith, r))
     by zero zero q r in_below in_after = in_after (omega (arith, q, r, some))
 
--- a chain of which these stand first, and then a closer
+-- a chain that begins with these trees, and then has a closer
 pub record OpensAt (k closer : ℕ) (after : List ℕ) (f : Forest ℕ) : Type 0 where
   pub below : Forest ℕ
   pub is : trees_past k f ≡ node closer below (trees_past (suc k) f)
@@ -120,7 +120,7 @@ spelled_past nodes (x ∷ inside) after closer l nil e s = cc e
 spelled_past nodes (x ∷ inside) after closer l (node n below rest) e s = spelled_past nodes inside after closer (sibling_of nodes n) rest
     (cc e) s.3
 
--- a chain is cut behind a node: the trees up to there are spelled, and the next is the closer
+-- a chain is cut after a node: the links lead through the trees up to there, and the next is the closer
 record CutBehind (old new : List (Node Item)) (l : Option ℕ) (last closer k : ℕ) (f : Forest ℕ) : Type 0 where
   spelled : Spells (links_of new) l (first_trees k f)
   there : 0 < total (same last) (first_trees k f)
@@ -186,7 +186,7 @@ last_there x [] later (node n below rest) e =
 last_there x (y ∷ inside) later nil e = cc e
 last_there x (y ∷ inside) later (node n below rest) e = omega (arith, last_there y inside later rest (cc e))
 
--- what stands inside is spelled below the opener then, and the last of it stands in what is left no more
+-- the links below the opener lead through what is inside then, and the last of it is no longer in what is left
 record CutsAt (old new : List (Node Item)) (opener last closer k : ℕ) (f : Forest ℕ) : Type 0 where
   inside : Spells (links_of new) (child_of new opener) (first_trees k f)
   last_before : (last ≡ opener → ⊥) → sibling_of old last ≡ Some closer
@@ -229,7 +229,7 @@ cuts_at old new opener last closer (x ∷ inside) after f v is e s once =
           absurd (let z = once last in let parts = total_parts (same last) (suc (length inside)) f in omega (arith, here, held));
     }
 
--- a run that goes on at no item of its own goes on at none
+-- a run whose next item is not a character of a run is complete, so nothing has to follow it
 goes_on_none : (source : List ℕ) (a b : Numbered) (count : ℕ) (opens closes : Bool) → run_character b.item.body ≡ None
     → RunGoesOn source a count opens closes (Some b) → RunGoesOn source a count opens closes None
 goes_on_none source a b zero opens closes none h = h
@@ -385,7 +385,7 @@ module _ (source : List ℕ) (tables : Tables) (old new : List (Node Item)) (ope
       placed_new n (each_at (IsPlaced source tables old) (node opener nil f) (rw whole_is at can.ready.reaches.each) n
       (omega (arith, t, some))))
 
-  -- so it has changed where it stands
+  -- so it has changed in place
   pub enclosed_moves : Moves source (Some opener) (Some opener) old new tables tables
   enclosed_moves =
       let size = v.size in

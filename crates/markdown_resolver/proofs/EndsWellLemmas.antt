@@ -1,5 +1,6 @@
--- What a `]` becomes ends well, case by case: behind the `)` of a tail, where the `]` of a label that follows ends, behind
--- the `]` itself, or, for a wikilink, where the next `]` ends; and what a wikilink shows lies between characters.
+-- What a `]` becomes ends well, case by case: after the `)` of a tail, where the `]` of a label that follows ends,
+-- after the `]` itself, or, for a wikilink, where the next `]` ends; and what a wikilink shows starts and ends between
+-- characters.
 use Rattle.std.proofs.Common.{◌≡◌, ℕ, ◌+◌, ◌-◌, ◌<◌, ◌≤◌, Bool, true, false, ◌&&◌, List, [], ◌∷◌, Option, Some, None, IsUtf8, ◌==◌, length}
 use Rattle.std.proofs.Common.{drop, get_or, refl, sym, ap, ◌∙◌, subst, arith}
 use Rattle.std.specs.Prelude.{IfSome, if◌then◌else◌, ⊤}
@@ -51,7 +52,7 @@ use Rattle.markdown_resolver.proofs.StandsToLemmas.{stands_rest}
 use Rattle.markdown_resolver.proofs.TailEndLemmas.{tail_closes}
 use Rattle.markdown_resolver.proofs.WikilinkShowsLemmas.{AllLie, inside_lies, left_lies, names_stand, shows_well}
 
--- a reference is written in collapsed form only where a `]` starts behind the next byte
+-- a reference is written in collapsed form only where a `]` starts after the next byte
 collapsed_stands : (style : FootnoteStyle) (skipped : List ℕ → Option ℕ) (in_table : Bool) (text : List ℕ) (p : ℕ)
     (next after : Option Item)
     → form_at style skipped in_table text p next after ≡ collapsed → stands_at (p + 1) is_closer after ≡ true
@@ -75,7 +76,7 @@ collapsed_stands style skipped in_table text p next after = by (stands_at p is_o
     by false closes true e = absurd (labelled (label_at style skipped in_table (drop p text)) e)
     by false closes false e = absurd (cc e)
 
--- the bytes at which the chain after a `]` may go on
+-- the byte offsets at which the chain after a `]` can continue
 pub record MayGoOn (source : List ℕ) (w : Around) (c : Closing ℕ) : Type 0 where
   pub here : CanGoOn source c (end_of c.label)
   pub closed : (t : LinkTail) → link_tail (lines w) (start_of_first_past c.rest) (block_text w) (end_of c.label) ≡ Some t
@@ -83,12 +84,12 @@ pub record MayGoOn (source : List ℕ) (w : Around) (c : Closing ℕ) : Type 0 w
   pub labelled : (i : ℕ) → closer_ends_at i c.rest ≡ true → CanGoOn source c i
   pub emptied : form_of w c ≡ collapsed → CanGoOn source c (end_of c.label + 2)
   pub doubled : (a : Label ℕ) (below after : Forest (Label ℕ)) → c.rest ≡ node a below after → CanGoOn source c (end_of a)
-  -- and a wikilink of a body that stands before it shows what may be shown, and its name stands in the text
+  -- a wikilink of a body before it shows what can be shown, and its name is a slice of the text
   pub shows : (f : Forest (Label ℕ)) (v : Wikilink ℕ) → AllLie source f → wikilink_in w f (start_of c.label) ≡ Some v
       → ShowsWell source f v.children
   pub names : (f : Forest (Label ℕ)) (v : Wikilink ℕ) → wikilink_in w f (start_of c.label) ≡ Some v → StandsIn source v.name
 
--- what is written ends so
+-- what is written ends like this
 EndsSo : List ℕ → Closing ℕ → (end next : ℕ) → Type 0
 EndsSo source c end next = CanGoOn source c next × IsCharBoundary source end × (end_of c.label ≤ end) × (end ≤ next)
 
@@ -105,7 +106,7 @@ unknown_made kind.Collapsed e = refl
 unknown_made kind.Shortcut e = refl
 unknown_made other e = e
 
--- so it is no autolink and no wikilink
+-- so it is neither an autolink nor a wikilink
 IsNoSlice : Option LinkView → Type 0
 IsNoSlice target = IfSome target (λ t. destination_origin t.kind ≡ made)
 
@@ -273,7 +274,7 @@ module _ (source : List ℕ) (w : Around) (c : Closing ℕ) (may : MayGoOn sourc
   unfolding decided
   decided_well p lies = before_well c.rest p lies refl
 
--- the chain after a `]` may go on at each of these bytes
+-- the chain after a `]` can continue at each of these byte offsets
 may_go_on : (source : List ℕ) (tables : Tables) (nodes : List (Node Item)) (w : Around) (c : Closing ℕ) (f : Forest ℕ)
     → StandsBehind source tables nodes c f
     → IsCharBoundary source (start_of c.label) → w.setting.text ≡ source → IsUtf8 source → MayGoOn source w c
@@ -323,7 +324,7 @@ may_go_on source tables nodes w c f k starts text utf8 = record {
         subst (λ (b : Label ℕ). CanGoOn source c (end_of b)) same (goes_on_there source tables nodes c (node ix inner later) k
         (item_at nodes ix).end there)
 
--- what a `]` becomes behind a left list ends well
+-- what a `]` becomes after a left list ends well
 pub ends_well : (source : List ℕ) (tables : Tables) (nodes : List (Node Item)) (first closer : ℕ) (left : List (Entry ℕ)) (w : Around)
     (c : Closing ℕ)
     (p : Progress ℕ) (becomes : Becomes ℕ) (q : Progress ℕ) → StandsTo source tables nodes first (Some closer) left

@@ -1,5 +1,5 @@
--- What stood inside went below the opener's node in some form, and the closer follows that: the chain as it is then. No more
--- may stand below it than stood inside.
+-- What was inside went below the opener's node in some form, and the closer follows that: the chain as it is then. What
+-- is below the opener is no more than was inside.
 use Rattle.std.proofs.Common.{◌≡◌, ℕ, zero, suc, ◌+◌, ◌<◌, ◌≤◌, true, false, List, [], ◌∷◌, ◌++◌, length, Some, refl, sym, ap, ◌∙◌, arith}
 use Rattle.std.proofs.Common.{nat_le}
 use Rattle.std.proofs.lemmas.Bool.Decides.{nat_tests}
@@ -29,7 +29,7 @@ use Rattle.markdown_resolver.proofs.EncloseLemmas.{total_equal, total_parts}
 use Rattle.markdown_resolver.proofs.PutLemmas.{first_kept, first_there, no_run_here}
 use Rattle.markdown_resolver.proofs.PutPairLemmas.{past_at}
 
--- the chain behind an opener's node, of which the first k trees stand inside
+-- the chain after an opener's node, of which the first k trees are inside
 pub record IsFolded (source : List ℕ) (tables : Tables) (old new : List (Node Item)) (opener closer k : ℕ) : Type 0 where
   pub size : length new ≡ length old
   pub item_is : item_at new opener ≡ item_at old opener
@@ -42,7 +42,7 @@ pub record IsFolded (source : List ℕ) (tables : Tables) (old new : List (Node 
       (first_trees k (forest_at (links_of old) (sibling_of old opener)))
   pub below_weight : weight_in new (child_of new opener) ≤ total (weight_at old)
       (first_trees k (forest_at (links_of old) (sibling_of old opener)))
-  -- from the closer on all is as it was, and so is what is not of the chain
+  -- from the closer on all is unchanged, and so is what is not of the chain
   pub behind : (n : ℕ) → 0 < total (same n) (trees_past k (forest_at (links_of old) (sibling_of old opener))) → IsSameAt old new n
   pub outside : (n : ℕ) → n < length old → times_in old (Some opener) n ≡ 0 → IsSameAt old new n
 
@@ -68,7 +68,7 @@ counted_among count n [] after (node m below rest) e =
 counted_among count n (x ∷ before) after nil e = cc e
 counted_among count n (x ∷ before) after (node m below rest) e = omega (arith, counted_among count n before after rest (cc e))
 
--- of numbers past a number those behind others; those whose items stay
+-- of numbers past a number, those after others; and those whose items stay
 past_behind : (nodes : List (Node Item)) (low byte : ℕ) (before after : List ℕ) → AllPast nodes low byte (before ++ after)
     → AllPast nodes low byte after
 past_behind nodes low byte [] after h = h
@@ -150,7 +150,7 @@ module _ (source : List ℕ) (tables : Tables) (old : List (Node Item)) (opener 
     behind_reads = behind_framed.trees ∙ ap (λ (g : Forest ℕ). relabelled (label_at source tables old) g) closer_forest
         ∙ read_past (label_at source tables old) k f
 
-    -- the first past a byte behind the closer is the same
+    -- the first past a byte offset after the closer is the same
     pub first_behind : first_past new byte (roots (forest_at (links_of new) (Some closer))) ≡ first_past old byte can.after
     first_behind =
         let ends = can.closer_ends in
@@ -160,7 +160,7 @@ module _ (source : List ℕ) (tables : Tables) (old : List (Node Item)) (opener 
         (λ n l. (behind n l).item)
         ∙ ap (λ (ns : List ℕ). first_past old byte ns) closer_roots ∙ skip
 
-    -- it stands past the opener
+    -- it is past the opener
     pub behind_past : AllPast new opener (item_at old opener).end (roots (forest_at (links_of new) (Some closer)))
     behind_past =
         let all : AllPast old opener (item_at old opener).end (inside ++ closer ∷ can.after) = rw can.follows at
@@ -175,7 +175,7 @@ module _ (source : List ℕ) (tables : Tables) (old : List (Node Item)) (opener 
         (sym behind_forest) ∙ first_behind ∙ e in
         (behind n (first_there new byte n (trees_past k f) there)).item
 
-  -- folded, it is changed where it stands
+  -- folded, it is changed in place
   module _ (new : List (Node Item)) (v : IsFolded source tables old new opener closer k) where
     rest : Framed source tables tables old new (Some closer)
     rest = behind_framed new v.size v.behind

@@ -1,4 +1,4 @@
--- The items of a chain stand in the text one after the other, so that past the end of one of them only later ones are
+-- The items of a chain are in the text one after the other, so that past the end of one of them only later ones are
 -- left.
 use Rattle.std.proofs.Common.{◌≡◌, ℕ, suc, ◌<◌, ◌≤◌, Bool, true, false, List, [], ◌∷◌, ◌++◌, map, length, Option, Some, refl, sym, ap, ◌∙◌}
 use Rattle.std.proofs.Common.{arith, subst}
@@ -25,7 +25,7 @@ use Rattle.markdown_resolver.specs.Kept.{IsQuietBelow}
 use Rattle.markdown_resolver.specs.Rewritten.{first_past, numbered_past_byte, begun_item}
 use Rattle.markdown_resolver.proofs.ChainLeadsLemmas.{items_along, leads_along, leads_items, next_above, no_block}
 
--- nodes whose items stand one after the other, from a byte on
+-- nodes whose items are one after the other, from a byte offset on
 abbrev pub InOrder : List (Node Item) → ℕ → List ℕ → Type 0
 InOrder nodes i [] = ⊤
 InOrder nodes i (x ∷ after) = (i ≤ (item_at nodes x).start) × ((item_at nodes x).start ≤ (item_at nodes x).end)
@@ -65,7 +65,7 @@ roots_shown : {A : Type 0} (g : ℕ → A) (f : Forest ℕ) → roots (relabelle
 roots_shown g nil = refl
 roots_shown g (node ix below after) = ap (λ l. g ix ∷ l) (roots_shown g after)
 
--- what holds at each node of a forest holds at those that stand among its roots
+-- what is true at each node of a forest is true at those among its roots
 pub each_root : (p : ℕ → Type 0) (f : Forest ℕ) (before : List ℕ) (x : ℕ) (after : List ℕ) → Each p f → roots f ≡ before ++ x ∷ after → p x
 each_root p nil [] x after h e = cc e
 each_root p nil (y ∷ before) x after h e = cc e
@@ -73,7 +73,7 @@ each_root p (node ix below rest) [] x after h e = let same : ix ≡ x = cc e in 
 each_root p (node ix below rest) (y ∷ before) x after h e = each_root p rest before x after h.2 (let later : roots rest ≡ before
     ++ x ∷ after = cc e in later)
 
--- a chain that may be resolved, from its first node on
+-- a chain that can be resolved, from its first node on
 pub record OpenedChain (source : List ℕ) (tables : Tables) (nodes : List (Node Item)) (ix : ℕ) : Type 0 where
   pub within : ix < length nodes
   pub placed : IsPlaced source tables nodes ix
@@ -109,7 +109,7 @@ opens_chain source tables nodes ix ready =
       all_placed = o.after.each;
     }
 
--- how many items are left where links lead through some
+-- the number of items that are left where links lead through some
 pub items_led : (source : List ℕ) (tables : Tables) (nodes : List (Node Item)) (l : Option ℕ) (low : ℕ) (chain : List Numbered)
     → CanResolve source tables nodes l
     → LeadsThrough nodes low l chain → items_from nodes l ≡ length chain
@@ -157,7 +157,7 @@ left_over : (nodes : List (Node Item)) (i : ℕ) (before after : List ℕ) → E
 left_over nodes i [] after h = refl
 left_over nodes i (x ∷ before) after h = rw (ends_in (item_at nodes x).end i h.0) (left_over nodes i before after h.1)
 
--- the first that ends past a byte at which nothing stands starts there or later
+-- the first that ends past a byte offset that no item contains starts there or later
 starts_past : (nodes : List (Node Item)) (e j next : ℕ) (xs : List ℕ) → e ≤ j → InOrder nodes j xs → first_past nodes e xs ≡ Some next
     → e ≤ (item_at nodes next).start
 starts_past nodes e j next [] le h first = cc first
@@ -180,7 +180,7 @@ no_more_left e (a ∷ after) = by (nat_le a.item.end e) (no_more_left e after)
     by true h = omega (arith, h)
     by false h = omega arith
 
--- nothing stands around the end of an item of a chain
+-- no item has bytes both before and after the end of an item of a chain
 pub nothing_around : (nodes : List (Node Item)) (i : ℕ) (before : List ℕ) (x : ℕ) (after : List ℕ) (next : ℕ)
     → InOrder nodes i (before ++ x ∷ after)
     → first_past nodes (item_at nodes x).end (before ++ x ∷ after) ≡ Some next → (item_at nodes x).end ≤ (item_at nodes next).start

@@ -1,6 +1,6 @@
--- The bytes at which the chain after a `]` may go on, as its items stand in an arena: behind the `]` itself, where a later
--- item ends, and behind a `)`. Each is between characters, and no open item stands around it: items stand one after the
--- other, and what is open stands over its markup, in which no `)` is.
+-- The byte offsets at which the chain after a `]` can continue, as its items are in an arena: after the `]` itself,
+-- where a later item ends, and after a `)`. Each is between characters, and no open item has bytes on both sides of it:
+-- items are one after the other, and an open item covers its markup, in which there is no `)`.
 use Rattle.std.proofs.Common.{◌≡◌, ℕ, ◌+◌, ◌-◌, ◌<◌, ◌≤◌, Bool, true, false, ◌==◌, ◌&&◌, List, [], ◌∷◌, ◌++◌, Option, Some, None, IsUtf8}
 use Rattle.std.proofs.Common.{length, drop, get_or, refl, sym, ap, ◌∙◌, subst, arith}
 use Rattle.std.specs.Prelude.{IfSome, if◌then◌else◌, nat_le, nat_lt, slice_range}
@@ -30,7 +30,7 @@ use Rattle.markdown_resolver.specs.PutsTrees.{numbered_label}
 use Rattle.markdown_resolver.specs.Rewritten.{first_past}
 use Rattle.markdown_resolver.proofs.FollowersLemmas.{InOrder, each_root, nothing_around, order_around}
 
--- an open item over these bytes has no `)` before its last one
+-- an open item with these bytes has no `)` before its last one
 none_open : (bytes : List ℕ) (k : ℕ) (b : ItemBody) → k + 1 < length bytes → get_or bytes k 0 ≡ 41 → StandsOverMarkup bytes b
     → IfSome (run_character b) (λ c. length bytes ≡ 1) → is_open b ≡ false
 none_open bytes k (body.MaybeEmphasis count opens closes) within closed markup run = absurd (omega (arith, run, within))
@@ -57,11 +57,11 @@ pub one_byte : (source : List ℕ) (a : Numbered) (next : Option Numbered) (c : 
 one_byte source a next None bytes e h = tt
 one_byte source a next (Some c) bytes e h = omega (arith, e, h.one_byte)
 
--- an item's bytes are as many as it is long
+-- an item has as many bytes as its range is long
 pub size_there : (source : List ℕ) (start end : ℕ) → end ≤ length source → length (slice_range source start end) ≡ end - start
 size_there source start end within = omega (arith, length-take (end - start) (drop start source), length-drop start source, within)
 
--- so nothing open stands around a byte before which a `)` stands
+-- so no open item has bytes both before and after an offset that follows a `)`
 none_cut : (source : List ℕ) (tables : Tables) (nodes : List (Node Item)) (n i : ℕ) → IsPlaced source tables nodes n
     → get_or source (i - 1) 0 ≡ 41 → (item_at nodes n).start < i → i < (item_at nodes n).end → is_open (item_at nodes n).body ≡ false
 none_cut source tables nodes n i placed closed starts ends =
@@ -77,7 +77,7 @@ none_cut source tables nodes n i placed closed starts ends =
     none_open bytes k item.body (omega (arith, size, starts, ends)) byte placed.keeps.markup_is_there
     (one_byte source (numbered nodes n) (next_at nodes n) (run_character item.body) bytes size placed.keeps.runs_are_whole)
 
--- the first that ends past a byte behind which all stand starts there or later
+-- the first that ends past a byte offset after which all start there or later
 first_starts : (nodes : List (Node Item)) (i j n : ℕ) (xs : List ℕ) → i ≤ j → InOrder nodes j xs → first_past nodes i xs ≡ Some n
     → i ≤ (item_at nodes n).start
 first_starts nodes i j n [] le h first = cc first
@@ -129,12 +129,12 @@ shows_closer tables bytes b h =
     let opens = open-unresolved tables bytes b (shows_open (shape_of tables bytes b) h) in
     subst (λ (shape : Shape). is_closer (open_body shape) ≡ true) (shape-open tables bytes b opens) h
 
--- and stands over one byte
+-- and has one byte
 closer_long : (bytes : List ℕ) (b : ItemBody) → is_closer b ≡ true → StandsOverMarkup bytes b → length bytes ≡ 1
 closer_long bytes (body.MaybeLinkClose could_be) h markup = ap length markup
 closer_long bytes other h markup = absurd (cc h)
 
--- the chain after a `]`: its items stand behind it, one after the other
+-- the chain after a `]`: its items follow it, one after the other
 pub record StandsBehind (source : List ℕ) (tables : Tables) (nodes : List (Node Item)) (c : Closing ℕ) (f : Forest ℕ) : Type 0 where
   pub rest_is : c.rest ≡ relabelled (numbered_label source tables nodes) f
   pub placed : Each (IsPlaced source tables nodes) f
@@ -150,7 +150,7 @@ pub record EndsThere (nodes : List (Node Item)) (i : ℕ) (f : Forest ℕ) : Typ
   pub ends : (item_at nodes item).end ≡ i
 
 module _ (source : List ℕ) (tables : Tables) (nodes : List (Node Item)) where
-  -- what is asked of labels, by numbers
+  -- what is required of labels, by numbers
   pub none_open_around : (i : ℕ) (f : Forest ℕ) → ((n : ℕ) → first_past nodes i (roots f) ≡ Some n → (item_at nodes n).start < i
       → is_open (item_at nodes n).body ≡ false)
       → NoneOpenAround i (relabelled (numbered_label source tables nodes) f)
@@ -224,12 +224,12 @@ module _ (source : List ℕ) (tables : Tables) (nodes : List (Node Item)) where
       by false closes s t h = cc h
 
   module _ (c : Closing ℕ) (f : Forest ℕ) (k : StandsBehind source tables nodes c f) where
-    -- what holds of the numbers holds of the labels
+    -- what is true of the numbers is true of the labels
     around_here : (i : ℕ) → ((n : ℕ) → first_past nodes i (roots f) ≡ Some n → (item_at nodes n).start < i
         → is_open (item_at nodes n).body ≡ false) → NoneOpenAround i c.rest
     around_here i h = subst (NoneOpenAround i) (sym k.rest_is) (none_open_around i f h)
 
-    -- behind the `]`
+    -- after the `]`
     pub goes_on_here : CanGoOn source c (end_of c.label)
     goes_on_here = record {
       behind = omega arith;
@@ -257,7 +257,7 @@ module _ (source : List ℕ) (tables : Tables) (nodes : List (Node Item)) where
               absurd (omega (arith, from, starts, there.ends)));
         }
 
-    -- behind a `)`
+    -- after a `)`
     pub goes_on_closed : (i : ℕ) → IsUtf8 source → end_of c.label < i → i ≤ length source → get_or source (i - 1) 0 ≡ 41
         → CanGoOn source c i
     goes_on_closed i utf8 after within closed =

@@ -1,5 +1,5 @@
--- From what was put for an item that is no bracket to how far the chain was read: the trees that stand there are behind the
--- left list, nobody was asked, and what is left is what the rule for the item leaves.
+-- From what was put in place for an item that is not a bracket to how far the chain was read: the trees there follow
+-- the left list, no question was asked, and what is left is what the rule for the item leaves.
 use Rattle.std.proofs.Common.{◌≡◌, ℕ, ◌+◌, Bool, true, false, List, [], ◌∷◌, Option, Some, None, refl, sym, ap, ◌∙◌, append-nil}
 use Rattle.markdown_base.specs.Arena.{child_of, sibling_of}
 use Rattle.markdown_base.specs.BlockTree.{item_at}
@@ -29,7 +29,7 @@ use Rattle.markdown_resolver.proofs.FollowersLemmas.{opens_chain}
 use Rattle.markdown_resolver.proofs.PassOneLemmas.{NoBracket, closed_no_bracket, reads_other}
 use Rattle.markdown_resolver.proofs.StandsToLemmas.{stands_rest}
 
--- the shape of an item that is no bracket is that of none
+-- the shape of an item that is not a bracket is not that of one
 pub shape_no_bracket : (tables : Tables) (source : List ℕ) (b : ItemBody) → NoBracket b → NoBracket (open_body (shape_of tables source b))
 shape_no_bracket tables source b h = by_open (is_open b) refl
   where
@@ -58,7 +58,7 @@ held_done trees left brackets wikilinks held = record {
   wikilinks_are = held.wikilinks_are ∙ sym (done_wikilinks trees left);
 }
 
--- an item that is no bracket was read
+-- an item that is not a bracket was read
 pub reads_on_item : {C : Type 0} (step : C → Question → Option Answer → C → Type 0) (s : Setting) (above : Above) (first ix : ℕ)
     (next : Option ℕ) (left : List (Entry ℕ)) (old new : Stage C)
     (spent : SpentEnds) (brackets wikilinks : List Waiting) → new ≡ record old { nodes = new.nodes; tables = new.tables }

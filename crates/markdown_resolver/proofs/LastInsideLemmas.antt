@@ -1,4 +1,4 @@
--- The walk from an opener to the last node inside: the closer stands ahead of it, so that it is met before the chain ends.
+-- The walk from an opener to the last node inside: the closer is ahead of it, so that it is met before the chain ends.
 use Rattle.std.proofs.Common.{◌≡◌, ℕ, ◌<◌, ◌≤◌, List, [], ◌∷◌, ◌++◌, Option, Some, None, refl, sym, ap, ◌∙◌, subst, arith}
 use Rattle.markdown_base.specs.Arena.{child_of, sibling_of}
 use Rattle.markdown_base.specs.ArenaForest.{Spells, forest_at, links_of}
@@ -13,7 +13,7 @@ use Rattle.markdown_document.proofs.TablesLemmas.{same-refl}
 use Rattle.markdown_resolver.specs.ClosedOver.{CanClose, last_inside}
 use Rattle.markdown_resolver.proofs.PastByteLemmas.{SpelledAt}
 
--- what follows a node are the rest of the nodes inside, and then the closer, which stands there once
+-- what follows a node are the rest of the nodes inside, and then the closer, which occurs once
 pub record IsAhead (nodes : List (Node Item)) (opener closer last : ℕ) (inside : List ℕ) : Type 0 where
   pub ahead : List ℕ
   pub after : List ℕ
@@ -47,7 +47,7 @@ follow_roots : (nodes : List (Node Item)) (last next : ℕ) → sibling_of nodes
 follow_roots nodes last next link s = ap (λ (l : Option ℕ). roots (forest_at (links_of nodes) l)) link
     ∙ ap (λ (f : Forest ℕ). roots f) s.here
 
--- a number of a chain stands in it
+-- a number of a chain is in it
 stands_among : (n : ℕ) (before after : List ℕ) (f : Forest ℕ) → roots f ≡ before ++ n ∷ after → 0 < total (same n) f
 stands_among n [] after nil e = cc e
 stands_among n [] after (node m below rest) e =
@@ -85,7 +85,7 @@ ahead_next nodes opener closer last next inside link s other h =
     next_ahead nodes opener closer last next inside h.ahead h.after link s other h.ends (sym (follow_roots nodes last next link s)
     ∙ h.follows) h.once
 
--- before the closer stands the last node inside
+-- before the closer is the last node inside
 closer_ahead : (nodes : List (Node Item)) (opener closer last : ℕ) (inside ahead after : List ℕ) → sibling_of nodes last ≡ Some closer
     → SpelledAt nodes closer
     → last_inside opener inside ≡ last_inside last ahead → closer ∷ roots (forest_at (links_of nodes) (sibling_of nodes closer)) ≡ ahead

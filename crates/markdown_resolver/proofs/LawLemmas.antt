@@ -46,7 +46,7 @@ no_heavier s tags above chain known =
     let pairs = weight-law s (pass_one s tags above chain known).forest in
     omega arith
 
--- neither looks at a tag
+-- neither depends on tags
 pub same_tags : {A B : Type 0} (f : A → B) (s : Setting) (tags : Tags A) (tags' : Tags B) → Follows f tags tags'
     → (above : Above) (chain : Forest (Label A)) (known : Known)
     → resolved s tags' above (retagged f chain) known

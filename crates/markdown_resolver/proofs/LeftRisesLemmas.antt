@@ -1,4 +1,5 @@
--- The numbers of the nodes of a left list rise along it; and a left list with the `]` behind it, as the decision at a `]` reads it.
+-- The numbers of the nodes of a left list rise along it; and a left list with the `]` after it, as the decision at a
+-- `]` reads it.
 use Rattle.std.proofs.Common.{◌≡◌, ℕ, suc, ◌<◌, ◌≤◌, Bool, true, List, Option, Some, refl, sym, ap, ◌∙◌, subst}
 use Rattle.std.specs.Prelude.{IfSome}
 use Rattle.markdown_base.specs.Arena.{child_of, sibling_of}
@@ -36,7 +37,7 @@ behind_link nodes n l (node m below after) s above rising =
     let first : n < m = rw s.0 at above in
     (first, behind_all n m (roots after) first rising.0)
 
--- the numbers of a chain that may be read rise
+-- the numbers of a chain that can be read rise
 rising_along : (source : List ℕ) (tables : Tables) (nodes : List (Node Item)) (l : Option ℕ) (f : Forest ℕ)
     → Spells (links_of nodes) l f → Each (IsPlaced source tables nodes) f → IsQuietBelow (relabelled (label_at source tables nodes) f)
     → AreRising (roots f)
@@ -49,7 +50,7 @@ rising_along source tables nodes l (node ix below after) s p q =
       later,
     )
 
--- so do those of a left list that stands there
+-- so do those of a left list in an arena
 pub left_rises : (source : List ℕ) (tables : Tables) (nodes : List (Node Item)) (first : ℕ) (at : Option ℕ) (left : List (Entry ℕ))
     → StandsTo source tables nodes first at left → LeftRises left
 left_rises source tables nodes first at left h =
@@ -76,7 +77,7 @@ holds_numbered source tables nodes l (node ix below after) s = (
       (sibling_of nodes ix) after s.3,
 )
 
--- behind a left list stands a `]`, and then what follows it
+-- after a left list there is a `]`, and then what follows it
 pub stands_before : (source : List ℕ) (tables : Tables) (nodes : List (Node Item)) (first closer : ℕ) (left : List (Entry ℕ))
     (c : Closing ℕ) (could_be : Bool)
     → StandsTo source tables nodes first (Some closer) left → c.label ≡ numbered_label source tables nodes closer

@@ -1,5 +1,5 @@
--- The trees of a left list and what follows them are one chain: how often a number stands there, what is open there, and
--- which openers wait. So what is said of a left list is said of the chain that it stands in.
+-- The trees of a left list and what follows them are one chain: how often a number occurs in it, what is open in it,
+-- and which openers wait. So what is true of a left list is true of the chain that it is in.
 use Rattle.std.proofs.Common.{◌≡◌, ℕ, ◌+◌, ◌<◌, Bool, List, [], ◌∷◌, ◌++◌, refl, ap, ◌∙◌, arith}
 use Rattle.markdown_base.specs.Forest.{Forest, nil, node, relabelled, roots}
 use Rattle.markdown_brackets.specs.ChainHeld.{numbers_of, times_of}
@@ -18,7 +18,7 @@ use Rattle.markdown_document.proofs.TablesLemmas.{same-refl}
 use Rattle.markdown_resolver.specs.Kept.{IsQuiet, IsQuietBelow}
 use Rattle.markdown_resolver.specs.ReadOn.{EachWaits}
 
--- two chains side by side, with other labels
+-- two chains, one after the other, with other labels
 pub relabelled_joined : {A B : Type 0} (h : A → B) (f g : Forest A) → relabelled h (joined f g) ≡ joined (relabelled h f) (relabelled h g)
 relabelled_joined h nil g = refl
 relabelled_joined h (node a below after) g = ap (λ rest. node (h a) (relabelled h below) rest) (relabelled_joined h after g)
@@ -27,7 +27,7 @@ total_joined : (count : ℕ → ℕ) (f g : Forest ℕ) → total count (joined 
 total_joined count nil g = omega arith
 total_joined count (node ix below after) g = omega (arith, total_joined count after g)
 
--- the trees of a left list stand before those that are put onto it
+-- the trees of a left list precede those that are put onto it
 pub onto_split : (left : List (Entry ℕ)) (later : Forest (Label ℕ)) → trees_onto left later ≡ joined (trees_onto left nil) later
 onto_split left later = onto_joined left nil later
 
@@ -45,7 +45,7 @@ pub done_onto : (trees : Forest (Label ℕ)) (left : List (Entry ℕ)) (later : 
 done_onto nil left later = refl
 done_onto (node a below after) left later = done_onto after (done a below ∷ left) later
 
--- nothing is open in two chains side by side, and in each of them
+-- nothing is open in two chains joined, nor in either of them
 pub quiet_joined : {A : Type 0} (f g : Forest (Label A)) → IsQuiet f → IsQuiet g → IsQuiet (joined f g)
 quiet_joined nil g h k = k
 quiet_joined (node a below after) g h k = (h.0, h.1, h.2, quiet_joined after g h.3 k)
@@ -66,7 +66,7 @@ pub below_second : {A : Type 0} (f g : Forest (Label A)) → IsQuietBelow (joine
 below_second nil g h = h
 below_second (node a below after) g h = below_second after g h.2
 
--- tags say nothing to that
+-- this does not depend on tags
 pub quiet_tagged : {A B : Type 0} (f : A → B) (g : Forest (Label A)) → IsQuiet g → IsQuiet (retagged f g)
 quiet_tagged f nil h = tt
 quiet_tagged f (node a below after) h = (h.0, h.1, quiet_tagged f below h.2, quiet_tagged f after h.3)
@@ -88,7 +88,7 @@ pub waits_done : (p : ℕ → Type 0) (trees : Forest (Label ℕ)) (left : List 
 waits_done p nil left h = h
 waits_done p (node a below after) left h = waits_done p after (done a below ∷ left) h
 
--- what holds of each opener, and of what stands in the left list follows from that
+-- a property of each opener, and of what is in the left list, implies another one
 pub waits_mapped : (p q : ℕ → Type 0) (left : List (Entry ℕ)) → ((n : ℕ) → 0 < times_of n (trees_onto left nil) → p n → q n)
     → EachWaits p left → EachWaits q left
 waits_mapped p q [] h w = tt
@@ -151,7 +151,7 @@ each_wikilink p [] h = tt
 each_wikilink p (done a below ∷ left) h = each_wikilink p left h
 each_wikilink p (waits m a ∷ left) h = held_where p a.tag m.is_image m.wikilink (wikilinks_of left) h.0 (each_wikilink p left h.1)
 
--- of numbers that rise along a chain those of its beginning do
+-- numbers that come after a number come after a smaller one too, and so do those of a beginning of a chain
 pub behind_all : (n m : ℕ) (numbers : List ℕ) → n < m → AreBehind m numbers → AreBehind n numbers
 behind_all n m [] l h = tt
 behind_all n m (k ∷ numbers) l h = (omega (arith, l, h.0), behind_all n m numbers l h.1)

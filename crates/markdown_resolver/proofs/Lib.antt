@@ -1,4 +1,4 @@
--- Lemmas on resolving a chain where it stands.
+-- Lemmas on resolving a chain in place.
 pub mod ReadOnLemmas
 pub mod ItemOnLemmas
 pub mod OpenerOnLemmas

@@ -1,4 +1,5 @@
--- What is found from a `<` on ends with `>`, and so between two characters; nothing open stands around its end.
+-- What is found at a `<` ends with `>`, and so between two characters; no open item has bytes both before and after its
+-- end.
 use Rattle.markdown_base.specs.declared.item.ItemBody.TheVariants as body
 use Rattle.std.proofs.Common.{◌≡◌, ℕ, zero, suc, ◌+◌, ◌-◌, ◌<◌, ◌≤◌, Bool, true, false, ◌==◌, ◌&&◌, ◌⊎◌, inl, inr, List, [], ◌∷◌, Option}
 use Rattle.std.proofs.Common.{Some, None, length, take, drop, get_or, refl, sym, ap, ◌∙◌, subst, arith}
@@ -39,7 +40,7 @@ use Rattle.markdown_raw_html.proofs.TagTextLemmas.{source_after-more, source_aft
 use Rattle.markdown_resolver.specs.Chains.{CanResolve}
 use Rattle.markdown_resolver.specs.Rewritten.{IsFoundAt, first_past}
 
--- what begins at a place of a text and ends at another has bytes, and `>` is the last
+-- what begins at one byte offset of a text and ends at another has bytes, and `>` is the last
 pub record EndsClosed (text : List ℕ) (start end : ℕ) : Type 0 where
   pub after : start < end
   pub within : end ≤ length text
@@ -61,7 +62,7 @@ is_end skipped (suc n) (b ∷ source) = later (prefix_after skipped b source) (i
     later None h = (length (b ∷ source), source_after-nil skipped n ∙ sym (drop_all (length (b ∷ source)) (b ∷ source) (omega arith)))
     later (Some k) h = (suc (k + h.0), h.1 ∙ drop-drop h.0 k source)
 
--- where a text goes on with `>`, so does its source
+-- where a text continues with `>`, so does its source
 closes_here : (skipped : List ℕ → Option ℕ) (source : List ℕ) → 1 ≤ length (text_in skipped source) → get_or (text_in skipped source) 0 0
     ≡ 62
     → source ≡ 62 ∷ source_after skipped 1 source
@@ -188,7 +189,7 @@ uri_ends text at = by_byte (begins_scheme (drop at text)) (slice_index (drop at 
           closed = ap (λ i. get_or text i 0) (sym place) ∙ (sym (get_or-drop at text n 0) ∙ eqb-true (slice_index (drop at text) n) 62 e);
         }
 
--- of which the URI stands in the text
+-- the URI of an autolink is a slice of the text
 uri_stands : (text : List ℕ) (at : ℕ) → IfSome (uri_autolink text at) (λ found. StandsIn text found.1)
 uri_stands text at = by (closed_uri (drop at text))
   where
@@ -199,7 +200,7 @@ uri_stands text at = by (closed_uri (drop at text))
         let size : n ≡ at + n - at = omega arith in
         stands_between text at (at + n) (take n (drop at text)) (ap (λ k. take k (drop at text)) size)
 
--- an autolink has bytes after its `<`, and its URI stands in the text
+-- an autolink has bytes after its `<`, and its URI is a slice of the text
 abbrev pub EndsPast : List ℕ → ℕ → Markup → Type 0
 EndsPast text at (autolink end uri) = (at < end) × StandsIn text uri
 EndsPast text at (html end bytes) = Unit {0}
@@ -227,7 +228,7 @@ markup_ends skipped text start at m later within e =
     first_of None (Some found) h u k = record { ends = k; address = tt }
     first_of None None h u k = tt
 
--- an open item over these bytes has none of them before its last one that is `>`
+-- an open item with these bytes has none of them before its last one that is `>`
 none_open : (bytes : List ℕ) (k : ℕ) (b : ItemBody) → k + 1 < length bytes → get_or bytes k 0 ≡ 62 → StandsOverMarkup bytes b
     → IfSome (run_character b) (λ c. length bytes ≡ 1) → is_open b ≡ false
 none_open bytes k (body.MaybeEmphasis count opens closes) within closed markup run = absurd (omega (arith, run, within))
@@ -253,7 +254,7 @@ one_byte : (source : List ℕ) (a : Numbered) (next : Option Numbered) (c : Opti
 one_byte source a next None bytes e h = tt
 one_byte source a next (Some c) bytes e h = omega (arith, e, h.one_byte)
 
--- so nothing open stands around a byte before which a `>` stands
+-- so no open item has bytes both before and after an offset that follows a `>`
 pub none_around : (source : List ℕ) (tables : Tables) (nodes : List (Node Item)) (next end : ℕ) → IsPlaced source tables nodes next
     → get_or source (end - 1) 0 ≡ 62 → (item_at nodes next).start < end → end < (item_at nodes next).end → is_open (item_at nodes next).body
     ≡ false

@@ -1,4 +1,4 @@
--- The items that are put where markup was found may be put there, and read as the trees that stand for it.
+-- The items that are put in place where markup was found can be put there, and read as the trees that replace the `<`.
 use Rattle.markdown_base.specs.declared.item.ItemBody.TheVariants as body
 use Rattle.std.proofs.Common.{◌≡◌, ℕ, zero, suc, ◌+◌, ◌-◌, ◌<◌, ◌≤◌, ◌⊎◌, inl, inr, false, List, [], ◌∷◌, ◌++◌, Option, Some, None, length}
 use Rattle.std.proofs.Common.{take, drop, get_or, refl, sym, ap, ◌∙◌, subst, arith, append-nil, length-append}
@@ -150,7 +150,7 @@ link_put source held held' link number view put last from same = rw put (record 
 pub address_from : (source : List ℕ) (uri : List ℕ) → StandsIn source uri → IsLinkFrom source sliced (address uri)
 address_from source uri stands e = record { destination = stands; no_title = refl; no_label = refl }
 
--- raw HTML as it stands
+-- raw HTML as it is in the source
 pub can_put_html : (source : List ℕ) (tables : Tables) (nodes : List (Node Item)) (ix end : ℕ)
     → LiesIn source (item_to nodes ix end (body.Text false))
     → CanPut source tables tables (item_to nodes ix end body.InlineHtml)
@@ -168,7 +168,7 @@ can_put_html source tables nodes ix end lies = record {
     none (some_link n) h = refl
     none (some_alignments n) h = refl
 
--- and without the prefixes of lines
+-- raw HTML without the prefixes of lines
 pub can_put_owned : (source : List ℕ) (tables tables' : Tables) (number : CowIndex) (bytes : List ℕ) (nodes : List (Node Item)) (ix end : ℕ)
     → PutsText tables tables' number bytes
     → LiesIn source (item_to nodes ix end (body.Text false))
@@ -223,7 +223,7 @@ can_put_autolink source tables tables' number uri nodes ix end put lies there = 
     by_link (some_link n) h = same_below n number.0 (omega (arith, h, put.number))
     by_link (some_alignments n) h = refl
 
--- they read as the trees that stand for what was found
+-- they read as the trees that replace what was found
 abbrev pub ReadsFor : List ℕ → Rules → Tables → List (Node Item) → ℕ → Standing → Markup → Type 0
 ReadsFor source rules tables nodes ix trees m =
     trees (label_at source tables nodes ix) (trees_from source tables nodes (child_of nodes ix))
@@ -246,14 +246,14 @@ pub autolink_trees : (source : List ℕ) (rules : Rules) (tables tables' : Table
     (autolink end uri)
 autolink_trees source rules tables tables' number uri nodes ix end put = rw put.found refl
 
--- one tree stands for it
+-- one tree replaces it
 one_markup : (source : List ℕ) (rules : Rules) (m : Markup) (a : Plain) (below : Forest Plain)
     → length (roots (standing_for source rules m a below)) ≡ 1
 one_markup source rules (autolink end uri) a below = refl
 one_markup source rules (html end None) a below = refl
 one_markup source rules (html end (Some bytes)) a below = refl
 
--- so what was put stands for it
+-- so what was put in place replaces it
 pub puts_standing : (source : List ℕ) (rules : Rules) (m : Markup) (ix : ℕ) (trees : Standing) (goes_on next : Option ℕ)
     (old new : List (Node Item)) (tables tables' : Tables)
     → CanResolve source tables old (Some ix) → ReadsFor source rules tables old ix trees m

@@ -1,5 +1,5 @@
--- A `<` is read where it stands: what a scan finds from there on, in the text up to the block's end, is what pass one
--- finds, and what is put there is what pass one makes of it.
+-- A `<` is read in place: what a scan finds from there on, in the text up to the block's end, is what pass one finds,
+-- and what is put in place is what pass one makes of it.
 use Rattle.std.specs.Option.{option_map_or}
 use Rattle.std.specs.Prelude.{IfOk, slice_range}
 use Rattle.std.specs.declared.result.Result.{Result}
@@ -59,7 +59,7 @@ settled_reads s above tables nodes ix is none =
       ends = ap (λ (p : Passed (Unit {0})). p.goes_on) r;
     }
 
--- and else what stands for the markup
+-- otherwise it becomes the trees of the markup
 found_reads : (s : Setting) (above : Above) (tables : Tables) (nodes : List (Node Item)) (ix : ℕ) (m : Markup)
     → (item_at nodes ix).body ≡ body.MaybeHtml
     → markup_found s above (label_at s.text tables nodes ix)
@@ -84,7 +84,7 @@ next_starts source tables nodes i ix ready =
     let after = (opens (links_of nodes) (IsPlaced source tables nodes) ix ready.reaches).after in
     starts_in source tables nodes i (sibling_of nodes ix) (forest_at (links_of nodes) (sibling_of nodes ix)) after.spelled
 
--- what was scanned over all nodes gone into is what is found below the blocks
+-- what was scanned with the prefix of all nodes that were entered is what is found below the blocks
 pub scanned_is : (place : ChainPlace) (prefix : ContainerPrefix) (tree : Arena Item) (rules : Rules) (start at : ℕ) (found : Option Markup)
     → prefix.tree.now ≡ tree
     → prefix.gfm_footnotes ≡ gfm_footnotes_on place.options → gfm_footnotes_on rules.options ≡ gfm_footnotes_on place.options → IsPlaceOf place tree
@@ -101,7 +101,7 @@ scanned_is place prefix tree rules start at found here gfm same stands is =
     sym (is ∙ (ap (λ (skipped : List ℕ → Option ℕ). markup_at skipped (take place.block_end place.text.now) start at) rule
     ∙ ap (λ (end : ℕ). markup_at (λ bytes. Some (prefix_below s above bytes)) (take end place.text.now) start at) stands.block_end))
 
--- a `<` that stands before the block's end and that the next item follows was scanned, and this was found
+-- a `<` before the block's end that the next item follows was scanned, and this was found
 pub record IsScanned (place : ChainPlace) (tree : Arena Item) (held : Allocated) (ix : ℕ) (prefix : ContainerPrefix) (found : Option Markup)
     : Type 0 where
   pub can : CanReadItem place tree held ix
@@ -175,7 +175,7 @@ none_follows place tree held ix rules item next can same after none =
     ap (markup_found (setting_of place.text.now rules) (above_cursor place.text.now tree) (label_at place.text.now (tables_of held)
     tree.nodes ix)) follows
 
--- nor where the `<` does not stand before the block's end
+-- nor where the `<` is not before the block's end
 pub none_past_block : (place : ChainPlace) (tree : Arena Item) (held : Allocated) (ix : ℕ) (rules : Rules) (item : Item)
     → CanReadItem place tree held ix
     → (item_at tree.nodes ix).body ≡ body.MaybeHtml → item ≡ item_at tree.nodes ix → place.block_end < item.end
@@ -216,7 +216,7 @@ scan_ends place tree held ix prefix m is =
     markup_ends (λ rest. Some (length_by prefix rest)) (take place.block_end place.text.now) item.start item.end m (omega (arith, long))
     before (sym is.value)
 
--- so it may be put there
+-- so it can be put in place
 has_address : (place : ChainPlace) (tree : Arena Item) (held : Allocated) (ix : ℕ) (m : Markup) → CanReadItem place tree held ix
     → MarkupEnds (take place.block_end place.text.now) (item_at tree.nodes ix).start (item_at tree.nodes ix).end m
     → HasAddress place.text.now tree.nodes ix m
@@ -256,7 +256,7 @@ reads_text place tree held ix rules next new can opener none p =
     let above = above_cursor place.text.now tree in
     reads_item can.ready (settled_reads s above (tables_of held) tree.nodes ix opener none) p
 
--- and where markup is found as the trees that stand for it
+-- where markup is found, the item is read as the trees that replace it
 pub reads_found : (place : ChainPlace) (tree : Arena Item) (held : Allocated) (ix : ℕ) (prefix : ContainerPrefix) (m : Markup)
     (rules : Rules) (next : Option ℕ) (new : List (Node Item)) (tables' : Tables)
     → IsScanned place tree held ix prefix (Some m) → gfm_footnotes_on rules.options ≡ gfm_footnotes_on place.options
@@ -268,7 +268,7 @@ reads_found place tree held ix prefix m rules next new tables' is gfm p =
     let found = scan_finds place tree held ix prefix (Some m) rules is gfm in
     reads_item is.can.ready (found_reads s above (tables_of held) tree.nodes ix m is.opener found) p
 
--- what holds of an answer where another does
+-- what is true of a result where another fact is
 pub if_ok : {T E : Type 0} (r : Result T E) (P Q : T → Type 0) → ((x : T) → P x → Q x) → IfOk r P → IfOk r Q
 if_ok (Ok x) P Q f h = f x h
 if_ok (Err e) P Q f h = tt

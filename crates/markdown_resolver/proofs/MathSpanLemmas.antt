@@ -1,4 +1,4 @@
--- A math span that a search finds in a chain is what pass one finds there, and may be put where its opener stands.
+-- A math span that a search finds in a chain is what pass one finds there, and can be put in the place of its opener.
 use Rattle.std.proofs.Common.{◌≡◌, ℕ, suc, ◌<◌, ◌≤◌, Bool, true, false, not, ◌&&◌, ◌==◌, List, [], ◌∷◌, ◌++◌, map, length, drop, Option}
 use Rattle.std.proofs.Common.{Some, None, refl, sym, ap, ◌∙◌, arith, subst, append_assoc}
 use Rattle.std.specs.Prelude.{if◌then◌else◌}
@@ -90,7 +90,7 @@ start_shown source tables nodes ix xs =
     by None = refl
     by (Some second) = refl
 
--- which is read off the next link
+-- where the text of math starts, from the next link
 pub start_linked : (nodes : List (Node Item)) (low : ℕ) (l : Option ℕ) (xs : List ℕ) → LeadsThrough nodes low l (map (numbered nodes) xs)
     → dollar_at nodes l ≡ dollar_next (item_at nodes) xs
 start_linked nodes low l [] h = rw h refl
@@ -150,7 +150,7 @@ math_reads s above tables tables' nodes ix m opens closes context cow ready is c
     let start = start_shown s.text tables nodes ix (followers nodes ix) in
     record { standing = rw (e, found, start, text, origin) refl; ends = rw (e, found) refl }
 
--- the first `$` of a brace context stands among the items that are searched
+-- the first `$` of a brace context is among the items that are searched
 pub record FirstDollar (nodes : List (Node Item)) (context : ℕ) (xs : List ℕ) (d : Dollar ℕ) : Type 0 where
   pub before : List ℕ
   pub parts : xs ≡ before ++ d.dollar ∷ d.after
@@ -172,7 +172,7 @@ first_dollar_among nodes context (x ∷ xs) d e = by (is_dollar_of context (item
         let there = later (rw is at e) in
         record { before = x ∷ there.before; parts = ap (λ l. x ∷ l) there.parts; is = there.is }
 
--- where what closes math stands, among the items after an opener that ends at a byte
+-- what closes math is among the items after an opener that ends at a byte offset
 pub record MathStands (nodes : List (Node Item)) (i context : ℕ) (xs : List ℕ) (m : FoundMath) : Type 0 where
   pub before : List ℕ
   pub after : List ℕ
@@ -296,7 +296,7 @@ math_stands nodes opener xs m ordered closes = by (can_open opener.body) closes
     by true e = by_next (dollar_next (item_at nodes) xs) refl e
     by false e = cc e
 
--- a byte at which an item ends may begin a text
+-- a text can begin where an item ends
 start_boundary : (source : List ℕ) (tables : Tables) (nodes : List (Node Item)) (ix : ℕ) → CanResolve source tables nodes (Some ix)
     → IsCharBoundary source (text_start nodes ix)
 start_boundary source tables nodes ix ready = by (forest_at (links_of nodes) (sibling_of nodes ix)) o.all_placed
@@ -315,7 +315,7 @@ start_boundary source tables nodes ix ready = by (forest_at (links_of nodes) (si
         either true = h.0.lies.end
         either false = o.placed.lies.end
 
--- where what closes the math span of an opener stands
+-- what closes the math span of an opener is in the chain
 pub stands_of : (source : List ℕ) (tables : Tables) (nodes : List (Node Item)) (ix : ℕ) (m : FoundMath)
     → CanResolve source tables nodes (Some ix) → ClosesMath nodes ix (Some m)
     → MathStands nodes (item_at nodes ix).end (context_of (item_at nodes ix).body) (followers nodes ix) m
@@ -323,7 +323,7 @@ stands_of source tables nodes ix m ready closes =
     math_stands nodes (item_at nodes ix) (followers nodes ix) m (opens_chain source tables nodes ix ready).ordered
     (math_by_number source tables nodes ix (Some m) ready closes)
 
--- the math span may be put where its opener stands
+-- the math span can be put in the place of its opener
 math_names : (tables : Tables) (cow : CowIndex) (display : Bool) (n : Named) → cow.0 ≡ length tables.cows → number_of n < size_for tables n
     → times_named n (body.Math cow display) ≡ 0
 math_names tables cow display (some_text n) e h = same_below n cow.0 (omega (arith, h, e))
@@ -386,7 +386,7 @@ start_is source tables nodes ix start ready e =
     e ∙ ap (λ (o : Option ℕ). option_map_or (λ second. (item_at nodes second).end) o (item_at nodes ix).end)
     (start_linked nodes (suc ix) (sibling_of nodes ix) (followers nodes ix) (opens_chain source tables nodes ix ready).leads)
 
--- the bytes between the delimiters may be cut out
+-- the bytes between the delimiters can be cut out
 pub math_cut : (source : List ℕ) (tables : Tables) (nodes : List (Node Item)) (ix : ℕ) (m : FoundMath) (start : ℕ) (closer : Item)
     (found : Option FoundMath)
     → CanResolve source tables nodes (Some ix) → ClosesMath nodes ix found → found ≡ Some m

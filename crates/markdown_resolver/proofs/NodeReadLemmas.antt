@@ -1,4 +1,4 @@
--- An item of a chain was read where it stands: what is so of a bracket, and of another item, is so of any.
+-- An item of a chain was read in place: what is true of a bracket, and of another item, is true of any.
 use Rattle.std.proofs.Common.{◌≡◌, ℕ, ◌^◌, ◌<◌, List, Option, Some, None, sym, ap, ◌∙◌, subst}
 use Rattle.std.specs.Prelude.{Result, Ok, Err, IfOk, is_some}
 use Rattle.markdown_base.specs.Arena.{Arena}
@@ -53,7 +53,7 @@ module _ {C : Type 0} {step : C → Question → Option Answer → C → Type 0}
             (looks_at_none (has_failed old.math_closers) old.work.math_visits before after math_bound r.goes_on.fewer);
       }
 
--- an item that is no bracket changes nothing but the texts and links that were put in, and what searches hold and count
+-- an item that is not a bracket changes only the texts and links that were appended, and what searches hold and count
 abbrev pub IsKeptByOther : {C : Type 0} → Resolver C → Resolver C → Type 0
 IsKeptByOther old new = new ≡ record old {
   tables = record old.tables { cows = new.tables.cows; links = new.tables.links };
@@ -62,7 +62,7 @@ IsKeptByOther old new = new ≡ record old {
   math_closers = new.math_closers;
 }
 
--- another item was read: so it was behind any left list
+-- another item was read, after any left list
 pub other_on : {C : Type 0} (step : C → Question → Option Answer → C → Type 0) (place : ChainPlace) (ix : ℕ) (next : Option ℕ)
     (tree tree' : Arena Item) (old new : Resolver C) → CanReadNode place tree old ix → kind_of (item_at tree.nodes ix).body ≡ None
     → IsKeptByOther old new
@@ -103,7 +103,7 @@ bracket_changes {C} {old} {new} changes = record {
   footnotes = changes.footnotes;
 }
 
--- nor does another item change more
+-- another item changes no more either
 pub other_changes : {C : Type 0} {old new : Resolver C} → IsKeptByOther old new → ChangesForNode old new
 other_changes {C} {old} {new} kept = record {
   kept = kept ∙ ap (λ (r : Resolver C). let x : Resolver C = record old {
@@ -119,7 +119,7 @@ other_changes {C} {old} {new} kept = record {
   footnotes = λ name. ap (λ (r : Resolver C). is_some (footnote_at r.tables.footdefs name)) kept;
 }
 
--- an item that is no bracket was read, unless memory was refused
+-- an item that is not a bracket was read, unless memory was refused
 pub other_read : {C E : Type 0} (r : Result (Option ℕ) E) (step : C → Question → Option Answer → C → Type 0) (place : ChainPlace)
     (ix : ℕ) (tree tree' : Arena Item) (old new : Resolver C) → CanReadNode place tree old ix
     → kind_of (item_at tree.nodes ix).body ≡ None

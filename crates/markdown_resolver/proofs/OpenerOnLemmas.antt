@@ -1,5 +1,5 @@
--- From what was put for an opener to how far the chain was read: it is a Text that waits, the nearest of the left list, and
--- the stacks hold it.
+-- From what was put in place for an opener to how far the chain was read: it is a Text that waits, the nearest of the
+-- left list, and the stacks hold it.
 use Rattle.markdown_base.specs.declared.item.ItemBody.TheVariants as body
 use Rattle.std.proofs.Common.{◌≡◌, ℕ, zero, suc, ◌+◌, ◌-◌, ◌<◌, ◌≤◌, Bool, true, false, ◌&&◌, List, [], ◌∷◌, ◌++◌, Option, Some, None}
 use Rattle.std.proofs.Common.{length, drop, get_or, refl, sym, ap, ◌∙◌, subst, append-nil, arith}
@@ -109,7 +109,7 @@ ends_with_bracket source item false lies markup is =
     with_bracket source item 0 lies (omega (arith, size, size_of source item lies, lies.ordered)) (omega arith)
     (ap (λ (bytes : List ℕ). get_or bytes 0 0) over)
 
--- one tree stands there
+-- there is one tree
 record OneTree (f : Forest (Label ℕ)) (t : Plain) : Type 0 where
   label : Label ℕ
   is : f ≡ node label nil nil
@@ -123,7 +123,7 @@ one_tree (node b (node c below after) rest) t e = let no : node (retag (λ n. tt
 one_tree (node b nil (node c below after)) t e = let no : node (retag (λ n. tt) c) (without_numbers below) (without_numbers after)
     ≡ nil = cc e in cc no
 
--- what is not open is no opener
+-- what is not open is not an opener
 closed_opener : (shape : Shape) → is_unresolved shape ≡ false → is_opener (open_body shape) ≡ false
 closed_opener (unresolved b) h = cc h
 closed_opener other h = refl
@@ -157,7 +157,7 @@ held_if : (b : Bool) (ix : ℕ) (is_image : Bool) (held : List Waiting)
 held_if true ix is_image held = refl
 held_if false ix is_image held = refl
 
--- an opener is open, and waits for no pairing
+-- an opener is open, and does not wait for pairing
 opener_settled : (source : List ℕ) (a : Plain) (below : Forest Plain) (is_image : Bool) → a.part.shape ≡ unresolved (opener_body is_image)
     → settled source a below ≡ node (as_text source a) nil nil
 opener_settled source a below true e = ap (λ (shape : Shape). text_unless (is_quiet shape) source a below) e

@@ -1,4 +1,4 @@
--- A bracket that opens was read where it stands, or memory was refused: what is so of the chain then.
+-- A bracket that opens was read in place, or memory was refused: what is true of the chain then.
 use Rattle.markdown_base.specs.declared.item.ItemBody.TheVariants as body
 use Rattle.std.proofs.Common.{◌≡◌, ℕ, Bool, true, false, ◌&&◌, List, ◌∷◌, Option, Some, None, refl}
 use Rattle.std.specs.Prelude.{Result, Ok, Err, IfErr, IfOk, OnOk, if◌then◌else◌}
@@ -59,7 +59,7 @@ other_kind body.MaybeImage e = let no : ◌≡◌ {A = Option BracketKind} (Some
 other_kind (body.MaybeLinkClose could_be) e = let no : ◌≡◌ {A = Option BracketKind} (Some (Closer could_be)) None = e in cc no
 other_kind other e = refl
 
--- what a refusal leaves is so where it is refused
+-- what is true of an error where memory was refused
 pub if_err : {X E : Type 0} {P : Type 0} (r : Result X E) → P → IfErr r (λ fault. P)
 if_err (Ok x) p = tt
 if_err (Err fault) p = p
@@ -70,7 +70,7 @@ pub ready_here : {place : ChainPlace} {tree : Arena Item} {held : Allocated} {br
 ready_here {place} {tree} {held} {brackets} {wikilinks} {first} {ix} {left} can = stands_rest place.text.now (tables_of held) tree.nodes
     first (Some ix) left can.so_far
 
--- what was put for an opener, whatever the text and its tables are
+-- what was put in place for an opener, whatever the text and its tables are
 abbrev pub IsOpened : Arena Item → Arena Item → ℕ → Option ℕ → Type 0
 IsOpened old new ix next = (source : List ℕ) (tables : Tables) → CanResolve source tables old.nodes (Some ix)
     → Puts source ix (settled source) None next old.nodes new.nodes tables tables

@@ -1,5 +1,5 @@
--- What was put over an opener, as trees that stand there: the nodes of the first of the chain read as them, and those behind
--- them as what is left.
+-- What was put over an opener, as trees in the arena: the first nodes of the chain read as them, and those after them
+-- as what is left.
 use Rattle.std.proofs.Common.{◌≡◌, ℕ, suc, List, length, Option, Some, ap, ◌∙◌}
 use Rattle.markdown_base.specs.Forest.{Forest, node, roots}
 use Rattle.markdown_base.specs.declared.item.Item.{Item}

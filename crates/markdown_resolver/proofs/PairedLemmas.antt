@@ -1,4 +1,4 @@
--- A chain that pass one has read may be paired where it stands, and then it is resolved.
+-- A chain that pass one has read can be paired in place, and then it is resolved.
 use Rattle.std.proofs.Common.{◌≡◌, ℕ, suc, ◌≤◌, Bool, true, false, List, [], ◌++◌, Option, Some, None, refl, sym, ap, ◌∙◌, subst, arith}
 use Rattle.std.proofs.Common.{append-nil}
 use Rattle.std.specs.Prelude.{IfSome, is_some, if◌then◌else◌, slice_range}
@@ -38,7 +38,7 @@ use Rattle.markdown_resolver.specs.Resolved.{then_paired, resolved}
 use Rattle.markdown_resolver.proofs.ComposeLemmas.{same_trans}
 use Rattle.markdown_resolver.proofs.PassOneQuietLemmas.{pass_one-quiet}
 
--- of a chain in which nothing is open but what waits, and no block stands: what its items are
+-- the items of a chain in which nothing is open except what waits for pairing, and which has no block
 no_block : (b : ItemBody) → is_some (block_of b) ≡ false → is_block b ≡ false
 no_block b h = by_block (is_block b) h
   where
@@ -75,7 +75,7 @@ nothing_below : (nodes : List (Node Item)) (l : Option ℕ) (f : Forest ℕ) →
 nothing_below nodes l nil s e = refl
 nothing_below nodes l (node ix below after) s e = cc (s.0, e)
 
--- the numbers of a chain rise, since each item stands before the next one
+-- the numbers of a chain rise, since each item precedes the next one
 rises_next : (nodes : List (Node Item)) (ix : ℕ) (l : Option ℕ) (f : Forest ℕ) → Spells (links_of nodes) l f
     → is_block (item_at nodes ix).body ≡ false → HasNoBlock (relabelled (numbered nodes) f)
     → StandsBefore (numbered nodes ix) (option_map (numbered nodes) l) → IfSome l (λ n. suc ix ≤ n)
@@ -123,7 +123,7 @@ read_quiet step s above first old mid quiet r =
     subst IsQuiet (ap (λ (o : Outcome (Unit {0})). o.forest) (r.resolves []))
     (pass_one-quiet s plain_tags above (chain_at s.text old (Some first)) (known_at old (r.answers ++ [])) quiet)
 
--- so it may be paired
+-- so it can be paired
 pub read_can_pair : {C : Type 0} (step : C → Question → Option Answer → C → Type 0) (s : Setting) (above : Above) (first : ℕ)
     (old mid : Stage C) → IsQuietBelow (chain_at s.text old (Some first))
     → ResolvesFrom step s.text (pass_one s plain_tags above) (Some first) old mid → CanPair s.text mid.nodes first
@@ -238,7 +238,7 @@ delimiters_seen source tables nodes (node ix below after) =
           source tables nodes after,
     ) refl
 
--- and of those of a chain are counted that pass one leaves
+-- those of a chain that are counted are the ones that pass one leaves
 pub delimiters_left : {C : Type 0} (step : C → Question → Option Answer → C → Type 0) (s : Setting) (above : Above) (first : ℕ)
     (old mid : Stage C)
     → (r : ResolvesFrom step s.text (pass_one s plain_tags above) (Some first) old mid) → (later : Answers)

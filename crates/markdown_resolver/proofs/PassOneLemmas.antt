@@ -1,6 +1,7 @@
--- What pass one makes of a chain: it is read from its first tree on, and past a find what is left is read. A quiet chain
--- stays, what is left of any is no heavier, it begins with what its first open item became, later answers are handed on,
--- and tags say nothing: each by the law of brackets, where the rule for what is no bracket keeps that law.
+-- What pass one makes of a chain: it is read from its first tree on, and after a find what is left is read. A quiet
+-- chain stays, what is left of any chain is no heavier, it begins with what its first open item became, later answers
+-- are passed on, and tags do not matter: each by the law of brackets, where the rule for what is not a bracket keeps
+-- that law.
 use Rattle.std.proofs.Common.{◌≡◌, ℕ, ◌+◌, ◌≤◌, Bool, true, false, not, List, [], ◌∷◌, Option, Some, None, refl, sym, ap, ◌∙◌, subst}
 use Rattle.std.proofs.Common.{nat_le, arith}
 use Rattle.std.specs.Prelude.{if◌then◌else◌}
@@ -52,7 +53,7 @@ abbrev pub opener_body : (is_image : Bool) → ItemBody
 opener_body true = body.MaybeImage
 opener_body false = body.MaybeLinkOpen
 
--- what is not open is no bracket, nor what waits for pairing
+-- what is not open is not a bracket, nor is what waits for pairing
 pub closed_no_bracket : (shape : Shape) → is_unresolved shape ≡ false → NoBracket (open_body shape)
 closed_no_bracket (leaf e origins) h = refl
 closed_no_bracket (enclosed tag) h = refl
@@ -72,7 +73,7 @@ quiet_no_bracket plain h = refl
 quiet_no_bracket backslash_break h = refl
 quiet_no_bracket (unresolved b) h = waits_no_bracket b h
 
--- it is read by the rule for what is no bracket
+-- it is read by the rule for what is not a bracket
 pub read_elsewhere : {A : Type 0} (w : Around) (others : Reader A) (b : ItemBody) (a : Label A) (below rest : Forest (Label A))
     (p : Progress A) → NoBracket b
     → read_as w others b a below rest p ≡ others a below rest p
@@ -147,7 +148,7 @@ module _ {A : Type 0} (s : Setting) (tags : Tags A) (above : Above) where
       ap (λ (q : Progress A). record q { goes_on = None }) (reads_as (body.MaybeLinkClose could_be) a below rest p none e)
       ∙ reads_past_all q.goes_on rest q
 
-  -- what is no bracket is read, and the chain goes on where what was found ends
+  -- what is not a bracket is read, and the chain continues where what was found ends
   pub reads_elsewhere : (a : Label A) (below rest : Forest (Label A)) (p : Progress A) → p.goes_on ≡ None
       → NoBracket (open_body a.part.shape)
       → whole_read (node a below rest) p
@@ -160,7 +161,7 @@ module _ {A : Type 0} (s : Setting) (tags : Tags A) (above : Above) where
       (open_body a.part.shape) a below rest p other))
       ∙ reads_past_all r.goes_on rest (put_passed r p)
 
--- where all tags are one, it says nothing to the trees how many were made
+-- where all tags are the same, the trees do not depend on how many were made
 abbrev from_made : (n : ℕ) → Passed (Unit {0}) → Passed (Unit {0})
 from_made n r = record { trees = r.trees; goes_on = r.goes_on; made = n + r.made }
 
@@ -178,7 +179,7 @@ pub tree_made : (s : Setting) (above : Above) (n : ℕ) (a : Plain) (below rest 
 unfolding read_tree
 tree_made s above n a below rest = unless_made s above n a below rest (is_quiet a.part.shape)
 
--- so what is no bracket is read the same wherever it stands
+-- so what is not a bracket is read the same wherever it is
 pub reads_other : (s : Setting) (above : Above) (a : Plain) (below rest : Forest Plain) (p : Progress (Unit {0})) → p.goes_on ≡ None
     → NoBracket (open_body a.part.shape)
     → all_read s above (node a below rest) p
@@ -218,7 +219,7 @@ module _ {A : Type 0} where
   waits_at_most nil q = tt
   waits_at_most (node a below after) q = (q.0, waits_at_most after q.3)
 
-  -- what all trees of a list weigh
+  -- the weight of all trees of a list
   all_done_weight : (trees : Forest (Label A)) (left : List (Entry A)) → weight_left (all_done trees left) ≡ weight trees + weight_left left
   all_done_weight nil left = omega arith
   all_done_weight (node a below after) left = omega (arith, all_done_weight after (done a below ∷ left))
@@ -298,14 +299,14 @@ module _ {A : Type 0} where
         (begins_law (around s above) (read_other s tags above) is_not_plain (λ e origins. refl) (λ tag. refl) other_begins a below after
         known h)
 
-    -- what is no bracket asks nothing, and brackets hand later answers on
+    -- what is not a bracket asks nothing, and brackets pass later answers on
     other_hands_on : (a : Label A) (below rest : Forest (Label A)) (p : Progress A) → HandsOn (read_other s tags above a below rest) p
     other_hands_on a below rest p = (asks_none (read_other s tags above a below rest) p refl refl (λ later. refl)).hands_on
 
     pub read_hands_on : (chain : Forest (Label A)) (p : Progress A) → HandsOn (read_on s tags above chain) p
     read_hands_on chain p = chain_law (around s above) (read_other s tags above) other_hands_on chain p
 
--- tags say nothing
+-- tags do not matter
 module _ {A B : Type 0} (f : A → B) where
   all_done_retag : (trees : Forest (Label A)) (left : List (Entry A)) → all_done (retagged f trees) (retag_left f left)
       ≡ retag_left f (all_done trees left)

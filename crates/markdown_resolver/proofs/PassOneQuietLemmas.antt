@@ -1,5 +1,5 @@
--- What pass one leaves of a chain is quiet, and no block: brackets make what is settled, or keep what the rule for other
--- items left, which is quiet.
+-- What pass one leaves of a chain is quiet, and without blocks: brackets make what is settled, or keep what the rule
+-- for other items left, which is quiet.
 use Rattle.std.proofs.Common.{◌≡◌, ℕ, ◌-◌, false, true, List, ◌∷◌, refl}
 use Rattle.std.specs.Prelude.{is_some}
 use Rattle.markdown_base.specs.Forest.{Forest, nil, node, Each}
@@ -45,7 +45,7 @@ module _ {A : Type 0} where
   all_quiet nil h = tt
   all_quiet (node a below after) h = (h.0.0, h.0.1, all_quiet below h.1, all_quiet after h.2)
 
-  -- what brackets make is quiet, of labels that are no blocks
+  -- what brackets make of labels that are not blocks is quiet
   abbrev NoBlock : Label A → Type 0
   NoBlock a = is_some a.part.block ≡ false
 

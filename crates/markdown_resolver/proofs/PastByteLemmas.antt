@@ -1,4 +1,4 @@
--- What is left of a chain past a byte, where it stands: items leave it up to there, and the first that is left begins
+-- What is left of a chain in an arena past a byte offset: items leave it up to there, and the first that is left begins
 -- there.
 use Rattle.markdown_base.specs.declared.item.ItemBody.TheVariants as body
 use Rattle.std.proofs.Common.{[], ◌∷◌, ◌≡◌, ℕ, ◌+◌, ◌-◌, ◌<◌, ◌≤◌, max, Bool, true, false, ⊎_elim, List, length, take, drop, Option, Some}
@@ -101,7 +101,7 @@ dropped source tables nodes i (node ix below after) l e s =
           then left_past i (trees_from source tables nodes (sibling_of nodes ix)) else t) is ∙ rw is refl;
     })
 
--- the bytes of an item that begins at a byte at the earliest
+-- the bytes of an item that is cut at a byte offset
 slice_begun : (source : List ℕ) (start end i : ℕ) → i ≤ end → start ≤ end → slice_range source (max start i) end
     ≡ drop (i - start) (slice_range source start end)
 slice_begun source start end i le ordered =
@@ -145,7 +145,7 @@ label_begun source tables i item le ordered =
           record { shape = shape; range = record { start = max item.start i; end = item.end }; block = block_of item.body };
     } in a) e
 
--- it keeps the rules of items, where an open one begins there anyway
+-- it keeps the rules of items, where it is not cut if it is open
 stands_begun : (ix i : ℕ) (item : Item) (next : Option Numbered) → StandsBefore (record { number = ix; item = item }) next
     → StandsBefore (record { number = ix; item = begun_item i item }) next
 stands_begun ix i item None h = tt

@@ -35,7 +35,7 @@ use Rattle.markdown_resolver.proofs.PastByteLemmas.{tree_same}
 use Rattle.markdown_resolver.proofs.PutLemmas.{leaves_rest, whole_put, ClosesAt, before_closed, runs_closed, no_run_here, rest_past_is}
 use Rattle.markdown_resolver.proofs.PutLemmas.{rewrites_none, next_from, over_numbers}
 
--- no markup is asked of what is not open
+-- no markup is required of what is not open
 pub no_markup : (source : List ℕ) (item : Item) → is_open item.body ≡ false → MarkupIsThere source item
 no_markup source item closed = (keeps-closed source (record { number = 0; item = item }) None None closed tt).markup_is_there
 
@@ -80,7 +80,7 @@ pub record Written (source : List ℕ) (ix : ℕ) (item : Item) (next : Option �
   pub below : (new : List (Node Item)) (later : Tables) → Moves source (sibling_of old ix) next mid new t later
       → BelowReads source ix old mid new later inside
 
--- so the trees of what was put stand for what was found, and the chain goes on past it
+-- so the trees of what was put replace what was found, and the chain continues after it
 pub put_written : (source : List ℕ) (ix : ℕ) (item : Item) (next : Option ℕ) (old mid : List (Node Item)) (tables t : Tables)
     (inside : Forest Plain) (trees : Standing)
     → IsFoundAt source tables old ix item.end → CanPut source tables t item → item.start ≡ (item_at old ix).start

@@ -62,7 +62,7 @@ pub next_from : (nodes : List (Node Item)) (l : Option ℕ) (i n : ℕ) → sibl
 next_from nodes None i n = refl
 next_from nodes (Some jx) i n = next_begun nodes jx (begun_item i (item_at nodes jx)) n
 
--- a node stands before what follows it
+-- a node precedes what follows it
 pub over_numbers : (source : List ℕ) (opener : ℕ) (next : Option ℕ) (place : List (Node Item)) (t : Tables)
     → Reaches (links_of place) (IsPlaced source t place) (Some opener)
     → sibling_of place opener ≡ next → roots (forest_at (links_of place) (Some opener)) ≡ opener ∷ roots (forest_at (links_of place) next)
@@ -70,7 +70,7 @@ over_numbers source opener next place t reaches link =
     let o = opens (links_of place) (IsPlaced source t place) opener reaches in
     ap (λ (g : Forest ℕ). roots g) o.here ∙ ap (λ (l : Option ℕ). opener ∷ roots (forest_at (links_of place) l)) link
 
--- what is left of a chain whose items are no blocks is such a chain, and has no more items
+-- what is left of a chain without blocks has none either, and no more items
 quiet_if : (b : Bool) (i : ℕ) (a : Plain) (below after rest : Forest Plain) → IsQuietBelow rest → IsQuietBelow (node a below after)
     → IsQuietBelow (if b then rest else node (begun_at i a) below after)
 quiet_if true i a below after rest r h = r
@@ -102,7 +102,7 @@ pub as_many : (g : ℕ → Plain) (f : Forest ℕ) → length (roots (relabelled
 as_many g nil = refl
 as_many g (node ix below after) = ap suc (as_many g after)
 
--- the first item was read where it stands, if what is left reads as what follows it, past a byte
+-- the first item was read in place, if what is left reads as what follows it, past a byte offset
 pub leaves_rest : (source : List ℕ) (ix : ℕ) (old mid new : List (Node Item)) (tables t tables' : Tables) (next goes_on : Option ℕ)
     → CanResolve source tables old (Some ix) → HeadWritten source ix old mid tables t
     → Moves source (sibling_of old ix) next mid new t tables'
@@ -144,7 +144,7 @@ leaves_rest source ix old mid new tables t tables' next goes_on ready h m reads 
           same_trans old mid new n (h.others n l other) (m.outside n (omega (arith, l, size)) apart);
     }
 
--- once all is done, the whole is rewritten by the trees that stand for the first, and the rule
+-- in the end, the whole is rewritten by the trees that replace the first, and the rule
 pub whole_put : (source : List ℕ) (ix : ℕ) (old mid new : List (Node Item)) (tables t later : Tables) (trees : Standing)
     (goes_on : Option ℕ) (rule : Forest Plain → Forest Plain)
     → CanResolve source tables old (Some ix) → HeadWritten source ix old mid tables t → HeadMoved source ix old mid new tables t later
@@ -163,7 +163,7 @@ whole_put source ix old mid new tables t later trees goes_on rule ready h hm bef
       rewritten = hm.trees ∙ reads ∙ rw a.here refl;
     }
 
--- an item that is not open stands where an open one stood, which is no run's character
+-- an item that is not open is where an open one was, which is not a run's character
 pub closed_no_run : (b : ItemBody) → is_open b ≡ false → run_character b ≡ None
 closed_no_run (body.MaybeEmphasis count opens closes) h = cc h
 closed_no_run other h = refl

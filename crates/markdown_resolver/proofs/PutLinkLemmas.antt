@@ -1,4 +1,4 @@
--- What a closing bracket becomes is put into the node of its opener, which is a Text by then, with what is below that.
+-- What a closing bracket becomes is put into the node of its opener, which is a Text by now, with what is below that.
 use Rattle.std.proofs.Common.{◌≡◌, ℕ, zero, suc, ◌+◌, ◌<◌, ◌≤◌, Bool, true, false, List, [], ◌∷◌, ◌++◌, length, Option, Some, None, refl}
 use Rattle.std.proofs.Common.{sym, ap, ◌∙◌, subst, arith, if◌then◌else◌, nat_le}
 use Rattle.std.proofs.lemmas.Bool.Decides.{nat_tests}
@@ -81,7 +81,7 @@ head_put source ix i item next nodes mid tables t grown s puts ends w byte past 
       ends = ends;
     }
 
--- once what is left is rewritten, the first item, with what was below it, stands before that
+-- once what is left is rewritten, the first item, with what was below it, precedes that
 pub record HeadStands (source : List ℕ) (ix i : ℕ) (item : Item) (rule : Forest Plain → Forest Plain) (nodes mid new : List (Node Item))
     (tables t later : Tables) : Type 0 where
   pub moved : HeadMoved source ix nodes mid new tables t later
@@ -113,7 +113,7 @@ head_stands source ix i item next nodes mid tables t s child p rule new later r 
       reads = hm.trees ∙ tree_same _ _ _ _ _ _ (ap (λ x. label_of source t x) p.item_is) kept.trees after;
     }
 
--- an item stands where another stood that was not open, and no block
+-- an item is where another was that was neither open nor a block
 no_block : (is : Bool) (b : ItemBody) → is_some (if is then Some b else None) ≡ false → is ≡ false
 no_block true b h = cc h
 no_block false b h = refl
@@ -150,7 +150,7 @@ past_closer source tables nodes (suc k) closer i after nil o ends = refl
 past_closer source tables nodes (suc k) closer i after (node n below rest) o ends =
     past_closer source tables nodes k closer i after rest (record { below = o.below; is = o.is; follow = o.follow }) ends
 
--- what is left may be read, and is less, where the chain from the opener on became that
+-- what is left can be read, and is less, where the chain from the opener on became that
 pub over_leaves : (source : List ℕ) (opener k byte : ℕ) (next : Option ℕ) (old place : List (Node Item)) (tables t : Tables) (f : Forest ℕ)
     → CanResolve source tables old (Some opener)
     → forest_at (links_of old) (Some opener) ≡ node opener nil f → Moves source (Some opener) next old place tables t
@@ -180,7 +180,7 @@ over_leaves source opener k byte next old place tables t f ready whole left ligh
       outside = left.outside;
     }
 
--- the links behind the closer lead on past a byte, where the nodes that stand there are as they were
+-- the links after the closer lead on past a byte offset, where the nodes there are unchanged
 pub behind_leads : (old mid : List (Node Item)) (opener closer byte : ℕ) (inside after : List ℕ) (next : Option ℕ) (f : Forest ℕ)
     → roots f ≡ inside ++ closer ∷ after
     → Spells (links_of old) (sibling_of old opener) f → length old ≤ length mid
@@ -286,7 +286,7 @@ module _ (source : List ℕ) (opener closer : ℕ) (item : Item) (byte : ℕ) (i
       behind_leads old mid opener closer byte inside can.after next f can.follows o.after.spelled (omega (arith, size, size')) behind_same
       next_first
 
-  -- so the item stands for what was found, over what is shown of what stood inside
+  -- so the item replaces what was found, with what is shown of what was inside
   module _ (shown : Forest Plain → Forest Plain) (reads : trees_from source tables folded (child_of folded opener)
       ≡ shown (first_trees k chain)) where
     fold_whole : (rule : Forest Plain → Forest Plain) (new : List (Node Item)) (later : Tables)
@@ -312,7 +312,7 @@ module _ (source : List ℕ) (opener closer : ℕ) (item : Item) (byte : ℕ) (i
     pub fold_puts : PutsOver source opener closer inside (over_shape source t item shown) byte (opener ∷ []) next old place tables t
     fold_puts = record { whole = fold_whole; leaves = fold_leaves; leads = fold_leads; numbers = fold_numbers }
 
--- a link stands over all that is inside
+-- a link is over all that is inside
 pub link_puts : (source : List ℕ) (opener last closer : ℕ) (item : Item) (byte : ℕ) (inside : List ℕ) (next : Option ℕ)
     (old folded mid : List (Node Item)) (tables t : Tables) → HasGrown tables t
     → CanClose source tables old opener closer inside byte → CanPutOver source tables t old opener item byte

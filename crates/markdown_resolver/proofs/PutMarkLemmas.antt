@@ -1,5 +1,5 @@
--- A Text over the first byte of an opener is put into its node, and a reference into its closer's: what stood inside leaves
--- the chain.
+-- A Text for the first byte of an opener is put into its node, and a reference into its closer's: what was inside
+-- leaves the chain.
 use Rattle.std.proofs.Common.{◌≡◌, ℕ, suc, ◌+◌, ◌<◌, ◌≤◌, false, List, [], ◌∷◌, ◌++◌, length, Option, Some, None, refl, sym, ap, ◌∙◌, subst}
 use Rattle.std.proofs.Common.{arith}
 use Rattle.std.specs.Option.{option_map}
@@ -226,7 +226,7 @@ module _ (source : List ℕ) (opener closer : ℕ) (mark item : Item) (inside : 
         ∙ ap (λ (ns : List ℕ). opener ∷ ns) (over_numbers source closer next place t h.moved.moves.stands.reaches
         (next_from last next item.end closer ∙ w.next_is))
 
-    -- so both stand for what was found
+    -- so both replace what was found
     pub mark_puts : PutsOver source opener closer inside (after_mark source t mark item) item.end (opener ∷ closer ∷ []) next old place
         tables t
     mark_puts = record { whole = mark_whole; leaves = mark_leaves; leads = mark_leads; numbers = mark_numbers }

@@ -1,4 +1,4 @@
--- A wikilink is put into the node of its opener, with a Text over its name below it, in a node that stood inside.
+-- A wikilink is put into the node of its opener, with a Text for its name below it, in a node that was inside.
 use Rattle.std.proofs.Common.{◌≡◌, ℕ, ◌+◌, ◌<◌, ◌≤◌, List, [], ◌∷◌, ◌++◌, length, Option, Some, None, refl, sym, ap, ◌∙◌, subst, ⊎_elim}
 use Rattle.std.proofs.Common.{arith}
 use Rattle.std.proofs.lemmas.Bool.{cases_lt}
@@ -31,7 +31,7 @@ use Rattle.markdown_resolver.proofs.NodeChangeLemmas.{IsChanged, changed_other, 
 use Rattle.markdown_resolver.proofs.PutLinkLemmas.{fold_puts}
 use Rattle.markdown_resolver.proofs.PutPairLemmas.{entries_of_none, label_of_none}
 
--- a Text stands below the opener, in a node that stood inside; nothing else has changed
+-- a Text is below the opener, in a node that was inside; nothing else has changed
 pub record IsHungIn (old new : List (Node Item)) (opener first : ℕ) (inside : Item) : Type 0 where
   pub size : length new ≡ length old
   pub opener_item : item_at new opener ≡ item_at old opener

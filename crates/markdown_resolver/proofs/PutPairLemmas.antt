@@ -1,4 +1,4 @@
--- Two items are put into the nodes of an opener and of what closes it: what stands between them leaves the chain.
+-- Two items are put into the nodes of an opener and of what closes it: what is between them leaves the chain.
 use Rattle.std.proofs.Common.{◌≡◌, ℕ, suc, ◌<◌, ◌≤◌, true, false, List, [], ◌∷◌, ◌++◌, length, Option, Some, None, refl, sym, ap, ◌∙◌}
 use Rattle.std.proofs.Common.{subst, arith, nat_le}
 use Rattle.std.proofs.lemmas.Bool.Decides.{nat_tests}
@@ -36,13 +36,13 @@ use Rattle.markdown_resolver.proofs.PutLemmas.{first_there, rest_same, rest_with
 use Rattle.markdown_resolver.proofs.PutLemmas.{over_numbers}
 use Rattle.markdown_resolver.proofs.PutFoundLemmas.{closed_head, none_below}
 
--- of numbers past a number one that stands among them
+-- of numbers past a number, one that is among them
 pub past_at : (nodes : List (Node Item)) (low byte n : ℕ) (before after : List ℕ) → AllPast nodes low byte (before ++ n ∷ after)
     → StandsPast nodes low byte n
 past_at nodes low byte n [] after h = h.0
 past_at nodes low byte n (m ∷ before) after h = past_at nodes low byte n before after h.1
 
--- links that lead through a chain lead through what follows a node, of which the same is left past a byte
+-- links that lead through a chain lead through what follows a node, of which the same is left past a byte offset
 pub record LeadsOn (nodes : List (Node Item)) (i low : ℕ) (l : Option ℕ) (chain : List Numbered) : Type 0 where
   pub rest : List Numbered
   pub leads : LeadsThrough nodes low l rest
@@ -92,7 +92,7 @@ skipped source tables nodes i ix s le =
     let test : nat_le (item_at nodes ix).end i ≡ true = grind (arith, nat_tests, le) in
     record { first = rw (o.here, test) refl; reads = rw (o.here, test) refl }
 
--- what is left of a chain may be resolved
+-- what is left of a chain can be resolved
 pub ready_next : (source : List ℕ) (tables : Tables) (nodes : List (Node Item)) (ix : ℕ) → CanResolve source tables nodes (Some ix)
     → CanResolve source tables nodes (sibling_of nodes ix)
 ready_next source tables nodes ix ready =
@@ -150,7 +150,7 @@ skips source tables nodes i closer (n ∷ before) after (Some ix) ready e end =
           leads_further nodes i low (sibling_of nodes ix) (sibling_of nodes closer) chain d (r.leads low d.rest d.leads);
     }
 
--- what names nothing names entries of smaller tables too, and reads the same
+-- what refers to nothing refers to entries of smaller tables too, and reads the same
 none_named : (size : ℕ) (o : Option ℕ) → ((n : ℕ) → same_as n o ≡ 0) → IfSome o (λ n. n < size)
 none_named size None h = tt
 none_named size (Some n) h = let z = h n in let one = same-refl n in absurd (omega arith)
@@ -265,7 +265,7 @@ module _ (source : List ℕ) (ix closer : ℕ) (first second : Item) (next : Opt
       let same_closer = v.others closer (λ e. absurd (omega (arith, number, e))) in
       rw same_closer.item can.closer_open
 
-  -- nothing open stands around that end
+  -- no open item has bytes both before and after that end
   items_same : (n : ℕ) → 0 < times_in old l n → item_at mid n ≡ item_at old n
   items_same n z = (rest_same source ix old mid tables tables opener_stands begun.head n (rest_within source ix old mid tables tables
       opener_stands begun.head n z) z).item
@@ -331,7 +331,7 @@ module _ (source : List ℕ) (ix closer : ℕ) (first second : Item) (next : Opt
       (λ x stands. before_closed ix old mid x opener_closes stands) (runs_closed source ix old mid opener_closes)
       (tree_same _ _ _ _ _ _ label b.reads after)
 
-  -- both stand there
+  -- both are in the chain
   pair_numbers : roots (forest_at (links_of place) (Some ix)) ≡ ix ∷ closer ∷ roots (forest_at (links_of place) next)
   pair_numbers =
       let none = rewrites_none source next place t left.moves.stands in
@@ -344,7 +344,7 @@ module _ (source : List ℕ) (ix closer : ℕ) (first second : Item) (next : Opt
       ∙ ap (λ (ns : List ℕ). ix ∷ ns) (over_numbers source closer next place t second_moved.moves.stands.reaches
       (next_from last next second.end closer ∙ w.next_is))
 
-  -- so the pair stands for what was found, and the chain goes on past it
+  -- so the pair replaces what was found, and the chain continues after it
   pub pair_puts : Puts source ix (pair source t first second) (Some second.end) next old place tables t
   pair_puts = record {
     whole = whole_pair;

@@ -1,4 +1,4 @@
--- A footnote reference is put into the node of its opener, which is a Text by then: what stood inside leaves the chain.
+-- A footnote reference is put into the node of its opener, which is a Text by now: what was inside leaves the chain.
 use Rattle.std.proofs.Common.{◌≡◌, ℕ, suc, ◌+◌, ◌<◌, ◌≤◌, List, [], ◌∷◌, length, Option, Some, refl, sym, ap, ◌∙◌, subst, arith}
 use Rattle.markdown_base.specs.Arena.{child_of, sibling_of}
 use Rattle.markdown_base.specs.ArenaForest.{Spells, forest_at, links_of}
@@ -30,14 +30,14 @@ use Rattle.markdown_resolver.proofs.PutLinkLemmas.{HeadPut, head_put, head_stand
 use Rattle.markdown_resolver.proofs.PutLinkLemmas.{behind_leads}
 use Rattle.markdown_resolver.proofs.PutPairLemmas.{Skips, skips, ready_next}
 
--- the chain behind a closer, where it stands
+-- the chain after a closer
 pub record Behind (nodes : List (Node Item)) (closer : ℕ) (after : List ℕ) (g : Forest ℕ) : Type 0 where
   pub within : closer < length nodes
   pub forest : forest_at (links_of nodes) (sibling_of nodes closer) ≡ g
   pub spelled : Spells (links_of nodes) (sibling_of nodes closer) g
   pub listed : roots g ≡ after
 
--- what stands inside, and the closer, are not left past the closer's end
+-- what is inside, and the closer, are not left past the closer's end
 module _ (source : List ℕ) (tables : Tables) (old : List (Node Item)) (opener closer byte : ℕ) (inside : List ℕ)
     (can : CanClose source tables old opener closer inside byte)
     (ends : byte ≡ (item_at old closer).end) where
@@ -91,7 +91,7 @@ module _ (source : List ℕ) (tables : Tables) (old : List (Node Item)) (opener 
   pub first_behind : first_past old byte (roots numbers) ≡ first_past old byte can.after
   first_behind = skipped_there.first ∙ ap (λ (ns : List ℕ). first_past old byte ns) behind_listed
 
--- an opener is written over what stands inside
+-- an opener is written in place of what is inside
 module _ (source : List ℕ) (opener closer : ℕ) (item : Item) (inside : List ℕ) (old : List (Node Item)) (tables t : Tables)
     (grown : HasGrown tables t)
     (can : CanClose source tables old opener closer inside item.end) (over : CanPutOver source tables t old opener item item.end)
@@ -181,6 +181,6 @@ module _ (source : List ℕ) (opener closer : ℕ) (item : Item) (inside : List 
         let r = reference_whole (λ g. g) place t (rewrites_none source next place t left_moves.stands) in
         over_numbers source opener next place t r.changes.reaches (next_from mid next item.end opener ∙ w.next_is)
 
-    -- so the item stands for what was found
+    -- so the item replaces what was found
     pub reference_puts : PutsOver source opener closer inside (in_place_of source t item) item.end (opener ∷ []) next old place tables t
     reference_puts = record { whole = reference_whole; leaves = reference_leaves; leads = reference_leads; numbers = reference_numbers }

@@ -1,4 +1,4 @@
--- A wikilink is put into the node of its opener, with what stands inside from a byte on below it.
+-- A wikilink is put into the node of its opener, with what is inside from a byte offset on below it.
 use Rattle.std.proofs.Common.{◌≡◌, ℕ, ◌+◌, ◌-◌, ◌<◌, ◌≤◌, max, false, List, [], ◌∷◌, ◌++◌, length, Option, Some, None, refl, sym, ap, ◌∙◌}
 use Rattle.std.proofs.Common.{subst, ⊎_elim, arith, nat_le}
 use Rattle.std.proofs.lemmas.Bool.{cases_eq, cases_lt}
@@ -64,7 +64,7 @@ drops source tables nodes (x ∷ skipped) first shown (Some ix) s e =
       reads = rw o.here d.reads;
     }
 
--- the first item of a chain begins at a byte, which need lie between characters only if that cuts it
+-- the first item of a chain begins at a byte offset, which has to be between characters only if it cuts the item
 begun_there : (source : List ℕ) (tables : Tables) (nodes : List (Node Item)) (ix i : ℕ) → Stands source tables nodes (Some ix)
     → ((item_at nodes ix).start < i → IsCharBoundary source i)
     → i < (item_at nodes ix).end → ((item_at nodes ix).start < i → is_open (item_at nodes ix).body ≡ false)
@@ -126,7 +126,7 @@ begun_same a b jx i n within size first at =
     record { child = q.child ∙ at.child ∙ sym p.child; next = q.next ∙ at.next ∙ sym p.next; item = q.item ∙ at.item ∙ sym p.item })
     (cases_eq n jx)
 
--- what is inside was put below the opener, and then what comes before a node left it, which begins at a byte
+-- what is inside was put below the opener, and then what precedes a node left it, which begins at a byte offset
 module _ (source : List ℕ) (tables : Tables) (old enclosed : List (Node Item)) (opener last closer : ℕ) (inside skipped : List ℕ)
     (first from byte : ℕ)
     (can : CanClose source tables old opener closer inside byte) (is : last_inside opener inside ≡ last)

@@ -1,5 +1,5 @@
--- What was put where a node stands, as trees with the numbers of their nodes: those that stand there are the first of the
--- chain, and what is left follows them.
+-- What was put in the place of a node, as trees with the numbers of their nodes: these are the first of the chain, and
+-- what is left follows them.
 use Rattle.std.proofs.Common.{◌≡◌, ℕ, zero, suc, Bool, true, false, List, [], ◌∷◌, ◌++◌, length, Option, Some, None, refl, sym, ap, ◌∙◌}
 use Rattle.markdown_base.specs.Arena.{child_of, sibling_of}
 use Rattle.markdown_base.specs.ArenaForest.{Spells, forest_at, links_of}
@@ -29,7 +29,7 @@ first_and_past zero f = refl
 first_and_past (suc k) nil = refl
 first_and_past (suc k) (node a below after) = ap (λ t. node a below t) (first_and_past k after)
 
--- of two chains side by side the trees of the first are the first
+-- of two chains joined, the trees of the first are the first
 pub first_joined : {A : Type 0} (f g : Forest A) → first_trees (length (roots f)) (joined f g) ≡ f
 first_joined nil g = refl
 first_joined (node a below after) g = ap (λ t. node a below t) (first_joined after g)
@@ -64,7 +64,7 @@ pub plain_from : (source : List ℕ) (tables : Tables) (nodes : List (Node Item)
     → without_numbers (numbered_from source tables nodes l) ≡ trees_from source tables nodes l
 plain_from source tables nodes l = plain_labels source tables nodes (forest_at (links_of nodes) l)
 
--- the trees past the first are what a link leads to, if the same nodes stand there
+-- the trees past the first are what a link leads to, if the same nodes are there
 roots_none : (standing : List ℕ) (f : Forest ℕ) → roots f ≡ standing ++ [] → trees_past (length standing) f ≡ nil
 roots_none [] nil e = refl
 roots_none [] (node n below after) e = cc e
@@ -99,7 +99,7 @@ split_chain source tables nodes l next standing s t e =
     first_and_past (length standing) all ∙ ap (λ (h : Forest (Label ℕ)). joined (first_trees (length standing) all) h)
     (past_chain source tables nodes l next standing s t e)
 
--- trees stand where a node stands, one for each of these nodes, and the chain goes on with what is left
+-- trees are in the place of a node, one for each of these nodes, and the chain continues with what is left
 pub puts_trees : (source : List ℕ) (ix : ℕ) (next : Option ℕ) (trees rest : Forest Plain) (standing : List ℕ) (old new : List (Node Item))
     (tables tables' : Tables)
     → ChangesChain source (Some ix) old new tables tables' → RunsGoOn source old new (Some ix)
@@ -147,7 +147,7 @@ put_trees source ix trees goes_on next old new tables tables' ready puts quiet =
     puts_trees source ix next (trees a below) (past goes_on after) puts.standing old new tables tables' w.changes w.runs
     (w.rewritten ∙ ap (replaced trees goes_on (λ f. f)) o.trees) puts.numbers (puts.as_many a below) quiet puts.leaves.ready
 
--- an item that was settled is quiet, and so is what stands there then
+-- an item that was settled is quiet, and so is what is there then
 quiet_text : (quiet : Bool) (source : List ℕ) (a : Plain) (below after : Forest Plain) → is_quiet a.part.shape ≡ quiet
     → IsQuietBelow (node a below after) → IsQuiet (text_unless quiet source a below)
 quiet_text true source a below after e q = (e, q.0, q.1, tt)

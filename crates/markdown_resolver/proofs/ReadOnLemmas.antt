@@ -1,4 +1,4 @@
--- How far a chain was read where it stands: at first none of it, then one stretch after another, and in the end all of it,
+-- How far a chain in an arena was read: at first none of it, then one stretch after another, and in the end all of it,
 -- which resolves it by pass one. Where memory is refused after a stretch, it is refused on the way.
 use Rattle.std.proofs.Common.{◌≡◌, ℕ, ◌+◌, Bool, true, false, ◌||◌, ◌==◌, List, [], ◌∷◌, ◌++◌, Option, Some, None, refl, sym, ap, ◌∙◌}
 use Rattle.std.proofs.Common.{arith, append-nil, append_assoc}

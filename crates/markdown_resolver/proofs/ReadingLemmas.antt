@@ -1,4 +1,4 @@
--- A chain is read where it stands, item by item: what is so of the items that are left.
+-- A chain is read in place, item by item: what is true of the items that are left.
 use Rattle.std.proofs.Common.{◌≡◌, ℕ, zero, suc, ◌+◌, ◌-◌, ◌^◌, ◌<◌, ◌≤◌, min, Bool, true, false, ◌⊎◌, inr, ⊎_elim, List, length}
 use Rattle.std.proofs.Common.{take, rules, Option, Some, None, refl, sym, subst, arith}
 use Rattle.std.proofs.lemmas.Result.{IfOk-weaker}
@@ -36,13 +36,13 @@ use Rattle.markdown_document.specs.declared.chain_place.ChainPlace.{ChainPlace}
 use Rattle.markdown_resolver.proofs.ChainLeadsLemmas.{chain_leads, holds_next}
 use Rattle.markdown_resolver.proofs.ReadsItemLemmas.{reads_item}
 
--- the node of a chain's first item is there
+-- the node of a chain's first item exists
 pub node_within : (source : List ℕ) (tables : Tables) (nodes : List (Node Item)) (ix : ℕ)
     → CanResolve source tables nodes (Some ix) → ix < length nodes
 node_within source tables nodes ix ready =
     (opens (links_of nodes) (IsPlaced source tables nodes) ix ready.reaches).within
 
--- what follows the first item may be read too
+-- what follows the first item can be read too
 pub ready_next : (source : List ℕ) (tables : Tables) (nodes : List (Node Item)) (ix : ℕ)
     → CanResolve source tables nodes (Some ix) → CanResolve source tables nodes (sibling_of nodes ix)
 ready_next source tables nodes ix ready =
@@ -70,13 +70,13 @@ items_some source tables nodes ix ready =
 pub items_none : (nodes : List (Node Item)) → items_from nodes None ≡ 0
 items_none nodes = rw (forest_at-none (links_of nodes)) refl
 
--- of all items some were counted, up to the greatest count, and the others follow
+-- of all items some were counted, up to the maximum, and the others follow
 pub record Counted (old now all rest : ℕ) : Type 0 where
   pub done : ℕ
   pub is_all : all ≡ done + rest
   pub count : ((done ≡ 0) × (now ≡ old)) ⊎ (now ≡ min (old + done) (2 ^ 128 - 1))
 
--- one more was counted, of which there was none or some
+-- one more was counted, after some or none
 one_more : (old now new done most : ℕ) → new ≡ min (now + 1) most
     → ((done ≡ 0) × (now ≡ old)) ⊎ (now ≡ min (old + done) most) → new ≡ min (old + suc done) most
 one_more old now new done most e h =
@@ -101,7 +101,7 @@ pub counted_all : (old now all rest : ℕ) → Counted old now all rest → rest
     → now ≡ min (old + all) (2 ^ 128 - 1)
 counted_all old now all rest c r l = all_done old now c.done all (2 ^ 128 - 1) (omega (arith, c.is_all, r)) l c.count
 
--- nothing is found from an item with this body on
+-- nothing is found at an item with this body
 pub record FindsNothing (b : ItemBody) : Type 0 where
   pub finds : (s : Setting) (above : Above) (a : Plain) (after : Forest Plain) → find_by s above b a after ≡ nothing
 
@@ -113,7 +113,7 @@ finds_nothing (body.MaybeMath opens closes context) code math html = absurd (mat
 finds_nothing body.MaybeHtml code math html = absurd (html refl)
 finds_nothing other code math html = record { finds = λ s above a after. refl }
 
--- nor is anything found from a label on that has the shape of such a body
+-- nothing is found either at a label that has the shape of such a body
 finds_in_shape : (s : Setting) (above : Above) (a : Plain) (after : Forest Plain) (tables : Tables) (source : List ℕ) (b : ItemBody)
     → FindsNothing b
     → find_by s above (open_body (shape_of tables source b)) a after ≡ nothing
@@ -155,7 +155,7 @@ settled_reads s above ix next old new tables ready nothing_there puts =
     let reads = reads_settled s above a (trees_from s.text tables old (child_of old ix)) after none in
     reads_item ready (record { standing = reads.0; ends = reads.1 }) puts
 
--- where no search was made, none looked at an item
+-- where no search was made, none examined an item
 pub looks_at_none : (failed : Bool) (visits items items' : ℕ) → visits < 2 ^ 128 → items' < items
     → LooksAt failed failed visits visits items items'
 looks_at_none failed visits items items' bound fewer = record {
@@ -166,8 +166,8 @@ looks_at_none failed visits items items' bound fewer = record {
   past = λ e. omega arith;
 }
 
--- an item was read, unless memory was refused: what other searches have learned holds of what is left, and they have looked at no
--- item
+-- an item was read, unless memory was refused: what other searches have learned is true of what is left, and they have
+-- examined no item
 pub record ReadsAlone {E : Type 0} (r : Result (Option ℕ) E) (s : Setting) (above : Above) (ix : ℕ) (old new : List (Node Item))
     (tables tables' : Tables) : Type 0 where
   pub reads : IfOk r (λ next. ReadsItem s above ix next old new tables tables')
@@ -203,11 +203,11 @@ reads_by_rules r place source rules tree ix new tables tables' ready same gfm re
     (reads_alone r (setting_of place.text.now rules) (above_cursor place.text.now tree) ix tree.nodes new tables tables' ready
     (IfOk-weaker r _ _ (λ next by_any. by_any rules (sym gfm)) reads))
 
--- the bytes up to one
+-- the bytes up to an offset
 pub up_to : (text : List ℕ) (end : ℕ) → slice_range text 0 end ≡ take end text
 up_to text end = search rules
 
--- searches have looked at some items of a chain, of which some are left: at none of those, unless one has failed
+-- searches have examined some items of a chain, of which some are left: none of those, unless one has failed
 pub record LookedUpTo (failed : Bool) (old now all rest : ℕ) : Type 0 where
   pub more : ℕ
   pub counted : now ≡ risen more old
@@ -218,7 +218,7 @@ pub record LookedUpTo (failed : Bool) (old now all rest : ℕ) : Type 0 where
 pub looked_none : (failed : Bool) (old all : ℕ) → LookedUpTo failed old old all all
 looked_none failed old all = record { more = 0; counted = refl; within = omega arith; past = λ e. omega arith }
 
--- a count that has risen is the sum, up to the greatest count
+-- a count that has risen is the sum, up to the maximum
 risen_is : (n old : ℕ) → old < 2 ^ 128 → risen n old ≡ min (old + n) (2 ^ 128 - 1)
 risen_is zero old bound = omega arith
 risen_is (suc n) old bound = refl
@@ -228,7 +228,7 @@ risen_more : (more n old now new : ℕ) → old < 2 ^ 128 → now ≡ risen more
     → new ≡ risen (more + n) old
 risen_more more n old now new bound e h = omega (arith, risen_is more old bound, risen_is (more + n) old bound, e, h)
 
--- one search more was made, or none
+-- one more search was made, or none
 pub looked_more : (before after : Bool) (old now new all items items' : ℕ) → old < 2 ^ 128 → LookedUpTo before old now all items
     → LooksAt before after now new items items' → LookedUpTo after old new all items'
 looked_more true after old now new all items items' bound l a =

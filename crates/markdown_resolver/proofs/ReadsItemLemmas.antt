@@ -31,14 +31,14 @@ use Rattle.markdown_resolver.proofs.ChainLeadsLemmas.{chain_leads, holds_past}
 use Rattle.markdown_resolver.proofs.FollowersLemmas.{opens_chain}
 use Rattle.markdown_resolver.proofs.PutsTreesLemmas.{put_trees}
 
--- trees are put for an item as pass one has them
+-- trees are put in place of an item as pass one defines them
 pub record ReadsAs (s : Setting) (above : Above) (tables : Tables) (nodes : List (Node Item)) (ix : ℕ) (trees : Standing)
     (goes_on : Option ℕ) : Type 0 where
   pub standing : (read_at s above tables nodes ix).trees ≡ trees (label_at s.text tables nodes ix)
       (trees_from s.text tables nodes (child_of nodes ix))
   pub ends : (read_at s above tables nodes ix).goes_on ≡ goes_on
 
--- what stands for what is found is quiet
+-- what replaces what is found is quiet
 quiet_code : (s : Setting) (escaped : Bool) (a : Plain) (t : SpanText) (closer : Plain) → IsQuiet (code_trees s escaped a t closer)
 quiet_code s false a t closer = (refl, refl, tt, tt)
 quiet_code s true a t closer = (refl, refl, tt, (refl, refl, tt, tt))
@@ -101,7 +101,7 @@ opener_shape s tables nodes ix b is opens =
     let item = item_at nodes ix in
     shape-open tables (slice_range s.text item.start item.end) item.body (ap is_open is ∙ opens) ∙ ap unresolved is
 
--- what is read of an item that is open and does not wait for pairing is what is found from it on
+-- what is read of an item that is open and does not wait for pairing is what is found at it
 pub read_opener : (s : Setting) (above : Above) (tables : Tables) (nodes : List (Node Item)) (ix : ℕ) (b : ItemBody)
     → (item_at nodes ix).body ≡ b → is_open b ≡ true → waits_for_pairing b ≡ false
     → read_at s above tables nodes ix ≡ passed s plain_tags 0 (label_at s.text tables nodes ix)

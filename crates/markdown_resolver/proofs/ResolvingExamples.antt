@@ -30,7 +30,7 @@ abbrev setting_by : (options : ℕ) → (asks : Bool) → List ℕ → Setting
 setting_by options asks source =
     setting_of source (record { options = record { 0 = options }; definitions = []; is_footnote = λ name. false; asks = asks })
 
--- GFM footnotes are on, and nobody is asked
+-- footnotes are enabled in GitHub's style, and there is no callback
 abbrev setting : List ℕ → Setting
 setting source = setting_by 4 false source
 
@@ -102,7 +102,7 @@ inline_to destination = record { kind = kind.Inline; destination = destination; 
 abbrev wikilink_to : List ℕ → LinkView
 wikilink_to name = record { kind = kind.WikiLink false; destination = name; title = []; label = [] }
 
--- backticks, and others of the same length further on: what stands between them is code, other backticks too
+-- backticks, and others of the same length further on: what is between them is code, including other backticks
 row_code : (known : Known)
     → left_by_pass_one (codes "``a`b``") (ticks 0 2 ∷ plain_text 2 3 ∷ ticks 3 1 ∷ plain_text 4 5 ∷ ticks 5 2 ∷ []) known
     ≡ node (sliced_at (code (codes "a`b")) 0 7) nil nil
@@ -117,7 +117,7 @@ row_no_closer : (known : Known)
 unfolding pass_one read_chain read_tree replaced_past is_sliced
 row_no_closer known = refl
 
--- two finds, with a text between that belongs to neither
+-- two finds, with a text between them that belongs to neither
 row_two_finds : (known : Known)
     → left_by_pass_one (codes "`a`-$b$")
     (ticks 0 1 ∷ plain_text 1 2 ∷ ticks 2 1 ∷ plain_text 3 4 ∷ dollar 4 true false ∷ plain_text 5 6 ∷ dollar 6 false true ∷ []) known
@@ -134,7 +134,7 @@ row_autolink : (known : Known)
 unfolding pass_one read_chain read_tree markup_at all both either nonempty often often_past one optional
 row_autolink known = refl
 
--- raw HTML that ends inside a text, of which the rest is left; backticks that stand in it open nothing
+-- raw HTML that ends inside a text, of which the rest is left; backticks in it open nothing
 row_tag : (known : Known)
     → left_by_pass_one (codes "<b c=\"`\">d") (less 0 ∷ plain_text 1 6 ∷ ticks 6 1 ∷ plain_text 7 10 ∷ []) known
     ≡ node (over 0 9 (leaf (inline_html (codes "<b c=\"`\">")) (sliced ∷ []))) nil (node (over 9 10 (text_over (codes "d"))) nil nil)
@@ -156,21 +156,21 @@ row_waits : (known : Known)
 unfolding pass_one read_chain read_tree
 row_waits known = refl
 
--- until they enclose what stands between them: here code
+-- until they enclose what is between them: here code
 row_emphasis : (known : Known)
     → resolved_to (codes "*`a`*") (star 0 true false ∷ ticks 1 1 ∷ plain_text 2 3 ∷ ticks 3 1 ∷ star 4 false true ∷ []) known
     ≡ node (over 0 5 (enclosed emphasis)) (node (sliced_at (code (codes "a")) 1 4) nil nil) nil
 unfolding resolved pass_one read_chain read_tree replaced_past is_sliced paired runs_paired reads_from closed_by with_quotes
 row_emphasis known = refl
 
--- code is found first: a run that stands in it pairs with nothing
+-- code is found first: a run in it pairs with nothing
 row_code_first : (known : Known)
     → resolved_to (codes "*`a*`") (star 0 true false ∷ ticks 1 1 ∷ plain_text 2 3 ∷ star 3 false true ∷ ticks 4 1 ∷ []) known
     ≡ node (over 0 1 (text_over (codes "*"))) nil (node (sliced_at (code (codes "a*")) 1 5) nil nil)
 unfolding resolved pass_one read_chain read_tree replaced_past is_sliced paired runs_paired reads_from closed_by with_quotes
 row_code_first known = refl
 
--- a link, and an image; what stands in the destination is left out
+-- a link, and an image; what is in the destination is left out
 row_link : (known : Known)
     → left_by_pass_one (codes "[a](b) c") (opener 0 ∷ plain_text 1 2 ∷ closer 2 ∷ plain_text 3 8 ∷ []) known
     ≡ node (over 0 6 (enclosed (link (inline_to (codes "b"))))) (node (text_at (codes "[a](b) c") 1 2) nil nil)
@@ -220,7 +220,7 @@ row_run_into_link : (known : Known)
 unfolding resolved pass_one read_chain read_tree closed decided paired runs_paired reads_from closed_by with_quotes
 row_run_into_link known = refl
 
--- a wikilink, where they are on
+-- a wikilink, where they are enabled
 row_wikilink : (known : Known)
     → (pass_one (setting_by 32768 false (codes "[[a]]")) plain_tags (in_paragraph (codes "[[a]]"))
     (chain_of (codes "[[a]]") (opener 0 ∷ opener 1 ∷ plain_text 2 3 ∷ closer 3 ∷ closer 4 ∷ [])) known).forest
@@ -228,7 +228,7 @@ row_wikilink : (known : Known)
 unfolding pass_one read_chain read_tree closed decided
 row_wikilink known = refl
 
--- who is asked for what is not defined is told the form, and an answer is taken
+-- the callback is asked for what is not defined, with the form of the reference, and its answer is used
 abbrev asks_one : Outcome (Unit {0})
 asks_one =
     pass_one (setting_by 4 true (codes "[a]")) plain_tags (in_paragraph (codes "[a]"))

@@ -1,4 +1,4 @@
--- The laws of what a chain is resolved to that a walk rests on: each by what pass one makes of the chain, and by the
+-- The laws of what a chain is resolved to that a walk relies on: each by what pass one makes of the chain, and by the
 -- law of pairing.
 use Rattle.std.proofs.Common.{◌≡◌, true, false, [], refl, sym, ap, ◌∙◌}
 use Rattle.markdown_base.specs.Forest.{Forest, nil, node, Each}
@@ -18,11 +18,11 @@ use Rattle.markdown_resolver.proofs.PassOneLemmas.{pass_one-first, pass_one-stay
 use Rattle.markdown_resolver.proofs.PassOneQuietLemmas.{all_quiet, closed_quiet, each_quiet, pass_one-quiet}
 
 module _ {A : Type 0} where
-  -- what is made of a label that may stand in a quiet chain may stand there
+  -- what is made of a label that may occur in a quiet chain may occur there
   made_stands : (a b : Label A) → IsQuietLabel a → b.part.block ≡ a.part.block → is_unresolved b.part.shape ≡ false → IsQuietLabel b
   made_stands a b h e closed = (closed_quiet b.part.shape closed, rw e h.1)
 
-  -- a chain that waits for pairing alone is paired, and keeps what is known
+  -- a chain of which all open items wait for pairing is paired, and keeps what is known
   pub resolved-quiet : (s : Setting) (tags : Tags A) (above : Above) (chain : Forest (Label A)) (known : Known) → IsQuiet chain
       → resolved s tags above chain known ≡ record { questions = []; forest = paired s chain; known = known }
   unfolding resolved
@@ -33,12 +33,12 @@ module _ {A : Type 0} where
   all_below s nil = refl
   all_below s (node a below after) = ap (λ (g : Forest (Label A)). node a (paired_if_open s (all_paired s below)) g) (all_below s after)
 
-  -- and to pair a chain in which nothing is open, too
+  -- pairing a chain in which nothing is open does so too
   closed_stays : (s : Setting) (f : Forest (Label A)) → NothingOpen f → paired_if_open s (all_paired s f) ≡ all_paired s f
   closed_stays s nil h = refl
   closed_stays s (node a below after) h = rw (h.0, closed_stays s after h.1) refl
 
-  -- pairing a chain and the chains below it may be done in either order
+  -- pairing a chain and pairing the chains below it can be done in either order
   pub all_paired-paired : (s : Setting) (chain : Forest (Label A)) → all_paired s (paired s chain) ≡ paired s (all_paired s chain)
   all_paired-paired s chain =
       all_below s (paired s chain)
@@ -63,7 +63,7 @@ module _ {A : Type 0} where
   IsKept-from_IsSettled nil h = tt
   IsKept-from_IsSettled (node a below after) h = (λ e. cc (e, h.0), IsKept-from_IsQuiet below h.1, IsKept-from_IsSettled after h.2)
 
-  -- a chain in which nothing is open is settled, where each label may stand in a quiet one
+  -- a chain in which nothing is open is settled, where each label may occur in a quiet one
   settled_if_closed : (f : Forest (Label A)) → NothingOpen f → Each IsQuietLabel f → IsSettled f
   settled_if_closed nil h k = tt
   settled_if_closed (node a below after) h k = (h.0, all_quiet below k.1, settled_if_closed after h.1 k.2)

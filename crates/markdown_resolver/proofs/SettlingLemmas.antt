@@ -39,7 +39,7 @@ use Rattle.markdown_resolver.proofs.NodeChangeLemmas.{changed_other, changed_her
 use Rattle.markdown_resolver.proofs.PastByteLemmas.{tree_same}
 use Rattle.markdown_resolver.proofs.PutLemmas.{rest_same, leaves_rest, whole_put, rewrites_none, over_numbers}
 
--- an item that is written as a Text where it becomes one is settled, and so is another as it is
+-- an item that is written as a Text where it becomes one is settled, and another is settled as it is
 pub settled_open : (tree tree' : Arena Item) (ix : ℕ) (item : Item) → item ≡ item_at tree.nodes ix → becomes_text item.body ≡ true
     → tree' ≡ record tree {
       nodes = changed_at ix
@@ -60,7 +60,7 @@ settled_closed tree ix is =
     ap (λ (nodes : List (Node Item)). let t : Arena Item = record tree { nodes = nodes } in t) (sym (item_again tree.nodes ix))
     ∙ ap (λ (x : Item). let t : Arena Item = record tree { nodes = changed_at ix (λ n. record n { item = x }) tree.nodes } in t) e
 
--- what a settled item names, and what it weighs
+-- what a settled item refers to, and its weight
 names_nothing : (n : Named) → times_named n (body.Text false) ≡ 0
 names_nothing (some_text n) = refl
 names_nothing (some_link n) = refl
@@ -83,7 +83,7 @@ weight_settled : (is : Bool) (b : ItemBody) → weight_if (is_open (settled_if i
 weight_settled true b = some_weight (is_open b)
 weight_settled false b = omega arith
 
--- what becomes a Text is open, and is no run's character
+-- what becomes a Text is open, and is not a run's character
 text_open : (b : ItemBody) → becomes_text b ≡ true → is_open b ≡ true
 text_open b h = by_open (is_open b) (waits_for_pairing b) h
   where
@@ -122,7 +122,7 @@ quiet_shape tables source b = by_open (is_open b) refl
     by_open true e = rw (shape-open tables source b e) (not_twice (waits_for_pairing b))
     by_open false e = closed_quiet (shape_of tables source b) (closed_shape tables source b e)
 
--- it reads as what stands for the label of what it was, where nothing is below what becomes a Text
+-- it reads as what replaces the label of what it was, where nothing is below what becomes a Text
 reads_settled : (source : List ℕ) (tables : Tables) (item : Item) (below rest : Forest Plain) (is : Bool) → becomes_text item.body ≡ is
     → (is_open item.body ≡ true → below ≡ nil)
     → node (label_of source tables (record item { body = settled_if is item.body })) below rest
@@ -146,7 +146,7 @@ pub node_within : (source : List ℕ) (tables : Tables) (nodes : List (Node Item
     → ix < length nodes
 node_within source tables nodes ix ready = (opens (links_of nodes) (IsPlaced source tables nodes) ix ready.reaches).within
 
--- what a settled item stands before and after, and the rules that it keeps
+-- what a settled item precedes and follows, and the rules that it keeps
 block_settled : (is : Bool) (b : ItemBody) → becomes_text b ≡ is → is_block (settled_if is b) ≡ false → is_block b ≡ false
 block_settled true b e h = open-no-block b (text_open b e)
 block_settled false b e h = h
@@ -174,7 +174,7 @@ keeps_settled source ix item child next true e h =
     (follows_settled ix item next e h.in_order)
 keeps_settled source ix item child next false e h = h
 
--- a run that goes on at an item still does where that is settled, which changes no run's character
+-- a run that an item continues still does where that item is settled, which changes no run's character
 goes_on_settled : (source : List ℕ) (a b : Numbered) (count : ℕ) (opens closes is : Bool) → becomes_text b.item.body ≡ is
     → RunGoesOn source a count opens closes (Some b)
     → RunGoesOn source a count opens closes (Some (record { number = b.number; item = record b.item { body = settled_if is b.item.body } }))
@@ -215,12 +215,12 @@ head_settled source tables nodes ix s =
       named = λ n l. rw c.item (named_settled (becomes_text item.body) item.body n);
     }
 
--- one tree stands for it
+-- one tree replaces it
 one_settled : (quiet : Bool) (source : List ℕ) (a : Plain) (below : Forest Plain) → length (roots (text_unless quiet source a below)) ≡ 1
 one_settled true source a below = refl
 one_settled false source a below = refl
 
--- what stands for it is put there
+-- what replaces it is put in place
 pub settle_puts : (source : List ℕ) (tables : Tables) (nodes : List (Node Item)) (ix : ℕ) → CanResolve source tables nodes (Some ix)
     → Puts source ix (settled source) None (sibling_of nodes ix) nodes (settled_at ix nodes) tables tables
 settle_puts source tables nodes ix ready =

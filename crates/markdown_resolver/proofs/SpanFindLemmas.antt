@@ -1,5 +1,5 @@
 -- What closes a code span or a math span among the nodes of a chain is what closes it among the labels that the chain
--- reads as, and where it stands.
+-- reads as, and where that is.
 use Rattle.std.proofs.Common.{◌≡◌, ℕ, Bool, true, false, not, ◌&&◌, ◌==◌, List, [], ◌∷◌, ◌++◌, map, Option, Some, None, refl, sym, ap, ◌∙◌}
 use Rattle.std.specs.Prelude.{if◌then◌else◌, drop, is_some, slice_range}
 use Rattle.std.specs.Option.{option_map}
@@ -20,7 +20,7 @@ use Rattle.markdown_spans.specs.Closers.{is_dollar_of, math_close, math_close_fr
 use Rattle.markdown_spans.specs.SpanClosers.{item_in}
 use Rattle.markdown_delims.proofs.PairingLemmas.{closed_shape}
 
--- searches see two items alike
+-- searches do not distinguish two items
 pub record LooksAlike (shown item : Item) : Type 0 where
   pub start : shown.start ≡ item.start
   pub end : shown.end ≡ item.end
@@ -29,7 +29,7 @@ pub record LooksAlike (shown item : Item) : Type 0 where
   pub context : (n : ℕ) → is_dollar_of n shown.body ≡ is_dollar_of n item.body
   pub closes : can_close shown.body ≡ can_close item.body
 
--- so it is of a label, which is like a Text where its item is not open
+-- so it is with a label, which counts as a Text where its item is not open
 body_open : (tables : Tables) (source : List ℕ) (b : ItemBody) → is_open b ≡ true → open_body (shape_of tables source b) ≡ b
 body_open tables source b h = ap open_body (shape-open tables source b h)
 
@@ -209,7 +209,7 @@ module _ {A : Type 0} (item_of : A → Item) (g : ℕ → A) (nodes : List (Node
       by true = math_shown opener.end (context_of opener.body) xs
       by false = refl
 
--- some numbers, one of them with what stands before it and after it
+-- some numbers, one of them with what is before it and after it
 pub record StandsAmong (xs : List ℕ) (x : ℕ) : Type 0 where
   pub before : List ℕ
   pub after : List ℕ
@@ -218,7 +218,7 @@ pub record StandsAmong (xs : List ℕ) (x : ℕ) : Type 0 where
 pub stands_later : (y : ℕ) (xs : List ℕ) (x : ℕ) → StandsAmong xs x → StandsAmong (y ∷ xs) x
 stands_later y xs x s = record { before = y ∷ s.before; after = s.after; parts = ap (λ later. y ∷ later) s.parts }
 
--- what closes code stands among the items after its opener, and has the count that is wanted
+-- what closes code is among the items after its opener, and has the count that is wanted
 pub record CodeCloses (nodes : List (Node Item)) (xs : List ℕ) (n x : ℕ) : Type 0 where
   pub among : StandsAmong xs x
   pub is_code : is_code_of n (item_at nodes x).body ≡ true

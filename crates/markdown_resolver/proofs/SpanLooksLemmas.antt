@@ -1,4 +1,4 @@
--- How many items a search of a chain looks at, where the chain is read on past what it found.
+-- How many items a search of a chain examines, where the chain is read on past what it found.
 use Rattle.std.proofs.Common.{◌≡◌, ℕ, suc, ◌+◌, ◌≤◌, Bool, true, false, not, ◌==◌, List, ◌∷◌, ◌++◌, map, length, Option, Some, None, refl}
 use Rattle.std.proofs.Common.{sym, ap, ◌∙◌, arith, subst}
 use Rattle.std.specs.Prelude.{if◌then◌else◌, is_some}
@@ -26,7 +26,7 @@ use Rattle.markdown_resolver.proofs.MathSpanLemmas.{MathStands, close_of, math_b
 use Rattle.markdown_resolver.proofs.SpanFindLemmas.{StandsAmong, code_close_shown, first_dollar_shown, math_from_shown, number_alike}
 use Rattle.markdown_resolver.proofs.SpanFindLemmas.{searched_shown, shown_close, shown_dollar}
 
--- a search looks at no more items than there are; at none without an opener; and where it finds, at none past what is left
+-- a search examines no more items than there are; none without an opener; and where it finds, none past what is left
 pub looks_at : (learned : Learned) (after searched found : Bool) (looked old new items items' : ℕ)
     → RisesBy (unless_failed learned looked) old new
     → after ≡ failed_by_now learned searched found → looked ≤ items → items' ≤ items → (searched ≡ false → looked ≡ 0)
@@ -51,7 +51,7 @@ looks_at (Some known) after searched found looked old new items items' rises fai
   past = λ works. cc (failed, works);
 }
 
--- how many items are left of a chain
+-- the number of items that are left of a chain
 pub items_put : (source : List ℕ) (ix : ℕ) (trees : Standing) (goes_on next : Option ℕ) (old new : List (Node Item))
     (tables tables' : Tables) → CanResolve source tables old (Some ix)
     → Puts source ix trees goes_on next old new tables tables'
@@ -61,7 +61,7 @@ items_put source ix trees goes_on next old new tables tables' ready puts =
     let chain = map (numbered old) (followers old ix) in
     items_led source tables' new next (suc ix) (numbered_past goes_on chain) puts.leaves.ready (puts.leads (suc ix) chain o.leads)
 
--- backticks that open nothing are not looked for
+-- no search is made for backticks that open nothing
 unless_code : (b : ItemBody) (chain : List Numbered) → opens_code b ≡ false → looked_for_code_close item_in b chain ≡ 0
 unless_code (body.MaybeCode count escaped) chain h = by (closing_count count escaped == 0) h
   where
@@ -143,7 +143,7 @@ code_looks {source} {tables} {tables'} {old} {new} {ix} {x} {count} {escaped} {t
     (omega (arith, up_to, o.items)) (omega (arith, up_to, left, fewer, o.items))
     (unless_code (item_at old ix).body chain) (λ found. omega (arith, up_to, left, fewer, o.items))
 
--- a `$` that opens nothing is not looked for
+-- no search is made for a `$` that opens nothing
 unless_math : (opener : Item) (chain : List Numbered) → can_open opener.body ≡ false → looked_for_math_from item_in opener chain ≡ 0
 unless_math opener chain h = rw h refl
 

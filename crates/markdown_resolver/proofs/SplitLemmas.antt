@@ -1,4 +1,4 @@
--- What stands from an opener of a left list on: what is inside, then the `]`, then what follows it, by the numbers of the
+-- What is in a left list from an opener on: what is inside, then the `]`, then what follows it, by the numbers of the
 -- nodes and as it reads.
 use Rattle.std.proofs.Common.{◌≡◌, ℕ, suc, ◌<◌, List, ◌∷◌, ◌++◌, length, Some, refl, sym, ap, ◌∙◌}
 use Rattle.markdown_base.specs.Arena.{child_of, sibling_of}
@@ -24,7 +24,7 @@ use Rattle.markdown_resolver.proofs.StandsToLemmas.{numbers_are}
 abbrev pub inside_numbers : Split ℕ → List ℕ
 inside_numbers o = roots (numbers_of (inside o))
 
--- the roots of two chains side by side
+-- the roots of two chains joined
 pub roots_joined : {A : Type 0} (x y : Forest A) → roots (joined x y) ≡ roots x ++ roots y
 roots_joined nil y = refl
 roots_joined (node a below after) y = ap (λ l. a ∷ l) (roots_joined after y)
@@ -67,7 +67,7 @@ opens_numbered source tables nodes ix ready =
       trees = ap (relabelled (label_at source tables nodes)) o.here;
     }
 
--- what stands from an opener on
+-- what there is from an opener on
 pub record InsideOf (source : List ℕ) (tables : Tables) (nodes : List (Node Item)) (closer : ℕ) (o : Split ℕ) : Type 0 where
   pub label_is : o.opener ≡ numbered_label source tables nodes o.opener.tag
   pub follows : roots (forest_at (links_of nodes) (sibling_of nodes o.opener.tag)) ≡ inside_numbers o

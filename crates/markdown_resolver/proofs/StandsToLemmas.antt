@@ -1,4 +1,4 @@
--- A left list that stands in an arena: what is left of the chain, one of its openers, other marks, and the numbers along it.
+-- A left list in an arena: what is left of the chain, one of its openers, other marks, and the numbers along it.
 use Rattle.std.proofs.Common.{◌≡◌, ℕ, zero, suc, ◌<◌, Bool, true, false, List, [], ◌∷◌, length, Option, Some, None, refl, sym, ap, ◌∙◌}
 use Rattle.std.proofs.Common.{subst, arith}
 use Rattle.std.specs.Prelude.{if◌then◌else◌}
@@ -68,7 +68,8 @@ module _ (source : List ℕ) (tables : Tables) (nodes : List (Node Item)) where
   pub numbered_none : numbered_from source tables nodes None ≡ nil
   numbered_none = rw (forest_at-none (links_of nodes)) refl
 
-  -- of trees that stand side by side from a link on, the later ones stand from some link on, where the others left the chain
+  -- of trees that are side by side from a link on, the later ones are from some link on, where the others left the
+  -- chain
   pub record Leads (l : Option ℕ) (rest : Forest (Label ℕ)) : Type 0 where
     pub link : Option ℕ
     pub moves : Moves source l link nodes nodes tables tables
@@ -92,7 +93,7 @@ module _ (source : List ℕ) (tables : Tables) (nodes : List (Node Item)) where
         trees = r.trees;
       }
 
-  -- below a chain that may be read nothing is open, by numbers
+  -- below a chain that can be read nothing is open, by numbers
   pub quiet_numbered : (l : Option ℕ) → IsQuietBelow (trees_from source tables nodes l) → IsQuietBelow (numbered_from source tables nodes l)
   quiet_numbered l h =
       let f = forest_at (links_of nodes) l in
@@ -114,7 +115,7 @@ module _ (source : List ℕ) (tables : Tables) (nodes : List (Node Item)) where
       let o = opens (links_of nodes) (IsPlaced source tables nodes) first h.ready.reaches in
       omega (arith, o.within)
 
-  -- so does what is left of a chain, behind a left list
+  -- what is left of a chain, after a left list
   pub record Rest (first : ℕ) (at : Option ℕ) (left : List (Entry ℕ)) : Type 0 where
     pub whole : numbered_from source tables nodes (Some first) ≡ joined (trees_onto left nil) (numbered_from source tables nodes at)
     pub moves : Moves source (Some first) at nodes nodes tables tables
@@ -133,7 +134,7 @@ module _ (source : List ℕ) (tables : Tables) (nodes : List (Node Item)) where
             (quiet_numbered (Some first) h.ready.quiet_below));
       }
 
--- what is left of a chain may be read
+-- what is left of a chain can be read
 pub stands_rest : (source : List ℕ) (tables : Tables) (nodes : List (Node Item)) (first : ℕ) (at : Option ℕ) (left : List (Entry ℕ))
     → StandsTo source tables nodes first at left
     → CanResolve source tables nodes at
@@ -167,7 +168,7 @@ pub above_rest : (source : List ℕ) (tables : Tables) (nodes : List (Node Item)
 above_rest source tables nodes first at left spine h above =
     above_moved source (Some first) at nodes nodes tables tables spine (rest_of source tables nodes first at left h).moves above
 
--- and above a chain that was changed where it stands
+-- and above a chain that was changed in place
 pub above_changed : (source : List ℕ) (l : Option ℕ) (old new : List (Node Item)) (tables tables' : Tables) (spine : List ℕ)
     → ChangesChain source l old new tables tables'
     → AreAbove source old l spine → AreAbove source new l spine
@@ -181,7 +182,7 @@ changes_twice source l a b c t u v p q =
     moves_change source l a c t v (moves_twice source l l l a b c t u v (changes_move source l a b t u p) (changes_move source l b c u v q))
     (λ x stands. q.before x (p.before x stands))
 
--- a left list at one of its openers: it stands up to that, and from there on the opener, what is after it and the rest
+-- a left list at one of its openers: it is up to that, and from there on the opener, what is after it and the rest
 pub record AtOpener (source : List ℕ) (tables : Tables) (nodes : List (Node Item)) (first : ℕ) (at : Option ℕ) (o : Split ℕ) : Type 0 where
   pub stands : StandsTo source tables nodes first (Some o.opener.tag) o.before
   pub trees : numbered_from source tables nodes (Some o.opener.tag)
@@ -236,7 +237,7 @@ stands_at_opener source tables nodes first at left o h split =
         let tag : ix ≡ o.opener.tag = ap (λ (a : Label ℕ). a.tag) same in
         (ap Some tag, subst (λ (n : ℕ). numbered_label source tables nodes n ≡ o.opener) tag same)
 
--- a left list with the same trees, and no other openers, stands where the first does
+-- a left list with the same trees, and no other openers, is where the first is
 pub marks_stand : (source : List ℕ) (tables : Tables) (nodes : List (Node Item)) (first : ℕ) (at : Option ℕ) (left left' : List (Entry ℕ))
     → ((later : Forest (Label ℕ)) → trees_onto left' later ≡ trees_onto left later) → (EachWaits (IsOpener source nodes) left
     → EachWaits (IsOpener source nodes) left')
@@ -248,8 +249,8 @@ marks_stand source tables nodes first at left left' same waiting h = record {
   waiting = waiting h.waiting;
 }
 
--- so does one before a finished link or image, before a wikilink, before a footnote reference, and one with a mark of its own at
--- the nearest opener
+-- so is one before a finished link or image, before a wikilink, before a footnote reference, and one with a mark of its
+-- own at the nearest opener
 pub link_trees : (is_image : Bool) (left : List (Entry ℕ)) (later : Forest (Label ℕ)) → trees_onto (before_link is_image left) later
     ≡ trees_onto left later
 link_trees true left later = folded_trees left later
@@ -308,7 +309,7 @@ module _ (source : List ℕ) (tables : Tables) (nodes : List (Node Item)) (first
   taken_stands test f = marks_stand source tables nodes first at left (change_nearest test f left) (trees_stay test f left)
       (taken_waits (IsOpener source nodes) test f left) h
 
--- what stacks hold of a left list that stands there are openers
+-- what stacks hold of a left list in an arena are openers
 pub held_each : (source : List ℕ) (tables : Tables) (nodes : List (Node Item)) (first : ℕ) (at : Option ℕ) (left : List (Entry ℕ))
     (brackets wikilinks : List Waiting)
     → StandsTo source tables nodes first at left → AreHeld brackets wikilinks left → EachOpener (IsOpener source nodes) brackets

@@ -1,5 +1,5 @@
--- Where memory is refused before anybody was asked, the questions of the rest come first: reading a chain asks on top of what
--- was asked.
+-- Where memory is refused before a question was asked, the questions of the rest come first: reading a chain adds to
+-- the questions that were asked.
 use Rattle.std.proofs.Common.{◌≡◌, ℕ, List, [], ◌++◌, Option, refl, sym, ap, ◌∙◌, append-nil}
 use Rattle.markdown_base.specs.Forest.{Forest}
 use Rattle.markdown_base.specs.Questions.{Question, Answer}
@@ -20,7 +20,7 @@ all_asks s above chain p =
     (λ a below rest q. asks_nothing (read_other s plain_tags above a below rest q) q refl) chain p in
     record { more = r.more; asked = r.asked }
 
--- nobody was asked
+-- no question was asked
 pub stops_here : {C : Type 0} (step : C → Question → Option Answer → C → Type 0) (s : Setting) (above : Above) (at : Option ℕ)
     (left : List (Entry ℕ)) (old : Stage C) (spent : SpentEnds)
     (callback' : Option C) → callback' ≡ old.callback → StopsOn step s above at left old spent callback'

@@ -1,4 +1,4 @@
--- The tail of an inline link closes with a `)`, so that what is found from a `]` on ends behind an ASCII byte.
+-- The tail of an inline link closes with a `)`, so that what is found at a `]` ends after an ASCII byte.
 use Rattle.std.proofs.Common.{◌≡◌, ℕ, zero, suc, ◌+◌, ◌-◌, ◌<◌, ◌≤◌, Bool, true, false, ◌==◌, List, [], ◌∷◌, Option, Some, None, length}
 use Rattle.std.proofs.Common.{drop, get_or, refl, ap, ◌∙◌, subst, arith}
 use Rattle.std.specs.Prelude.{IfSome, if◌then◌else◌, slice_index}
@@ -50,7 +50,7 @@ title_at_later starts text i = by (first_closer (drop i text))
         later_than i (i + 1) (title_from starts closer (i + 1) false 0 (drop (i + 1) text)) step (title_later starts closer (i + 1) false 0
         (drop (i + 1) text))
 
--- a tail ends behind a byte, with a `)` of the text
+-- a tail ends after a byte, which is a `)` of the text
 pub record TailCloses (text : List ℕ) (at : ℕ) (t : LinkTail) : Type 0 where
   pub after : at < t.ends
   pub within : t.ends ≤ length text
@@ -90,7 +90,7 @@ closes_found skipped starts text at i (Some d) le =
     let later : at ≤ past_separator skipped text (i + d.0) = omega (arith, le) in
     closes_titled skipped text at next d.1 (title_at starts text next) later (title_at_later starts text next)
 
--- so does what stands at a `]`
+-- so does what is at a `]`
 tail_ends : (skipped : List ℕ → Option ℕ) (starts : ℕ → Option ℕ) (text : List ℕ) (at : ℕ)
     → Closes text at (link_tail skipped starts text at)
 tail_ends skipped starts text at = by (slice_index text at == 40) _

@@ -1,5 +1,5 @@
--- An opener of a left list that stands in an arena may be tried at the `]` behind that: the chain from it on may be read, it
--- stands before the `]`, and what is read of the text lies between characters.
+-- An opener of a left list in an arena can be tried at the `]` after that: the chain from it on can be read, it
+-- precedes the `]`, and what is read of the text starts and ends between characters.
 use Rattle.std.proofs.Common.{◌≡◌, ℕ, ◌<◌, ◌≤◌, Bool, true, false, ◌==◌, List, [], ◌∷◌, ◌++◌, Option, Some, None, refl, sym, ap, ◌∙◌, subst}
 use Rattle.std.proofs.Common.{append_assoc, nat_lt, arith}
 use Rattle.std.specs.Prelude.{⊤, IfSome, if◌then◌else◌}
@@ -33,7 +33,7 @@ use Rattle.markdown_resolver.proofs.LeftTreesLemmas.{onto_split, relabelled_join
 use Rattle.markdown_resolver.proofs.PutPairLemmas.{ready_next}
 use Rattle.markdown_resolver.proofs.StandsToLemmas.{AtOpener, numbered_opens, numbers_are, stands_at_opener, stands_rest}
 
--- an opener that stands before a `]`
+-- an opener that precedes a `]`
 pub record StandsOpen (source : List ℕ) (tables : Tables) (nodes : List (Node Item)) (closer n : ℕ) : Type 0 where
   pub opener : IsOpener source nodes n
   pub ready : CanResolve source tables nodes (Some n)
@@ -119,7 +119,7 @@ start_between source tables nodes (node ix below after) n s h e = by (nat_lt n (
         h.0.lies.start
     by false found later = later found
 
--- it may be tried
+-- it can be tried
 pub can_try : (tables : Tables) (nodes : List (Node Item)) (place : ChainPlace) (closer n : ℕ)
     → CanResolve place.text.now tables nodes (Some closer) → 0 < (item_at nodes closer).end
     → IsCharBoundary place.text.now place.block_end → StandsOpen place.text.now tables nodes closer n → CanTry nodes place closer n
@@ -142,7 +142,7 @@ can_try tables nodes place closer n closes some block o =
       };
     }
 
--- and a wikilink looked for
+-- and a wikilink can be looked for
 unless_some : (closer : ℕ) (l : Option ℕ) (ix : ℕ) → unless_is closer l ≡ Some ix → l ≡ Some ix
 unless_some closer None ix e = cc e
 unless_some closer (Some n) ix e = by (n == closer) e

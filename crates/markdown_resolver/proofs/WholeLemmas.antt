@@ -1,5 +1,5 @@
--- Runs stay whole in pass one: what waits for pairing stays as it is, what stands for a find or an opener is no run's
--- character, and what is left of a chain past a byte begins with a whole character of a run or with none.
+-- Runs stay whole in pass one: what waits for pairing stays as it is, what replaces a find or an opener is not a run's
+-- character, and what is left of a chain past a byte offset begins with a whole character of a run or with none.
 use Rattle.std.proofs.Common.{◌≡◌, ℕ, zero, suc, ◌+◌, ◌-◌, ◌<◌, Bool, true, false, List, Option, Some, None, max, refl, sym, ap, subst, ◌∙◌}
 use Rattle.std.proofs.Common.{nat_le, arith}
 use Rattle.std.proofs.lemmas.Bool.{leb-false}
@@ -31,7 +31,7 @@ use Rattle.markdown_spans.proofs.FindsLemmas.{AllClosed, begins_trees, closed_tr
 use Rattle.markdown_resolver.specs.Laws.{RunsStandWhole, by_place}
 use Rattle.markdown_resolver.specs.PassOne.{around, pass_one, put_passed, read_on, read_other}
 
--- what does not wait for pairing is no run's character, nor is what is not open
+-- what does not wait for pairing is not a run's character, nor is what is not open
 body_no_run : (b : ItemBody) → waits_for_pairing b ≡ false → run_character b ≡ None
 body_no_run (body.MaybeEmphasis count opens closes) h = cc h
 body_no_run other h = refl
@@ -52,7 +52,7 @@ cut_run n plain = refl
 cut_run n backslash_break = refl
 cut_run n (unresolved b) = refl
 
--- where no run's character follows one, no other item that is none makes a difference
+-- what follows a run's character can be replaced, where neither item is a character of a run
 goes_other : (text : List ℕ) (a b d : Numbered) (count : ℕ) (opens closes : Bool) → run_character b.item.body ≡ None
     → run_character d.item.body ≡ None
     → RunGoesOn text a count opens closes (Some b) → RunGoesOn text a count opens closes (Some d)
@@ -96,7 +96,7 @@ module _ {A : Type 0} where
   abbrev IsWholeAt : List ℕ → Label A → Forest (Label A) → Type 0
   IsWholeAt source a after = RunsAreWhole source (by_place a) (option_map by_place (first_root after))
 
-  -- so it is where the label is no run's character
+  -- so it is where the label is not a run's character
   whole_other : (source : List ℕ) (a : Label A) (after : Forest (Label A)) → run_character (open_body a.part.shape) ≡ None
       → IsWholeAt source a after
   whole_other source a after none = rw none tt
@@ -121,7 +121,8 @@ module _ {A : Type 0} where
         source others after closed.2 w,
   )
 
-  -- a run's character that ends past a byte begins there or later, so it stays whole in what is left past that byte
+  -- a run's character that ends past a byte offset begins there or later, so it stays whole in what is left past that
+  -- offset
   begun_place : (i : ℕ) (a : Label A) → max (start_of a) i ≡ start_of a → by_place (begun_at i a) ≡ by_place a
   begun_place i a same =
       ap (λ (n : ℕ). let p : Numbered = record {
@@ -155,7 +156,7 @@ module _ {A : Type 0} where
       subst (λ p. RunsAreWhole source p (option_map by_place (first_root after)))
       (sym (begun_place i a (same_start (start_of a) (end_of a) i whole.one_byte past))) w
 
-  -- what is left of a chain past a byte is whole
+  -- what is left of a chain past a byte offset is whole
   past_byte_whole : (source : List ℕ) (i : ℕ) (f : Forest (Label A)) → RunsStandWhole source f → RunsStandWhole source (past_byte i f)
   past_byte_whole source i nil w = tt
   past_byte_whole source i (node a below after) w = by (nat_le (end_of a) i) refl (past_byte_whole source i after w.2)
@@ -174,7 +175,7 @@ module _ {A : Type 0} where
   past_whole source None f w = w
   past_whole source (Some i) f w = past_byte_whole source i f w
 
-  -- before an item that is no run's character another one may stand, or none
+  -- an item that is not a run's character can be replaced by another such item, or by none
   before_other : (source : List ℕ) (b d : Label A) (x y f g : Forest (Label A)) → run_character (open_body b.part.shape) ≡ None
       → run_character (open_body d.part.shape) ≡ None
       → (a : Label A) → IsWholeAt source a (node b x f) → IsWholeAt source a (node d y g)
@@ -192,7 +193,7 @@ module _ {A : Type 0} where
   before_closed source b below rest (node d inner after) others begins closed none a w =
       before_other source b d below inner rest (joined after others) none (closed_no_run d.part.shape closed.0) a w
 
-  -- behind a left list something else may stand, if runs are whole in it and go on as they did
+  -- something else can follow a left list, if runs are whole in it and continue as they did
   behind_whole : (source : List ℕ) (left : List (Entry A)) (f : Forest (Label A)) → RunsStandWhole source (trees_onto left f)
       → RunsStandWhole source f
   behind_whole source [] f w = w
@@ -216,7 +217,7 @@ module _ {A : Type 0} where
   WaitsClosed (done a below ∷ left) = WaitsClosed left
   WaitsClosed (waits m a ∷ left) = (is_unresolved a.part.shape ≡ false) × WaitsClosed left
 
-  -- marks say nothing to the trees
+  -- marks do not change the trees
   same_change : (opens : Mark → Bool) (f : Mark → Mark) (left : List (Entry A)) (later : Forest (Label A))
       → trees_onto (change_nearest opens f left) later ≡ trees_onto left later
   same_change opens f [] later = refl
@@ -302,7 +303,7 @@ module _ {A : Type 0} where
   past_second_whole source nil w = tt
   past_second_whole source (node a below after) w = w.2
 
-  -- a left list before a `]`, and one behind which any chain may stand
+  -- a left list before a `]`, and one that any chain can follow
   record WholeBefore (source : List ℕ) (b : Label A) (rest : Forest (Label A)) (left : List (Entry A)) : Type 0 where
     whole : RunsStandWhole source (trees_onto left (node b nil rest))
     waiting : WaitsClosed left
@@ -315,7 +316,7 @@ module _ {A : Type 0} where
     abbrev source : List ℕ
     source = w.setting.text
 
-    -- an opener at which something is put, which is not open, over what stands inside
+    -- an opener at which something is put, which is not open, over what is inside
     module _ (left : List (Entry A)) (o : Split A) (q : WholeBefore source c.label rest left) (s : SplitWhole left o) where
       around_opener : RunsStandWhole source (trees_onto o.before (node o.opener nil (trees_onto o.after (node c.label nil rest))))
       around_opener = subst (RunsStandWhole source) (s.splits (node c.label nil rest)) q.whole
@@ -405,7 +406,7 @@ module _ {A : Type 0} where
   closed_done nil left h = h
   closed_done (node a below after) left h = closed_done after (done a below ∷ left) h
 
-  -- how far a chain was read: runs are whole in the left list with what is left behind it
+  -- how far a chain was read: runs are whole in the left list with what is left after it
   record WholeSoFar (source : List ℕ) (p : Progress A) (rest : Forest (Label A)) : Type 0 where
     whole : RunsStandWhole source (trees_onto p.left (past p.goes_on rest))
     waiting : WaitsClosed p.left

@@ -1,5 +1,6 @@
--- What a wikilink shows begins and ends between characters, as the items before its `]` do, and so does a text after a `|`,
--- which is one byte. No byte cuts an open item of its body: only runs' characters and quotes are open there, of one byte each.
+-- What a wikilink shows begins and ends between characters, as the items before its `]` do, and so does a text after a
+-- `|`, which is one byte. No byte offset cuts an open item of its body: only characters of runs and quotation marks are
+-- open there, of one byte each.
 use Rattle.std.proofs.Common.{◌≡◌, ℕ, ◌+◌, ◌-◌, ◌<◌, ◌≤◌, ◌⊎◌, inl, inr, Bool, true, false, ◌==◌, List, [], ◌∷◌, Option, Some, None, IsUtf8}
 use Rattle.std.proofs.Common.{length, take, drop, get_or, max, refl, sym, ap, ◌∙◌, subst, arith}
 use Rattle.std.specs.Prelude.{IfSome, if◌then◌else◌, nat_le, nat_lt, position, slice_range, ⊤}
@@ -42,7 +43,7 @@ use Rattle.markdown_resolver.proofs.GoesOnLemmas.{one_byte, size_there}
 use Rattle.markdown_resolver.proofs.LeftTreesLemmas.{onto_split}
 use Rattle.markdown_resolver.proofs.StandsToLemmas.{rest_of}
 
--- a label lies between characters, and where it is open it is one byte long
+-- a label starts and ends between characters, and where it is open it is one byte long
 pub record LabelLies (source : List ℕ) (a : Label ℕ) : Type 0 where
   pub ordered : start_of a ≤ end_of a
   pub starts : IsCharBoundary source (start_of a)
@@ -125,7 +126,7 @@ inside_lies source test left o h found =
     let all = second_lies source (trees_onto o.before nil) (node o.opener nil (inside o)) (subst (AllLie source) whole h) in
     past_second_lies source (inside o) all.1
 
--- no byte cuts one of them that is open
+-- no byte offset cuts one of them that is open
 none_cut : (source : List ℕ) (i : ℕ) (f : Forest (Label ℕ)) → AllLie source f → NoneOpenAround i f
 none_cut source i nil h = tt
 none_cut source i (node a below after) h = by (nat_le (end_of a) i) refl (none_cut source i after h.1)
@@ -139,7 +140,7 @@ none_cut source i (node a below after) h = by (nat_le (end_of a) i) refl (none_c
     by false e later = λ starts. let ends : i < end_of a = grind (arith, nat_tests) in by_shape (is_unresolved a.part.shape) refl starts
         ends
 
--- what is left of them past a byte between characters begins and ends so
+-- what is left of them past a byte offset between characters begins and ends between characters
 max_between : (source : List ℕ) (s i : ℕ) → IsCharBoundary source s → IsCharBoundary source i → IsCharBoundary source (max s i)
 max_between source s i hs hi = by (cases_lt s i)
   where
@@ -182,7 +183,7 @@ cut_is : (text : List ℕ) (start end : ℕ) (found : Option (ℕ × List ℕ)) 
 cut_is text start end None order h = named_cut text start end (slice_range text start end) shows_name order
 cut_is text start end (Some pipe) order h = named_cut text start end pipe.1 (shown_from pipe.0 end) (shown_cut text start end pipe.0 h)
 
--- behind a `|`
+-- after a `|`
 pipe_between : (text : List ℕ) (start size : ℕ) → IsUtf8 text
     → IfSome {T = ℕ × List ℕ} (option_map (λ n. (start + n + 1, take n (take size (drop start text))))
     (position (λ b. b == 124) (take size (drop start text)))) (λ pipe. IsCharBoundary text pipe.0)
@@ -217,7 +218,7 @@ body_cut text block_end start end utf8 = by (nat_lt start end) refl _
     by true e found h = let before : start < end = grind (arith, nat_tests) in cut_is text start end found before h
     by false e found h = tt
 
--- what it shows lies between characters
+-- what it shows starts and ends between characters
 some_lies : (source : List ℕ) (f : Forest (Label ℕ)) → FirstLies source f → IfSome (if_some f) (FirstLies source)
 some_lies source nil h = tt
 some_lies source (node a below after) h = h
@@ -251,7 +252,7 @@ wikilink_lies w (node first below after) end utf8 all ends = by (wikilink_body w
         made_lies w.setting.text b (children_of w first (node first below after) end b.shows)
         (children_lie w first (node first below after) end b.shows all all.0.starts ends cut)
 
--- so a wikilink of this body shows what may be shown
+-- so a wikilink of this body shows what can be shown
 pub shows_well : (w : Around) (f : Forest (Label ℕ)) (end : ℕ) (v : Wikilink ℕ) → IsUtf8 w.setting.text → AllLie w.setting.text f
     → IsCharBoundary w.setting.text end
     → wikilink_in w f end ≡ Some v → ShowsWell w.setting.text f v.children
@@ -261,7 +262,7 @@ shows_well w f end v utf8 all ends e = record {
   not_cut = λ at same. none_cut w.setting.text at f all;
 }
 
--- and its name stands in the text
+-- and its name is a slice of the text
 named_stands : (text name : List ℕ) (shows : Shows) → StandsIn text name → IfSome (named name shows) (λ b. StandsIn text b.name)
 named_stands text [] shows h = tt
 named_stands text (b ∷ name) shows h = h

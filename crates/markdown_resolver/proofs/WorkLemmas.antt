@@ -25,7 +25,7 @@ use Rattle.markdown_resolver.specs.Chains.{ResolvesFrom}
 use Rattle.markdown_resolver.specs.PassOne.{Outcome, pass_one}
 use Rattle.markdown_resolver.proofs.PairedLemmas.{delimiters_left}
 
--- a chain has as many items as nodes, and one at least
+-- a chain has as many items as nodes, and at least one
 chain_items : (source : List ℕ) (tables : Tables) (nodes : List (Node Item)) (l : Option ℕ)
     → length (roots (trees_from source tables nodes l)) ≡ items_from nodes l
 chain_items source tables nodes l =
@@ -40,7 +40,7 @@ some_items : (nodes : List (Node Item)) (ix : ℕ) → Spells (links_of nodes) (
     → 0 < items_from nodes (Some ix)
 some_items nodes ix spelled = some_root nodes ix (forest_at (links_of nodes) (Some ix)) spelled
 
--- a count that has not passed the greatest rises by none, or by some up to the greatest
+-- a count that is at most the maximum rises by nothing, or by something up to the maximum
 stays_below : (count most : ℕ) → count ≤ most → min (count + 0) most ≡ count
 stays_below count most l = omega arith
 
@@ -52,7 +52,7 @@ risen_some : (n count : ℕ) → 0 < n → min (count + n) (2 ^ 128 - 1) ≡ ris
 risen_some zero count l = absurd (omega (arith, l))
 risen_some (suc n) count l = refl
 
--- the counts that may rise by none are no greater than the greatest
+-- the counts that may rise by nothing are at most the maximum
 pub record AreCounts (w : Work) : Type 0 where
   pub delimiters : w.delimiters ≤ 2 ^ 128 - 1
   pub examined : w.examined ≤ 2 ^ 128 - 1
@@ -79,7 +79,7 @@ work_rises n old new fits some items delimiters examined found code math = recor
   math_visits = math;
 }
 
--- what reading a chain of so many items makes of the counts
+-- what reading a chain with this number of items makes of the counts
 pub record ReadCounts (items : ℕ) (old new : Work) : Type 0 where
   pub items_counted : new.items ≡ min (old.items + items) (2 ^ 128 - 1)
   pub same_delimiters : new.delimiters ≡ old.delimiters
@@ -87,7 +87,7 @@ pub record ReadCounts (items : ℕ) (old new : Work) : Type 0 where
   pub code : RisesAtMost items old.code_visits new.code_visits
   pub math : RisesAtMost items old.math_visits new.math_visits
 
--- and what pairing makes of them, of so many delimiter characters, where so many searches find
+-- what pairing makes of the counts, with these numbers of delimiter characters and of searches that find
 pub record PairCounts (delimiters found : ℕ) (old new : Work) : Type 0 where
   pub counted : new ≡ record old { delimiters = min (old.delimiters + delimiters) (2 ^ 128 - 1); examined = new.examined }
   pub compared : ExaminesAtMost (comparisons_per_delimiter * delimiters) old.examined new.examined

@@ -1,4 +1,4 @@
--- Where a chain stands, as a `ChainPlace` has it: a fact of the representation.
+-- The place of a chain, as a `ChainPlace` represents it.
 use Rattle.std.specs.Prelude.{◌≡◌, ℕ, List, Some}
 use Rattle.std.specs.Str.{IsCharBoundary}
 use Rattle.markdown_base.specs.Arena.{Arena}
@@ -12,20 +12,20 @@ use Rattle.markdown_resolver.specs.ReadOn.{AreHeld, StandsTo}
 use Rattle.markdown_document.specs.declared.chain_place.ChainPlace.{ChainPlace}
 use Rattle.markdown_defs.specs.Allocations.{Allocated}
 
--- it is that of the chain at the cursor of a tree
+-- the place is that of the chain at the cursor of a tree
 pub record IsPlaceOf (place : ChainPlace) (tree : Arena Item) : Type 0 where
   pub block_end : place.block_end ≡ (above_cursor place.text.now tree).block_end
   pub in_table : place.in_table ≡ (above_cursor place.text.now tree).in_table
   pub boundary : IsCharBoundary place.text.now place.block_end
 
--- the item of a node there may be read
+-- the item of a node at this place can be read
 pub record CanReadItem (place : ChainPlace) (tree : Arena Item) (held : Allocated) (ix : ℕ) : Type 0 where
   pub stands : IsPlaceOf place tree
   pub ready : CanResolve place.text.now (tables_of held) tree.nodes (Some ix)
   pub above : AreAbove place.text.now tree.nodes (Some ix) tree.spine
 
--- a chain was read up to the item of a node, which may be read: from the node `first` on a left list stands, of which
--- two stacks hold the openers
+-- a chain was read up to the item of a node, which can be read: from the node `first` on is a left list, whose openers
+-- are in two stacks
 pub record CanReadOn (place : ChainPlace) (tree : Arena Item) (held : Allocated) (brackets wikilinks : List Waiting)
     (first ix : ℕ) (left : List (Entry ℕ)) : Type 0 where
   pub stands : IsPlaceOf place tree

@@ -1,5 +1,6 @@
--- What resolving a chain asks: at most one question for each of its `]`, none at a limit of 0, and no two that end at
--- the same byte, where its items stand as those of each chain of a well-formed block result do.
+-- The questions of resolving a chain: at most one for each of its `]`, none at a limit of 0, and no two that end at the
+-- same byte offset, where its items are in order and cover their markup, as in each chain of a well-formed block
+-- result.
 use Rattle.std.specs.Prelude.{◌≡◌, ℕ, ⊤, true, List}
 use Rattle.markdown_base.specs.Forest.{Forest, nil, node, roots}
 use Rattle.markdown_base.specs.WellFormed.{IsWellFormed}
@@ -13,23 +14,23 @@ use Rattle.markdown_document.specs.Setting.{Known, Setting}
 use Rattle.markdown_document.specs.Tables.{Tables}
 use Rattle.markdown_resolver.specs.Resolved.{resolved}
 
--- p holds of each chain at every depth, from each of its open items on
+-- p is true of each chain at every depth, from each of its open items on
 abbrev pub EachChain : {A : Type 0} → (Forest (Label A) → Type 0) → Forest (Label A) → Type 0
 EachChain p nil = ⊤
 EachChain p (node a below after) =
     (is_unresolved a.part.shape ≡ true → p (node a below after)) × EachChain p below × EachChain p after
 
--- how many are asked
+-- at most one question is asked for each `]` of a chain, and none at a limit of 0
 abbrev pub ChainCountLaw : Type 0 → Type 0
 ChainCountLaw A = (s : Setting) (tags : Tags A) (above : Above) (chain : Forest (Label A)) (known : Known)
     → AsksAtMost (closers_among (roots chain)) known.limit (resolved s tags above chain known).questions
 
--- and where they end
+-- no two questions end at the same byte offset, where the items of a chain are in order and cover their markup
 abbrev pub ChainEndsLaw : Type 0 → Type 0
 ChainEndsLaw A = (s : Setting) (tags : Tags A) (above : Above) (chain : Forest (Label A)) (known : Known)
     → StandInLine s.text chain → EndApart (resolved s tags above chain known).questions
 
--- the items of a document's chains stand so
+-- so do the items of each chain of a well-formed block result
 abbrev pub DocumentLineLaw : Type 0
 DocumentLineLaw = (source : List ℕ) (nodes : List (Node Item)) (parts : BlockParts) (tables : Tables)
     → IsWellFormed source nodes parts → EachChain (StandInLine source) (document source tables nodes)

@@ -1,4 +1,4 @@
--- What a resolver of chains owes a walk: a chain is resolved where it stands, from one node on.
+-- What a resolver of chains guarantees to a walk: a chain is resolved in place, from one node on.
 use Rattle.std.specs.Prelude.{◌≡◌, ℕ, ◌<◌, ◌≤◌, List, [], ◌∷◌, ◌++◌, Option, Some, length, is_some, ⊤}
 use Rattle.markdown_base.specs.Arena.{Arena}
 use Rattle.markdown_base.specs.ArenaForest.{links_of}
@@ -27,25 +27,26 @@ use Rattle.markdown_document.specs.Document.{plain_tags, Plain}
 use Rattle.markdown_document.specs.Stages.{Stage, chain_at, known_at, named_in, stage, times_in, weight_in}
 use Rattle.markdown_document.specs.Tables.{Tables, Named, number_of, size_for, HasGrown}
 
--- the chain from the link l on was changed where it stands, and the tables with it
+-- the chain from the link l on was changed in place, and the tables with it
 pub record ChangesChain (source : List ℕ) (l : Option ℕ) (old new : List (Node Item)) (tables tables' : Tables) : Type 0
   where
-    -- from l the links spell a forest of items that are placed, so that the runs in it are whole, at every depth
+    -- from l the links lead through a forest of items that are placed, so that the runs in it are whole, at every depth
     pub reaches : Reaches (links_of new) (IsPlaced source tables' new) l
-    -- no node stands twice in it, and each is of the chain or new
+    -- no node occurs twice in it, and each node is of the old chain or new
     pub once : (n : ℕ) → times_in new l n ≤ 1
     pub of_chain : (n : ℕ) → n < length old → times_in new l n ≤ times_in old l n
-    -- nodes that are not of the chain are as they were
+    -- nodes that were not in the chain are unchanged
     pub more_nodes : length old ≤ length new
     pub outside : (n : ℕ) → n < length old → times_in old l n ≡ 0 → IsSameAt old new n
-    -- the tables have grown at their ends; no entry is named twice, and each is new or was named in the chain
+    -- the tables have grown at their ends; no entry is referred to twice, and each is new or was referred to in the
+    -- chain
     pub grown : HasGrown tables tables'
     pub named_once : (n : Named) → named_in new l n ≤ 1
     pub named : (n : Named) → number_of n < size_for tables n → named_in new l n ≤ named_in old l n
-    -- what stands before the chain still does
+    -- what precedes the chain in order still does
     pub before : (a : Numbered) → StandsBefore a (option_map (numbered old) l)
         → StandsBefore a (option_map (numbered new) l)
-    -- it is no heavier
+    -- the chain is no heavier
     pub no_heavier : weight_in new l ≤ weight_in old l
 
 -- from one stage to another the chain from the link l on was resolved by a rule, in place
@@ -53,39 +54,39 @@ pub record ResolvesFrom {C : Type 0} (step : C → Question → Option Answer �
     → Type 0) (source : List ℕ) (rule : Forest Plain → Known → Outcome (Unit {0})) (l : Option ℕ) (old new : Stage C)
     : Type 0 where
   pub changes : ChangesChain source l old.nodes new.nodes old.tables new.tables
-  -- the callback went by these questions and answers, and for them the forest is the rule's, whatever answers
-  -- follow, which are handed on
+  -- the callback returned these answers to these questions; and with them the rule gives the new forest, whatever
+  -- answers follow, which are passed on
   pub answers : Answers
   pub questions : List Question
   pub asked : Asks step old.callback questions answers new.callback
   pub resolves : (later : Answers) → rule (chain_at source old l) (known_at old (answers ++ later))
       ≡ record { questions = questions; forest = chain_at source new l; known = known_at new later }
 
--- what a resolver may count on
+-- what a resolver may rely on
 pub record CanResolve (source : List ℕ) (tables : Tables) (nodes : List (Node Item)) (l : Option ℕ) : Type 0 where
   pub reaches : Reaches (links_of nodes) (IsPlaced source tables nodes) l
   pub once : (n : ℕ) → times_in nodes l n ≤ 1
   pub named_once : (n : Named) → named_in nodes l n ≤ 1
   pub quiet_below : IsQuietBelow (trees_from source tables nodes l)
 
--- a node that was gone into is there and lies in the text, and stands in no chain from a link on: it stays when that
--- is resolved
+-- a node that was entered exists, lies in the text, and is not in the chain from a link on: it is unchanged when that
+-- chain is resolved
 pub record IsAbove (source : List ℕ) (nodes : List (Node Item)) (l : Option ℕ) (ix : ℕ) : Type 0 where
   pub within : ix < length nodes
   pub lies : LiesIn source (item_at nodes ix)
   pub apart : times_in nodes l ix ≡ 0
 
--- so is each node of a spine
+-- the same for each node of a spine
 abbrev pub AreAbove : List ℕ → List (Node Item) → Option ℕ → List ℕ → Type 0
 AreAbove source nodes l [] = ⊤
 AreAbove source nodes l (ix ∷ deeper) = IsAbove source nodes l ix × AreAbove source nodes l deeper
 
--- the chain from the node `first` on was resolved, below the nodes of the spine; all else is as it was
+-- the chain from the node `first` on was resolved, below the nodes of the spine; all else in the tree is unchanged
 pub record ResolvesChain {C : Type 0} (step : C → Question → Option Answer → C → Type 0) (s : Setting) (first : ℕ)
     (old new : Arena Item) (held held' : Allocated) (limit limit' : ℕ) (callback callback' : Option C)
     (work work' : Work) : Type 0 where
   pub tree : new ≡ record old { nodes = new.nodes }
-  -- of the tables the texts, the links and the uses of footnotes change: what their names are stays
+  -- in the tables only the texts, the links and the uses of footnotes change, and the names of footnotes stay
   pub tables : held' ≡ record held { cows = held'.cows; links = held'.links; footdefs = held'.footdefs }
   pub footnotes : (name : List ℕ) → is_some (footnote_at held'.footdefs name) ≡ is_some (footnote_at held.footdefs name)
   pub chain : ResolvesFrom step s.text (resolved s plain_tags (above_cursor s.text old)) (Some first)
@@ -97,8 +98,8 @@ pub record ResolvesChain {C : Type 0} (step : C → Question → Option Answer �
       (known_at (stage old held limit callback) (chain.answers ++ later)))
       work work'
 
--- memory was refused on the way: the callback went by these questions, with which those of the chain begin, and
--- these answers
+-- memory was refused on the way: the callback returned these answers to these questions, with which those of the chain
+-- begin
 pub record StopsIn {C : Type 0} (step : C → Question → Option Answer → C → Type 0) (s : Setting) (above : Above)
     (first : ℕ) (old : Stage C) (callback' : Option C) : Type 0 where
   pub answers : Answers

@@ -1,4 +1,4 @@
--- What a closing bracket becomes, put where it stands: what private contracts say of the nodes from its opener on.
+-- What a closing bracket becomes, put in place: the terms of private contracts on the nodes from its opener on.
 use Rattle.std.specs.Prelude.{◌≡◌, ℕ, zero, suc, ◌<◌, ◌≤◌, true, false, List, [], ◌∷◌, ◌++◌, Option, Some, None, length}
 use Rattle.std.specs.Str.{IsCharBoundary}
 use Rattle.markdown_base.specs.Arena.{child_of, sibling_of}
@@ -18,60 +18,60 @@ use Rattle.markdown_spans.specs.ChainInArena.{LeadsThrough}
 use Rattle.markdown_resolver.specs.Chains.{CanResolve}
 use Rattle.markdown_resolver.specs.Rewritten.{Rewrites, LeavesRest, CanPut, first_past, numbered_past_byte}
 
--- the first k trees of a chain, and what follows them
+-- the first k trees of a chain
 abbrev pub first_trees : {A : Type 0} → ℕ → Forest A → Forest A
 first_trees zero f = nil
 first_trees (suc k) nil = nil
 first_trees (suc k) (node a below after) = node a below (first_trees k after)
 
--- a chain without its first trees
+-- a chain without its first k trees
 abbrev pub trees_past : {A : Type 0} → ℕ → Forest A → Forest A
 trees_past zero f = f
 trees_past (suc k) nil = nil
 trees_past (suc k) (node a below after) = trees_past k after
 
--- what stands for an opener and for what is inside
+-- the trees that replace an opener and what is inside
 abbrev pub Enclosing : Type 0
 Enclosing = Plain → (inside : Forest Plain) → Forest Plain
 
--- trees stand for the first tree of a chain, which is an opener, for the k trees inside, for the `]` behind them and
--- for what follows it up to a byte; a rule reads what is left
+-- the first tree of a chain, which is an opener, the k trees inside, the `]` after them, and what follows up to a byte
+-- offset are replaced by trees; a rule is applied to what is left
 abbrev pub closed_over : (k : ℕ) → Enclosing → (goes_on : ℕ) → (Forest Plain → Forest Plain) → Forest Plain
     → Forest Plain
 closed_over k trees goes_on rule nil = nil
 closed_over k trees goes_on rule (node a below after) =
     joined (trees a (first_trees k after)) (rule (past (Some goes_on) (trees_past (suc k) after)))
 
--- one item, with what is inside below it; one item without it
+-- one item, with what is inside below it
 abbrev pub over_inside : List ℕ → Tables → Item → Enclosing
 over_inside source tables item a inside = node (label_of source tables item) inside nil
 
--- a tree in place of all that it closes over
+-- one item, in place of all that is inside
 abbrev pub in_place_of : List ℕ → Tables → Item → Enclosing
 in_place_of source tables item a inside = node (label_of source tables item) nil nil
 
--- one item, with a Text below it, or with what stands inside from its tree k on, from a byte on
+-- one item, with a Text below it
 abbrev pub over_text : List ℕ → Tables → (item text : Item) → Enclosing
 over_text source tables item text a inside =
     node (label_of source tables item) (node (label_of source tables text) nil nil) nil
 
--- a tree over what a wikilink shows
+-- one item, with what a wikilink shows below it: what is inside, from its tree k on and from a byte offset on
 abbrev pub over_shown : List ℕ → Tables → Item → (k from : ℕ) → Enclosing
 over_shown source tables item k from a inside =
     node (label_of source tables item) (past_byte from (trees_past k inside)) nil
 
--- a Text over the first byte of the opener, and an item behind it
+-- a Text for the first byte of the opener, and an item after it
 abbrev pub after_mark : List ℕ → Tables → (mark item : Item) → Enclosing
 after_mark source tables mark item a inside =
     node (label_of source tables mark) nil (node (label_of source tables item) nil nil)
 
--- the last node inside, or the opener where nothing is
+-- the last node inside, or the opener where nothing is inside
 abbrev pub last_inside : (opener : ℕ) → List ℕ → ℕ
 last_inside opener [] = opener
 last_inside opener (n ∷ inside) = last_inside n inside
 
--- from an opener on, which is a Text by then, a chain stands with these nodes inside and a `]` behind them: what is
--- found ends at a byte
+-- from an opener, which is a Text by now, there is a chain with these nodes inside and a `]` after them; what is found
+-- ends at a byte offset
 pub record CanClose (source : List ℕ) (tables : Tables) (nodes : List (Node Item)) (opener closer : ℕ) (inside : List ℕ)
     (byte : ℕ) : Type 0 where
   pub ready : CanResolve source tables nodes (Some opener)
@@ -82,19 +82,20 @@ pub record CanClose (source : List ℕ) (tables : Tables) (nodes : List (Node It
   pub closer_no_run : run_character (item_at nodes closer).body ≡ None
   pub closer_ends : (item_at nodes closer).end ≤ byte
   pub boundary : IsCharBoundary source byte
-  -- nothing open stands around that byte
+  -- no open item has bytes both before and after that offset
   pub between : (next : ℕ) → first_past nodes byte after ≡ Some next → (item_at nodes next).start < byte
       → is_open (item_at nodes next).body ≡ false
 
--- an item may be put into the node of that opener: it begins where that does, and ends at the byte or before
+-- an item can be put into the node of that opener: it starts where the opener does, and ends at or before the byte
+-- offset
 pub record CanPutOver (source : List ℕ) (tables tables' : Tables) (nodes : List (Node Item)) (opener : ℕ) (item : Item)
     (byte : ℕ) : Type 0 where
   pub puts : CanPut source tables tables' item
   pub starts : item.start ≡ (item_at nodes opener).start
   pub ends : item.end ≤ byte
 
--- what stands inside from a node on may be shown from a byte on: that node is the first that ends past it, and is not
--- cut where it is open
+-- what is inside can be shown from a byte offset on, which begins in the node `first`: that node ends past the offset,
+-- and is not cut there where it is open
 pub record CanShow (source : List ℕ) (nodes : List (Node Item)) (inside : List ℕ) (skipped : List ℕ) (first from : ℕ)
     : Type 0 where
   pub shown : List ℕ
@@ -103,7 +104,8 @@ pub record CanShow (source : List ℕ) (nodes : List (Node Item)) (inside : List
   pub ends_past : from < (item_at nodes first).end
   pub not_cut : (item_at nodes first).start < from → is_open (item_at nodes first).body ≡ false
 
--- two items may be put there: over the opener's first byte, and into the node of the closer, which ends where it does
+-- two items can be put there: a Text for the opener's first byte, and an item in the node of the closer, which ends
+-- where that does
 pub record CanPutMark (source : List ℕ) (tables tables' : Tables) (nodes : List (Node Item)) (opener closer : ℕ)
     (mark item : Item) : Type 0 where
   pub puts_mark : CanPut source tables tables' mark
@@ -114,20 +116,20 @@ pub record CanPutMark (source : List ℕ) (tables tables' : Tables) (nodes : Lis
   pub ends : item.end ≡ (item_at nodes closer).end
   pub closer_open : is_open (item_at nodes closer).body ≡ true
 
--- what a `]` becomes was put where it stands; these nodes stand there now
+-- what a `]` becomes was put in place; `standing` are the nodes that hold it now
 pub record PutsOver (source : List ℕ) (opener closer : ℕ) (inside : List ℕ) (trees : Enclosing) (goes_on : ℕ)
     (standing : List ℕ) (next : Option ℕ) (old new : List (Node Item)) (tables tables' : Tables) : Type 0 where
-  -- once what is left is rewritten by a rule, the whole is
+  -- once what is left is rewritten by a rule, the whole chain is
   pub whole : (rule : Forest Plain → Forest Plain) (nodes : List (Node Item)) (later : Tables)
       → Rewrites source rule next new nodes tables' later
       → Rewrites source (closed_over (length inside) trees goes_on rule) (Some opener) old nodes tables later
   pub leaves : LeavesRest source opener next old new tables'
-  -- the links behind the `]` lead on past that byte
+  -- the links after the `]` lead on past that byte offset
   pub leads : (low : ℕ) (after : List Numbered) → LeadsThrough old low (sibling_of old closer) after
       → LeadsThrough new low next (numbered_past_byte goes_on after)
   pub numbers : roots (forest_at (links_of new) (Some opener)) ≡ standing ++ roots (forest_at (links_of new) next)
 
--- what stands inside went below the opener's node, which the closer follows; no item has changed
+-- what is inside was moved below the opener's node, which the closer follows; no item has changed
 pub record IsEnclosed (old new : List (Node Item)) (opener last closer : ℕ) : Type 0 where
   pub size : length new ≡ length old
   pub items : (n : ℕ) → item_at new n ≡ item_at old n

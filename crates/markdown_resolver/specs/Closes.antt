@@ -1,4 +1,4 @@
--- What a `]` becomes, where it stands in an arena: what may be put there, and what was.
+-- What a `]` in an arena becomes: what can be put in its place, and what was put.
 use Rattle.std.specs.Prelude.{◌≡◌, ℕ, ◌<◌, ◌≤◌, ⊤, Bool, true, false, not, ◌&&◌, List, Option, Some, None, nat_le}
 use Rattle.std.specs.Str.{IsCharBoundary}
 use Rattle.markdown_base.specs.Arena.{sibling_of}
@@ -34,35 +34,36 @@ closing_at source tables nodes spent could_be ix = record {
   rest = numbered_from source tables nodes (sibling_of nodes ix);
 }
 
--- no open item stands around a byte: the first that ends past it starts there or later, or is not open
+-- no open item has bytes both before and after a byte offset: the first that ends past it starts there or later, or is
+-- not open
 abbrev pub IsNotCut : (ends : Bool) → ℕ → Label ℕ → (later : Type 0) → Type 0
 IsNotCut true i a later = later
 IsNotCut false i a later = start_of a < i → is_unresolved a.part.shape ≡ false
 
--- no open item stands around a byte, but the one that is cut there
+-- no open item of a chain has bytes both before and after a byte offset
 abbrev pub NoneOpenAround : ℕ → Forest (Label ℕ) → Type 0
 NoneOpenAround i nil = ⊤
 NoneOpenAround i (node a below after) = IsNotCut (nat_le (end_of a) i) i a (NoneOpenAround i after)
 
--- the chain after a `]` may go on at a byte
+-- the chain after a `]` can continue at a byte offset
 pub record CanGoOn (source : List ℕ) (c : Closing ℕ) (byte : ℕ) : Type 0 where
   pub behind : end_of c.label ≤ byte
   pub between : IsCharBoundary source byte
   pub none_around : NoneOpenAround byte c.rest
 
--- the first tree, if there is one, lies between characters
+-- the first tree, if there is one, starts and ends between characters
 abbrev pub FirstLies : List ℕ → Forest (Label ℕ) → Type 0
 FirstLies source nil = ⊤
 FirstLies source (node a below after) = (start_of a ≤ end_of a) × IsCharBoundary source (start_of a)
     × IsCharBoundary source (end_of a)
 
--- what a wikilink shows of its body begins and ends between characters, and is not cut where it is open
+-- what a wikilink shows of its body starts and ends between characters, and is not cut where it is open
 pub record ShowsWell (source : List ℕ) (body children : Forest (Label ℕ)) : Type 0 where
   pub lies : FirstLies source children
   pub not_cut : (at : ℕ) → past_byte at body ≡ children → NoneOpenAround at body
 
--- what it becomes ends between characters, at the `]` or later, and no later than where the chain goes on; a link is no
--- autolink and no wikilink; and the name of a wikilink stands in the text
+-- what a `]` becomes ends between characters, at or after the end of the `]`, and no later than where the chain
+-- continues; a link is neither an autolink nor a wikilink; and the name of a wikilink is a slice of the text
 abbrev pub EndsWell : List ℕ → Closing ℕ → Becomes ℕ → Type 0
 EndsWell source c a_text = ⊤
 EndsWell source c (a_link o target end next) =
@@ -72,7 +73,7 @@ EndsWell source c (a_footnote o name) = CanGoOn source c (end_of c.label)
 EndsWell source c (a_wikilink o found end) =
     CanGoOn source c end × ShowsWell source (past_second (inside o)) found.children × StandsIn source found.name
 
--- behind a left list stands a `]` of an arena, which becomes this
+-- after a left list there is a `]` of an arena, which becomes this
 pub record ClosesAt (source : List ℕ) (tables : Tables) (nodes : List (Node Item)) (first closer : ℕ)
     (left : List (Entry ℕ)) (w : Around) (c : Closing ℕ) (becomes : Becomes ℕ) : Type 0 where
   pub stands : StandsTo source tables nodes first (Some closer) left
@@ -83,11 +84,11 @@ pub record ClosesAt (source : List ℕ) (tables : Tables) (nodes : List (Node It
   pub splits : SplitsAs left becomes
   pub ends : EndsWell source c becomes
 
--- it was put there
+-- what the `]` becomes was put in place
 pub record PutsClosed (source : List ℕ) (first closer : ℕ) (next : Option ℕ) (left : List (Entry ℕ)) (w : Around)
     (c : Closing ℕ) (becomes : Becomes ℕ) (old new : List (Node Item)) (tables tables' : Tables) : Type 0 where
   pub changes : ChangesChain source (Some first) old new tables tables'
-  -- a left list stands there, which is what is put but for the numbers, and holds the same openers
+  -- the left list that the arena holds now: what `put` gives, apart from the numbers, with the same openers
   pub left_then : List (Entry ℕ)
   pub stands : StandsTo source tables' new first next left_then
   pub puts : (p : Progress ℕ) → p.left ≡ left

@@ -1,27 +1,27 @@
--- What resolving a chain keeps, and what it leaves.
+-- What resolving a chain requires of its items, and what it leaves open.
 use Rattle.std.specs.Prelude.{◌≡◌, ⊤, true, false, is_some}
 use Rattle.markdown_base.specs.Forest.{Forest, nil, node}
 use Rattle.markdown_document.specs.Document.{Label, is_unresolved}
 use Rattle.markdown_document.specs.Waiting.{is_quiet}
 
--- nothing but what waits for pairing is open in it, and no block stands in it, at every depth
+-- no item of a forest is open except those that wait for pairing, and none is a block, at every depth
 abbrev pub IsQuiet : {A : Type 0} → Forest (Label A) → Type 0
 IsQuiet nil = ⊤
 IsQuiet (node a below after) = (is_quiet a.part.shape ≡ true) × (is_some a.part.block ≡ false) × IsQuiet below
     × IsQuiet after
 
--- the items of a chain are no blocks, and below them it is so
+-- the items of a chain are not blocks, and what is below them is quiet
 abbrev pub IsQuietBelow : {A : Type 0} → Forest (Label A) → Type 0
 IsQuietBelow nil = ⊤
 IsQuietBelow (node a below after) = (is_some a.part.block ≡ false) × IsQuiet below × IsQuietBelow after
 
--- so it is in each chain, from its first open item on
+-- each chain is quiet below, from its first open item on
 abbrev pub IsKept : {A : Type 0} → Forest (Label A) → Type 0
 IsKept nil = ⊤
 IsKept (node a below after) = (is_unresolved a.part.shape ≡ true → IsQuietBelow (node a below after)) × IsKept below
     × IsKept after
 
--- nothing in its own chain is open, and its chains of children are quiet
+-- no item of the chain itself is open, and its chains of children are quiet
 abbrev pub IsSettled : {A : Type 0} → Forest (Label A) → Type 0
 IsSettled nil = ⊤
 IsSettled (node a below after) = (is_unresolved a.part.shape ≡ false) × IsQuiet below × IsSettled after

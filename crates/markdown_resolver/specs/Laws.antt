@@ -1,5 +1,5 @@
--- The laws of what a chain is resolved to, on which a walk rests that resolves chains where they stand. They hold
--- whatever blocks are open above, and at labels with any tags.
+-- The laws of what a chain is resolved to, which a walk that resolves chains in place relies on. They hold whatever
+-- blocks are open above, and for labels with any tags.
 use Rattle.std.specs.Prelude.{◌≡◌, ℕ, ◌≤◌, true, List, [], ◌++◌, length}
 use Rattle.std.specs.Option.{option_map}
 use Rattle.markdown_base.specs.BlockTree.{Numbered}
@@ -20,16 +20,17 @@ use Rattle.markdown_resolver.specs.Kept.{IsQuiet, IsQuietBelow, IsSettled}
 use Rattle.markdown_resolver.specs.PassOne.{Outcome, pass_one}
 use Rattle.markdown_resolver.specs.Resolved.{resolved, all_paired}
 
--- a chain in which only runs and quotes are open asks nothing, keeps what is known, and is paired
+-- a chain in which only delimiter runs and quotation marks are open asks nothing, leaves what is known as it is, and is
+-- only paired
 abbrev pub QuietLaw : Type 0 → Type 0
 QuietLaw A = (s : Setting) (tags : Tags A) (above : Above) (chain : Forest (Label A)) (known : Known) → IsQuiet chain
     → resolved s tags above chain known ≡ record { questions = []; forest = paired s chain; known = known }
 
--- pairing a chain and pairing the chains below it may be done in either order
+-- pairing a chain and pairing the chains below it can be done in either order
 abbrev pub OrderLaw : Type 0 → Type 0
 OrderLaw A = (s : Setting) (chain : Forest (Label A)) → all_paired s (paired s chain) ≡ paired s (all_paired s chain)
 
--- nothing of a resolved chain is open, and below it runs and quotes are at most
+-- no item of a resolved chain is open, and below it at most delimiter runs and quotation marks are
 abbrev pub SettledLaw : Type 0 → Type 0
 SettledLaw A = (s : Setting) (tags : Tags A) (above : Above) (chain : Forest (Label A)) (known : Known)
     → IsQuietBelow chain → IsSettled (resolved s tags above chain known).forest
@@ -40,11 +41,11 @@ BeginLaw A = (s : Setting) (tags : Tags A) (above : Above) (a : Label A) (below 
     (known : Known) → is_unresolved a.part.shape ≡ true
     → Begins (resolved s tags above (node a below after) known).forest
 
--- what is known to a chain, where other answers are to come
+-- what is known, with other answers to come
 abbrev pub with_answers : Answers → Known → Known
 with_answers answers known = record { limit = known.limit; answers = answers; uses = known.uses }
 
--- with one answer for each question the result is the same whatever answers follow, and those are handed on
+-- with one answer for each question the result is the same whatever answers follow, and those are passed on
 abbrev pub AnswerLaw : Type 0 → Type 0
 AnswerLaw A = (s : Setting) (tags : Tags A) (above : Above) (chain : Forest (Label A)) (known : Known)
     (answers later : Answers)
@@ -58,11 +59,11 @@ abbrev pub WeightLaw : Type 0 → Type 0
 WeightLaw A = (s : Setting) (tags : Tags A) (above : Above) (chain : Forest (Label A)) (known : Known)
     → weight (resolved s tags above chain known).forest ≤ weight chain
 
--- the tags of what is made go the same way
+-- a function maps the first tags of what is made to the second
 pub record Follows {A B : Type 0} (f : A → B) (tags : Tags A) (tags' : Tags B) : Type 0 where
   pub makes : (n : ℕ) → tags'.fresh n ≡ f (tags.fresh n)
 
--- tags say nothing: a chain with other tags is resolved to the same, with those tags
+-- tags do not matter: a chain with other tags is resolved to the same, with those tags
 abbrev pub TagLaw : Type 0 → Type 0 → Type 0
 TagLaw A B = (f : A → B) (s : Setting) (tags : Tags A) (tags' : Tags B) → Follows f tags tags'
     → (above : Above) (chain : Forest (Label A)) (known : Known)
@@ -70,17 +71,19 @@ TagLaw A B = (f : A → B) (s : Setting) (tags : Tags A) (tags' : Tags B) → Fo
     resolved s tags' above (retagged f chain) known
     ≡ record { questions = r.questions; forest = retagged f r.forest; known = r.known }
 
--- a label as an item, with the byte at which it begins for a number: those of a run's characters follow each other
+-- a label as an item numbered by the byte offset where it starts, so that the numbers of a run's characters are
+-- consecutive
 abbrev pub by_place : {A : Type 0} → Label A → Numbered
 by_place a = record { number = start_of a; item = as_item a }
 
--- runs are whole in a chain, and at every depth below it, as in a block result: a character that is counted n > 1 is
--- followed, touching, by one of the same byte and flags that is counted n - 1; one counted 1 by none of the same byte
+-- runs are whole in a chain, and at every depth below it, as in a block result: a character with count n > 1 is
+-- followed, without a gap, by one of the same byte and flags with count n - 1; one with count 1 by none of the same
+-- byte
 abbrev pub RunsStandWhole : {A : Type 0} → List ℕ → Forest (Label A) → Type 0
 RunsStandWhole source chain = Throughout (λ a below after. RunsAreWhole source (by_place a)
     (option_map by_place (first_root after))) chain
 
--- so they are in the tree of a document
+-- runs are whole in the tree of a document
 abbrev pub DocumentLaw : Type 0
 DocumentLaw = (source : List ℕ) (nodes : List (Node Item)) (parts : BlockParts) (tables : Tables)
     → IsWellFormed source nodes parts

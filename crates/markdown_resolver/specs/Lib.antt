@@ -9,9 +9,9 @@ pub mod Resolved
 pub mod Kept
 pub mod Laws
 pub mod ChainQuestions
--- what a resolver owes a walk
+-- what a resolver guarantees to a walk
 pub mod Chains
--- what private contracts speak of
+-- the terms of private contracts
 pub mod Settling
 pub mod Rewritten
 pub mod ClosedOver

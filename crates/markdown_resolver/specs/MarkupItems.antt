@@ -1,4 +1,4 @@
--- What is put where something was found from a `<` on: what private contracts say of it.
+-- What is put in place of what was found at a `<`: the terms of private contracts.
 use Rattle.std.specs.Prelude.{ℕ, ◌-◌, ◌<◌, false, List}
 use Rattle.markdown_base.specs.BlockTree.{item_at}
 use Rattle.markdown_base.specs.Item.{LiesIn}
@@ -13,32 +13,32 @@ use Rattle.markdown_spans.specs.AfterLess.{Markup, autolink, html}
 use Rattle.markdown_spans.specs.Finds.{end_of_markup, markup_trees}
 use Rattle.markdown_resolver.specs.Rewritten.{IsFoundAt, Standing}
 
--- from where a node's item starts up to a byte
+-- an item from where a node's item starts up to a byte offset
 abbrev pub item_to : List (Node Item) → (ix end : ℕ) → ItemBody → Item
 item_to nodes ix end b = record { start = (item_at nodes ix).start; end = end; body = b }
 
--- the text of an autolink that ends at a byte: what stands between its `<` and its `>`
+-- the text of an autolink that ends at a byte offset: what is between its `<` and its `>`
 abbrev pub address_to : List (Node Item) → (ix end : ℕ) → Item
 address_to nodes ix end = record { start = (item_at nodes ix).end; end = end - 1; body = body.Text false }
 
--- it has bytes, and lies in the text; so does the URI, which is those bytes
+-- the text of an autolink is not empty and lies in the source, and the URI is a slice of the source
 pub record IsAddress (source : List ℕ) (nodes : List (Node Item)) (ix end : ℕ) (uri : List ℕ) : Type 0 where
   pub some : (item_at nodes ix).end < end
   pub lies : LiesIn source (address_to nodes ix end)
   pub stands : StandsIn source uri
 
--- where an autolink was found its address stands in the text
+-- where an autolink was found, it has such a text
 abbrev pub HasAddress : List ℕ → List (Node Item) → ℕ → Markup → Type 0
 HasAddress source nodes ix (autolink end uri) = IsAddress source nodes ix end uri
 HasAddress source nodes ix (html end bytes) = Unit {0}
 
--- this was found at a node, and may be put there
+-- this was found at a node, and can be put in place
 pub record IsMarkupAt (source : List ℕ) (tables : Tables) (nodes : List (Node Item)) (ix : ℕ) (m : Markup) : Type 0
   where
     pub found : IsFoundAt source tables nodes ix (end_of_markup m)
     pub lies : LiesIn source (item_to nodes ix (end_of_markup m) (body.Text false))
     pub address : HasAddress source nodes ix m
 
--- the trees that stand for it
+-- the trees that replace the `<`
 abbrev pub standing_for : List ℕ → Rules → Markup → Standing
 standing_for source rules m a below = markup_trees (setting_of source rules) tt a m

@@ -1,6 +1,6 @@
 -- Pass one over a chain: its items are read from left to right, each once. Code, math, autolinks and raw HTML are
--- found, an opener of them at which nothing is found is a Text, and brackets become links, images, footnote references
--- and wikilinks.
+-- found, an opener of one at which nothing is found becomes a Text, and brackets become links, images, footnote
+-- references and wikilinks.
 use Rattle.std.specs.Prelude.{List}
 use Rattle.markdown_base.specs.Forest.{Forest, nil}
 use Rattle.markdown_base.specs.Questions.{Question}
@@ -13,23 +13,23 @@ use Rattle.markdown_document.specs.Document.{Tags, Label}
 use Rattle.markdown_document.specs.Setting.{Setting, Known}
 use Rattle.markdown_spans.specs.Finds.{Passed, prefix_below, read_tree}
 
--- brackets are read below the blocks that are open above: a line goes on behind their prefix
+-- brackets are read below the blocks that are open above, whose prefix is skipped on each line
 abbrev pub around : Setting → Above → Around
 around s above = record { setting = s; above = above; skipped = prefix_below s above }
 
--- trees that stand for an item are put onto the left list
+-- the trees that replace an item are appended to the left list
 abbrev pub put_passed : {A : Type 0} → Passed A → Progress A → Progress A
 put_passed r p = record p { left = all_done r.trees p.left; goes_on = r.goes_on; made = r.made }
 
--- an item that is no bracket
+-- an item that is not a bracket
 abbrev pub read_other : {A : Type 0} → Setting → Tags A → Above → Reader A
 read_other s tags above a below rest p = put_passed (read_tree s tags above p.made a below rest) p
 
--- a chain from a progress on
+-- a chain, from a progress on
 abbrev pub read_on : {A : Type 0} → Setting → Tags A → Above → Forest (Label A) → Progress A → Progress A
 read_on s tags above chain p = read_chain (around s above) (read_other s tags above) chain p
 
--- what becomes of a chain: the questions on the way, the forest, and what is known after it
+-- the result of resolving a chain: the questions, the forest, and what is known after it
 pub record Outcome (A : Type 0) : Type 0 where
   pub questions : List Question
   pub forest : Forest (Label A)
@@ -39,6 +39,6 @@ pub record Outcome (A : Type 0) : Type 0 where
 abbrev pub outcome : {A : Type 0} → Progress A → Outcome A
 outcome p = record { questions = p.asked; forest = trees_onto p.left nil; known = p.known }
 
--- by pass one, where the chain is reached at its first open item, below the blocks that are open above it
+-- pass one over a chain from its first open item on, below the blocks that are open above it
 unfoldable pub pass_one : {A : Type 0} → Setting → Tags A → Above → Forest (Label A) → Known → Outcome A
 pass_one s tags above chain known = outcome (read_on s tags above chain (begun known))

@@ -1,4 +1,4 @@
--- A code span that is put where its opener stands: what private contracts say of it.
+-- A code span that is put in the place of its opener: the terms of private contracts.
 use Rattle.std.specs.Prelude.{ℕ, ◌<◌, ◌+◌, Bool, true, false, List, length}
 use Rattle.markdown_base.specs.BlockTree.{item_at}
 use Rattle.markdown_base.specs.declared.item.Item.{Item}
@@ -13,21 +13,21 @@ use Rattle.markdown_resolver.specs.Rewritten.{CanPut, CanPutPair, IsFoundAt, Sta
 abbrev pub first_backtick : Item → Item
 first_backtick opener = record { start = opener.start; end = opener.start + 1; body = body.Text false }
 
--- what stands from an opener to what closes it; and what stands there past that backtick
+-- an item from an opener up to the end of its closer
 abbrev pub span_item : (opener closer : Item) → ItemBody → Item
 span_item opener closer b = record { start = opener.start; end = closer.end; body = b }
 
--- a code span that begins after the first backtick, which was escaped
+-- an item from after the opener's first backtick, which is escaped, up to the end of its closer
 abbrev pub span_past_backtick : (opener closer : Item) → ItemBody → Item
 span_past_backtick opener closer b = record { start = opener.start + 1; end = closer.end; body = b }
 
--- the trees of a code span: where the first backtick is escaped, that is a Text
+-- the trees of a code span, with a Text for the first backtick where it is escaped
 abbrev pub code_standing : List ℕ → Tables → (escaped : Bool) → (opener closer : Item) → ItemBody → Standing
 code_standing source tables false opener closer b = one source tables (span_item opener closer b)
 code_standing source tables true opener closer b =
     pair source tables (first_backtick opener) (span_past_backtick opener closer b)
 
--- they may be put there
+-- the items of these trees can be put in place
 abbrev pub CanPutSpan : List ℕ → (tables tables' : Tables) → List (Node Item) → (ix closer : ℕ) → ItemBody
     → (escaped : Bool) → Type 0
 CanPutSpan source tables tables' nodes ix closer b false =
@@ -36,7 +36,7 @@ CanPutSpan source tables tables' nodes ix closer b true =
     CanPutPair source tables tables' nodes ix closer
     (first_backtick (item_at nodes ix)) (span_past_backtick (item_at nodes ix) (item_at nodes closer) b)
 
--- a code span can be put at a node
+-- a code span can be put into the node of its opener
 pub record CanPutCode (source : List ℕ) (tables tables' : Tables) (nodes : List (Node Item)) (ix closer : ℕ)
     (b : ItemBody) : Type 0 where
   pub grown : HasGrown tables tables'

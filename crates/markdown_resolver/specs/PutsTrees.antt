@@ -1,4 +1,4 @@
--- Trees that were put where a node stands, by the numbers of their nodes.
+-- Trees that were put in the place of a node, by the numbers of their nodes.
 use Rattle.std.specs.Prelude.{◌≡◌, ℕ, List, Option, Some}
 use Rattle.markdown_base.specs.ArenaForest.{links_of, forest_at}
 use Rattle.markdown_base.specs.BlockTree.{item_at}
@@ -14,7 +14,7 @@ use Rattle.markdown_resolver.specs.Chains.{CanResolve, ChangesChain}
 use Rattle.markdown_resolver.specs.Kept.{IsQuiet}
 use Rattle.markdown_resolver.specs.Rewritten.{RunsGoOn}
 
--- the trees from a link on, with the numbers of their nodes
+-- the label of a node, with the node's number as its tag
 abbrev pub numbered_label : List ℕ → Tables → List (Node Item) → ℕ → Label ℕ
 numbered_label source tables nodes ix = record { tag = ix; part = part_of source tables (item_at nodes ix) }
 
@@ -23,20 +23,20 @@ abbrev pub numbered_from : List ℕ → Tables → List (Node Item) → Option �
 numbered_from source tables nodes link = relabelled (numbered_label source tables nodes)
     (forest_at (links_of nodes) link)
 
--- without the numbers
+-- a forest without the numbers
 abbrev pub without_numbers : Forest (Label ℕ) → Forest Plain
 without_numbers f = retagged (λ n. tt) f
 
--- trees were put where a node stands, and the chain goes on at a link with what is left
+-- trees were put in the place of a node, and the chain continues at a link with what is left
 pub record PutsTrees (source : List ℕ) (ix : ℕ) (next : Option ℕ) (trees rest : Forest Plain)
     (old new : List (Node Item)) (tables tables' : Tables) : Type 0 where
   pub changes : ChangesChain source (Some ix) old new tables tables'
   pub runs : RunsGoOn source old new (Some ix)
-  -- they stand there, and what is left behind them
+  -- the trees are in the arena, and what is left follows them
   pub standing : Forest (Label ℕ)
   pub stands : numbered_from source tables' new (Some ix) ≡ joined standing (numbered_from source tables' new next)
   pub reads : without_numbers standing ≡ trees
   pub rest_is : trees_from source tables' new next ≡ rest
-  -- nothing but what waits for pairing is open in them, and what is left may be resolved
+  -- nothing is open in the trees except what waits for pairing, and what is left can be resolved
   pub quiet : IsQuiet trees
   pub ready : CanResolve source tables' new next

@@ -1,5 +1,4 @@
--- How far a chain was read where it stands: the trees of a left list stand in the arena, and then what is left of the
--- chain.
+-- How far a chain in an arena was read: the arena holds the trees of a left list, and then what is left of the chain.
 use Rattle.std.specs.Prelude.{◌≡◌, ℕ, ◌-◌, ◌<◌, ◌+◌, ◌++◌, ◌||◌, ⊤, false, List, [], ◌∷◌, Option, Some, None, length}
 use Rattle.std.specs.Str.{IsCharBoundary}
 use Rattle.markdown_base.specs.Arena.{child_of}
@@ -33,8 +32,7 @@ use Rattle.markdown_defs.specs.Callback.{Asks}
 abbrev pub left_without_numbers : List (Entry ℕ) → List (Entry (Unit {0}))
 left_without_numbers left = retag_left (λ n. tt) left
 
--- an opener that waits: it is a Text that begins with a character of one byte and ends with its `[`, and nothing stands
--- below it
+-- an opener that waits: a Text that begins with a character of one byte, ends with its `[`, and has no children
 pub record IsOpener (source : List ℕ) (nodes : List (Node Item)) (ix : ℕ) : Type 0 where
   pub within : ix < length nodes
   pub opens : 0 < (item_at nodes ix).end
@@ -43,23 +41,22 @@ pub record IsOpener (source : List ℕ) (nodes : List (Node Item)) (ix : ℕ) : 
   pub closed : is_open (item_at nodes ix).body ≡ false
   pub childless : child_of nodes ix ≡ None
 
--- each opener that waits in a left list
+-- p is true of each opener that waits in a left list
 abbrev pub EachWaits : (ℕ → Type 0) → List (Entry ℕ) → Type 0
 EachWaits p [] = ⊤
 EachWaits p (done a below ∷ left) = EachWaits p left
 EachWaits p (waits m a ∷ left) = p a.tag × EachWaits p left
 
--- from the node `first` on a left list stands, and behind it the chain from a link on
+-- from the node `first` on is a left list, and after it the chain from a link on
 pub record StandsTo (source : List ℕ) (tables : Tables) (nodes : List (Node Item)) (first : ℕ) (at : Option ℕ)
     (left : List (Entry ℕ)) : Type 0 where
   pub ready : CanResolve source tables nodes (Some first)
   pub stands : numbered_from source tables nodes (Some first) ≡ trees_onto left (numbered_from source tables nodes at)
-  -- nothing in the left list is open but what waits for pairing
+  -- nothing in the left list is open except what waits for pairing
   pub quiet : IsQuiet (trees_onto left nil)
   pub waiting : EachWaits (IsOpener source nodes) left
 
--- trees were put behind a left list, in place of the chain that stood there, and the chain goes on at a link with what
--- is left
+-- trees were put after a left list, in place of the chain there, and the chain continues at a link with what is left
 pub record PutsBehind (source : List ℕ) (first : ℕ) (next : Option ℕ) (before : List (Entry ℕ))
     (trees rest : Forest Plain) (old new : List (Node Item)) (tables tables' : Tables) : Type 0 where
   pub changes : ChangesChain source (Some first) old new tables tables'
@@ -73,21 +70,21 @@ pub record AreHeld (brackets wikilinks : List Waiting) (left : List (Entry ℕ))
   pub brackets_are : brackets ≡ brackets_of left
   pub wikilinks_are : wikilinks ≡ wikilinks_of left
 
--- and a set holds these ends of `]`
+-- a set holds exactly these ends of `]`
 abbrev pub AreSpent : SpentEnds → List ℕ → Type 0
 AreSpent spent ends = (end : ℕ) → is_spent spent end ≡ among end ends
 
--- a progress at a left list, with what is known at a stage
+-- a progress with this left list, and with what is known at a stage
 abbrev pub at_left : {C : Type 0} → List (Entry ℕ) → Stage C → Answers → Progress (Unit {0}) → Progress (Unit {0})
 at_left left stage answers p =
     record p { left = left_without_numbers left; goes_on = None; known = known_at stage answers }
 
--- a chain that was read whole from there on
+-- a progress after the whole rest of a chain was read
 abbrev pub all_read : Setting → Above → Forest Plain → Progress (Unit {0}) → Progress (Unit {0})
 all_read s above chain p = record (read_on s plain_tags above chain p) { goes_on = None }
 
--- from one link of a chain to another it was read where it stands: to read on from there, whatever answers follow, is
--- to read on from the first
+-- a chain was read in place from one link to another: for all answers that follow, reading on from the second link
+-- gives the same as from the first
 pub record ReadsOn {C : Type 0} (step : C → Question → Option Answer → C → Type 0) (s : Setting) (above : Above)
     (first : ℕ)
     (at next : Option ℕ) (left : List (Entry ℕ)) (old new : Stage C) (spent spent' : SpentEnds)
@@ -97,7 +94,7 @@ pub record ReadsOn {C : Type 0} (step : C → Question → Option Answer → C �
   pub left_then : List (Entry ℕ)
   pub stands : StandsTo s.text new.tables new.nodes first next left_then
   pub held : AreHeld brackets wikilinks left_then
-  -- the callback went by these questions, and by these answers
+  -- the callback returned these answers to these questions
   pub answers : Answers
   pub questions : List Question
   pub asked : Asks step old.callback questions answers new.callback
@@ -114,8 +111,8 @@ pub record ReadsOn {C : Type 0} (step : C → Question → Option Answer → C �
             + made;
       }))
 
--- memory was refused on the way: the callback went by these questions, with which those of the rest begin, and these
--- answers
+-- memory was refused on the way: the callback returned these answers to these questions, with which those of the rest
+-- begin
 pub record StopsOn {C : Type 0} (step : C → Question → Option Answer → C → Type 0) (s : Setting) (above : Above)
     (at : Option ℕ)
     (left : List (Entry ℕ)) (old : Stage C) (spent : SpentEnds) (callback' : Option C) : Type 0 where
@@ -126,7 +123,7 @@ pub record StopsOn {C : Type 0} (step : C → Question → Option Answer → C �
       × ((all_read s above (chain_at s.text old at) (at_left left old (answers ++ later) p)).asked ≡ p.asked
       ++ questions ++ others)
 
--- so it was in pass one over the chain from the node `first` on
+-- the same in pass one over the chain from the node `first` on
 pub record StopsInPassOne {C : Type 0} (step : C → Question → Option Answer → C → Type 0) (s : Setting) (above : Above)
     (first : ℕ)
     (old : Stage C) (callback' : Option C) : Type 0 where

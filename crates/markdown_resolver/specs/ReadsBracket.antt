@@ -1,4 +1,4 @@
--- How a resolver reads an item of a chain where it stands, a bracket or another: what private contracts say of it.
+-- How a resolver reads an item of a chain in place, a bracket or another: the terms of private contracts.
 use Rattle.std.specs.Prelude.{◌≡◌, ℕ, ◌<◌, Bool, List, Option, Some, is_some}
 use Rattle.markdown_base.specs.Arena.{Arena, sibling_of}
 use Rattle.markdown_base.specs.Questions.{Question, Answer}
@@ -25,21 +25,20 @@ use Rattle.markdown_resolver.specs.declared.resolver.Resolver.{Resolver}
 use Rattle.markdown_defs.specs.Allocations.{Allocated}
 use Rattle.markdown_defs.specs.Footnotes.{footnote_at}
 
--- the setting that a resolver goes by
+-- the setting of a resolver
 abbrev pub setting_by : {C : Type 0} → Resolver C → Setting
 setting_by r = setting_of r.text.now (rules_from r.options r.tables (is_some r.callback))
 
--- how far it has come, with the chain that stands in a tree
+-- the stage of a resolver, with the chain in a tree
 abbrev pub stage_by : {C : Type 0} → Arena Item → Resolver C → Stage C
 stage_by tree r = stage tree r.tables r.limit r.callback
 
--- it has read a chain up to the item of a node: from the node `first` on a left list stands, of which it holds the
--- openers
+-- a resolver has read a chain up to the item of a node: from the node `first` on is a left list, whose openers it holds
 abbrev pub WasReadTo : {C : Type 0} → ChainPlace → Arena Item → Resolver C → (first ix : ℕ) → List (Entry ℕ) → Type 0
 WasReadTo place tree r first ix left =
     CanReadOn place tree r.tables r.openers.brackets r.openers.wikilinks first ix left
 
--- it may read the item of a node
+-- a resolver can read the item of a node
 pub record CanReadNode {C : Type 0} (place : ChainPlace) (tree : Arena Item) (r : Resolver C) (ix : ℕ) : Type 0 where
   pub first : ℕ
   pub left : List (Entry ℕ)
@@ -47,7 +46,7 @@ pub record CanReadNode {C : Type 0} (place : ChainPlace) (tree : Arena Item) (r 
   pub text : place.text.now ≡ r.text.now
   pub options : place.options ≡ r.options
 
--- it was decided what the `]` of a node becomes: behind any left list that stands there, that is what pass one decides
+-- it was decided what the `]` of a node becomes: after any left list there, it is what pass one decides
 pub record DecidesClosing {C : Type 0} (step : C → Question → Option Answer → C → Type 0) (place : ChainPlace)
     (source : List ℕ) (options : Options) (tree : Arena Item) (ix : ℕ) (could_be : Bool) (held held' : Allocated)
     (limit limit' : ℕ) (spent spent' : SpentEnds) (callback callback' : Option C) (openers openers' : ChainOpeners)
@@ -59,8 +58,7 @@ pub record DecidesClosing {C : Type 0} (step : C → Question → Option Answer 
       (closing_at source (tables_of held) tree.nodes spent could_be ix) left limit limit' (uses_of held.footdefs)
       (uses_of held'.footdefs) spent spent' callback callback' openers'.brackets openers'.wikilinks found
 
--- behind any left list that stands there, the chain was read on from the item of a node to a link, where fewer items are
--- left
+-- after any left list there, the chain was read on from the item of a node to a link, from which fewer items are left
 pub record GoesOnTo {C : Type 0} (step : C → Question → Option Answer → C → Type 0) (place : ChainPlace) (ix : ℕ)
     (next : Option ℕ) (tree tree' : Arena Item) (old new : Resolver C) : Type 0 where
   pub reads : (first : ℕ) (left : List (Entry ℕ)) → WasReadTo place tree old first ix left
@@ -77,8 +75,8 @@ pub record ReadsBracket {C : Type 0} (step : C → Question → Option Answer �
   pub holds : (kind : SpanKind) (learned : Learned) → HoldsFrom kind learned tree.nodes (sibling_of tree.nodes ix)
       → HoldsFrom kind learned tree'.nodes next
 
--- a resolver has read the item of a node: what it holds of searches is true of what is left, and they have looked at none
--- of that, unless they failed
+-- a resolver has read the item of a node: what it has learned from searches is true of what is left, and they have
+-- examined no item of that, unless one failed
 pub record ReadsNode {C : Type 0} (step : C → Question → Option Answer → C → Type 0) (place : ChainPlace) (ix : ℕ)
     (next : Option ℕ) (tree tree' : Arena Item) (old new : Resolver C) : Type 0 where
   pub goes_on : GoesOnTo step place ix next tree tree' old new
@@ -89,7 +87,7 @@ pub record ReadsNode {C : Type 0} (step : C → Question → Option Answer → C
   pub math_looks : LooksAt (has_failed old.math_closers) (has_failed new.math_closers) old.work.math_visits
       new.work.math_visits (items_from tree.nodes (Some ix)) (items_from tree'.nodes next)
 
--- memory was refused to it on the way
+-- memory was refused to the resolver while it read the item of a node
 abbrev pub StopsAtNode : {C : Type 0} → (C → Question → Option Answer → C → Type 0) → ChainPlace → (ix : ℕ)
     → Arena Item → (old : Resolver C) → (callback' : Option C) → Type 0
 StopsAtNode step place ix tree old callback' = (first : ℕ) (left : List (Entry ℕ))
@@ -97,8 +95,8 @@ StopsAtNode step place ix tree old callback' = (first : ℕ) (left : List (Entry
     → StopsOn step (setting_by old) (above_cursor old.text.now tree) (Some ix) left (stage_by tree old) old.spent
     callback'
 
--- whatever came, a bracket has changed nothing but the texts and links that were put in, the uses of footnotes, what
--- asking changes, and what is held of the brackets; and the same names have a footnote
+-- on success and on error, reading a bracket has changed only the texts and links that were appended, the uses of
+-- footnotes, what asking changes, and what is held of brackets; the names of footnotes are the same
 pub record ChangesForBracket {C : Type 0} (old new : Resolver C) : Type 0 where
   pub kept : new ≡ record old {
     tables = record old.tables {
@@ -114,7 +112,7 @@ pub record ChangesForBracket {C : Type 0} (old new : Resolver C) : Type 0 where
   pub footnotes : (name : List ℕ)
       → is_some (footnote_at new.tables.footdefs name) ≡ is_some (footnote_at old.tables.footdefs name)
 
--- nor has an item, but for what searches hold and count
+-- reading an item has changed only these, and what searches hold and count
 pub record ChangesForNode {C : Type 0} (old new : Resolver C) : Type 0 where
   pub kept : new ≡ record old {
     tables = record old.tables {

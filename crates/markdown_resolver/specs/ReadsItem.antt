@@ -1,4 +1,4 @@
--- An item of a chain that is no bracket was read where it stands.
+-- An item of a chain that is not a bracket was read in place.
 use Rattle.std.specs.Prelude.{◌≡◌, ℕ, ◌+◌, ◌≤◌, ◌-◌, ◌^◌, min, Bool, true, false, List, Option}
 use Rattle.markdown_base.specs.Arena.{child_of, sibling_of}
 use Rattle.markdown_base.specs.declared.item.Item.{Item}
@@ -22,7 +22,7 @@ read_at s above tables nodes ix =
     (trees_from s.text tables nodes (child_of nodes ix))
     (trees_from s.text tables nodes (sibling_of nodes ix))
 
--- that was put, and what is left is what follows it, up to where a find ends
+-- what is read was put in place, and what is left is what follows it, after the end of what was found
 pub record ReadsItem (s : Setting) (above : Above) (ix : ℕ) (next : Option ℕ) (old new : List (Node Item))
     (tables tables' : Tables) : Type 0 where
   pub puts : PutsTrees s.text ix next (read_at s above tables old ix).trees
@@ -33,7 +33,8 @@ pub record ReadsItem (s : Setting) (above : Above) (ix : ℕ) (next : Option ℕ
   pub holds : (kind : SpanKind) (learned : Learned) → HoldsFrom kind learned old (sibling_of old ix)
       → HoldsFrom kind learned new next
 
--- a search has looked at some items, or at none once one had failed: at none past what is left, unless it failed
+-- the count of examined items has risen by at most the items of a chain, by none where a search had failed before, and,
+-- unless one has failed now, by none of what is left
 pub record LooksAt (before after : Bool) (old new items items' : ℕ) : Type 0 where
   pub more : ℕ
   pub counted : new ≡ min (old + more) (2 ^ 128 - 1)

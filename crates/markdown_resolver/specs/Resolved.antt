@@ -11,17 +11,17 @@ use Rattle.markdown_resolver.specs.PassOne.{Outcome, pass_one}
 abbrev pub then_paired : {A : Type 0} → Setting → Outcome A → Outcome A
 then_paired s r = record { questions = r.questions; forest = paired s r.forest; known = r.known }
 
--- a chain that is reached at its first open item, below the blocks that are open above it
+-- what a chain is resolved to from its first open item on, below the blocks that are open above it
 unfoldable pub resolved : {A : Type 0} → Setting → Tags A → Above → Forest (Label A) → Known → Outcome A
 resolved s tags above chain known = then_paired s (pass_one s tags above chain known)
 
--- a chain of children, from its first open item on: nothing in it asks
+-- a chain of children, paired if its first item is open; nothing in it asks a question
 abbrev pub paired_from : {A : Type 0} → Setting → Bool → Label A → (below after later : Forest (Label A))
     → Forest (Label A)
 paired_from s true a below after later = paired s (node a below after)
 paired_from s false a below after later = node a below later
 
--- chains of children paired, where they begin with an open item
+-- a chain of children, paired from its first open item on
 abbrev pub paired_if_open : {A : Type 0} → Setting → Forest (Label A) → Forest (Label A)
 paired_if_open s nil = nil
 paired_if_open s (node a below after) = paired_from s (is_unresolved a.part.shape) a below after

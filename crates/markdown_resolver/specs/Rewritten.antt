@@ -1,4 +1,4 @@
--- A chain of an arena that is rewritten where it stands: what private contracts say of its nodes.
+-- A chain of an arena that is rewritten in place: the terms of private contracts on its nodes.
 use Rattle.std.specs.Prelude.{◌≡◌, ℕ, ◌<◌, ◌≤◌, max, Bool, true, false, List, [], ◌∷◌, ◌++◌, Option, Some, None, length}
 use Rattle.std.specs.Prelude.{if◌then◌else◌, nat_le}
 use Rattle.std.specs.Option.{option_map}
@@ -20,35 +20,35 @@ use Rattle.markdown_document.specs.Waiting.{is_quiet}
 use Rattle.markdown_spans.specs.ChainInArena.{LeadsThrough}
 use Rattle.markdown_resolver.specs.Chains.{CanResolve, ChangesChain}
 
--- a run that goes on at a link still does
+-- a delimiter run before a link that continues there still does
 abbrev pub RunsGoOn : List ℕ → List (Node Item) → List (Node Item) → Option ℕ → Type 0
 RunsGoOn source nodes nodes' l =
     (a : Numbered) → RunsAreWhole source a (option_map (numbered nodes) l)
     → RunsAreWhole source a (option_map (numbered nodes') l)
 
--- the chain from the link l on was rewritten by a rule that asks nothing, so that it may be the rest of a chain
+-- the chain from the link l on was rewritten by a rule that asks nothing, so that it can be the rest of a chain
 pub record Rewrites (source : List ℕ) (rule : Forest Plain → Forest Plain) (l : Option ℕ) (old new : List (Node Item))
     (tables tables' : Tables) : Type 0 where
   pub changes : ChangesChain source l old new tables tables'
   pub runs : RunsGoOn source old new l
   pub rewritten : trees_from source tables' new l ≡ rule (trees_from source tables old l)
 
--- what stands for a tree
+-- the trees that replace a tree
 abbrev pub Standing : Type 0
 Standing = Plain → Forest Plain → Forest Plain
 
--- trees stand for the first tree of a chain and, where something was found, for what follows it up to a byte; a rule
--- reads what is left
+-- the first tree of a chain, and what follows it up to the end of what was found, if anything was, are replaced by
+-- trees; a rule is applied to what is left
 abbrev pub replaced : Standing → (goes_on : Option ℕ) → (Forest Plain → Forest Plain) → Forest Plain → Forest Plain
 replaced trees goes_on rule nil = nil
 replaced trees goes_on rule (node a below after) = joined (trees a below) (rule (past goes_on after))
 
--- a Text, unless it is not open or waits for pairing
+-- the tree itself where it is quiet, and otherwise a Text
 abbrev pub text_unless : (is_quiet : Bool) → List ℕ → Standing
 text_unless true source a below = node a below nil
 text_unless false source a below = node (as_text source a) nil nil
 
--- an item at which nothing is found: a Text, unless it waits for pairing
+-- a tree at which nothing is found: a Text, unless it is not open or waits for pairing
 abbrev pub settled : List ℕ → Standing
 settled source a below = text_unless (is_quiet a.part.shape) source a below
 
@@ -56,7 +56,7 @@ settled source a below = text_unless (is_quiet a.part.shape) source a below
 abbrev pub one : List ℕ → Tables → Item → Standing
 one source tables item a below = node (label_of source tables item) nil nil
 
--- two items, one behind the other
+-- two items, one after the other
 abbrev pub pair : List ℕ → Tables → (first second : Item) → Standing
 pair source tables first second a below =
     node (label_of source tables first) nil (node (label_of source tables second) nil nil)
@@ -66,38 +66,39 @@ abbrev pub parent : List ℕ → Tables → (item inside : Item) → Standing
 parent source tables item inside a below =
     node (label_of source tables item) (node (label_of source tables inside) nil nil) nil
 
--- an item that begins at a byte at the earliest
+-- an item without its bytes before byte offset i
 abbrev pub begun_item : ℕ → Item → Item
 begun_item i item = record { start = max item.start i; end = item.end; body = item.body }
 
--- what is left of a chain past a byte; all of it where nothing was found
+-- what is left of a chain past byte offset i
 abbrev pub numbered_past_byte : ℕ → List Numbered → List Numbered
 numbered_past_byte i [] = []
 numbered_past_byte i (a ∷ after) =
     if nat_le a.item.end i then numbered_past_byte i after
     else record { number = a.number; item = begun_item i a.item } ∷ after
 
--- the items after a byte, where there is one
+-- what is left of a chain past a byte offset; all of it where nothing was found
 abbrev pub numbered_past : Option ℕ → List Numbered → List Numbered
 numbered_past None after = after
 numbered_past (Some i) after = numbered_past_byte i after
 
--- the first of some nodes that ends past a byte
+-- the first of some nodes that ends past byte offset i
 abbrev pub first_past : List (Node Item) → ℕ → List ℕ → Option ℕ
 first_past nodes i [] = None
 first_past nodes i (ix ∷ after) = if nat_le (item_at nodes ix).end i then first_past nodes i after else Some ix
 
--- the node of an opener, at which something was found that ends at a byte: what is left of the chain may begin there
+-- something that ends at a byte offset was found at the node of an opener, and what is left of the chain can begin
+-- there
 pub record IsFoundAt (source : List ℕ) (tables : Tables) (nodes : List (Node Item)) (ix end : ℕ) : Type 0 where
   pub ready : CanResolve source tables nodes (Some ix)
   pub was_open : is_open (item_at nodes ix).body ≡ true
   pub no_run : run_character (item_at nodes ix).body ≡ None
-  -- nothing open stands around that byte
+  -- no open item has bytes both before and after that offset
   pub between : (next : ℕ) → first_past nodes end (roots (forest_at (links_of nodes) (sibling_of nodes ix))) ≡ Some next
       → (item_at nodes next).start < end → is_open (item_at nodes next).body ≡ false
 
--- an item may be put into a node: it is done, lies in the text, and names nothing but what is new, a slice where that
--- has to be one
+-- an item can be put into a node: it is not open and not a block, lies in the text, and refers only to new entries,
+-- which are slices where they have to be
 pub record CanPut (source : List ℕ) (tables tables' : Tables) (item : Item) : Type 0 where
   pub closed : is_open item.body ≡ false
   pub no_block : is_block item.body ≡ false
@@ -106,19 +107,20 @@ pub record CanPut (source : List ℕ) (tables tables' : Tables) (item : Item) : 
   pub slices : HasSlices source tables' item.body
   pub new_names : (n : Named) → number_of n < size_for tables n → times_named n item.body ≡ 0
 
--- the first item of a chain was read where it stands, and the chain goes on at a link
+-- the first item of a chain was read in place, and the chain continues at a link
 pub record LeavesRest (source : List ℕ) (ix : ℕ) (next : Option ℕ) (old new : List (Node Item)) (tables' : Tables)
     : Type 0 where
-  -- what is left may be read; it is lighter, and has fewer items
+  -- what is left can be read; it is lighter, and has fewer items
   pub ready : CanResolve source tables' new next
   pub lighter : weight_in new next < weight_in old (Some ix)
   pub fewer : items_from new next < items_from old (Some ix)
-  -- no node stands in it that did not stand in the chain, and nodes that did not are as they were
+  -- each node of what is left was in the chain or is new, and nodes outside the chain are unchanged
   pub of_chain : (n : ℕ) → n < length old → times_in new next n ≤ times_in old (Some ix) n
   pub more_nodes : length old ≤ length new
   pub outside : (n : ℕ) → n < length old → times_in old (Some ix) n ≡ 0 → IsSameAt old new n
 
--- two items may be put into the nodes of an opener and of what closes it, which follows it and ends where they do
+-- two items can be put into the nodes of an opener and of its closer: the first starts where the opener does, the
+-- second ends where the closer does
 pub record CanPutPair (source : List ℕ) (tables tables' : Tables) (nodes : List (Node Item)) (ix closer : ℕ)
     (first second : Item) : Type 0 where
   pub puts_first : CanPut source tables tables' first
@@ -133,7 +135,7 @@ pub record CanPutPair (source : List ℕ) (tables tables' : Tables) (nodes : Lis
   pub closer_open : is_open (item_at nodes closer).body ≡ true
   pub closer_no_run : run_character (item_at nodes closer).body ≡ None
 
--- an item with one child may be put into the node of an opener
+-- an item with one child can be put into the node of an opener
 pub record CanPutParent (source : List ℕ) (tables tables' : Tables) (nodes : List (Node Item)) (ix : ℕ)
     (item inside : Item) : Type 0 where
   pub puts : CanPut source tables tables' item
@@ -141,18 +143,18 @@ pub record CanPutParent (source : List ℕ) (tables tables' : Tables) (nodes : L
   pub names_nothing : (n : Named) → times_named n inside.body ≡ 0
   pub starts : item.start ≡ (item_at nodes ix).start
 
--- trees were put there for what was found from the item on, up to a byte
+-- trees were put in place of what was found, from the item on up to a byte offset
 pub record Puts (source : List ℕ) (ix : ℕ) (trees : Standing) (goes_on : Option ℕ) (next : Option ℕ)
     (old new : List (Node Item)) (tables tables' : Tables) : Type 0 where
-  -- once what is left is rewritten by a rule, the whole is
+  -- once what is left is rewritten by a rule, the whole chain is
   pub whole : (rule : Forest Plain → Forest Plain) (nodes : List (Node Item)) (later : Tables)
       → Rewrites source rule next new nodes tables' later
       → Rewrites source (replaced trees goes_on rule) (Some ix) old nodes tables later
   pub leaves : LeavesRest source ix next old new tables'
-  -- the links lead on past that byte
+  -- the links lead on past that byte offset
   pub leads : (low : ℕ) (after : List Numbered) → LeadsThrough old low (sibling_of old ix) after
       → LeadsThrough new low next (numbered_past goes_on after)
-  -- these nodes stand there now, one for each tree
+  -- the nodes that hold the trees now, one for each
   pub standing : List ℕ
   pub numbers : roots (forest_at (links_of new) (Some ix)) ≡ standing ++ roots (forest_at (links_of new) next)
   pub as_many : (a : Plain) (below : Forest Plain) → length (roots (trees a below)) ≡ length standing

@@ -1,5 +1,5 @@
--- What is written where a chain is read: an item at which nothing is found is settled, and what is left of a chain past
--- a byte begins there.
+-- What is written while a chain is read: an item at which nothing is found is settled, and what is left of a chain past
+-- a byte offset begins there.
 use Rattle.markdown_base.specs.declared.item.ItemBody.TheVariants as body
 use Rattle.std.specs.Prelude.{◌≡◌, ℕ, Bool, true, false, not, ◌&&◌, List, length, Option, Some, None}
 use Rattle.markdown_base.specs.Arena.{changed_at, child_of, sibling_of}
@@ -12,29 +12,29 @@ use Rattle.markdown_document.specs.Places.{IsSameAt}
 use Rattle.markdown_document.specs.Waiting.{waits_for_pairing}
 use Rattle.markdown_resolver.specs.Rewritten.{begun_item}
 
--- it is a Text: it is open, and does not wait for pairing
+-- the item becomes a Text where nothing is found: it is open, and does not wait for pairing
 abbrev pub becomes_text : ItemBody → Bool
 becomes_text b = is_open b && not (waits_for_pairing b)
 
--- a Text's body where that is so, and else as it was
+-- the body of a Text where the condition is true, and otherwise the body as it was
 abbrev pub settled_if : (becomes_text : Bool) → ItemBody → ItemBody
 settled_if true b = body.Text false
 settled_if false b = b
 
--- so is the item
+-- the settled item
 abbrev pub settled_item : Item → Item
 settled_item item = record item { body = settled_if (becomes_text item.body) item.body }
 
--- and that of one node
+-- nodes of which the item of one is settled
 abbrev pub settled_at : ℕ → List (Node Item) → List (Node Item)
 settled_at ix nodes = changed_at ix (λ n. record n { item = settled_item (item_at nodes ix) }) nodes
 
--- the item that a link leads to begins at a byte at the earliest
+-- nodes of which the item that a link leads to loses its bytes before byte offset i
 abbrev pub begun_from : Option ℕ → ℕ → List (Node Item) → List (Node Item)
 begun_from None i nodes = nodes
 begun_from (Some ix) i nodes = changed_at ix (λ n. record n { item = begun_item i (item_at nodes ix) }) nodes
 
--- a node has another item, and another follows it; all else is as it was
+-- a node has another item, and another next sibling; all else is unchanged
 pub record IsWritten (old new : List (Node Item)) (ix : ℕ) (item : Item) (next : Option ℕ) : Type 0 where
   pub size : length new ≡ length old
   pub item_is : item_at new ix ≡ item

@@ -1,17 +1,17 @@
--- The text of a span that was put into its table: what private contracts say of it.
+-- The text of a span that was appended to its table: the terms of private contracts.
 use Rattle.std.specs.Prelude.{◌≡◌, ℕ, ◌<◌, ◌≤◌, List, length}
 use Rattle.std.specs.Str.{IsCharBoundary}
 use Rattle.markdown_base.specs.declared.index.CowIndex.{CowIndex}
 use Rattle.markdown_document.specs.Origins.{IsSlicedOf, Origin, origin_at}
 use Rattle.markdown_document.specs.Tables.{Tables, HasGrown, text_at}
 
--- the bytes from one to another may be cut out of a text
+-- the bytes from one offset to another can be cut out of a text
 pub record CanCut (source : List ℕ) (start end : ℕ) : Type 0 where
   pub ordered : start ≤ end
   pub from : IsCharBoundary source start
   pub to : IsCharBoundary source end
 
--- a text of this origin was put in, at a number that was free
+-- a text of this origin was appended, with the next free number
 pub record StoresText (source : List ℕ) (tables tables' : Tables) (cow : CowIndex) (origin : Origin) : Type 0 where
   pub grown : HasGrown tables tables'
   pub number : cow.0 ≡ length tables.cows

@@ -4,16 +4,16 @@ ghost use Rattle.markdown_resolver.specs.BracketKinds.{kind_of};
 
 use markdown_base::item::ItemBody;
 
-/// A bracket that is open.
+/// A bracket of a chain that is not resolved yet.
 #[derive(Clone, Copy, Drop)]
 pub(crate) enum BracketKind {
-    /// Of a link, or of an image.
+    /// `[` or `![`, the opener of a link or of an image.
     Opener { is_image: bool },
-    /// It could be a reference, or not.
+    /// `]`; `could_be` is whether it could be the end of a reference.
     Closer { could_be: bool },
 }
 
-/// Which bracket an item is, or None.
+/// Returns which bracket an item with this body is, or None.
 pub(crate) fn kind_of(body: ItemBody) -> Option<BracketKind>
     ensures { result ≡ kind_of body }
 {

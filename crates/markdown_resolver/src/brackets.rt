@@ -1,5 +1,5 @@
-//! Brackets in a chain, where it stands: an opener waits for its `]`, and what a `]` becomes is put where its opener
-//! stands.
+//! Brackets in a chain, read in place: an opener waits for its `]`, and what a `]` becomes is put into the nodes of its
+//! opener and what follows.
 ghost use Rattle.std.specs.Prelude.{◌≡◌, ◌∷◌, ◌&&◌, ◌<◌, false, ℕ, List, None, Some, IfErr, IfOk, IfSome, OnOk};
 ghost use Rattle.std.specs.Prelude.{OnErr, if◌then◌else◌, is_some, length};
 ghost use Rattle.std.specs.Option.{option_map_or};
@@ -48,7 +48,7 @@ use markdown_document::chain_place::ChainPlace;
 use markdown_spans::prefixes::ContainerPrefix;
 use std::alloc::Global;
 
-/// Whether a link leads to an opener.
+/// Returns whether a link leads to a `[`.
 fn leads_to_opener(tree: &Tree<Item>, link: Option<usize>) -> bool
     requires { IfSome link (λ ix. ix < length tree.now.nodes) }
     ensures { result ≡ option_map_or (λ ix. is_opener (item_at tree.now.nodes ix).body) link false }
@@ -59,8 +59,8 @@ fn leads_to_opener(tree: &Tree<Item>, link: Option<usize>) -> bool
     }
 }
 
-/// Reads an opener, `[` or `![`: it is a Text, and waits for its `]`; with wikilinks on, one before another opener
-/// waits for two of them too. The chain goes on at the next item. The only error is `Fault::Memory`.
+/// Reads an opener, `[` or `![`: it becomes a Text, and waits for its `]`; with wikilinks enabled, one that a `[`
+/// follows also waits for `]]`. Returns the next node of the chain. The only error is `Fault::Memory`.
 pub(crate) fn open_bracket(
     tree: &mut Tree<Item>,
     openers: &mut ChainOpeners,
@@ -101,7 +101,7 @@ fn link_body(is_image: bool, link: LinkIndex) -> ItemBody
     }
 }
 
-/// A Text.
+/// Returns a Text item from byte offset `start` to `end`.
 fn text_item(start: usize, end: usize) -> Item
     ensures { result ≡ record { start = start; end = end; body = body.Text false } }
 {
@@ -114,8 +114,8 @@ fn text_item(start: usize, end: usize) -> Item
     }
 }
 
-/// Puts a link or an image that ends at the byte `end`: the chain goes on at the byte `next`. The only error is
-/// `Fault::Memory`.
+/// Puts a link or an image that ends at byte offset `end` into its opener's node. Returns the node at which the chain
+/// continues, which is at byte offset `next` or later. The only error is `Fault::Memory`.
 fn put_target<'a>(
     tree: &mut Tree<Item>,
     tables: &mut Allocations<'a>,
@@ -137,7 +137,7 @@ fn put_target<'a>(
         tree.old.nodes tree.new.nodes (tables_of tables.old) (tables_of tables.new)) }
     ensures place { IfOk result (λ _. tree.new ≡ record tree.old { nodes = tree.new.nodes }) }
 
-    // whatever comes
+    // on success and on error
     ensures tables { tables.new ≡ record tables.old { cows = tables.new.cows; links = tables.new.links } }
     ensures refused { IfErr result (λ fault. fault ≡ Fault.Memory) }
 {
@@ -157,8 +157,8 @@ fn put_target<'a>(
     Ok(put_link(tree, opener.node, last, closer, item, next))
 }
 
-/// Puts a footnote reference of a name: of an opener `![` the `!` is a Text of its own. The only error is
-/// `Fault::Memory`.
+/// Puts a footnote reference into the nodes of its brackets; the `!` of an opener `![` becomes a Text before it.
+/// Returns the node at which the chain continues. The only error is `Fault::Memory`.
 fn put_reference<'a>(
     tree: &mut Tree<Item>,
     tables: &mut Allocations<'a>,
@@ -178,7 +178,7 @@ fn put_reference<'a>(
         tree.new.nodes (tables_of tables.old) (tables_of tables.new)) }
     ensures place { IfOk result (λ _. tree.new ≡ record tree.old { nodes = tree.new.nodes }) }
 
-    // whatever comes
+    // on success and on error
     ensures tables { tables.new ≡ record tables.old { cows = tables.new.cows; links = tables.new.links } }
     ensures refused { IfErr result (λ fault. fault ≡ Fault.Memory) }
 {
@@ -198,7 +198,8 @@ fn put_reference<'a>(
     Ok(put_footnote(tree, opener.node, closer, item))
 }
 
-/// Puts a wikilink that ends at the byte `end`, as a link or as an image. The only error is `Fault::Memory`.
+/// Puts a wikilink that ends at byte offset `end` into its opener's node, as a link or as an image. Returns the node at
+/// which the chain continues. The only error is `Fault::Memory`.
 fn put_wikilink<'a>(
     tree: &mut Tree<Item>,
     tables: &mut Allocations<'a>,
@@ -220,7 +221,7 @@ fn put_wikilink<'a>(
         (tables_of tables.old) (tables_of tables.new)) }
     ensures place { IfOk result (λ _. tree.new ≡ record tree.old { nodes = tree.new.nodes }) }
 
-    // whatever comes
+    // on success and on error
     ensures tables { tables.new ≡ record tables.old { cows = tables.new.cows; links = tables.new.links } }
     ensures refused { IfErr result (λ fault. fault ≡ Fault.Memory) }
 {
@@ -251,7 +252,8 @@ fn put_wikilink<'a>(
     }
 }
 
-/// Puts what a `]`, the node `closer`, becomes: the link at which the chain goes on. The only error is `Fault::Memory`.
+/// Puts what a `]`, the node `closer`, becomes in its place. Returns the node at which the chain continues. The only
+/// error is `Fault::Memory`.
 pub(crate) fn put_closed<'a>(
     tree: &mut Tree<Item>,
     tables: &mut Allocations<'a>,
@@ -269,7 +271,7 @@ pub(crate) fn put_closed<'a>(
         (tables_of tables.old) (tables_of tables.new)) }
     ensures place { IfOk result (λ _. tree.new ≡ record tree.old { nodes = tree.new.nodes }) }
 
-    // whatever comes
+    // on success and on error
     ensures tables { tables.new ≡ record tables.old { cows = tables.new.cows; links = tables.new.links } }
     ensures refused { IfErr result (λ fault. fault ≡ Fault.Memory) }
 {
@@ -294,8 +296,8 @@ pub(crate) fn put_closed<'a>(
     }
 }
 
-/// Decides what a `]` of a chain, where that stands, becomes: by the openers that wait, by what is defined, and by what
-/// is answered. The only error is `Fault::Memory`; then nobody was asked.
+/// Returns what a `]` of a chain becomes, by the openers that wait, the reference and footnote definitions, and the
+/// answer of the callback. The only error is `Fault::Memory`; the callback was then not asked.
 pub(crate) fn decide_closing<'a, F: BrokenLinkCallback<'a>>(
     alloc: Global,
     tree: &Tree<Item>,
@@ -318,7 +320,7 @@ pub(crate) fn decide_closing<'a, F: BrokenLinkCallback<'a>>(
         could_be tables.old tables.new limit.old limit.new spent.old spent.new callback.old callback.new
         openers.old openers.new found) }
 
-    // a refusal, and what holds whatever comes
+    // on an error, and in any case
     ensures nothing_asked { OnErr result (callback.new ≡ callback.old) }
     ensures again { IfSome callback.new F.can_ask }
     ensures refused { IfErr result (λ fault. fault ≡ Fault.Memory) }

@@ -1,4 +1,4 @@
-//! Where the chain stands at which a walk over a tree has arrived.
+//! The place of the chain that a walk over a tree has reached.
 ghost use Rattle.std.specs.Prelude.{◌≡◌, ℕ, Option};
 ghost use Rattle.markdown_resolver.specs.ChainPlace.{IsPlaceOf};
 ghost use Rattle.markdown_resolver.specs.Chains.{AreAbove};
@@ -8,7 +8,8 @@ use markdown_base::options::Options;
 use markdown_base::tree::Tree;
 use markdown_document::chain_place::ChainPlace;
 
-/// The place of the chain at the cursor of a tree, of which a link `first` leads to the items that are left.
+/// Returns the place of the chain at the cursor of a tree: where its innermost open block ends, and whether that is a
+/// cell of a table.
 pub fn place_of_chain<'a>(tree: &Tree<Item>, text: &'a str, options: Options) -> ChainPlace<'a>
     requires { (first : Option ℕ) × AreAbove text.now tree.now.nodes first tree.now.spine }
     ensures place { IsPlaceOf result tree.now }

@@ -1,5 +1,5 @@
-//! What was found in a chain is put where it stands: into the node of its opener, or with another one. What ends there
-//! or before leaves the chain, and what is left begins there at the earliest.
+//! What was found in a chain is put in place: into the node of its opener, or into two nodes. Items that end at or
+//! before its end leave the chain, and the first that is left loses its bytes before it.
 ghost use Rattle.std.specs.Prelude.{◌≡◌, ◌<◌, ℕ, List, length, Some, None, IfOk, IfSome, OnErr};
 ghost use Rattle.markdown_base.specs.Arena.{sibling_of};
 ghost use Rattle.markdown_base.specs.ArenaForest.{Spells, forest_at, links_of};
@@ -16,7 +16,7 @@ use markdown_base::item::Item;
 use markdown_base::tree::Tree;
 use std::alloc::AllocError;
 
-/// The first node from a link on whose item ends past a byte.
+/// Returns the first node of a chain, from a link on, whose item ends after byte offset `end`.
 pub(crate) fn first_past(tree: &Tree<Item>, first: Option<usize>, end: usize) -> Option<usize>
     requires { Spells (links_of tree.now.nodes) first (forest_at (links_of tree.now.nodes) first) }
     ensures value { result ≡ first_past tree.now.nodes end (roots (forest_at (links_of tree.now.nodes) first)) }
@@ -32,7 +32,7 @@ pub(crate) fn first_past(tree: &Tree<Item>, first: Option<usize>, end: usize) ->
     None
 }
 
-/// Lets the item that a link leads to begin at a byte at the earliest.
+/// Lets the item that a link leads to start at byte offset `start` or later.
 pub(crate) fn begin_from(tree: &mut Tree<Item>, first: Option<usize>, start: usize)
     requires { IfSome first (λ ix. ix < length tree.old.nodes) }
     ensures { tree.new ≡ record tree.old { nodes = begun_from first start tree.old.nodes } }
@@ -50,7 +50,7 @@ pub(crate) fn begin_from(tree: &mut Tree<Item>, first: Option<usize>, start: usi
     }
 }
 
-/// Gives a node another item, and lets another node follow.
+/// Replaces the item of a node, and its next sibling.
 pub(crate) fn write_node(tree: &mut Tree<Item>, ix: usize, item: Item, next: Option<usize>)
     requires node { ix < length tree.old.nodes }
     requires next { IfSome next (λ after. after < length tree.old.nodes) }
@@ -61,8 +61,8 @@ pub(crate) fn write_node(tree: &mut Tree<Item>, ix: usize, item: Item, next: Opt
     tree.set_next(ix, next);
 }
 
-/// Settles an item at which nothing is found: it is a Text, unless it is not open or waits for pairing. The chain goes
-/// on at the next item.
+/// Settles an item at which nothing is found: it becomes a Text, unless it is not open or waits for pairing. Returns
+/// the next node of the chain.
 pub(crate) fn settle(tree: &mut Tree<Item>, ix: usize) -> Option<usize>
     requires { (source : List ℕ) × (tables : Tables) × CanResolve source tables tree.old.nodes (Some ix) }
     ensures puts { (source : List ℕ) (tables : Tables) → CanResolve source tables tree.old.nodes (Some ix)
@@ -75,7 +75,7 @@ pub(crate) fn settle(tree: &mut Tree<Item>, ix: usize) -> Option<usize>
     next
 }
 
-/// Puts an item into the node of its opener: the link at which the chain goes on.
+/// Puts an item into the node of its opener. Returns the node at which the chain continues.
 pub(crate) fn put_found(tree: &mut Tree<Item>, ix: usize, item: Item) -> Option<usize>
     requires { (source : List ℕ) × (tables : Tables) × (tables' : Tables) × HasGrown tables tables'
         × IsFoundAt source tables tree.old.nodes ix item.end × CanPut source tables tables' item
@@ -92,8 +92,8 @@ pub(crate) fn put_found(tree: &mut Tree<Item>, ix: usize, item: Item) -> Option<
     rest
 }
 
-/// Puts two items into the nodes of an opener and of what closes it, which follows it in the chain: the link at which
-/// the chain goes on.
+/// Puts two items into the nodes of an opener and of its closer, which follows it in the chain. Returns the node at
+/// which the chain continues.
 pub(crate) fn put_pair(
     tree: &mut Tree<Item>,
     ix: usize,
@@ -118,8 +118,8 @@ pub(crate) fn put_pair(
     rest
 }
 
-/// Puts an item with one child into the node of its opener: the link at which the chain goes on. Memory can run out
-/// before anything is changed.
+/// Puts an item with one child into the node of its opener. Returns the node at which the chain continues, or an error
+/// where memory is refused; the tree is then unchanged.
 pub(crate) fn put_parent(
     tree: &mut Tree<Item>,
     ix: usize,

@@ -1,5 +1,4 @@
-//! Resolving of chains: what a chain of inline items is resolved to, and the resolver that does it where the chain
-//! stands.
+//! Resolving chains: what a chain of inline items is resolved to, and the resolver that resolves it in place.
 #![tactic(auto)]
 
 mod bracket_kind;

@@ -1,5 +1,5 @@
-//! What a closing bracket becomes is put where it stands: into the node of its opener, over what stands inside. What
-//! ends at a byte or before leaves the chain, and what is left begins there at the earliest.
+//! What a closing bracket becomes is put in place: into the node of its opener, over what is inside the brackets. Items
+//! that end at or before its end leave the chain, and the first that is left loses its bytes before it.
 ghost use Rattle.std.specs.Prelude.{◌≡◌, ◌<◌, ◌∷◌, ◌++◌, [], ℕ, List, length, Some, None};
 ghost use Rattle.markdown_base.specs.BlockTree.{item_at};
 ghost use Rattle.markdown_document.specs.Tables.{HasGrown, Named, Tables};
@@ -13,7 +13,8 @@ use crate::found::{begin_from, first_past, write_node};
 use markdown_base::item::Item;
 use markdown_base::tree::Tree;
 
-/// What follows an opener, up to its last node inside, goes below it; the closer follows it then.
+/// Moves the nodes between an opener and its closer, of which `last` is the last, below the opener, which the closer
+/// then follows.
 fn enclose(tree: &mut Tree<Item>, opener: usize, last: usize, closer: usize)
     requires opener { opener < length tree.old.nodes }
     requires last { last < length tree.old.nodes }
@@ -27,8 +28,8 @@ fn enclose(tree: &mut Tree<Item>, opener: usize, last: usize, closer: usize)
     tree.set_next(opener, Some(closer));
 }
 
-/// Puts a link or an image into the node of its opener, over what stands inside, of which `last` is the last node: the
-/// link at which the chain goes on, from a byte on.
+/// Puts a link or an image into the node of its opener, over what is inside, of which `last` is the last node. Returns
+/// the node at which the chain continues, which is at byte offset `next_byte` or later.
 pub fn put_link(
     tree: &mut Tree<Item>,
     opener: usize,
@@ -54,8 +55,8 @@ pub fn put_link(
     rest
 }
 
-/// Puts a footnote reference, which ends where its closer does, into the node of its opener: the link at which the
-/// chain goes on. What stood inside leaves it.
+/// Puts a footnote reference, which ends where its closer does, into the node of its opener. What was inside leaves the
+/// chain. Returns the node at which the chain continues.
 pub fn put_footnote(
     tree: &mut Tree<Item>,
     opener: usize,
@@ -80,8 +81,8 @@ pub fn put_footnote(
     rest
 }
 
-/// Puts a Text over the `!` of an opener into its node, and a footnote reference into the node of its closer, where
-/// that ends: the link at which the chain goes on. What stood inside leaves it.
+/// Puts a Text for the `!` of an opener into its node, and a footnote reference, which ends where its closer does, into
+/// the closer's node. What was inside leaves the chain. Returns the node at which the chain continues.
 pub fn put_image_footnote(
     tree: &mut Tree<Item>,
     opener: usize,
@@ -106,7 +107,8 @@ pub fn put_image_footnote(
     rest
 }
 
-/// The node of a chain before another one, from an opener on that stands before it.
+/// Returns the node before `closer` in the chain from its opener on, which is before it; the opener itself where
+/// nothing is inside.
 pub(crate) fn last_before(tree: &Tree<Item>, opener: usize, closer: usize) -> usize
     requires { (source : List ℕ) × (tables : Tables) × (inside : List ℕ) × (byte : ℕ)
         × CanClose source tables tree.now.nodes opener closer inside byte }
@@ -123,9 +125,9 @@ pub(crate) fn last_before(tree: &Tree<Item>, opener: usize, closer: usize) -> us
     last
 }
 
-/// Puts a wikilink that shows its name: into the node of its opener, with a Text over the name in the node `first`
-/// below it. What stood inside besides leaves the chain, which goes on behind the wikilink, at the link that is
-/// answered.
+/// Puts a wikilink that shows its name into the node of its opener, with a Text for the name below it, in the node
+/// `first`. All else that was inside leaves the chain. Returns the node at which the chain continues after the
+/// wikilink.
 pub(crate) fn put_wikilink_name(
     tree: &mut Tree<Item>,
     opener: usize,
@@ -156,8 +158,8 @@ pub(crate) fn put_wikilink_name(
     rest
 }
 
-/// Puts a wikilink that shows what stands inside from a byte on, which begins in the node `first`: into the node of its
-/// opener, with that below it. The chain goes on behind the wikilink, at the link that is answered.
+/// Puts a wikilink that shows what is inside it from byte offset `from` on, which begins in the node `first`, into the
+/// node of its opener, with that below it. Returns the node at which the chain continues after the wikilink.
 pub(crate) fn put_wikilink_shown(
     tree: &mut Tree<Item>,
     opener: usize,

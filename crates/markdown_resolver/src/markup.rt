@@ -1,4 +1,4 @@
-//! Autolinks and raw HTML in a chain, where it stands.
+//! Autolinks and raw HTML in a chain, read in place.
 ghost use Rattle.std.specs.Prelude.{◌≡◌, ◌==◌, ◌<◌, ℕ, List, Some, false, IfErr, IfOk, IfSome, length, take};
 ghost use Rattle.std.specs.Option.{option_map_or};
 ghost use Rattle.markdown_base.specs.BlockTree.{item_at};
@@ -28,9 +28,10 @@ use markdown_spans::after_less::{MarkupFound, scan_after_less};
 use markdown_spans::prefixes::ContainerPrefix;
 use std::alloc::Global;
 
-/// Reads a `<`: an absolute-URI autolink (CommonMark 6.5) or raw HTML (6.6), if one stands there and the next item
-/// starts directly after the `<`; else a Text. The scanner is one of the text up to the block's end: a `<` that does
-/// not stand before that is a Text too.
+/// Reads a `<`: an absolute-URI autolink (CommonMark 6.5) or raw HTML (6.6), if there is one and the next item starts
+/// directly after the `<`; otherwise the `<` becomes a Text, as it does where it is not before the block's end. The
+/// scanner has to be one of the text up to that end. Returns the node at which the chain continues. The only error is
+/// `Fault::Memory`.
 pub(crate) fn read_markup<'a>(
     alloc: Global,
     tree: &mut Tree<Item>,
@@ -47,7 +48,7 @@ pub(crate) fn read_markup<'a>(
         tree.old.nodes tree.new.nodes (tables_of tables.old) (tables_of tables.new)) }
     ensures place { IfOk result (λ _. tree.new ≡ record tree.old { nodes = tree.new.nodes }) }
 
-    // whatever comes
+    // on success and on error
     ensures tables { tables.new ≡ record tables.old { cows = tables.new.cows; links = tables.new.links } }
     ensures scanner { scanner.new.text ≡ scanner.old.text }
     ensures refused { IfErr result (λ fault. fault ≡ Fault.Memory) }
@@ -64,7 +65,7 @@ pub(crate) fn read_markup<'a>(
     }
 }
 
-/// Whether a link leads to an item that starts at a byte.
+/// Returns whether a link leads to an item that starts at byte offset `start`.
 fn starts_at(tree: &Tree<Item>, link: Option<usize>, start: usize) -> bool
     requires { IfSome link (λ ix. ix < length tree.now.nodes) }
     ensures { result ≡ option_map_or (λ ix. (item_at tree.now.nodes ix).start == start) link false }
@@ -75,7 +76,8 @@ fn starts_at(tree: &Tree<Item>, link: Option<usize>, start: usize) -> bool
     }
 }
 
-/// Puts what was found into the node of its `<`: the link at which the chain goes on.
+/// Puts what was found into the node of its `<`. Returns the node at which the chain continues. The only error is
+/// `Fault::Memory`.
 fn put_markup<'a>(
     tree: &mut Tree<Item>,
     tables: &mut Allocations<'a>,
@@ -90,7 +92,7 @@ fn put_markup<'a>(
         tree.old.nodes tree.new.nodes (tables_of tables.old) (tables_of tables.new)) }
     ensures place { IfOk result (λ _. tree.new ≡ record tree.old { nodes = tree.new.nodes }) }
 
-    // whatever comes
+    // on success and on error
     ensures tables { tables.new ≡ record tables.old { cows = tables.new.cows; links = tables.new.links } }
     ensures refused { IfErr result (λ fault. fault ≡ Fault.Memory) }
 {
@@ -104,7 +106,8 @@ fn put_markup<'a>(
     }
 }
 
-/// Puts raw HTML that ends at a byte into the node of its `<`: the link at which the chain goes on.
+/// Puts raw HTML that ends at byte offset `end` into the node of its `<`. Returns the node at which the chain
+/// continues.
 fn put_html(tree: &mut Tree<Item>, ix: usize, end: usize, body: ItemBody) -> Option<usize>
     requires { (source : List ℕ) × (tables : Tables) × (tables' : Tables) × HasGrown tables tables'
         × IsFoundAt source tables tree.old.nodes ix end
@@ -120,8 +123,8 @@ fn put_html(tree: &mut Tree<Item>, ix: usize, end: usize, body: ItemBody) -> Opt
     put_found(tree, ix, Item { start, end, body })
 }
 
-/// Puts an autolink that ends at a byte into the node of its `<`, with its URI as the text below it: the link at which
-/// the chain goes on.
+/// Puts an autolink that ends at byte offset `end` into the node of its `<`, with its URI as a Text below it. Returns
+/// the node at which the chain continues. The only error is `Fault::Memory`.
 fn put_autolink<'a>(
     tree: &mut Tree<Item>,
     tables: &mut Allocations<'a>,
@@ -136,7 +139,7 @@ fn put_autolink<'a>(
         tree.old.nodes tree.new.nodes (tables_of tables.old) (tables_of tables.new)) }
     ensures place { IfOk result (λ _. tree.new ≡ record tree.old { nodes = tree.new.nodes }) }
 
-    // whatever comes
+    // on success and on error
     ensures tables { tables.new ≡ record tables.old { links = tables.new.links } }
     ensures refused { IfErr result (λ fault. fault ≡ Fault.Memory) }
 {

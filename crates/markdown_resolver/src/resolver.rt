@@ -1,5 +1,5 @@
-//! Resolving of chains: a chain of inline items is resolved where it stands in the arena, from its first open item
-//! on: pass one reads it, and then it is paired.
+//! Resolving chains: a chain of inline items is resolved in place, in the arena, from its first open item on. Pass one
+//! reads it, and then its delimiters are paired.
 use crate::bracket_kind::{BracketKind, kind_of};
 use crate::brackets::{decide_closing, open_bracket, put_closed};
 use crate::chain_place::place_of_chain;
@@ -22,28 +22,28 @@ use markdown_raw_html::raw_html::RawHtmlScanner;
 use markdown_spans::span_closers::SpanClosers;
 use std::alloc::Global;
 
-/// What resolving a chain goes by, and what passes from one chain to the next.
+/// What resolving a chain depends on, and what passes from one chain to the next.
 #[derive(Drop)]
 pub struct Resolver<'a, F> {
     pub alloc: Global,
     pub text: &'a str,
     pub options: Options,
-    /// What items name by number, and what is found by names.
+    /// The entries that items refer to by number, and the definitions that are found by name.
     pub tables: Allocations<'a>,
-    /// How many bytes references may still expand to.
+    /// The number of bytes that references may still expand to.
     pub limit: usize,
-    /// Whom to ask about references that are defined nowhere.
+    /// The callback to ask about references without a definition, if any.
     pub callback: Option<F>,
     pub work: Work,
-    /// The openers that wait for their `]` in a chain, and the `]` that can be no references any more: both are emptied
-    /// for each chain, and keep their memory.
+    /// The openers of a chain that wait for their `]`, and the ends of the `]` that cannot end a reference any more.
+    /// Both are emptied for each chain, and keep their memory.
     pub openers: ChainOpeners,
     pub spent: SpentEnds,
-    /// What searches for the ends of code spans, and of math spans, hold in a chain: it is emptied for each, and keeps
-    /// its memory.
+    /// What the searches for the closers of code spans, and of math spans, have learned in a chain. Both are emptied
+    /// for each chain, and keep their memory.
     pub code_closers: SpanClosers,
     pub math_closers: SpanClosers,
-    /// So is what pairing holds.
+    /// The open delimiter runs of a chain, for pairing; also emptied for each chain, with its memory kept.
     pub open_runs: OpenRuns,
 }
 
@@ -72,8 +72,8 @@ impl<'a, F: BrokenLinkCallback<'a>> Resolver<'a, F> {
     ghost use Rattle.markdown_resolver.specs.ReadsItem.{LooksAt, ReadsItem};
     ghost use Rattle.markdown_defs.specs.Footnotes.{footnote_at};
 
-    /// Reads the item of a node of a chain, which is no bracket: the link at which the chain goes on. The scanner is
-    /// one of the text up to the block's end.
+    /// Reads the item of a node of a chain, which is not a bracket. The scanner has to be one of the text up to the
+    /// block's end. Returns the node at which the chain continues. The only error is `Fault::Memory`.
     fn read_other(
         &mut self,
         tree: &mut Tree<Item>,
@@ -101,7 +101,7 @@ impl<'a, F: BrokenLinkCallback<'a>> Resolver<'a, F> {
             (items_from tree.old.nodes (Some ix)) (items_from tree.new.nodes next)) }
         ensures place { IfOk result (λ _. tree.new ≡ record tree.old { nodes = tree.new.nodes }) }
 
-        // whatever comes
+        // on success and on error
         ensures kept { self.new ≡ record self.old {
           tables = record self.old.tables { cows = self.new.tables.cows; links = self.new.tables.links };
           work = record self.old.work {
@@ -114,7 +114,7 @@ impl<'a, F: BrokenLinkCallback<'a>> Resolver<'a, F> {
         ensures scanner { scanner.new.text ≡ scanner.old.text }
         ensures refused { IfErr result (λ fault. fault ≡ Fault.Memory) }
     {
-        // bounds the counts
+        // reading the counts shows that they fit their type
         let _code_visits = self.work.code_visits;
         let _math_visits = self.work.math_visits;
         match tree.item(ix).body {
@@ -143,7 +143,8 @@ impl<'a, F: BrokenLinkCallback<'a>> Resolver<'a, F> {
         }
     }
 
-    /// Reads a `]`: what it becomes is decided, and put. The only error is `Fault::Memory`.
+    /// Reads a `]`: decides what it becomes, and puts that in place. Returns the node at which the chain continues. The
+    /// only error is `Fault::Memory`.
     fn close_bracket(
         &mut self,
         tree: &mut Tree<Item>,
@@ -157,13 +158,13 @@ impl<'a, F: BrokenLinkCallback<'a>> Resolver<'a, F> {
         ensures reads { IfOk result (λ next.
             ReadsBracket F.answers place.now ix next tree.old tree.new self.old self.new) }
 
-        // a refusal, and what holds whatever comes
+        // on an error, and in any case
         ensures stops { IfErr result (λ _. StopsAtNode F.answers place.now ix tree.old self.old self.new.callback) }
         ensures again { IfSome self.new.callback F.can_ask }
         ensures refused { IfErr result (λ fault. fault ≡ Fault.Memory) }
         ensures kept { ChangesForBracket self.old self.new }
     {
-        // the text is valid
+        // reading the text shows that it is valid UTF-8
         let _text = place.text.as_bytes();
         let options = self.options;
         let found = decide_closing(
@@ -183,7 +184,7 @@ impl<'a, F: BrokenLinkCallback<'a>> Resolver<'a, F> {
         put_closed(tree, &mut self.tables, ix, found)
     }
 
-    /// Reads a bracket of a chain: the link at which the chain goes on. The only error is `Fault::Memory`.
+    /// Reads a bracket of a chain. Returns the node at which the chain continues. The only error is `Fault::Memory`.
     fn read_bracket(
         &mut self,
         tree: &mut Tree<Item>,
@@ -197,7 +198,7 @@ impl<'a, F: BrokenLinkCallback<'a>> Resolver<'a, F> {
         ensures reads { IfOk result (λ next.
             ReadsBracket F.answers place.now ix next tree.old tree.new self.old self.new) }
 
-        // a refusal, and what holds whatever comes
+        // on an error, and in any case
         ensures stops { IfErr result (λ _. StopsAtNode F.answers place.now ix tree.old self.old self.new.callback) }
         ensures again { IfSome self.new.callback F.can_ask }
         ensures refused { IfErr result (λ fault. fault ≡ Fault.Memory) }
@@ -211,9 +212,9 @@ impl<'a, F: BrokenLinkCallback<'a>> Resolver<'a, F> {
         }
     }
 
-    /// Reads the item of a node of a chain: the link at which the chain goes on. The scanner is one of the text up to
-    /// the block's end. The only error is `Fault::Memory`.
-    // the loop over a chain alone calls it: a call there costs links 4 instructions in a hundred
+    /// Reads the item of a node of a chain. The scanner has to be one of the text up to the block's end. Returns the
+    /// node at which the chain continues. The only error is `Fault::Memory`.
+    // only the loop over a chain calls this: without inlining, links would take 4 % more instructions
     #[inline(always)]
     fn read_item(
         &mut self,
@@ -230,14 +231,14 @@ impl<'a, F: BrokenLinkCallback<'a>> Resolver<'a, F> {
         ensures reads { IfOk result (λ next.
             ReadsNode F.answers place.now ix next tree.old tree.new self.old self.new) }
 
-        // a refusal, and what holds whatever comes
+        // on an error, and in any case
         ensures stops { IfErr result (λ _. StopsAtNode F.answers place.now ix tree.old self.old self.new.callback) }
         ensures again { IfSome self.new.callback F.can_ask }
         ensures refused { IfErr result (λ fault. fault ≡ Fault.Memory) }
         ensures scanner { scanner.new.text ≡ scanner.old.text }
         ensures kept { ChangesForNode self.old self.new }
     {
-        // bounds the counts
+        // reading the counts shows that they fit their type
         let _code_visits = self.work.code_visits;
         let _math_visits = self.work.math_visits;
         match kind_of(tree.item(ix).body) {
@@ -262,8 +263,7 @@ impl<'a, F: BrokenLinkCallback<'a>> Resolver<'a, F> {
         }
     }
 
-    /// Begins the chain from the node `first` on: its items are counted, and what was held in the last one is
-    /// forgotten.
+    /// Begins the chain from the node `first` on: counts its items, and discards what was held for the last chain.
     fn begin_chain(&mut self, tree: &Tree<Item>, first: usize)
         requires { CanResolve self.old.text.now (tables_of self.old.tables) tree.now.nodes (Some first) }
         ensures brackets { self.new.openers.brackets ≡ [] }
@@ -286,8 +286,8 @@ impl<'a, F: BrokenLinkCallback<'a>> Resolver<'a, F> {
         self.math_closers.clear();
     }
 
-    /// Pass one over the chain from the node `first` on, where it stands: its items are counted, and then read from
-    /// left to right.
+    /// Reads the chain from the node `first` on in place, in pass one: counts its items, and then reads them from left
+    /// to right. The only error is `Fault::Memory`.
     fn read_chain(&mut self, tree: &mut Tree<Item>, first: usize) -> Result<(), Fault>
         requires can_ask { IfSome self.old.callback F.can_ask }
         requires ready { CanResolve self.old.text.now (tables_of self.old.tables) tree.old.nodes (Some first) }
@@ -303,7 +303,7 @@ impl<'a, F: BrokenLinkCallback<'a>> Resolver<'a, F> {
         ensures math_visits { IfOk result (λ _.
             RisesAtMost (items_from tree.old.nodes (Some first)) self.old.work.math_visits self.new.work.math_visits) }
 
-        // a refusal, and what holds whatever comes
+        // on an error, and in any case
         ensures stops { IfErr result (λ _. StopsInPassOne F.answers (setting_by self.old)
             (above_cursor self.old.text.now tree.old) first (stage_by tree.old self.old) self.new.callback) }
         ensures again { IfSome self.new.callback F.can_ask }
@@ -330,7 +330,7 @@ impl<'a, F: BrokenLinkCallback<'a>> Resolver<'a, F> {
             ≡ is_some (footnote_at self.old.tables.footdefs name) }
         ensures refused { IfErr result (λ fault. fault ≡ Fault.Memory) }
     {
-        // bounds the counts
+        // reading the counts shows that they fit their type
         let _code_visits = self.work.code_visits;
         let _math_visits = self.work.math_visits;
         self.begin_chain(tree, first);
@@ -343,8 +343,8 @@ impl<'a, F: BrokenLinkCallback<'a>> Resolver<'a, F> {
         Ok(())
     }
 
-    /// Resolves the chain from the node `first` on, which is open, where it stands: below the nodes of the
-    /// tree's spine. After a refusal the tree and the tables may be in any state.
+    /// Resolves the chain from the node `first` on, which is open, in place: below the nodes of the tree's spine. The
+    /// only error is `Fault::Memory`; the tree and the tables are then in an unspecified state.
     pub fn resolve_chain(&mut self, tree: &mut Tree<Item>, first: usize) -> Result<(), Fault>
         requires can_ask { IfSome self.old.callback F.can_ask }
         requires ready { CanResolve self.old.text.now (tables_of self.old.tables) tree.old.nodes (Some first) }
@@ -355,7 +355,7 @@ impl<'a, F: BrokenLinkCallback<'a>> Resolver<'a, F> {
             first tree.old tree.new self.old.tables self.new.tables self.old.limit self.new.limit
             self.old.callback self.new.callback self.old.work self.new.work) }
 
-        // a refusal, and what holds whatever comes
+        // on an error, and in any case
         ensures refused { IfErr result (λ fault. fault ≡ Fault.Memory) }
         ensures stops { IfErr result (λ _. StopsIn F.answers
             (setting_of self.old.text.now (rules_from self.old.options self.old.tables (is_some self.old.callback)))
@@ -366,7 +366,7 @@ impl<'a, F: BrokenLinkCallback<'a>> Resolver<'a, F> {
         ensures options { self.new.options ≡ self.old.options }
         ensures definitions { self.new.tables.refdefs ≡ self.old.tables.refdefs }
     {
-        // bounds the counts
+        // reading the counts shows that they fit their type
         let _delimiters = self.work.delimiters;
         let _examined = self.work.examined;
         self.read_chain(tree, first)?;

@@ -6,7 +6,7 @@ ghost use Rattle.markdown_resolver.specs.Settling.{becomes_text, settled_at};
 use markdown_base::item::{Item, ItemBody};
 use markdown_base::tree::Tree;
 
-/// Whether pairing decides on it: a run's character, or a quote.
+/// Returns whether pairing decides about the item: it is a character of a delimiter run, or a quotation mark.
 fn waits_for_pairing(body: ItemBody) -> bool
     ensures { result ≡ waits_for_pairing body }
 {
@@ -16,14 +16,15 @@ fn waits_for_pairing(body: ItemBody) -> bool
     }
 }
 
-/// Whether it is a Text where nothing is found: it is open, and does not wait for pairing.
+/// Returns whether the item becomes a Text where nothing is found: it is open, and does not wait for pairing.
 fn becomes_text(body: ItemBody) -> bool
     ensures { result ≡ becomes_text body }
 {
     body.is_open() && !waits_for_pairing(body)
 }
 
-/// Settles the item of a node at which nothing is found: a Text over its range, where it becomes one.
+/// Settles the item of a node at which nothing is found: it becomes a Text over its range, if it is open and does not
+/// wait for pairing.
 pub(crate) fn settle_node(tree: &mut Tree<Item>, ix: usize)
     requires { ix < length tree.old.nodes }
     ensures { tree.new ≡ record tree.old { nodes = settled_at ix tree.old.nodes } }

@@ -1,4 +1,4 @@
-//! Code spans and math spans in a chain, where it stands.
+//! Code spans and math spans in a chain, read in place.
 ghost use Rattle.std.specs.Prelude.{◌≡◌, ◌<◌, ℕ, Bool, true, List, Some, IfErr, IfOk, length, slice_range};
 ghost use Rattle.std.specs.Option.{option_map_or};
 ghost use Rattle.markdown_base.specs.Arena.{sibling_of};
@@ -37,7 +37,7 @@ use markdown_spans::span_closers::SpanClosers;
 use markdown_spans::span_text::{SpanKind, span_text};
 use std::alloc::Global;
 
-/// The text of a span that stands from a byte to another.
+/// Returns the text of a span whose content is from byte offset `start` to `end`. The only error is `Fault::Memory`.
 fn text_between<'a>(
     alloc: Global,
     tree: &Tree<Item>,
@@ -67,7 +67,8 @@ fn text_between<'a>(
     )?)
 }
 
-/// Puts in the text of a span that stands from a byte to another, and gives its number.
+/// Appends the text of a span, whose content is from byte offset `start` to `end`, to the table of texts, and returns
+/// its number. The only error is `Fault::Memory`.
 fn store_text<'a>(
     alloc: Global,
     tree: &Tree<Item>,
@@ -86,14 +87,14 @@ fn store_text<'a>(
         → text_at tables.new.cows cow.0 ≡ text_between (setting_of place.now.text.now rules)
         (above_cursor place.now.text.now tree.now) kind start end) }
 
-    // whatever comes
+    // on success and on error
     ensures tables { tables.new ≡ record tables.old { cows = tables.new.cows } }
     ensures refused { IfErr result (λ fault. fault ≡ Fault.Memory) }
 {
     tables.allocate_cow(text_between(alloc, tree, place, kind, start, end)?)
 }
 
-/// Where the item of a node ends.
+/// Returns the byte offset at which the item of a node ends.
 fn end_of(tree: &Tree<Item>, ix: usize) -> usize
     requires { ix < length tree.now.nodes }
     ensures { result ≡ (item_at tree.now.nodes ix).end }
@@ -101,8 +102,9 @@ fn end_of(tree: &Tree<Item>, ix: usize) -> usize
     tree.item(ix).end
 }
 
-/// Puts a code span into the node of its opener, or, where a backslash stands before that, its first backtick as a
-/// Text; then the span begins after it, and takes the closer's node. The link at which the chain goes on.
+/// Puts a code span into the node of its opener. Where the opener's first backtick is escaped, that backtick becomes a
+/// Text in this node, and the span, which begins after it, goes into the closer's node. Returns the node at which the
+/// chain continues.
 fn put_code(tree: &mut Tree<Item>, ix: usize, closer: usize, body: ItemBody) -> Option<usize>
     requires { (source : List ℕ) × (tables : Tables) × (tables' : Tables)
         × CanPutCode source tables tables' tree.old.nodes ix closer body }
@@ -141,21 +143,22 @@ fn put_code(tree: &mut Tree<Item>, ix: usize, closer: usize, body: ItemBody) -> 
     put_pair(tree, ix, backtick, closer, span)
 }
 
-/// Whether the first backtick of an opener is escaped.
+/// Returns whether the first backtick of an opener is escaped.
 fn is_escaped(body: ItemBody) -> bool
     ensures { result ≡ is_escaped body }
 {
     matches!(body, ItemBody::MaybeCode(_, true))
 }
 
-/// Whether it is a `$`.
+/// Returns whether the item is a `$`.
 fn is_dollar(body: ItemBody) -> bool
     ensures { result ≡ is_dollar body }
 {
     matches!(body, ItemBody::MaybeMath(_, _, _))
 }
 
-/// Where the text of a math span starts: after its opener, or after both where the next item is a `$` too.
+/// Returns the byte offset at which the text of a math span starts: after its opener, or after both where the next item
+/// is a `$` too.
 fn math_text_start(tree: &Tree<Item>, ix: usize) -> usize
     requires { HasChain tree.now.nodes (Some ix) }
     ensures { result ≡ option_map_or (λ second. (item_at tree.now.nodes second).end)
@@ -167,8 +170,9 @@ fn math_text_start(tree: &Tree<Item>, ix: usize) -> usize
     }
 }
 
-/// Reads a backtick run: a code span, if an item closes it, which goes on at what follows that; else a Text. Where a
-/// backslash stands before it, its first backtick is a Text, and the span takes the closer's node.
+/// Reads a backtick run: a code span (CommonMark 6.1), if an item closes it, and otherwise a Text. Where a backslash
+/// precedes the run, its first backtick becomes a Text, and the span goes into the closer's node. Returns the node at
+/// which the chain continues. The only error is `Fault::Memory`.
 pub(crate) fn read_code<'a>(
     alloc: Global,
     tree: &mut Tree<Item>,
@@ -190,7 +194,7 @@ pub(crate) fn read_code<'a>(
         (items_from tree.old.nodes (Some ix)) (items_from tree.new.nodes next)) }
     ensures place { IfOk result (λ _. tree.new ≡ record tree.old { nodes = tree.new.nodes }) }
 
-    // whatever comes
+    // on success and on error
     ensures tables { tables.new ≡ record tables.old { cows = tables.new.cows } }
     ensures refused { IfErr result (λ fault. fault ≡ Fault.Memory) }
 {
@@ -211,7 +215,8 @@ pub(crate) fn read_code<'a>(
     Ok(put_code(tree, ix, closer, ItemBody::Code(cow)))
 }
 
-/// Reads a `$`: a math span, if something closes it, which goes on at what follows that; else a Text.
+/// Reads a `$`: a math span, if an item closes it, and otherwise a Text. Returns the node at which the chain continues.
+/// The only error is `Fault::Memory`.
 pub(crate) fn read_math<'a>(
     alloc: Global,
     tree: &mut Tree<Item>,
@@ -232,7 +237,7 @@ pub(crate) fn read_math<'a>(
         (items_from tree.old.nodes (Some ix)) (items_from tree.new.nodes next)) }
     ensures place { IfOk result (λ _. tree.new ≡ record tree.old { nodes = tree.new.nodes }) }
 
-    // whatever comes
+    // on success and on error
     ensures tables { tables.new ≡ record tables.old { cows = tables.new.cows } }
     ensures refused { IfErr result (λ fault. fault ≡ Fault.Memory) }
 {

@@ -1,4 +1,4 @@
--- One paragraph more is tight, or the node is none.
+-- One more paragraph is tight, or the node is not a paragraph.
 use Rattle.std.proofs.Common.{◌≡◌, sym, ap, ◌∙◌, subst, refl}
 use Rattle.markdown_base.specs.declared.item.Item.{Item}
 use Rattle.markdown_base.specs.Arena.{Arena}

@@ -1,4 +1,5 @@
--- Some paragraphs were made tight, and the others stand in the items from the link on, which leads to ever larger numbers.
+-- Some paragraphs were made tight, and the others stand in the items from the link on, which leads to ever larger
+-- numbers.
 use Rattle.std.proofs.Common.{length}
 use Rattle.markdown_base.specs.Arena.{Arena}
 use Rattle.markdown_base.specs.declared.item.Item.{Item}

@@ -1,4 +1,4 @@
--- A text that an item names is read and taken at once; other texts are slices of the source.
+-- A text that an item refers to is read and taken at once; other texts are slices of the source.
 use Rattle.markdown_base.specs.declared.event.Event.TheVariants as step
 use Rattle.std.proofs.Common.{[], ◌∷◌, refl}
 use Rattle.markdown_base.specs.Event.{text, code, html, inline_html, footnote_reference}

@@ -1,4 +1,4 @@
--- A text, a link or alignments that a Start names are read and taken at once.
+-- A text, a link or alignments that a Start refers to are read and taken at once.
 use Rattle.std.proofs.Common.{refl, sym, ap}
 use Rattle.markdown_document.specs.Document.{container_of, enclosed}
 use Rattle.markdown_document.specs.Tables.{tables_of}

@@ -1,4 +1,4 @@
--- The node gone into last ends, and the walk goes on after it.
+-- The node that was entered last ends, and the walk continues after it.
 use Rattle.std.proofs.Common.{[]}
 use Rattle.markdown_base.specs.BlockTree.{no_item}
 use Rattle.markdown_inline.proofs.WalkStepsLemmas.{went_out_end, went_out_plain}

@@ -1,4 +1,4 @@
--- No block is open when what is left of the text is gone over.
+-- No block is open when the rest of the text is skipped.
 use Rattle.markdown_plain.proofs.block_pass.place_all.Goals as goal
 
 pub step_to_end-requires : goal.step_to_end-requires

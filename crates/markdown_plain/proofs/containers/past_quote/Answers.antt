@@ -1,4 +1,4 @@
--- Behind the marker stands what is left there.
+-- The rest of the line is what follows the marker.
 use Rattle.std.proofs.Common.{◌≡◌, ℕ, ◌<◌, List, true, length, slice_range, codes, arith, ap, refl, sym, ◌∙◌}
 use Rattle.markdown_scan.specs.Beginnings.{begins_with}
 use Rattle.markdown_scan.specs.LineStart.{space}

@@ -1,4 +1,4 @@
--- The next block is a leaf, ends, or goes on.
+-- The next block is a leaf, ends, or continues.
 use Rattle.std.proofs.Common.{◌+◌, ◌∙◌, drop, sym, ap}
 use Rattle.markdown_lines.specs.Places.{left_from}
 use Rattle.markdown_plain.specs.Containers.{Reach, reach_from, reach_of}

@@ -1,4 +1,4 @@
--- The text stays, and nothing but the place changes: it is behind the lines that are taken.
+-- The text stays, and nothing but the current byte offset changes: it is after the lines that are taken.
 use Rattle.std.proofs.Common.{◌≡◌, ◌<◌, ◌≤◌, length}
 use Rattle.markdown_plain.specs.Fitting.{IfFitted, stepped}
 use Rattle.markdown_plain.specs.Paragraphs.{end_of}

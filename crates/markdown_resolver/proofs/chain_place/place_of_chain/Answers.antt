@@ -1,4 +1,4 @@
--- Each node gone into is read in turn.
+-- Each node that was entered is read in turn.
 use Rattle.std.proofs.Common.{◌≡◌, ◌<◌, ℕ, List, get_or, length, sym, ◌∙◌, ap, refl, arith}
 use Rattle.markdown_base.specs.BlockTree.{item_at, no_item}
 use Rattle.markdown_resolver.proofs.ChainPlaceLemmas.{nothing_read, block_read, other_read, all_above_read, has_blocks}

@@ -1,4 +1,4 @@
--- A settled item stands for what was read.
+-- A settled item replaces what was read.
 use Rattle.std.proofs.Common.{◌≡◌, ap}
 use Rattle.markdown_resolver.specs.Settling.{settled_at}
 use Rattle.markdown_resolver.proofs.SettlingLemmas.{node_within, settle_puts}

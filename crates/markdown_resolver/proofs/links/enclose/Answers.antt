@@ -1,4 +1,4 @@
--- Three writes put what stands inside below the opener.
+-- Three writes put what is inside below the opener.
 use Rattle.std.proofs.Common.{None}
 use Rattle.markdown_resolver.proofs.EncloseLemmas.{enclosed_tree, size_next, size_child}
 use Rattle.markdown_resolver.proofs.links.enclose.Goals as goal

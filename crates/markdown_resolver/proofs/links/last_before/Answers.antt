@@ -1,4 +1,4 @@
--- Each node that is passed stands inside, until the closer follows.
+-- Each node that is passed is inside, until the closer follows.
 use Rattle.std.proofs.Common.{sym, ◌∙◌}
 use Rattle.markdown_base.specs.Arena.{sibling_of}
 use Rattle.markdown_resolver.proofs.LastInsideLemmas.{ahead_first, ahead_here, ahead_next, ahead_none, first_spelled}

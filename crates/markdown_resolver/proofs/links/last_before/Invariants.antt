@@ -1,4 +1,4 @@
--- The closer stands ahead, behind the rest of the nodes inside.
+-- The closer is ahead, after the rest of the nodes inside.
 use Rattle.std.proofs.Common.{◌<◌, ℕ, List, length}
 use Rattle.markdown_base.specs.Arena.{sibling_of}
 use Rattle.markdown_base.specs.ArenaForest.{Spells, forest_at, links_of}

@@ -1,4 +1,4 @@
--- A link is put into the node of its opener, over what stands inside.
+-- A link is put into the node of its opener, over what is inside.
 use Rattle.std.proofs.Common.{◌≡◌, ap}
 use Rattle.markdown_resolver.specs.Settling.{begun_from}
 use Rattle.markdown_resolver.proofs.EncloseLemmas.{are_within, closer_spelled}

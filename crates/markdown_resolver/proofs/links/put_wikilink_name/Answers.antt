@@ -1,4 +1,4 @@
--- A wikilink is put into the node of its opener, with a Text over its name below it.
+-- A wikilink is put into the node of its opener, with a Text for its name below it.
 use Rattle.std.proofs.Common.{◌≡◌, None, Some, ap}
 use Rattle.markdown_resolver.specs.Settling.{begun_from}
 use Rattle.markdown_resolver.proofs.EncloseLemmas.{size_child}

@@ -1,4 +1,4 @@
--- What is put stands for what was found, in each of its three forms.
+-- What is put replaces what was found, in each of its three forms.
 use Rattle.std.proofs.Common.{ℕ, List, Option, Some, None, sym, subst}
 use Rattle.std.specs.Prelude.{string_bytes}
 use Rattle.markdown_base.specs.declared.item.Item.{Item}
@@ -18,7 +18,7 @@ use Rattle.markdown_resolver.proofs.MarkupItemLemmas.{can_put_html, can_put_owne
 use Rattle.markdown_resolver.proofs.MarkupLemmas.{if_ok}
 use Rattle.markdown_resolver.proofs.markup.put_markup.Goals as goal
 
--- what stands there if it was found there
+-- what is put there if it was found there
 abbrev StandsFor : List ℕ → Rules → (tables tables' : Tables) → (old new : List (Node Item)) → (ix : ℕ) → Option ℕ → MarkupFound → Type 0
 StandsFor source rules tables tables' old new ix next found =
     IsMarkupAt source tables old ix (markup_of found)

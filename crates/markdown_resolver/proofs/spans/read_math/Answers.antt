@@ -1,4 +1,4 @@
--- Reading a `$`: what the searches and the writes say of it is what the lemmas on math spans ask.
+-- Reading a `$`: the contracts of the searches and the writes give what the lemmas on math spans require.
 use Rattle.std.proofs.Common.{◌≡◌, Some, None, ap, ◌∙◌, subst}
 use Rattle.markdown_base.specs.BlockTree.{item_at, no_item}
 use Rattle.markdown_base.specs.declared.item.Item.{Item}

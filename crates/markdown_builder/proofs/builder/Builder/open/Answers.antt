@@ -1,4 +1,4 @@
--- The block is gone into, or stands alone.
+-- The block is entered, or was only appended.
 use Rattle.std.proofs.Common.{ap}
 use Rattle.markdown_builder.specs.Standing.{standpoint}
 use Rattle.markdown_builder.proofs.CallLemmas.{open_keeps, open_refused}

@@ -1,4 +1,4 @@
--- The block is gone into, or stands alone, or only its text was kept.
+-- The block is entered, or was only appended, or only its text was kept.
 use Rattle.std.proofs.Common.{ap, refl}
 use Rattle.markdown_base.specs.declared.item.ItemBody.TheVariants as body
 use Rattle.markdown_builder.specs.Standing.{standpoint}

@@ -1,4 +1,4 @@
--- The heading is gone into, or stands alone.
+-- The heading is entered, or was only appended.
 use Rattle.std.proofs.Common.{◌≡◌, ◌+◌, Some, length, refl, ap, ◌∙◌, arith}
 use Rattle.std.proofs.lemmas.List.{length-append}
 use Rattle.markdown_base.specs.declared.index.HeadingIndex.{HeadingIndex}

@@ -1,4 +1,4 @@
--- The table is gone into, or stands alone.
+-- The table is entered, or was only appended.
 use Rattle.std.proofs.Common.{◌≡◌, ◌+◌, length, refl, ap, ◌∙◌, arith}
 use Rattle.std.proofs.lemmas.List.{length-append}
 use Rattle.markdown_base.specs.declared.index.AlignmentIndex.{AlignmentIndex}

@@ -1,4 +1,4 @@
--- The walk has gone on from where it stood, and has given nothing.
+-- The walk has gone on from where it was, and has given nothing.
 use Rattle.std.specs.Prelude.{IfSome}
 use Rattle.markdown_inline.specs.ParserLeft.{parser_callback, parser_steps}
 use Rattle.markdown_inline.specs.Moves.{HasGone}

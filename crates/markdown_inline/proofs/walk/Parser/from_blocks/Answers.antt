@@ -1,4 +1,4 @@
--- A parser of a block result stands before its first block, and all of its reading is left.
+-- A parser of a block result is before its first block, and all of its reading is left.
 use Rattle.std.proofs.Common.{ℕ, List, length, max, refl, ap, ◌∙◌}
 use Rattle.markdown_defs.specs.Allocations.{HoldsParts}
 use Rattle.markdown_inline.proofs.StartLemmas.{starts_stands, starts_left, tables_held}

@@ -1,4 +1,4 @@
--- What a parser keeps says it.
+-- The invariant of a parser says it.
 use Rattle.markdown_document.specs.Tables.{tables_of}
 use Rattle.markdown_inline.proofs.OneForestLemmas.{one_forest}
 use Rattle.markdown_inline.proofs.walk.Parser.reads_one_forest.Goals as goal

@@ -1,4 +1,4 @@
--- A turn closes the innermost block, which is none of the outermost ones that stay.
+-- A turn closes the innermost block, which is not one of the outermost blocks that stay.
 use Rattle.std.proofs.Common.{◌∙◌, ◌<◌, ap, length, take, arith, rules}
 use Rattle.markdown_builder.specs.BuilderView.{BuilderView}
 use Rattle.markdown_plain.proofs.OpenBlocksLemmas.{length_of_outer, take_of_outer}

@@ -1,4 +1,4 @@
--- The part of the line in which the marker was found, and the place behind it.
+-- The part of the line in which the marker was found, and the place after it.
 use Rattle.std.proofs.Common.{◌∙◌, sym, ap, arith}
 use Rattle.std.specs.Option.{option_map}
 use Rattle.markdown_base.specs.CowText.{text_of}

@@ -1,4 +1,4 @@
--- Behind the marker and the space that follows it stands what is left there.
+-- The rest of the line is what follows the marker and the space after it.
 use Rattle.std.proofs.Common.{◌∙◌, arith}
 use Rattle.markdown_plain.proofs.ContainersLemmas.{past_bytes_is, past_item_is}
 use Rattle.markdown_plain.proofs.pass.Pass.open_item.Goals as goal

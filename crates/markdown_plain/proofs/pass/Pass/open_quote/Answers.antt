@@ -1,4 +1,4 @@
--- Behind the marker stands what is left there.
+-- The rest of the line is what follows the marker.
 use Rattle.std.proofs.Common.{◌∙◌, arith}
 use Rattle.markdown_plain.proofs.ContainersLemmas.{past_byte_is, past_marker_is}
 use Rattle.markdown_plain.proofs.pass.Pass.open_quote.Goals as goal

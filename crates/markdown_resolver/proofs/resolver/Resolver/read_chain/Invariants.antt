@@ -1,4 +1,4 @@
--- What was read so far of a chain, and what is so of the rest.
+-- What was read so far of a chain, and what is true of the rest.
 use Rattle.std.specs.Prelude.{◌≡◌, ℕ, ◌+◌, ◌-◌, ◌^◌, List, min, IfSome, Some, is_some, take}
 use Rattle.markdown_document.specs.Setting.{rules_from, setting_of}
 use Rattle.markdown_document.specs.Stages.{items_from}

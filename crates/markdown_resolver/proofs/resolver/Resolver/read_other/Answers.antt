@@ -1,4 +1,4 @@
--- What each kind of item is read by hands on; at any other nothing is found.
+-- Each kind of item is read by its own function; at any other item nothing is found.
 use Rattle.std.proofs.Common.{ℕ, Option, Some, refl, sym, ap, ◌∙◌, subst, arith}
 use Rattle.std.specs.Prelude.{Result, Ok, is_some}
 use Rattle.markdown_base.specs.BlockTree.{no_item}
