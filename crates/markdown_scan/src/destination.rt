@@ -2,6 +2,9 @@
 ghost use Rattle.std.specs.Prelude.{◌≡◌, ◌==◌, ◌≤◌, ◌<◌, ◌+◌, ◌^◌, false, IfSome, IsTrue, drop, length, slice_index};
 ghost use Rattle.std.specs.Option.{option_map};
 ghost use Rattle.std.specs.Str.{IsCharBoundary};
+ghost use Rattle.std.specs.Prelude.{◌≢◌, true};
+ghost use Rattle.markdown_base.specs.Bytes.{backslash, close_parenthesis, open_parenthesis};
+ghost use Rattle.markdown_scan.specs.AsciiKinds.{is_control_or_space};
 ghost use Rattle.markdown_scan.specs.Destination as destination;
 
 use crate::ascii_kinds::is_control_or_space;
@@ -66,6 +69,17 @@ fn is_too_deep(max_nesting: usize, escaped: bool, opened: usize, byte: u8) -> bo
     is_bare(escaped, byte, b'(') && max_nesting < opened
 }
 
+// Whether a byte surely neither ends a destination in no brackets nor opens, closes or escapes anything in it: most
+// bytes, which then need no other test.
+#[inline(always)]
+fn is_ordinary(byte: u8) -> bool
+    ensures shown { result ≡ true → is_control_or_space byte ≡ false }
+    ensures no_parenthesis { result ≡ true → (byte ≢ open_parenthesis) × (byte ≢ close_parenthesis) }
+    ensures no_backslash { result ≡ true → byte ≢ backslash }
+{
+    byte > b' ' && byte < 0x7f && byte != b'(' && byte != b')' && byte != b'\\'
+}
+
 // The bytes of a destination in no brackets.
 fn bare_length(bytes: &[u8], max_nesting: usize) -> Option<usize>
     ensures value { result ≡ destination.bare_length max_nesting false 0 bytes.now }
@@ -78,6 +92,12 @@ fn bare_length(bytes: &[u8], max_nesting: usize) -> Option<usize>
     let mut opened = 0;
     while let Some((first, tail)) = rest.split_first() {
         let byte = *first;
+        if is_ordinary(byte) {
+            escaped = false;
+            rest = tail;
+            at += 1;
+            continue;
+        }
         if is_past_bare(escaped, opened, byte) {
             break;
         }
