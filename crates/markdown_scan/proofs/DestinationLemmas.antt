@@ -1,9 +1,11 @@
 -- Steps of the scanner of a destination: the length of the whole is the number of bytes before an offset and the length
 -- of the rest.
-use Rattle.std.proofs.Common.{◌≡◌, ℕ, ◌+◌, List, ◌∷◌, Bool, false, Option, Some, None, drop, refl, ◌∙◌, ap, arith}
+use Rattle.std.proofs.Common.{◌≡◌, ◌≢◌, ℕ, ◌+◌, List, ◌∷◌, Bool, true, false, Option, Some, None, drop, refl, ◌∙◌, ap, arith}
 use Rattle.std.specs.Option.{option_map}
+use Rattle.std.proofs.lemmas.Bool.{ne_eqb}
 use Rattle.std.proofs.lemmas.List.{drop-drop}
-use Rattle.markdown_base.specs.Bytes.{backslash}
+use Rattle.markdown_base.specs.Bytes.{backslash, close_parenthesis, open_parenthesis}
+use Rattle.markdown_scan.specs.AsciiKinds.{is_control_or_space}
 use Rattle.markdown_scan.specs.Backslash.{is_bare}
 use Rattle.markdown_scan.specs.Destination.{angle_length, is_refused, bare_length, is_past_bare, is_too_deep, open_after}
 
@@ -31,3 +33,20 @@ pub bare_step : (max_nesting : ℕ) (whole : Option ℕ) (escaped : Bool) (opene
     → whole ≡ option_map (λ n. at + 1 + n) (bare_length max_nesting (is_bare escaped b backslash) (open_after escaped b opened) tail)
 bare_step max_nesting whole escaped opened at b tail was no_end fits =
     rw (no_end, fits) at was ∙ one_more at (bare_length max_nesting (is_bare escaped b backslash) (open_after escaped b opened) tail)
+
+-- a byte other than a mark is not that mark, escaped or not
+not_bare : (escaped : Bool) (b mark : ℕ) → b ≢ mark → is_bare escaped b mark ≡ false
+not_bare true b mark other = refl
+not_bare false b mark other = ne_eqb b mark other
+
+-- after a byte of a destination without angle brackets that neither ends it nor counts in it
+pub ordinary_step : (max_nesting : ℕ) (whole : Option ℕ) (escaped : Bool) (opened at b : ℕ) (tail : List ℕ)
+    → whole ≡ option_map (λ n. at + n) (bare_length max_nesting escaped opened (b ∷ tail))
+    → is_control_or_space b ≡ false → b ≢ open_parenthesis → b ≢ close_parenthesis → b ≢ backslash
+    → whole ≡ option_map (λ n. at + 1 + n) (bare_length max_nesting false opened tail)
+ordinary_step max_nesting whole escaped opened at b tail was shown opens closes escapes =
+    let no_open = not_bare escaped b open_parenthesis opens in
+    let no_close = not_bare escaped b close_parenthesis closes in
+    let no_escape = not_bare escaped b backslash escapes in
+    rw (no_open, no_close, no_escape) at (bare_step max_nesting whole escaped opened at b tail was
+    (rw (shown, no_close) refl) (rw no_open refl))

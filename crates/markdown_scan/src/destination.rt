@@ -2,6 +2,9 @@
 ghost use Rattle.std.specs.Prelude.{◌≡◌, ◌==◌, ◌≤◌, ◌<◌, ◌+◌, ◌^◌, false, IfSome, IsTrue, drop, length, slice_index};
 ghost use Rattle.std.specs.Option.{option_map};
 ghost use Rattle.std.specs.Str.{IsCharBoundary};
+ghost use Rattle.std.specs.Prelude.{◌≢◌, true};
+ghost use Rattle.markdown_base.specs.Bytes.{backslash, close_parenthesis, open_parenthesis};
+ghost use Rattle.markdown_scan.specs.AsciiKinds.{is_control_or_space};
 ghost use Rattle.markdown_scan.specs.Destination as destination;
 
 use crate::ascii_kinds::is_control_or_space;
@@ -67,6 +70,17 @@ fn is_too_deep(max_nesting: usize, escaped: bool, opened: usize, byte: u8) -> bo
     is_bare(escaped, byte, b'(') && max_nesting < opened
 }
 
+// Returns true only for a byte that neither ends a destination without angle brackets nor opens, closes or escapes
+// anything in it. Most bytes are such, and need no other test.
+#[inline(always)]
+fn is_ordinary(byte: u8) -> bool
+    ensures shown { result ≡ true → is_control_or_space byte ≡ false }
+    ensures no_parenthesis { result ≡ true → (byte ≢ open_parenthesis) × (byte ≢ close_parenthesis) }
+    ensures no_backslash { result ≡ true → byte ≢ backslash }
+{
+    byte > b' ' && byte < 0x7f && byte != b'(' && byte != b')' && byte != b'\\'
+}
+
 // Returns the length in bytes of a destination without angle brackets; `None` if its parentheses are nested too deeply
 // or not balanced.
 fn bare_length(bytes: &[u8], max_nesting: usize) -> Option<usize>
@@ -80,6 +94,12 @@ fn bare_length(bytes: &[u8], max_nesting: usize) -> Option<usize>
     let mut opened = 0;
     while let Some((first, tail)) = rest.split_first() {
         let byte = *first;
+        if is_ordinary(byte) {
+            escaped = false;
+            rest = tail;
+            at += 1;
+            continue;
+        }
         if is_past_bare(escaped, opened, byte) {
             break;
         }

@@ -1,6 +1,7 @@
 //! Backslash escapes (CommonMark 2.4) and entities (2.5) in a text, replaced by their characters.
 ghost use Rattle.std.specs.Prelude.{◌≡◌, ◌≢◌, ◌<◌, ◌≤◌, ◌++◌, IfNone, IfOk, IfSome, IsOk, encode_utf8, length};
-ghost use Rattle.std.specs.Prelude.{string_bytes};
+ghost use Rattle.std.specs.Prelude.{slice_index, string_bytes};
+ghost use Rattle.markdown_base.specs.Bytes.{backslash};
 ghost use Rattle.markdown_base.specs.CowText.{text_of, IsBorrowed};
 ghost use Rattle.markdown_scan.specs.Unescape.{reference, unescaped};
 
@@ -8,8 +9,9 @@ use crate::entity::scan_entity;
 use markdown_base::cow_str::CowStr;
 use std::alloc::{AllocError, Global};
 
-/// Reads the escape or entity that the bytes begin with, and returns its length in bytes and its character.
-fn scan_reference(bytes: &[u8], in_table: bool) -> Option<(usize, char)>
+/// Reads the escape that the bytes begin with, and returns its length in bytes and its character.
+fn scan_escape(bytes: &[u8], in_table: bool) -> Option<(usize, char)>
+    requires { slice_index bytes.now 0 ≡ backslash }
     ensures value { result ≡ reference in_table bytes.now }
     ensures within { IfSome result (λ found. found.0 ≤ length bytes.now) }
 {
@@ -17,9 +19,22 @@ fn scan_reference(bytes: &[u8], in_table: bool) -> Option<(usize, char)>
         return Some((3, '|'));
     }
     match bytes {
-        [b'\\', mark, ..] if mark.is_ascii_punctuation() => Some((2, char::from(*mark))),
-        [b'\\', ..] => None,
-        _ => scan_entity(bytes),
+        [_, mark, ..] if mark.is_ascii_punctuation() => Some((2, char::from(*mark))),
+        _ => None,
+    }
+}
+
+/// Reads the escape or entity that the bytes begin with, and returns its length in bytes and its character. The first
+/// byte tells that most bytes begin none.
+#[inline]
+fn scan_reference(bytes: &[u8], in_table: bool) -> Option<(usize, char)>
+    ensures value { result ≡ reference in_table bytes.now }
+    ensures within { IfSome result (λ found. found.0 ≤ length bytes.now) }
+{
+    match bytes {
+        [b'\\', ..] => scan_escape(bytes, in_table),
+        [b'&', ..] => scan_entity(bytes),
+        _ => None,
     }
 }
 
