@@ -1,11 +1,12 @@
 -- What is written at an opener and its `]` comes to what was looked up, or counted.
-use Rattle.std.proofs.Common.{◌≡◌, ℕ, ◌++◌, Bool, true, false, List, [], Option, Some, None, is_some, refl, sym, ◌∙◌, ap, subst, append-nil}
+use Rattle.std.proofs.Common.{◌≡◌, ℕ, ◌++◌, Bool, true, false, List, [], ◌∷◌, Option, Some, None, is_some, refl, sym, ◌∙◌, ap, subst, append-nil}
 use Rattle.std.specs.Option.{option_map}
-use Rattle.std.specs.Prelude.{if◌then◌else◌}
+use Rattle.std.specs.Prelude.{IfSome, ◌==◌, if◌then◌else◌}
 use Rattle.markdown_base.specs.Event.{LinkView}
 use Rattle.markdown_base.specs.Questions.{Question, Answer, Answers}
 use Rattle.markdown_base.specs.declared.tag.LinkType.{LinkType}
 use Rattle.markdown_base.specs.declared.tag.LinkType.TheVariants as kind
+use Rattle.markdown_document.specs.Origins.{origin_of}
 use Rattle.markdown_document.specs.Setting.{uses_of}
 use Rattle.markdown_defs.specs.Folding.{is_match}
 use Rattle.markdown_defs.specs.Footnotes.{footnote_at}
@@ -24,16 +25,20 @@ use Rattle.markdown_base.specs.declared.cow_str.CowStr.{CowStr}
 use Rattle.markdown_document.specs.ChainRest.{start_of}
 use Rattle.markdown_defs.specs.Definitions.{Labelled}
 use Rattle.markdown_brackets.specs.BracketDecision as decision
+use Rattle.markdown_base.specs.declared.block_parts.LinkDef.{LinkDef}
+use Rattle.markdown_defs.specs.Definitions as definitions
 use Rattle.markdown_brackets.specs.DecisionView.{ComesTo, IsBecome, IsFootnoteOr, IsLinkOr, knowing, opener_of, spent_in}
 use Rattle.markdown_brackets.specs.LinkTailView.{IsTail}
 use Rattle.markdown_brackets.specs.WrittenView.{IsRead}
 use Rattle.markdown_brackets.specs.declared.link_tail.LinkTail.{LinkTail}
+use Rattle.markdown_brackets.specs.declared.look_up.Target.{Target}
 use Rattle.markdown_brackets.specs.declared.openers.Opener.{Opener}
 use Rattle.markdown_brackets.specs.declared.written.Written.TheVariants.{Nothing, Inline, Label, Footnote}
 use Rattle.markdown_brackets.specs.LeftList.{Split}
 use Rattle.markdown_brackets.specs.LinkTail as scanned
-use Rattle.markdown_brackets.specs.Lookup.{LookedUp}
+use Rattle.markdown_brackets.specs.Lookup.{LookedUp, answered, asked, defined_or_asked, finds_nothing, look_up, unknown}
 use Rattle.markdown_brackets.specs.LookupView.{LooksUp, question}
+use Rattle.markdown_brackets.specs.TitleOrigin.{IsLookedUp, IsTitleFrom, TargetIsFrom}
 use Rattle.markdown_brackets.specs.declared.closing_bracket.ClosedBracket.{ClosedBracket}
 use Rattle.markdown_brackets.specs.declared.closing_bracket.ClosedBracket.TheVariants.{Text, Link, Footnote as ClosedFootnote, Wikilinked}
 
@@ -42,6 +47,51 @@ spent_grows : (link_type : LinkType) (end : ℕ) (spent : List ℕ) → spent_by
 spent_grows kind.Inline end spent = refl
 spent_grows kind.Reference end spent = refl
 spent_grows other end spent = refl
+
+-- a link that was looked up is no inline link
+unknown_looked_up : (link_type : LinkType) → IsLookedUp link_type → IsLookedUp (unknown link_type)
+unknown_looked_up kind.Inline h = h
+unknown_looked_up kind.Reference h = tt
+unknown_looked_up kind.Collapsed h = tt
+unknown_looked_up kind.Shortcut h = tt
+unknown_looked_up other h = h
+
+abbrev IsNoInline : Option LinkView → Type 0
+IsNoInline target = IfSome target (λ t. IsLookedUp t.kind)
+
+none_inline : (defined : List Labelled) (asks : Bool) (limit : ℕ) (answers : Answers) (q : Question) → IsLookedUp q.link_type
+    → IsNoInline (look_up defined asks limit answers q).target
+none_inline defined asks limit answers q h = by_limit (limit == 0)
+  where
+    by_answer : (later : Answers) (a : Option Answer) → IsNoInline (answered limit later q a).target
+    by_answer later None = tt
+    by_answer later (Some a) = unknown_looked_up q.link_type h
+
+    by_answers : (all : Answers) → IsNoInline (asked limit all q).target
+    by_answers [] = by_answer [] None
+    by_answers (a ∷ later) = by_answer later a
+
+    by_asking : (asking : Bool) → IsNoInline (if asking then asked limit answers q else finds_nothing limit answers []).target
+    by_asking true = by_answers answers
+    by_asking false = tt
+
+    by_definition : (d : Option LinkDef) → IsNoInline (defined_or_asked asks limit answers q d).target
+    by_definition None = by_asking asks
+    by_definition (Some d) = h
+
+    by_limit : (none : Bool)
+        → IsNoInline (if none then finds_nothing limit answers [] else defined_or_asked asks limit answers q
+        (definitions.look_up q.reference defined)).target
+    by_limit true = tt
+    by_limit false = by_definition (definitions.look_up q.reference defined)
+
+-- so nothing is said of its title
+none_from : (source : List ℕ) (target : Target) → IsLookedUp target.link_type → TargetIsFrom source target
+none_from source target h = by target.link_type h
+  where
+    by : (link_type : LinkType) → IsLookedUp link_type → IsTitleFrom source link_type (origin_of target.title) (text_of target.title)
+    by kind.Inline h = absurd h
+    by other h = tt
 
 module _ {C : Type 0} (step : C → Question → Option Answer → C → Type 0) (w : Around) (o : Split ℕ) (limit : ℕ) (uses : List ℕ
     → ℕ) (callback : Option C) where
@@ -83,24 +133,30 @@ module _ {C : Type 0} (step : C → Question → Option Answer → C → Type 0)
   link_or_text end next (Some target) = a_link o target end next
 
   is_link_or_text : (end next : ℕ) (target : Option LinkView) (found : ClosedBracket) → IsLinkOr (opener_of o) end next target found
-      → IsBecome w (link_or_text end next target) found
-  is_link_or_text end next None Text is = tt
-  is_link_or_text end next None (Link a b c d) is = absurd is
-  is_link_or_text end next None (ClosedFootnote a b) is = absurd is
-  is_link_or_text end next None (Wikilinked a b c d e) is = absurd is
-  is_link_or_text end next (Some target) Text is = absurd is
-  is_link_or_text end next (Some target) (Link a b c d) is = is
-  is_link_or_text end next (Some target) (ClosedFootnote a b) is = absurd is
-  is_link_or_text end next (Some target) (Wikilinked a b c d e) is = absurd is
+      → IsNoInline target → IsBecome w (link_or_text end next target) found
+  is_link_or_text end next None Text is h = tt
+  is_link_or_text end next None (Link a b c d) is h = absurd is
+  is_link_or_text end next None (ClosedFootnote a b) is h = absurd is
+  is_link_or_text end next None (Wikilinked a b c d e) is h = absurd is
+  is_link_or_text end next (Some target) Text is h = absurd is
+  is_link_or_text end next (Some target) (Link a b c d) is h = (
+    is.0,
+    is.1,
+    is.2,
+    is.3,
+    none_from w.setting.text b (subst (λ (v : LinkView). IsLookedUp v.kind) (sym is.1) h),
+  )
+  is_link_or_text end next (Some target) (ClosedFootnote a b) is h = absurd is
+  is_link_or_text end next (Some target) (Wikilinked a b c d e) is h = absurd is
 
   pub comes_to_reference : (link_type : LinkType) (label : List ℕ) (end next limit' : ℕ) (callback' : Option C) (target : Option LinkView)
       (found : ClosedBracket)
       → LooksUp step w.setting.rules.definitions w.setting.rules.asks (question_at o link_type label end) limit limit' callback callback'
       target
-      → IsLinkOr (opener_of o) end next target found
+      → IsLinkOr (opener_of o) end next target found → IsLookedUp link_type
       → ComesTo step w (tried w o (link_label link_type label end next)) (spent_by link_type end []) limit limit' uses uses callback
       callback' found
-  comes_to_reference link_type label end next limit' callback' target found looks is = record {
+  comes_to_reference link_type label end next limit' callback' target found looks is kind = record {
     answers = looks.answers;
     questions = looks.questions;
     asked = looks.asked;
@@ -115,7 +171,8 @@ module _ {C : Type 0} (step : C → Question → Option Answer → C → Type 0)
               record (knowing limit' later uses p) { spent = spent; asked = p.asked ++ looks.questions };
         } in d)
         (spent_grows link_type end p.spent));
-    is = is_link_or_text end next target found is;
+    is = is_link_or_text end next target found is (subst (λ (f : LookedUp). IsNoInline f.target) (looks.finds [])
+        (none_inline w.setting.rules.definitions w.setting.rules.asks limit (looks.answers ++ []) (question_at o link_type label end) kind));
   }
     where
       by : (target : Option LinkView) (p : Progress ℕ) (later : Answers)
@@ -214,17 +271,17 @@ module _ {C : Type 0} (step : C → Question → Option Answer → C → Type 0)
       → w.setting.rules.definitions ≡ definitions → w.setting.rules.asks ≡ asks → opener ≡ opener_of o → start_of o.opener ≡ start
       → LooksUp step definitions asks (question (record { start = start; end = end }) link_type label) limit limit' callback callback'
       target
-      → IsLinkOr opener end next target found
+      → IsLinkOr opener end next target found → IsLookedUp link_type
       → ComesTo step w (tried w o x) (spent_in x) limit limit' uses uses callback callback' found
-  comes_read_label no_link limit limit' uses callback callback' lt l e n start opener d asks target found h hd ha ho hs looks is = absurd h
-  comes_read_label (inline_link t) limit limit' uses callback callback' lt l e n start opener d asks target found h hd ha ho hs looks is =
+  comes_read_label no_link limit limit' uses callback callback' lt l e n start opener d asks target found h hd ha ho hs looks is k = absurd h
+  comes_read_label (inline_link t) limit limit' uses callback callback' lt l e n start opener d asks target found h hd ha ho hs looks is k =
       absurd h
   comes_read_label (footnote_label a) limit limit' uses callback callback' lt l e n start opener d asks target found h hd ha ho hs looks is
-      = absurd h
+      k = absurd h
   comes_read_label (link_label kind label end next) limit limit' uses callback callback' lt l e n start opener d asks target found h hd ha
-      ho hs looks is =
+      ho hs looks is k =
       comes_to_reference step w o limit uses callback kind label end next limit' callback' target found
-      (rw (hd, ha, hs, ← h.0, ← h.1, ← h.2) looks) (rw (← ho, ← h.2, ← h.3) is)
+      (rw (hd, ha, hs, ← h.0, ← h.1, ← h.2) looks) (rw (← ho, ← h.2, ← h.3) is) (subst IsLookedUp h.0 k)
 
   pub comes_read_footnote : (x : decision.Written) (limit : ℕ) (callback : Option C) (old new : FootnoteDefs) (name : CowStr)
       (how : FootnoteStyle) (opener : Opener) (found : ClosedBracket)

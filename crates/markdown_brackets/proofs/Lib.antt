@@ -1,6 +1,7 @@
 pub mod SeparatorLemmas
 pub mod TitleLemmas
 pub mod LinkTailLemmas
+pub mod TailTitleLemmas
 pub mod ReferenceLemmas
 pub mod LabelLengthLemmas
 pub mod LookupLemmas

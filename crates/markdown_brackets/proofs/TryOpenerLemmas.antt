@@ -25,7 +25,7 @@ use Rattle.markdown_brackets.specs.ReadChain.{among}
 use Rattle.markdown_brackets.specs.Reference.{Form, FoundLabel, reference, collapsed, shortcut, form_at, own_label}
 use Rattle.markdown_brackets.specs.SpentEnds.{is_spent}
 use Rattle.markdown_brackets.specs.StandsAt.{ComesToOpener, TriesOpener}
-use Rattle.markdown_brackets.specs.WrittenView.{EndsBehind, IsRead, form_ahead, written_at}
+use Rattle.markdown_brackets.specs.WrittenView.{EndsBehind, IsRead, WrittenIsFrom, form_ahead, written_at}
 use Rattle.markdown_brackets.specs.declared.closing_bracket.ClosedBracket.{ClosedBracket}
 use Rattle.markdown_brackets.specs.declared.closing_bracket.ClosedBracket.TheVariants.{Text}
 use Rattle.markdown_brackets.specs.declared.openers.Opener.{Opener}
@@ -93,25 +93,25 @@ module _ (nodes : List (Node Item)) (place : ChainPlace) (skipped : List ℕ →
     pub comes_by_live : (opener : Opener) (live : Bool) (item : Item) (read : Written) (spent spent' : SpentEnds) → live ≡ true
         → item ≡ item_at nodes opener.node
         → 0 < (item_at nodes closer).end → IsRead place.in_table (written_at nodes place (lines w) closer could_be (item.end - 1)) read
-        → ((v : Around) (s : Split ℕ) (x : decision.Written) → KnowsRules v definitions footnotes asks (footnote_style place.options)
-        → opener ≡ opener_of s → start_of s.opener ≡ item.start → IsRead v.above.in_table x read
+        → WrittenIsFrom place.text.now read → ((v : Around) (s : Split ℕ) (x : decision.Written) → KnowsRules v definitions footnotes asks (footnote_style place.options)
+        → opener ≡ opener_of s → start_of s.opener ≡ item.start → IsRead v.above.in_table x read → WrittenIsFrom v.setting.text read
         → ComesTo step v (tried v s x) (spent_in x) limit limit' uses uses' callback callback' found)
         → ((in_table : Bool) (x : decision.Written) → IsRead in_table x read → (end : ℕ)
         → is_spent spent' end ≡ (among end (spent_in x) || is_spent spent end))
         → (o : Option (Split ℕ)) → TriesOpener nodes closer could_be (Some (opener, live)) c o
         → ComesToOpener step w c o limit limit' uses uses' spent spent' callback callback' found
-    comes_by_live opener live item read spent spent' e is some h comes spends None t = absurd t.openers
-    comes_by_live opener live item read spent spent' e is some h comes spends (Some o) t =
+    comes_by_live opener live item read spent spent' e is some h from comes spends None t = absurd t.openers
+    comes_by_live opener live item read spent spent' e is some h from comes spends (Some o) t =
         let x : decision.Written = written_at nodes place (lines w) closer could_be (item.end - 1) in
         let rules : KnowsRules w definitions footnotes asks (footnote_style place.options) =
         record { definitions_are = refl; footnotes_are = λ name. refl; asks_is = refl; style_is = refl } in
-        let from : item.end - 1 ≡ end_of o.opener - 1 = ap (λ (i : Item). i.end - 1) is ∙ ap (λ n. n - 1) t.openers.ends in
+        let opens : item.end - 1 ≡ end_of o.opener - 1 = ap (λ (i : Item). i.end - 1) is ∙ ap (λ n. n - 1) t.openers.ends in
         let starts : start_of o.opener ≡ item.start = sym (ap (λ (i : Item). i.start) is ∙ t.openers.starts) in
         record {
           more = spent_in x;
           comes = comes_by_opener o x (spent_in x) (sym t.openers.live ∙ e) (written_is (Some (opener, live)) (Some o) o (item.end - 1) t
-              some from)
-              (comes w o x rules t.openers.opener starts h);
+              some opens)
+              (comes w o x rules t.openers.opener starts h from);
           spends = spends place.in_table x h;
         }
 

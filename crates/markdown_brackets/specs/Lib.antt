@@ -9,6 +9,7 @@ pub mod ReferenceView
 pub mod Lookup
 pub mod LookupView
 pub mod LookupLaws
+pub mod TitleOrigin
 pub mod FootnoteUse
 pub mod Wikilink
 pub mod WikilinkView

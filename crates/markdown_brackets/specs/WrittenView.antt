@@ -1,5 +1,5 @@
 -- What is written at an opener and its `]` in an arena, as contracts describe it.
-use Rattle.std.specs.Prelude.{◌≡◌, ℕ, ◌<◌, ◌≤◌, Bool, List, Option, Some, length, take}
+use Rattle.std.specs.Prelude.{◌≡◌, ℕ, ◌<◌, ◌≤◌, ⊤, Bool, List, Option, Some, length, take}
 use Rattle.std.specs.Option.{option_and_then, option_map}
 use Rattle.std.specs.Str.{IsCharBoundary}
 use Rattle.markdown_base.specs.Arena.{sibling_of}
@@ -15,6 +15,8 @@ use Rattle.markdown_brackets.specs.ChainAhead.{IsChain, reaches_closer, starts_f
 use Rattle.markdown_brackets.specs.LinkTail.{link_tail}
 use Rattle.markdown_brackets.specs.LinkTailView.{IsTail}
 use Rattle.markdown_brackets.specs.Reference.{Form, form_at, own_label, reference}
+use Rattle.markdown_brackets.specs.TitleOrigin.{HasTitle, IsLookedUp}
+use Rattle.markdown_document.specs.Origins.{origin_of}
 use Rattle.markdown_document.specs.declared.chain_place.ChainPlace.{ChainPlace}
 use Rattle.markdown_brackets.specs.declared.written.Written.{Written}
 use Rattle.markdown_brackets.specs.declared.written.Written.TheVariants.{Nothing, Inline, Label, Footnote}
@@ -27,6 +29,12 @@ IsRead in_table (link_label kind label end next) (Label found_kind found found_e
     (found_kind ≡ kind) × (text_of found ≡ label) × (found_end ≡ end) × (found_next ≡ next)
 IsRead in_table (footnote_label name) (Footnote found) = text_of found ≡ name
 IsRead in_table other found = ⊥
+
+-- the title of an inline link comes from the source, and a label is none of an inline link
+abbrev pub WrittenIsFrom : List ℕ → Written → Type 0
+WrittenIsFrom source (Inline found) = HasTitle source (origin_of found.title) (text_of found.title)
+WrittenIsFrom source (Label kind label end next) = IsLookedUp kind
+WrittenIsFrom source other = ⊤
 
 -- the form of a reference whose `]` is at a node
 abbrev pub form_ahead : List (Node Item) → ChainPlace → (List ℕ → Option ℕ) → (closer : ℕ) → Form

@@ -1,5 +1,6 @@
 //! What is written at an opener and its `]`: an inline link, a reference or a footnote label.
-ghost use Rattle.std.specs.Prelude.{◌≡◌, ◌≤◌, ◌<◌, ◌^◌, ◌+◌, Bool, Some, IfOk, length, take, if◌then◌else◌};
+ghost use Rattle.std.specs.Prelude.{◌≡◌, ◌≤◌, ◌<◌, ◌^◌, ◌+◌, ℕ, Bool, List, Some, IfOk, length, take};
+ghost use Rattle.std.specs.Prelude.{if◌then◌else◌};
 ghost use Rattle.std.specs.Str.{IsCharBoundary};
 ghost use Rattle.markdown_base.specs.BlockTree.{item_at};
 ghost use Rattle.markdown_base.specs.CowText.{text_of};
@@ -11,7 +12,8 @@ ghost use Rattle.markdown_brackets.specs.ChainAhead.{IsChain, reaches_closer};
 ghost use Rattle.markdown_brackets.specs.Reference.{own_label};
 ghost use Rattle.markdown_brackets.specs.ReferenceView.{form_view, label_view};
 ghost use Rattle.markdown_brackets.specs.WrittenView.{CanRead, EndsBehind, IsRead, form_ahead, reference_at};
-ghost use Rattle.markdown_brackets.specs.WrittenView.{written_at};
+ghost use Rattle.markdown_brackets.specs.TitleOrigin.{IsLookedUp};
+ghost use Rattle.markdown_brackets.specs.WrittenView.{WrittenIsFrom, written_at};
 
 use crate::footnote::FootnoteStyle;
 use crate::items_ahead::{ItemsAhead, link_after, linked_item, reaches_closer};
@@ -65,8 +67,10 @@ pub fn wikilinks_on(options: Options) -> bool
 
 // Returns the reference or footnote label for the label between an opener's `[` and its `]`.
 fn of_own_label(label: FoundLabel<'_>, link_type: LinkType, end: usize, next: usize) -> Written<'_>
-    ensures { (in_table : Bool)
+    requires { IsLookedUp link_type }
+    ensures read { (in_table : Bool)
         → IsRead in_table (own_written link_type end next (Some (label_view label.entry))) result }
+    ensures from { (source : List ℕ) → WrittenIsFrom source result }
 {
     if label.is_footnote {
         return Written::Footnote(label.name);
@@ -95,9 +99,11 @@ fn read_own<'t, R: LineRule>(
     requires end { IsCharBoundary place.now.text.now end }
     requires order { start ≤ end }
     requires inside { end ≤ place.now.block_end }
-    ensures { IfOk result (λ found. (in_table : Bool) → IsRead in_table
+    requires kind { IsLookedUp link_type }
+    ensures read { IfOk result (λ found. (in_table : Bool) → IsRead in_table
         (own_written link_type end next (own_label (footnote_style place.now.options) (R.skipped rule.now)
         place.now.in_table (take place.now.block_end place.now.text.now) start end)) found) }
+    ensures from { IfOk result (λ found. (source : List ℕ) → WrittenIsFrom source found) }
 {
     let style = footnote_style(place.options);
     let text = &place.text[..place.block_end];
@@ -116,9 +122,10 @@ fn read_full<'t>(
 ) -> Written<'t>
     requires chain { IsChain tree.now.nodes next }
     requires some { 0 < end }
-    ensures { (in_table : Bool) → IsRead in_table
+    ensures read { (in_table : Bool) → IsRead in_table
         (if reaches_closer tree.now.nodes end next then link_label kind.Reference (text_of label.entry) end end
         else no_link) result }
+    ensures from { (source : List ℕ) → WrittenIsFrom source result }
 {
     if !reaches_closer(tree, next, end) {
         drop(label);
@@ -148,9 +155,10 @@ fn read_form<'t, R: LineRule>(
     requires inside { (item_at tree.now.nodes closer).end ≤ place.now.block_end }
     requires some { EndsBehind 0 (form_view form) }
     requires small { (item_at tree.now.nodes closer).end + 2 < 2 ^ 64 }
-    ensures { IfOk result (λ found. (in_table : Bool) → IsRead in_table
+    ensures read { IfOk result (λ found. (in_table : Bool) → IsRead in_table
         (reference_at tree.now.nodes place.now (R.skipped rule.now) closer could_be start (form_view form.entry))
         found) }
+    ensures from { IfOk result (λ found. (source : List ℕ) → WrittenIsFrom source found) }
 {
     let end = tree.item(closer).end;
     let (link_type, next) = match form {
@@ -202,9 +210,10 @@ fn read_reference<'t, R: LineRule>(
 ) -> Result<Written<'t>, AllocError>
     requires ready { CanRead tree.now.nodes place.now closer start }
     requires inside { (item_at tree.now.nodes closer).end ≤ place.now.block_end }
-    ensures { IfOk result (λ found. (in_table : Bool) → IsRead in_table
+    ensures read { IfOk result (λ found. (in_table : Bool) → IsRead in_table
         (reference_at tree.now.nodes place.now (R.skipped rule.now) closer could_be start
         (form_ahead tree.now.nodes place.now (R.skipped rule.now) closer)) found) }
+    ensures from { IfOk result (λ found. (source : List ℕ) → WrittenIsFrom source found) }
 {
     let form = read_form_ahead(alloc, tree, closer, place, rule)?;
     read_form(alloc, tree, closer, could_be, place, rule, start, form)
@@ -223,8 +232,9 @@ pub(crate) fn read_written<'t, R: LineRule>(
     start: usize,
 ) -> Result<Written<'t>, AllocError>
     requires { CanRead tree.now.nodes place.now closer start }
-    ensures { IfOk result (IsRead place.now.in_table
+    ensures read { IfOk result (IsRead place.now.in_table
         (written_at tree.now.nodes place.now (R.skipped rule.now) closer could_be start)) }
+    ensures from { IfOk result (WrittenIsFrom place.now.text.now) }
 {
     let end = tree.item(closer).end;
     if end > place.block_end {

@@ -213,6 +213,23 @@ fn ranges(rt: HostRuntime) -> Result<(), Fail> {
                 "![a](c \"t\")",
                 "<p>0..11 <img Inline (c) (t) ()>0..11 [a]2..3 </img>0..11 </p>0..11 ",
             ),
+            // titles and destinations are slices of the text, but for those in which something is replaced
+            (
+                "[a](b (t))",
+                "<p>0..10 <a Inline (b) (t) ()>0..10 [a]1..2 </a>0..10 </p>0..10 ",
+            ),
+            (
+                "[a](b 'x&amp;y')",
+                "<p>0..16 <a Inline (b) +(x&y) ()>0..16 [a]1..2 </a>0..16 </p>0..16 ",
+            ),
+            (
+                "[a](b \"x\\\"y\")",
+                "<p>0..13 <a Inline (b) +(x\"y) ()>0..13 [a]1..2 </a>0..13 </p>0..13 ",
+            ),
+            (
+                "[a](b\\* \"t\")",
+                "<p>0..12 <a Inline +(b*) (t) ()>0..12 [a]1..2 </a>0..12 </p>0..12 ",
+            ),
             // a title over two lines is owned, and this one is short enough to be held in place
             (
                 "> [a](b \"x\n> y\")",

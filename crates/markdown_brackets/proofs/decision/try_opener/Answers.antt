@@ -46,7 +46,7 @@ returns-clause-tries g c =
     c.in-Some.opener c.in-Some.is_live c.item-item.result.now c.in_ok-written.written c.args.spent.now _ c.if-not-is_live.false
     (c.item-item.ensures no_item) can.reads.some
     (subst (λ rule. IsRead place.in_table (written_at nodes place rule c.args.closer c.args.could_be (c.item-item.result.now.end - 1))
-    c.in_ok-written.written) lines c.in_ok-written.ensures)
+    c.in_ok-written.written) lines c.in_ok-written.ensures.read) c.in_ok-written.ensures.from
     (λ v s x rules. comes v s x
     (subst (KnowsRules v c.args.definitions.now c.args.footnotes.now (is_some c.args.callback.now)) (sym c.footnote_style-style.ensures)
     rules))

@@ -8,11 +8,14 @@ use Rattle.markdown_brackets.specs.ChainAhead.{starts_from}
 use Rattle.markdown_brackets.specs.WrittenView.{IsRead}
 use Rattle.markdown_brackets.specs.declared.written.Written.TheVariants.{Nothing}
 use Rattle.markdown_brackets.proofs.WrittenLemmas.{boundary_within, nothing_past_block, read_tail, read_other, tail_at, whole_range}
-use Rattle.markdown_brackets.proofs.WrittenLemmas.{within_taken}
+use Rattle.markdown_brackets.proofs.WrittenLemmas.{ok_map, within_taken}
+use Rattle.markdown_brackets.specs.LinkTail.{link_tail}
+use Rattle.markdown_brackets.specs.LinkTailView.{BorrowsTail, ReadsTail}
+use Rattle.markdown_brackets.proofs.TailTitleLemmas.{has_title}
 use Rattle.markdown_brackets.proofs.written.read_written.Goals as goal
 
-pub returns-then-end-place : goal.returns-then-end-place
-returns-then-end-place g c =
+pub returns-then-end-place-clause-read : goal.returns-then-end-place-clause-read
+returns-then-end-place-clause-read g c =
     let place = c.args.place.now in
     let nodes = c.args.tree.now.nodes in
     let past : place.block_end < (item_at nodes c.args.closer).end =
@@ -38,8 +41,8 @@ scan_link_tail-requires-clause-items g c n s e within =
     (boundary_within place.text.now place.block_end s
     (c.requires.later n s (subst (λ l. starts_from c.args.tree.now.nodes l n ≡ Some s) c.next.ensures.value e)) before)
 
-pub returns-in-Some : goal.returns-in-Some
-returns-in-Some g c =
+pub returns-in-Some-clause-read : goal.returns-in-Some-clause-read
+returns-in-Some-clause-read g c =
     let place = c.args.place.now in
     let text = c.range-text.ensures.value ∙ whole_range place.text.now place.block_end in
     read_tail place.in_table _ _ c.in-Some.tail
@@ -47,12 +50,29 @@ returns-in-Some g c =
     c.item.result.now _
     c.in_ok-tail.field-0 (Some c.in-Some.tail) c.next.ensures.value text (c.item.ensures no_item) c.in-Some.is c.in_ok-tail.ensures.value)
 
-pub returns-in-None : goal.returns-in-None
-returns-in-None g c =
+pub returns-in-None-clause-read : goal.returns-in-None-clause-read
+returns-in-None-clause-read g c =
     let place = c.args.place.now in
     let text = c.range-text.ensures.value ∙ whole_range place.text.now place.block_end in
     read_other place.in_table _ _ c.read_reference.result
     (tail_at place.in_table (g.R.LineRule.skipped c.args.rule.now) c.args.tree.now.nodes c.next.result _ c.range-text.result.now _
     c.item.result.now _
     c.in_ok-tail.field-0 None c.next.ensures.value text (c.item.ensures no_item) c.in-None.is c.in_ok-tail.ensures.value)
-    c.read_reference.ensures
+    c.read_reference.ensures.read
+
+-- its title comes from the block's text
+pub returns-in-Some-clause-from : goal.returns-in-Some-clause-from
+returns-in-Some-clause-from g c =
+    let place = c.args.place.now in
+    let text = c.range-text.ensures.value ∙ whole_range place.text.now place.block_end in
+    let skipped = g.R.LineRule.skipped c.args.rule.now in
+    let starts = starts_from c.args.tree.now.nodes c.next.result in
+    let written = c.range-text.result.now in
+    let end = c.item.result.now.end in
+    has_title place.in_table skipped starts place.text.now written place.block_end end c.in-Some.tail text
+    (subst (ReadsTail place.in_table (link_tail skipped starts written end)) c.in-Some.is c.in_ok-tail.ensures.value)
+    (subst (BorrowsTail (link_tail skipped starts written end)) c.in-Some.is c.in_ok-tail.ensures.borrowed)
+
+pub returns-in-None-clause-from : goal.returns-in-None-clause-from
+returns-in-None-clause-from g c =
+    ok_map c.read_reference.result _ _ c.read_reference.ensures.from (λ found from. from c.args.place.now.text.now)
