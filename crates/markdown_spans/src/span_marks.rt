@@ -1,5 +1,5 @@
 //! Marks of spans in a chain, backticks and `$`, and walks along it to the next one that is wanted.
-ghost use Rattle.std.specs.Prelude.{◌≡◌, ℕ, ◌+◌, ◌-◌, ◌^◌, ◌++◌, List, min, IfErr, IfOk, OnOk, option_to_list};
+ghost use Rattle.std.specs.Prelude.{◌≡◌, ◌≤◌, ℕ, ◌+◌, ◌-◌, ◌^◌, ◌++◌, List, min, IfErr, IfOk, OnOk, option_to_list};
 ghost use Rattle.markdown_base.specs.BlockTree.{Numbered};
 ghost use Rattle.markdown_spans.specs.ChainInArena.{HasChain, LeadsThrough};
 ghost use Rattle.markdown_spans.specs.ChainWalk.{LooksAlong, WalksTo};
@@ -124,6 +124,9 @@ pub fn walk_to(
         → WalksTo kind wanted tree.now.nodes chain found noted.old.items noted.new.items visits.old visits.new) }
     ensures refused { IfErr result (λ _. (low : ℕ) (chain : List Numbered) → LeadsThrough tree.now.nodes low first chain
         → LooksAlong kind wanted chain visits.old visits.new) }
+
+    // whatever comes
+    ensures rises { visits.old ≤ visits.new }
 {
     let _from = *visits;
     let mut link = first;
