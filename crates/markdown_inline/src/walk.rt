@@ -417,9 +417,8 @@ impl<'input, F: BrokenLinkCallback<'input>> Parser<'input, F> {
         self.resolver.work
     }
 
-    /// A law, and no code: no count of a walk that is not refused memory reaches the greatest value, so that each rises by
-    /// plain addition. It is said of a walk with fewer than 2^62 steps to come, as `size_hint` tells; one with more has a
-    /// tree that no memory holds.
+    /// A law, and no code: no count of a walk reaches the greatest value, so that each rises by plain addition. It is said
+    /// of a walk with fewer than 2^62 steps to come, as `size_hint` tells; one with more has a tree that no memory holds.
     pub fn counts_stay_below_the_greatest(&self)
         ensures walk { CountsLaw F.answers self.now }
         ensures plainly { RisesPlainly }
