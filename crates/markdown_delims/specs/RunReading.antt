@@ -85,6 +85,12 @@ ReadsTree m text ix last s t old new last' l =
     → old.runs ≡ open_of es
     → ReadFurther m text h s t es chain old new last' l (suc ix)
 
+-- memory was refused: no more comparisons were made than the delimiter characters of the rest allow
+abbrev pub PaysForTree : List ℕ → ℕ → Option ℕ → Arena Item → Openers → Openers → Type 0
+PaysForTree text ix last s old new =
+    (h : Chain) (es : List Entry) (chain : Forest Numbered) → Stands h s es last (Some ix) chain → IsWhole text chain
+    → new.potential ≤ old.potential + comparisons_per_delimiter * delimiters_of chain
+
 -- there is such a tree
 pub record CanReadTree (text : List ℕ) (ix : ℕ) (last : Option ℕ) (s : Arena Item) (runs : List OpenRun) (cost : ℕ)
     : Type 0 where

@@ -37,6 +37,7 @@ use Rattle.markdown_document.specs.Labels.{GivesFirst, Begins}
 use Rattle.markdown_resolver.specs.Kept.{IsSettled}
 use Rattle.markdown_document.specs.Totals.{same, naming}
 use Rattle.markdown_document.specs.Tables.{Tables, Named, number_of, size_for}
+use Rattle.markdown_document.specs.declared.work.Work.{Work}
 use Rattle.markdown_document.proofs.TablesLemmas.{same-apart, grown-same, grown-longer}
 use Rattle.markdown_document.proofs.PlaceLemmas.{times-past, named-past, shape-open}
 use Rattle.markdown_inline.specs.WalkTotals.{climbed, left_total, steps_of}
@@ -162,6 +163,18 @@ unfolding left_total
 are_above source tables nodes first spine w = nodes_above source (links_of nodes) nodes (IsPlaced source tables nodes) (Some first) spine
     refl w.walk.above w.spine_lies w.once
 
+-- the counts that are ahead of a chain's first open item are those of the chain
+pub chain_ahead : (s : Setting) (tables : Tables) (nodes : List (Node Item)) (first : ℕ) (spine : List ℕ)
+    → Stands s.text tables nodes (Some first) spine → is_open (item_at nodes first).body ≡ true
+    → counts_ahead s tables nodes (Some first) spine ≡ chain_counts s plain_tags (above_at s.text nodes spine)
+    (trees_from s.text tables nodes (Some first))
+unfolding left_total counts_ahead
+chain_ahead s tables nodes first spine w e =
+    let o = opens (links_of nodes) (IsPlaced s.text tables nodes) first w.walk.here in
+    let open_shape = shape-open tables (slice_range s.text (item_at nodes first).start (item_at nodes first).end) (item_at nodes first).body
+    e in
+    rw (o.here, open_shape) refl
+
 pub moves_chain : {C : Type 0} (step : C → Question → Option Answer → C → Type 0) (s : Setting) (first : ℕ) (spine : List ℕ)
     (old new : Stage C)
     → Stands s.text old.tables old.nodes (Some first) spine → is_open (item_at old.nodes first).body ≡ true
@@ -215,7 +228,7 @@ moves_chain step s first spine old new w e r =
           ∙ rw (r.resolves later) (ap (λ (x : Reading). map question r.questions ++ x (known_at new later)) (sym now));
       begins = λ known. rw now (reading-begins made s after known begins);
       falls = rw (above.steps, closed, e) (let x = r.changes.no_heavier in omega arith);
-      was_ahead = rw (o.here, open_shape) refl;
+      was_ahead = chain_ahead s old.tables old.nodes first spine w e;
       none_ahead = begins-none s _ made _ begins;
     }
 
@@ -244,12 +257,12 @@ more_questions s r after questions others e =
 
 -- where memory is refused on the way, what was left begins with the questions asked
 pub stops_chain : {C : Type 0} (step : C → Question → Option Answer → C → Type 0) (s : Setting) (first : ℕ) (spine : List ℕ) (old : Stage C)
-    (d : Option C)
+    (d : Option C) (work work' : Work)
     → Stands s.text old.tables old.nodes (Some first) spine → is_open (item_at old.nodes first).body ≡ true
-    → (r : StopsIn step s (above_at s.text old.nodes spine) first old d)
+    → (r : StopsIn step s (above_at s.text old.nodes spine) first old d work work')
     → (later : Answers) → (others : List Element) × (left_of s old.tables old.nodes (Some first) spine (known_at old (r.answers ++ later))
     ≡ map question r.questions ++ others)
-stops_chain step s first spine old d w e r later =
+stops_chain step s first spine old d work work' w e r later =
     let b = r.begins later in
     let known = known_at old (r.answers ++ later) in
     rw (before_chain s old.tables old.nodes first spine known w e)

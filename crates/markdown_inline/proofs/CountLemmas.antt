@@ -17,6 +17,7 @@ use Rattle.markdown_document.specs.Labels.{GivesFirst, Begins}
 use Rattle.markdown_document.specs.Above.{Above, inside_item, inside_all}
 use Rattle.markdown_document.specs.Setting.{Setting}
 use Rattle.markdown_document.specs.Tables.{Tables}
+use Rattle.markdown_resolver.specs.ChainCounts.{RisesInPart}
 use Rattle.markdown_inline.specs.Counts.{Counting, no_chain, before_event, first_counts, unless_ended, counts_around, counts_ahead}
 use Rattle.markdown_inline.specs.Walk.{closing}
 
@@ -98,4 +99,45 @@ rises-chain n old mid new a b = record {
   found = least_stays n.found old.examined mid.examined new.examined a.found b.examined;
   code_visits = then_stays n.items old.code_visits mid.code_visits new.code_visits a.code_visits b.code_visits;
   math_visits = then_stays n.items old.math_visits mid.math_visits new.math_visits a.math_visits b.math_visits;
+}
+
+-- nothing was done of a chain
+pub part-none : (all : ChainCounts) (old new : Work) → new ≡ old → RisesInPart all old new
+part-none all old new e = record {
+  part = no_counts;
+  items = omega arith;
+  delimiters = omega arith;
+  rises = rises-none no_counts old new refl e;
+}
+
+-- a part of no chain is nothing
+none_more : (most : ℕ) (old new : ℕ) → most ≤ 0 → RisesAtMost most old new → RisesAtMost 0 old new
+none_more most old new z r = record { more = r.more; within = omega (arith, z, r.within); counted = r.counted }
+
+risen_none : (n old new : ℕ) → n ≤ 0 → new ≡ risen n old → new ≡ old
+risen_none zero old new z e = e
+risen_none (suc n) old new z e = absurd (omega (arith, z))
+
+part_nothing : (old new : Work) → RisesInPart no_counts old new → WorkRises no_counts old new
+part_nothing old new r =
+    let part = r.part in
+    let rises = r.rises in
+    let none : comparisons_per_delimiter * part.delimiters ≤ 0 = omega (arith, r.delimiters) in
+    let examined = none_more (comparisons_per_delimiter * part.delimiters) old.examined new.examined none rises.examined in
+    record {
+      items = risen_none part.items old.items new.items r.items rises.items;
+      delimiters = risen_none part.delimiters old.delimiters new.delimiters r.delimiters rises.delimiters;
+      examined = examined;
+      found = omega (arith, risen_none examined.more old.examined new.examined examined.within examined.counted);
+      code_visits = none_more part.items old.code_visits new.code_visits r.items rises.code_visits;
+      math_visits = none_more part.items old.math_visits new.math_visits r.items rises.math_visits;
+    }
+
+-- a chain was resolved, and nothing after it
+pub part-chain : (n : ChainCounts) (old mid new : Work) → WorkRises n old mid → RisesInPart no_counts mid new → RisesInPart n old new
+part-chain n old mid new a b = record {
+  part = n;
+  items = omega arith;
+  delimiters = omega arith;
+  rises = rises-chain n old mid new a (part_nothing mid new b);
 }

@@ -1,15 +1,15 @@
 -- No count of a walk reaches its maximum: a call counts at most as many as there are steps to come before it, and steps
 -- get fewer.
 use Rattle.std.proofs.Common.{◌≡◌, ℕ, zero, suc, ◌+◌, ◌*◌, ◌^◌, ◌<◌, ◌≤◌, Bool, true, false, List, [], ◌∷◌, ◌++◌, length}
-use Rattle.std.proofs.Common.{Option, Some, None, Ok, refl, ap, subst, arith}
+use Rattle.std.proofs.Common.{Option, Some, None, Result, Ok, Err, refl, ap, subst, arith}
 use Rattle.std.specs.Prelude.{IfSome, slice_range}
-use Rattle.std.specs.Option.{option_map}
 use Rattle.markdown_base.specs.Arena.{sibling_of}
 use Rattle.markdown_base.specs.ArenaForest.{forest_at, links_of}
 use Rattle.markdown_base.specs.BlockTree.{item_at}
 use Rattle.markdown_base.specs.Forest.{Forest, nil, node, relabelled, roots}
 use Rattle.markdown_base.specs.Item.{is_open}
 use Rattle.markdown_base.specs.Questions.{Question, Answer, Answers}
+use Rattle.markdown_base.specs.declared.fault.Fault.{Fault}
 use Rattle.markdown_base.specs.declared.item.Item.{Item}
 use Rattle.markdown_base.specs.declared.item.ItemBody.{ItemBody}
 use Rattle.markdown_base.specs.declared.item.ItemBody.TheVariants as body
@@ -214,19 +214,26 @@ paid-over : (before left : ℕ) → left ≡ 0 → 2 ^ 62 * left + before ≤ 2 
 paid-over before left e = omega (arith, e)
 
 module _ {F I : Type 0} (step : F → Question → Option Answer → F → Type 0) (is_of : List ℕ → I → Placed → Type 0) where
-  fits-next : (s : Parser F) (given : Option I) (t : Parser F) → NextGives step is_of s (option_map (λ item. Ok item) given) t
+  fits-next : (s : Parser F) (given : Option (Result I Fault)) (t : Parser F) → NextGives step is_of s given t
       → IfSome given (λ _. parser_steps t < parser_steps s) → Fits (parser_work s) (parser_steps s)
       → Fits (parser_work t) (parser_steps t)
   fits-next s None t h falls f =
       let g = h.gives in
       fits-on (parser_counts s []) (parser_work s) (parser_work t) (parser_steps s) (parser_steps t) f (g.counts []) (parser-few s [])
       (paid-over (parser_steps s) (parser_steps t) g.over.steps)
-  fits-next s (Some item) t h falls f =
+  fits-next s (Some (Ok item)) t h falls f =
       let g = h.gives in
       fits-on (parser_counts s (g.answers ++ [])) (parser_work s) (parser_work t) (parser_steps s) (parser_steps t) f (g.counts [])
       (parser-few s (g.answers ++ [])) (paid-falls (parser_steps s) (parser_steps t) falls f.few)
+  fits-next s (Some (Err fault)) t h falls f =
+      let g = h.gives in
+      let r = g.counts [] in
+      let few = parser-few s (g.answers ++ []) in
+      fits-on r.part (parser_work s) (parser_work t) (parser_steps s) (parser_steps t) f r.rises
+      (record { items = omega (arith, r.items, few.items); delimiters = omega (arith, r.delimiters, few.delimiters) })
+      (paid-falls (parser_steps s) (parser_steps t) falls f.few)
 
-  fits-run : (s : Parser F) (given : List (Option I)) (t : Parser F) → Calls step is_of s given t
+  fits-run : (s : Parser F) (given : List (Option (Result I Fault))) (t : Parser F) → Calls step is_of s given t
       → Fits (parser_work s) (parser_steps s) → Fits (parser_work t) (parser_steps t)
   fits-run s [] t e f = subst (λ (p : Parser F). Fits (parser_work p) (parser_steps p)) e f
   fits-run s (given ∷ later) t (u, h, falls, more) f = fits-run u later t more (fits-next s given u h falls f)

@@ -16,7 +16,7 @@ use Rattle.markdown_base.specs.declared.item.Item.{Item}
 use Rattle.markdown_defs.specs.Allocations.{Allocated}
 use Rattle.markdown_defs.specs.Footnotes.{footnote_at}
 use Rattle.std.proofs.Math.Path.{fun_ext}
-use Rattle.markdown_document.specs.Counts.{no_counts}
+use Rattle.markdown_document.specs.Counts.{ChainCounts, no_counts}
 use Rattle.markdown_document.specs.Document.{plain_tags}
 use Rattle.markdown_document.specs.declared.work.Work.{Work}
 use Rattle.markdown_document.specs.Places.{trees_from}
@@ -39,8 +39,8 @@ use Rattle.markdown_inline.specs.WalkSteps.{way_at}
 use Rattle.markdown_inline.specs.declared.bodies.Way.{Way}
 use Rattle.markdown_inline.specs.declared.walk.Parser.{Parser}
 use Rattle.markdown_document.proofs.CallbackLemmas.{Asks-append, Asks-some}
-use Rattle.markdown_inline.proofs.ChainLemmas.{ChainMoves, are_above, moves_chain, can_resolve, stops_chain}
-use Rattle.markdown_inline.proofs.CountLemmas.{rises-none, rises-chain}
+use Rattle.markdown_inline.proofs.ChainLemmas.{ChainMoves, are_above, chain_ahead, moves_chain, can_resolve, stops_chain}
+use Rattle.markdown_inline.proofs.CountLemmas.{part-chain, part-none, rises-none, rises-chain}
 use Rattle.markdown_inline.proofs.WalkStepsLemmas.{counts_ended, left_of_ended, steps_ended, steps_at_cursor}
 
 -- the elements that are left, by a parser's parts
@@ -122,6 +122,7 @@ moved_past s t item w k same p = record {
       (same_gives t.resolver.text.now s.resolver.text.now s.tree u.tree t.resolver.tables s.resolver.tables u.resolver.tables e
       (range_of item) (ap (λ (text : Bor (List ℕ)). text.now) k.text) same (past_gives s t u item e p.0 took o))).0;
   callback = k.callback;
+  work = k.work;
   falls = p.0.falls;
 }
 
@@ -146,8 +147,15 @@ pub moved_skip : {F : Type 0} (step : F → Question → Option Answer → F →
     → Went s.resolver.text.now s.tree t.tree s.resolver.tables t.resolver.tables [] → WentOn step s t × (parser_steps t < parser_steps s)
 unfolding leads_gave
 moved_skip step s t k w =
-    let g = gave_step s t [] k w in
-    (record { leads = leads_gave step s t [] g; asked = inl g; counts = λ later work r. rw (g.ahead later, ← g.work) r }, w.falls)
+    let g = gave_step s t [] k w in (
+      record {
+        leads = leads_gave step s t [] g;
+        asked = inl g;
+        counts = λ later work r. rw (g.ahead later, ← g.work) r;
+        part = λ later work r. rw (g.ahead later, ← g.work) r;
+      },
+      w.falls,
+    )
 
 -- before a chain a resolver may be called
 pub before_chain : (source : List ℕ) (s : Arena Item) (held : Allocated) (first : ℕ) → TreeStands source (tables_of held) s
@@ -215,7 +223,14 @@ moved_chain step s t first x o w b q =
     q.chain.questions q.chain.answers q.chain.asked in
     let now : (later : Answers) → elements t later ≡ left_of (parser_setting s) (tables_of t.resolver.tables) t.tree.nodes (Some first)
     s.tree.spine (parser_known t later) =
-    λ later. elements-parts t later ∙ rw (setting_kept s t x o some q.tables q.footnotes, q.tree, b.cursor) refl in (
+    λ later. elements-parts t later ∙ rw (setting_kept s t x o some q.tables q.footnotes, q.tree, b.cursor) refl in
+    let counted : Answers → ChainCounts = λ later. chain_counts (parser_setting s) plain_tags (above_cursor s.resolver.text.now s.tree)
+    (trees_from s.resolver.text.now (tables_of s.resolver.tables) s.tree.nodes (Some first)) (parser_known s (q.chain.answers ++ later)) in
+    let before : (later : Answers) → parser_counts s (q.chain.answers ++ later) ≡ counted later =
+    λ later. rw b.cursor (ap (λ (c : Counting). c (parser_known s (q.chain.answers ++ later))) m.was_ahead) in
+    let after : (later : Answers) → parser_counts t later ≡ no_counts =
+    λ later. rw (setting_kept s t x o some q.tables q.footnotes, q.tree, b.cursor) (ap (λ (c : Counting). c (parser_known t later))
+    m.none_ahead) in (
       record {
         leads = record {
           answers = q.chain.answers;
@@ -225,14 +240,9 @@ moved_chain step s t first x o w b q =
         };
         asked = inr (λ answers. rw (now answers) (m.begins _));
         counts = λ later work r.
-            let known = parser_known s (q.chain.answers ++ later) in
-            let counted = chain_counts (parser_setting s) plain_tags (above_cursor s.resolver.text.now s.tree)
-            (trees_from s.resolver.text.now (tables_of s.resolver.tables) s.tree.nodes (Some first)) known in
-            let before : parser_counts s (q.chain.answers ++ later) ≡ counted = rw b.cursor (ap (λ (c : Counting). c known) m.was_ahead) in
-            let after : parser_counts t later ≡ no_counts =
-            rw (setting_kept s t x o some q.tables q.footnotes, q.tree, b.cursor) (ap (λ (c : Counting). c (parser_known t later))
-            m.none_ahead) in
-            rw before (rises-chain counted (parser_work s) (parser_work t) work (q.counted later) (rw after at r));
+            rw (before later) (rises-chain (counted later) (parser_work s) (parser_work t) work (q.counted later) (rw (after later) at r));
+        part = λ later work r.
+            rw (before later) (part-chain (counted later) (parser_work s) (parser_work t) work (q.counted later) (rw (after later) at r));
       },
       rw (q.tree, b.cursor) m.falls,
     )
@@ -258,8 +268,9 @@ moved_done s t e same c d = record {
 
 -- a step that was refused asked nothing
 pub moved_refused : {F : Type 0} (step : F → Question → Option Answer → F → Type 0) (s t : Parser F) (after : Arena Item)
-    → t.resolver.callback ≡ s.resolver.callback → IsRefused s.tree after → HasEnded t.tree → Failed step s t
-moved_refused step s t after c r e = record {
+    → t.resolver.callback ≡ s.resolver.callback → t.resolver.work ≡ s.resolver.work → IsRefused s.tree after → HasEnded t.tree
+    → Failed step s t
+moved_refused step s t after c k r e = record {
   is = over_ended t e;
   more = r.steps;
   questions = [];
@@ -267,13 +278,14 @@ moved_refused step s t after c r e = record {
   asked = sym c;
   begins =
       λ later. (elements s later, refl);
+  counts = λ later. part-none (parser_counts s later) (parser_work s) (parser_work t) k;
 }
 
 -- a chain at which memory was refused
 pub moved_stopped : {F : Type 0} (step : F → Question → Option Answer → F → Type 0) (s t : Parser F) (first : ℕ)
     → TreeStands s.resolver.text.now (tables_of s.resolver.tables) s.tree → IsBefore s.tree first
     → StopsIn step (parser_setting s) (above_cursor s.resolver.text.now s.tree) first (stage s.tree s.resolver.tables s.resolver.limit
-    s.resolver.callback) t.resolver.callback → HasEnded t.tree → Failed step s t
+    s.resolver.callback) t.resolver.callback s.resolver.work t.resolver.work → HasEnded t.tree → Failed step s t
 moved_stopped step s t first w b r e = record {
   is = over_ended t e;
   more = steps_at_cursor s.resolver.text.now (tables_of s.resolver.tables) s.tree first w b.cursor;
@@ -282,7 +294,15 @@ moved_stopped step s t first w b r e = record {
   asked = r.asked;
   begins = λ later. rw (elements-parts s (r.answers ++ later), b.cursor)
       (stops_chain step (parser_setting s) first s.tree.spine (stage s.tree s.resolver.tables s.resolver.limit s.resolver.callback)
-      t.resolver.callback (rw b.cursor at w) b.is_open r later);
+      t.resolver.callback s.resolver.work t.resolver.work (rw b.cursor at w) b.is_open r later);
+  counts = λ later.
+      let known = parser_known s (r.answers ++ later) in
+      let ahead : parser_counts s (r.answers ++ later) ≡ chain_counts (parser_setting s) plain_tags
+      (above_cursor s.resolver.text.now s.tree)
+      (trees_from s.resolver.text.now (tables_of s.resolver.tables) s.tree.nodes (Some first)) known =
+      rw b.cursor (ap (λ (c : Counting). c known)
+      (chain_ahead (parser_setting s) (tables_of s.resolver.tables) s.tree.nodes first s.tree.spine (rw b.cursor at w) b.is_open)) in
+      rw ahead (r.counts later);
 }
 
 -- where a walk is over no step is made
@@ -296,6 +316,7 @@ gone_nowhere step s = record {
     asked =
         inl (record { callback = refl; left = λ later. refl; ahead = λ answers. refl; work = refl });
     counts = λ later work r. r;
+    part = λ later work r. r;
   };
   keeps = record { text = refl; definitions = refl };
   over = λ over. over;
@@ -330,6 +351,9 @@ gone_on step r s t g w k l = record {
     counts = λ later work x.
         rw (append_assoc g.went.leads.answers w.leads.answers later) (g.went.counts (w.leads.answers ++ later) work
         (w.counts later work x));
+    part = λ later work x.
+        rw (append_assoc g.went.leads.answers w.leads.answers later) (g.went.part (w.leads.answers ++ later) work
+        (w.part later work x));
   };
   keeps = keeps_more r s t g.keeps k;
   over = λ over. absurd (no_step s t l (g.over over));
@@ -383,6 +407,8 @@ advances_fault step is_of s t u g f k =
             let b = f.begins later in
             (b.0, rw (append_assoc l.answers f.answers later, l.left (f.answers ++ later), b.1) (simp (map-append, append_assoc)));
         over = f.is;
+        counts = λ later.
+            rw (append_assoc l.answers f.answers later) (g.went.part (f.answers ++ later) (parser_work u) (f.counts later));
       };
       text = keeps.text;
       definitions = keeps.definitions;
@@ -464,6 +490,7 @@ failed_past step s t u item w fault past r = record {
   asked = sym (r.callback ∙ past.callback);
   begins =
       λ later. (elements s later, refl);
+  counts = λ later. part-none (parser_counts s later) (parser_work s) (parser_work u) (r.work ∙ past.work);
 }
 
 pub begun_fault : {F I : Type 0} (step : F → Question → Option Answer → F → Type 0) (is_of : List ℕ → I → Placed → Type 0)

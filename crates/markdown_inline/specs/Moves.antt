@@ -11,6 +11,7 @@ use Rattle.markdown_defs.specs.Callback.{Asks}
 use Rattle.markdown_inline.specs.Elements.{Placed, Element, question, event}
 use Rattle.markdown_document.specs.declared.work.Work.{Work}
 use Rattle.markdown_document.specs.Counts.{no_counts, WorkRises}
+use Rattle.markdown_resolver.specs.ChainCounts.{RisesInPart}
 use Rattle.markdown_inline.specs.Counts.{LeavesAhead}
 use Rattle.markdown_inline.specs.NextGives.{IsPlacedOf}
 use Rattle.markdown_inline.specs.ParserLeft.{parser_text, parser_callback, parser_steps, parser_definitions}
@@ -61,6 +62,8 @@ pub record WentOn {F : Type 0} (step : F → Question → Option Answer → F �
   -- the counts have risen so that what rises from t on also rises from s on, for the answers that were given
   pub counts : (later : Answers) (work : Work) → WorkRises (parser_counts t later) (parser_work t) work
       → WorkRises (parser_counts s (leads.answers ++ later)) (parser_work s) work
+  pub part : (later : Answers) (work : Work) → RisesInPart (parser_counts t later) (parser_work t) work
+      → RisesInPart (parser_counts s (leads.answers ++ later)) (parser_work s) work
 
 -- the walk was over, and still is
 pub record Ended {F : Type 0} (s t : Parser F) : Type 0 where
@@ -71,7 +74,7 @@ pub record Ended {F : Type 0} (s t : Parser F) : Type 0 where
   pub work : parser_work t ≡ parser_work s
 
 -- memory was refused, and the walk is over: the callback returned these answers to these questions, with which what was
--- left begins
+-- left begins; the counts rose by a part of what was to be counted for these answers
 pub record Failed {F : Type 0} (step : F → Question → Option Answer → F → Type 0) (s t : Parser F) : Type 0 where
   pub is : IsOver t
   pub more : 0 < parser_steps s
@@ -80,6 +83,7 @@ pub record Failed {F : Type 0} (step : F → Question → Option Answer → F �
   pub asked : Asks step (parser_callback s) questions answers (parser_callback t)
   pub begins : (later : Answers) → (others : List Element) × (elements s (answers ++ later) ≡ map question questions
       ++ others)
+  pub counts : (later : Answers) → RisesInPart (parser_counts s (answers ++ later)) (parser_work s) (parser_work t)
 
 -- an event was given with this range
 pub record GaveEvent {F : Type 0} (s t : Parser F) (e : Event) (range : Range ℕ) : Type 0 where
@@ -125,6 +129,7 @@ pub record RefusedAt {F : Type 0} (s t : Parser F) (fault : Fault) : Type 0 wher
   pub memory : fault ≡ Memory
   pub is : IsOver t
   pub callback : t.resolver.callback ≡ s.resolver.callback
+  pub work : t.resolver.work ≡ s.resolver.work
   pub keeps : Keeps s t
 
 -- the walk went past the beginning of an item, whose event is given once it is made
@@ -133,6 +138,7 @@ pub record WentPast {F : Type 0} (s t : Parser F) (item : Item) (w : Way) : Type
   pub gave : (u : Parser F) (e : Event) → Took t u item → OpensWith (parser_text t) (shape_in t item) e
       → GaveEvent s u e (range_of item)
   pub callback : parser_callback t ≡ parser_callback s
+  pub work : parser_work t ≡ parser_work s
   pub falls : parser_steps t < parser_steps s
 
 -- what one step of the walk does; None where the walk goes on

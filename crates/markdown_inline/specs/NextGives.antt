@@ -8,6 +8,7 @@ use Rattle.markdown_base.specs.declared.fault.Fault.{Fault}
 use Rattle.markdown_base.specs.declared.fault.Fault.TheVariants.{Memory}
 use Rattle.markdown_defs.specs.Callback.{Asks}
 use Rattle.markdown_document.specs.Counts.{WorkRises}
+use Rattle.markdown_resolver.specs.ChainCounts.{RisesInPart}
 use Rattle.markdown_inline.specs.Elements.{Placed, Element, question, event}
 use Rattle.markdown_inline.specs.ParserLeft.{parser_text, parser_definitions, parser_callback, elements, parser_counts}
 use Rattle.markdown_inline.specs.ParserLeft.{parser_work, IsOver}
@@ -42,7 +43,7 @@ pub record GivesItem {F I : Type 0} (step : F → Question → Option Answer →
   pub counts : (later : Answers) → WorkRises (parser_counts s (answers ++ later)) (parser_work s) (parser_work t)
 
 -- an error was given, which is one of memory: the callback returned these answers to these questions, with which what
--- was left begins, and the walk is over. Nothing is said of the counts.
+-- was left begins, and the walk is over. The counts rose by a part of those of the chain that was to be resolved.
 pub record GivesError {F : Type 0} (step : F → Question → Option Answer → F → Type 0) (s : Parser F) (fault : Fault)
     (t : Parser F) : Type 0 where
   pub memory : fault ≡ Memory
@@ -52,6 +53,7 @@ pub record GivesError {F : Type 0} (step : F → Question → Option Answer → 
   pub begins : (later : Answers) → (others : List Element) × (elements s (answers ++ later) ≡ map question questions
       ++ others)
   pub over : IsOver t
+  pub counts : (later : Answers) → RisesInPart (parser_counts s (answers ++ later)) (parser_work s) (parser_work t)
 
 -- None was given: nothing was left, nothing was asked, and the walk is over. The counts rose as they do at an event.
 pub record GivesNone {F : Type 0} (s t : Parser F) : Type 0 where

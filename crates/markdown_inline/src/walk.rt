@@ -425,9 +425,9 @@ impl<'input, F: BrokenLinkCallback<'input>> Parser<'input, F> {
         self.resolver.work
     }
 
-    /// States, without code, that as long as a walk is not refused memory none of its counts reaches the maximum, so
-    /// that each rises by plain addition. The law holds for a walk with fewer than 2^62 steps to come, by the bound
-    /// that `size_hint` returns; the tree of a longer walk fits in no memory.
+    /// States, without code, that no count of a walk reaches the maximum, so that each rises by plain addition. The law
+    /// holds for a walk with fewer than 2^62 steps to come, by the bound that `size_hint` returns; the tree of a longer
+    /// walk fits in no memory.
     pub fn counts_stay_below_the_greatest(&self)
         ensures walk { CountsLaw F.answers self.now }
         ensures plainly { RisesPlainly }

@@ -15,14 +15,14 @@ use Rattle.markdown_spans.specs.declared.span_text.SpanKind.{SpanKind}
 use Rattle.markdown_resolver.specs.BracketKinds.{kind_of}
 use Rattle.markdown_resolver.specs.ReadOn.{ReadsOn, StandsTo}
 use Rattle.markdown_resolver.specs.ReadsBracket.{CanReadNode, ChangesForBracket, ChangesForNode, ReadsBracket, ReadsNode}
-use Rattle.markdown_resolver.specs.ReadsBracket.{WasReadTo, setting_by, stage_by}
+use Rattle.markdown_resolver.specs.ReadsBracket.{StopsLooking, WasReadTo, setting_by, stage_by}
 use Rattle.markdown_resolver.specs.ReadsItem.{LooksAt, ReadsItem}
 use Rattle.markdown_document.specs.declared.chain_place.ChainPlace.{ChainPlace}
 use Rattle.markdown_resolver.specs.declared.resolver.Resolver.{Resolver}
 use Rattle.markdown_resolver.proofs.ChainLeadsLemmas.{chain_leads, holds_next}
 use Rattle.markdown_resolver.proofs.ItemOnLemmas.{reads_on_item}
 use Rattle.markdown_resolver.proofs.OpenerReadLemmas.{other_kind, ready_here}
-use Rattle.markdown_resolver.proofs.ReadingLemmas.{looks_at_none}
+use Rattle.markdown_resolver.proofs.ReadingLemmas.{looks_at_none, stops_at_none}
 use Rattle.markdown_defs.specs.Footnotes.{footnote_at}
 
 module _ {C : Type 0} {step : C → Question → Option Answer → C → Type 0} {place : ChainPlace} {ix : ℕ} {next : Option ℕ}
@@ -52,6 +52,15 @@ module _ {C : Type 0} {step : C → Question → Option Answer → C → Type 0}
             x.work.math_visits before after) (sym changes.kept)
             (looks_at_none (has_failed old.math_closers) old.work.math_visits before after math_bound r.goes_on.fewer);
       }
+
+-- so it does where memory is refused
+pub bracket_stops : {C : Type 0} (ix : ℕ) (tree : Arena Item) (old new : Resolver C) → old.work.code_visits < 2 ^ 128
+    → old.work.math_visits < 2 ^ 128 → ChangesForBracket old new → StopsLooking ix tree old new
+bracket_stops {C} ix tree old new code_bound math_bound changes =
+    subst (λ (x : Resolver C). StopsLooking ix tree old x) (sym changes.kept) (record {
+      code_looks = stops_at_none (has_failed old.code_closers) old.work.code_visits _ code_bound;
+      math_looks = stops_at_none (has_failed old.math_closers) old.work.math_visits _ math_bound;
+    })
 
 -- an item that is not a bracket changes only the texts and links that were appended, and what searches hold and count
 abbrev pub IsKeptByOther : {C : Type 0} → Resolver C → Resolver C → Type 0

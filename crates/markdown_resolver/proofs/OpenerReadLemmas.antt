@@ -64,6 +64,10 @@ pub if_err : {X E : Type 0} {P : Type 0} (r : Result X E) → P → IfErr r (λ 
 if_err (Ok x) p = tt
 if_err (Err fault) p = p
 
+pub if_err_then : {X E : Type 0} {P Q : Type 0} (r : Result X E) → IfErr r (λ fault. P) → (P → Q) → IfErr r (λ fault. Q)
+if_err_then (Ok x) p f = tt
+if_err_then (Err fault) p f = f p
+
 pub ready_here : {place : ChainPlace} {tree : Arena Item} {held : Allocated} {brackets wikilinks : List Waiting} {first ix : ℕ}
     {left : List (Entry ℕ)}
     → CanReadOn place tree held brackets wikilinks first ix left → CanResolve place.text.now (tables_of held) tree.nodes (Some ix)

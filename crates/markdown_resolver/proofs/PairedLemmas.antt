@@ -23,13 +23,14 @@ use Rattle.markdown_document.specs.Places.{IsPlaced, label_at, trees_from}
 use Rattle.markdown_document.specs.Setting.{Setting}
 use Rattle.markdown_document.specs.Stages.{Stage, chain_at, known_at}
 use Rattle.markdown_document.specs.Tables.{Tables}
+use Rattle.markdown_document.specs.declared.work.Work.{Work}
 use Rattle.markdown_document.specs.Waiting.{waits_for_pairing, is_quiet}
 use Rattle.markdown_document.proofs.PlaceLemmas.{shape-open}
 use Rattle.markdown_delims.specs.ChainForest.{RisesFrom}
 use Rattle.markdown_delims.specs.PairedChain.{WaitsForPairing, HasNoBlock, CanPair, PairsChain}
 use Rattle.markdown_delims.specs.RunReading.{StandsWhole, IsWhole, counts_one, delimiters_of}
 use Rattle.markdown_delims.proofs.PairingLemmas.{closed_shape}
-use Rattle.markdown_resolver.specs.ChainCounts.{chain_counts}
+use Rattle.markdown_resolver.specs.ChainCounts.{RisesInPart, chain_counts}
 use Rattle.markdown_resolver.specs.Chains.{ChangesChain, ResolvesFrom, StopsIn}
 use Rattle.markdown_resolver.specs.Kept.{IsQuiet, IsQuietBelow}
 use Rattle.markdown_resolver.specs.PassOne.{Outcome, pass_one}
@@ -188,21 +189,32 @@ then_pairs step s above first old mid nodes quiet r p = record {
 
 -- where memory is refused to pass one, the questions asked are the first of the chain
 pub stops_resolving : {C : Type 0} (step : C → Question → Option Answer → C → Type 0) (s : Setting) (above : Above) (first : ℕ)
-    (old : Stage C) (callback : Option C)
-    → StopsInPassOne step s above first old callback → StopsIn step s above first old callback
+    (old : Stage C) (callback : Option C) (work work' : Work) (p : StopsInPassOne step s above first old callback)
+    → ((later : Answers) → RisesInPart
+    (chain_counts s plain_tags above (chain_at s.text old (Some first)) (known_at old (p.answers ++ later))) work work')
+    → StopsIn step s above first old callback work work'
 unfolding resolved
-stops_resolving step s above first old callback p =
-    record { answers = p.answers; questions = p.questions; asked = p.asked; begins = λ later. p.begins later }
+stops_resolving step s above first old callback work work' p counts = record {
+  answers = p.answers;
+  questions = p.questions;
+  asked = p.asked;
+  begins = λ later. p.begins later;
+  counts = counts;
+}
 
 -- where memory is refused to pairing, the chain's questions were all asked
 pub stops_in : {C : Type 0} (step : C → Question → Option Answer → C → Type 0) (s : Setting) (above : Above) (first : ℕ) (old mid : Stage C)
-    → ResolvesFrom step s.text (pass_one s plain_tags above) (Some first) old mid → StopsIn step s above first old mid.callback
+    (work work' : Work) (r : ResolvesFrom step s.text (pass_one s plain_tags above) (Some first) old mid)
+    → ((later : Answers) → RisesInPart
+    (chain_counts s plain_tags above (chain_at s.text old (Some first)) (known_at old (r.answers ++ later))) work work')
+    → StopsIn step s above first old mid.callback work work'
 unfolding resolved
-stops_in step s above first old mid r = record {
+stops_in step s above first old mid work work' r counts = record {
   answers = r.answers;
   questions = r.questions;
   asked = r.asked;
   begins = λ later. ([], ap (λ (o : Outcome (Unit {0})). o.questions) (r.resolves later) ∙ sym (append-nil r.questions));
+  counts = counts;
 }
 
 -- the delimiter characters of a chain are those of its nodes

@@ -31,7 +31,7 @@ use Rattle.markdown_spans.specs.declared.span_text.SpanKind.{SpanKind}
 use Rattle.markdown_delims.proofs.PairingLemmas.{closed_shape}
 use Rattle.markdown_resolver.specs.Chains.{CanResolve}
 use Rattle.markdown_resolver.specs.Rewritten.{Puts, settled}
-use Rattle.markdown_resolver.specs.ReadsItem.{LooksAt, ReadsItem}
+use Rattle.markdown_resolver.specs.ReadsItem.{LooksAt, LooksAtMost, ReadsItem}
 use Rattle.markdown_document.specs.declared.chain_place.ChainPlace.{ChainPlace}
 use Rattle.markdown_resolver.proofs.ChainLeadsLemmas.{chain_leads, holds_next}
 use Rattle.markdown_resolver.proofs.ReadsItemLemmas.{reads_item}
@@ -159,6 +159,16 @@ settled_reads s above ix next old new tables ready nothing_there puts =
 pub looks_at_none : (failed : Bool) (visits items items' : ℕ) → visits < 2 ^ 128 → items' < items
     → LooksAt failed failed visits visits items items'
 looks_at_none failed visits items items' bound fewer = record {
+  more = 0;
+  counted = omega arith;
+  within = omega arith;
+  none = λ e. (refl, e);
+  past = λ e. omega arith;
+}
+
+-- nor did any where memory was refused
+pub stops_at_none : (failed : Bool) (visits items : ℕ) → visits < 2 ^ 128 → LooksAtMost failed failed visits visits items
+stops_at_none failed visits items bound = record {
   more = 0;
   counted = omega arith;
   within = omega arith;

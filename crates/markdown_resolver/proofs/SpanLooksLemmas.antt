@@ -1,5 +1,5 @@
 -- How many items a search of a chain examines, where the chain is read on past what it found.
-use Rattle.std.proofs.Common.{◌≡◌, ℕ, suc, ◌+◌, ◌≤◌, Bool, true, false, not, ◌==◌, List, ◌∷◌, ◌++◌, map, length, Option, Some, None, refl}
+use Rattle.std.proofs.Common.{◌≡◌, ℕ, suc, ◌+◌, ◌-◌, ◌^◌, ◌<◌, ◌≤◌, Bool, true, false, not, ◌==◌, List, ◌∷◌, ◌++◌, map, length, Option, Some, None, refl}
 use Rattle.std.proofs.Common.{sym, ap, ◌∙◌, arith, subst}
 use Rattle.std.specs.Prelude.{if◌then◌else◌, is_some}
 use Rattle.std.specs.Option.{option_map}
@@ -14,12 +14,12 @@ use Rattle.markdown_document.specs.Tables.{Tables}
 use Rattle.markdown_spans.specs.Closers.{Dollar, can_open, closing_count, code_close, context_of, first_dollar, looked_for_code}
 use Rattle.markdown_spans.specs.Closers.{looked_for_code_close, looked_for_math_from, math_close_from, opens_code, searched_for_math}
 use Rattle.markdown_spans.specs.SpanClosers.{ClosesCode, ClosesMath, Learned, LooksForCode, LooksForMath, RisesBy, failed_by_now, has_failed}
-use Rattle.markdown_spans.specs.SpanClosers.{item_in, unless_failed}
+use Rattle.markdown_spans.specs.SpanClosers.{LooksForCodeAtMost, LooksForMathAtMost, item_in, unless_failed}
 use Rattle.markdown_spans.specs.declared.span_closers.FoundMath.{FoundMath}
 use Rattle.markdown_spans.proofs.VisitLemmas.{code_visit_law, math_visit_law}
 use Rattle.markdown_resolver.specs.Chains.{CanResolve}
 use Rattle.markdown_resolver.specs.Rewritten.{Puts, Standing, numbered_past}
-use Rattle.markdown_resolver.specs.ReadsItem.{LooksAt}
+use Rattle.markdown_resolver.specs.ReadsItem.{LooksAt, LooksAtMost}
 use Rattle.markdown_resolver.proofs.FollowersLemmas.{InOrder, fewer_left, followers, items_led, opens_chain}
 use Rattle.markdown_resolver.proofs.CodeSpanLemmas.{closed_code, closes_by_number}
 use Rattle.markdown_resolver.proofs.MathSpanLemmas.{MathStands, close_of, math_by_number, stands_of}
@@ -216,3 +216,70 @@ math_looks {source} {tables} {tables'} {old} {new} {ix} {m} {trees} {next} learn
     (failed ∙ ap (λ (f : Option FoundMath). failed_by_now learned (can_open (item_at old ix).body) (is_some f)) some)
     (omega (arith, up_to, o.items)) (omega (arith, up_to, left, fewer, o.items))
     (unless_math (item_at old ix) chain) (λ found. omega (arith, up_to, left, fewer, o.items))
+
+-- memory was refused to a search, which has learned nothing
+refused_at : (learned : Learned) (looked old new items : ℕ) → old ≤ new → new < 2 ^ 128 → new ≤ old + unless_failed learned looked
+    → looked ≤ items → LooksAtMost (has_failed learned) (has_failed learned) old new items
+refused_at None looked old new items rises bound at_most within = record {
+  more = new - old;
+  counted = omega (arith, rises, bound);
+  within = omega (arith, rises, at_most, within);
+  none = λ before. cc before;
+  past = λ works. omega (arith, rises, at_most, within);
+}
+refused_at (Some known) looked old new items rises bound at_most within = record {
+  more = 0;
+  counted = omega (arith, rises, bound, at_most);
+  within = omega arith;
+  none = λ before. (refl, refl);
+  past = λ works. cc works;
+}
+
+module _ {source : List ℕ} {tables : Tables} {old : List (Node Item)} {ix : ℕ} (learned : Learned) (visits visits' : ℕ)
+    (ready : CanResolve source tables old (Some ix)) where
+  pub code_refused : visits ≤ visits' → visits' < 2 ^ 128 → LooksForCodeAtMost learned old ix visits visits'
+      → LooksAtMost (has_failed learned) (has_failed learned) visits visits' (items_from old (Some ix))
+  code_refused rises bound at_most =
+      let o = opens_chain source tables old ix ready in
+      let chain = map (numbered old) (followers old ix) in
+      let size = length-map (followers old ix) (numbered old) in
+      let within = code_visit_law.within (item_at old ix).body chain in
+      refused_at learned (looked_for_code_close item_in (item_at old ix).body chain) visits visits' (items_from old (Some ix)) rises bound
+      (at_most (suc ix) chain o.leads) (omega (arith, within, size, o.items))
+
+  pub math_refused : visits ≤ visits' → visits' < 2 ^ 128 → LooksForMathAtMost learned old ix visits visits'
+      → LooksAtMost (has_failed learned) (has_failed learned) visits visits' (items_from old (Some ix))
+  math_refused rises bound at_most =
+      let o = opens_chain source tables old ix ready in
+      let chain = map (numbered old) (followers old ix) in
+      let size = length-map (followers old ix) (numbered old) in
+      let within = math_visit_law.within (item_at old ix) chain in
+      refused_at learned (looked_for_math_from item_in (item_at old ix) chain) visits visits' (items_from old (Some ix)) rises bound
+      (at_most (suc ix) chain o.leads) (omega (arith, within, size, o.items))
+
+  -- it was refused to what a search has found
+  pub code_stops : (after : Learned) (found : Option ℕ) → LooksForCode learned old ix visits visits'
+      → has_failed after ≡ failed_by_now learned (opens_code (item_at old ix).body) (is_some found)
+      → LooksAtMost (has_failed learned) (has_failed after) visits visits' (items_from old (Some ix))
+  code_stops after found counted failed =
+      let o = opens_chain source tables old ix ready in
+      let chain = map (numbered old) (followers old ix) in
+      let size = length-map (followers old ix) (numbered old) in
+      let within = code_visit_law.within (item_at old ix).body chain in
+      looks_at learned (has_failed after) (opens_code (item_at old ix).body) (is_some found)
+      (looked_for_code_close item_in (item_at old ix).body chain) visits visits' (items_from old (Some ix)) 0
+      (counted (suc ix) chain o.leads) failed (omega (arith, within, size, o.items)) (omega arith)
+      (unless_code (item_at old ix).body chain) (λ found. omega (arith, within, size, o.items))
+
+  pub math_stops : (after : Learned) (found : Option FoundMath) → LooksForMath learned old ix visits visits'
+      → has_failed after ≡ failed_by_now learned (can_open (item_at old ix).body) (is_some found)
+      → LooksAtMost (has_failed learned) (has_failed after) visits visits' (items_from old (Some ix))
+  math_stops after found counted failed =
+      let o = opens_chain source tables old ix ready in
+      let chain = map (numbered old) (followers old ix) in
+      let size = length-map (followers old ix) (numbered old) in
+      let within = math_visit_law.within (item_at old ix) chain in
+      looks_at learned (has_failed after) (can_open (item_at old ix).body) (is_some found)
+      (looked_for_math_from item_in (item_at old ix) chain) visits visits' (items_from old (Some ix)) 0
+      (counted (suc ix) chain o.leads) failed (omega (arith, within, size, o.items)) (omega arith)
+      (unless_math (item_at old ix) chain) (λ found. omega (arith, within, size, o.items))

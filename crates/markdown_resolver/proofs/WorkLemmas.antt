@@ -1,6 +1,6 @@
 -- How much the counts of work rise where a chain is resolved.
 use Rattle.std.proofs.Common.{◌≡◌, ℕ, zero, suc, ◌+◌, ◌-◌, ◌*◌, ◌^◌, ◌<◌, ◌≤◌, min, List, ◌++◌, Option, Some, length, refl, sym, ap, ◌∙◌}
-use Rattle.std.proofs.Common.{arith}
+use Rattle.std.proofs.Common.{arith, subst}
 use Rattle.std.proofs.lemmas.List.{length-map}
 use Rattle.markdown_base.specs.ArenaForest.{Spells, links_of, forest_at}
 use Rattle.markdown_base.specs.BlockTree.{trees_at}
@@ -13,14 +13,14 @@ use Rattle.markdown_document.specs.Above.{Above}
 use Rattle.markdown_document.specs.Counts.{ChainCounts, RisesAtLeast, RisesAtMost, risen, WorkRises, comparisons_per_delimiter}
 use Rattle.markdown_document.specs.Document.{plain_tags}
 use Rattle.markdown_document.specs.Places.{label_at, trees_from}
-use Rattle.markdown_document.specs.Setting.{Setting}
+use Rattle.markdown_document.specs.Setting.{Known, Setting}
 use Rattle.markdown_document.specs.Stages.{Stage, chain_at, items_from, known_at}
 use Rattle.markdown_document.specs.Tables.{Tables}
 use Rattle.markdown_document.specs.declared.work.Work.{Work}
 use Rattle.markdown_delims.specs.PairedChain.{ExaminesAtMost}
 use Rattle.markdown_delims.specs.RunReading.{delimiters_of}
 use Rattle.markdown_delims.specs.PairingFinds.{finds_in}
-use Rattle.markdown_resolver.specs.ChainCounts.{chain_counts}
+use Rattle.markdown_resolver.specs.ChainCounts.{RisesInPart, chain_counts}
 use Rattle.markdown_resolver.specs.Chains.{ResolvesFrom}
 use Rattle.markdown_resolver.specs.PassOne.{Outcome, pass_one}
 use Rattle.markdown_resolver.proofs.PairedLemmas.{delimiters_left}
@@ -104,29 +104,72 @@ examined_by d d' old old' new e e' h = record {
 found_by : (f f' old old' new : ℕ) → f ≡ f' → old ≡ old' → RisesAtLeast f old new → RisesAtLeast f' old' new
 found_by f f' old old' new e e' h = rw (sym e, sym e') h
 
--- where a chain was read, and then paired, the counts rose by those of the chain
-pub counts_rise : {C : Type 0} (step : C → Question → Option Answer → C → Type 0) (s : Setting) (above : Above) (first : ℕ)
-    (old mid : Stage C) (work then new : Work)
+-- where a chain was read, the counts rose by those of a part of it: of its items, and of no delimiter character
+pub read_in_part : {C : Type 0} (s : Setting) (above : Above) (first : ℕ) (old : Stage C) (known : Known) (work new : Work)
     → Spells (links_of old.nodes) (Some first) (forest_at (links_of old.nodes) (Some first))
-    → (r : ResolvesFrom step s.text (pass_one s plain_tags above) (Some first) old mid)
-    → AreCounts work → ReadCounts (items_from old.nodes (Some first)) work then
-    → PairCounts (delimiters_of (trees_at mid.nodes (Some first))) (finds_in s (chain_at s.text mid (Some first))) then new
-    → (later : Answers) → WorkRises (chain_counts s plain_tags above (chain_at s.text old (Some first)) (known_at old (r.answers ++ later)))
-    work new
-counts_rise step s above first old mid work then new spelled r fits read paired later =
-    let n = chain_counts s plain_tags above (chain_at s.text old (Some first)) (known_at old (r.answers ++ later)) in
-    let d = delimiters_of (trees_at mid.nodes (Some first)) in
+    → ReadCounts (items_from old.nodes (Some first)) work new
+    → RisesInPart (chain_counts s plain_tags above (chain_at s.text old (Some first)) known) work new
+read_in_part s above first old known work new spelled read =
+    let n = chain_counts s plain_tags above (chain_at s.text old (Some first)) known in
     let items = chain_items s.text old.tables old.nodes (Some first) in
-    let left = delimiters_left step s above first old mid r later in
     let some : 0 < n.items = omega (arith, items, some_items old.nodes first spelled) in
-    work_rises n work new fits some
-    (ap (λ (w : Work). w.items) paired.counted ∙ read.items_counted ∙ ap (λ k. min (work.items + k) (2 ^ 128 - 1)) (sym items))
-    (ap (λ (w : Work). w.delimiters) paired.counted ∙ ap (λ k. min (k + d) (2 ^ 128 - 1)) read.same_delimiters
-    ∙ ap (λ k. min (work.delimiters + k) (2 ^ 128 - 1)) left)
-    (examined_by d n.delimiters then.examined work.examined new.examined left read.same_examined paired.compared)
-    (found_by (finds_in s (chain_at s.text mid (Some first))) n.found then.examined work.examined new.examined
-    (ap (λ (o : Outcome (Unit {0})). finds_in s o.forest) (sym (r.resolves later))) read.same_examined paired.finds)
-    (same_rise (items_from old.nodes (Some first)) n.items work.code_visits then.code_visits new.code_visits items
-    (ap (λ (w : Work). w.code_visits) paired.counted) read.code)
-    (same_rise (items_from old.nodes (Some first)) n.items work.math_visits then.math_visits new.math_visits items
-    (ap (λ (w : Work). w.math_visits) paired.counted) read.math)
+    record {
+      part = record { items = n.items; delimiters = 0; found = 0 };
+      items = omega arith;
+      delimiters = omega arith;
+      rises = record {
+        items = read.items_counted ∙ ap (λ k. min (work.items + k) (2 ^ 128 - 1)) (sym items) ∙ risen_some n.items work.items some;
+        delimiters = read.same_delimiters;
+        examined = record { more = 0; within = omega arith; counted = read.same_examined };
+        found = omega (arith, read.same_examined);
+        code_visits = same_rise (items_from old.nodes (Some first)) n.items work.code_visits new.code_visits new.code_visits items refl
+            read.code;
+        math_visits = same_rise (items_from old.nodes (Some first)) n.items work.math_visits new.math_visits new.math_visits items refl
+            read.math;
+      };
+    }
+
+-- where a chain was read, and then paired, the counts rose by those of the chain, with so many searches that find
+module _ {C : Type 0} (step : C → Question → Option Answer → C → Type 0) (s : Setting) (above : Above) (first : ℕ)
+    (old mid : Stage C) (work then new : Work)
+    (spelled : Spells (links_of old.nodes) (Some first) (forest_at (links_of old.nodes) (Some first)))
+    (r : ResolvesFrom step s.text (pass_one s plain_tags above) (Some first) old mid)
+    (fits : AreCounts work) (read : ReadCounts (items_from old.nodes (Some first)) work then) where
+  abbrev counts_of : (later : Answers) → ChainCounts
+  counts_of later = chain_counts s plain_tags above (chain_at s.text old (Some first)) (known_at old (r.answers ++ later))
+
+  counts_paired : (found : ℕ) → PairCounts (delimiters_of (trees_at mid.nodes (Some first))) found then new
+      → (later : Answers) → WorkRises (record (counts_of later) { found = found }) work new
+  counts_paired found paired later =
+      let n = counts_of later in
+      let d = delimiters_of (trees_at mid.nodes (Some first)) in
+      let items = chain_items s.text old.tables old.nodes (Some first) in
+      let left = delimiters_left step s above first old mid r later in
+      let some : 0 < n.items = omega (arith, items, some_items old.nodes first spelled) in
+      work_rises (record n { found = found }) work new fits some
+      (ap (λ (w : Work). w.items) paired.counted ∙ read.items_counted ∙ ap (λ k. min (work.items + k) (2 ^ 128 - 1)) (sym items))
+      (ap (λ (w : Work). w.delimiters) paired.counted ∙ ap (λ k. min (k + d) (2 ^ 128 - 1)) read.same_delimiters
+      ∙ ap (λ k. min (work.delimiters + k) (2 ^ 128 - 1)) left)
+      (examined_by d n.delimiters then.examined work.examined new.examined left read.same_examined paired.compared)
+      (found_by found found then.examined work.examined new.examined refl read.same_examined paired.finds)
+      (same_rise (items_from old.nodes (Some first)) n.items work.code_visits then.code_visits new.code_visits items
+      (ap (λ (w : Work). w.code_visits) paired.counted) read.code)
+      (same_rise (items_from old.nodes (Some first)) n.items work.math_visits then.math_visits new.math_visits items
+      (ap (λ (w : Work). w.math_visits) paired.counted) read.math)
+
+  pub counts_rise : PairCounts (delimiters_of (trees_at mid.nodes (Some first))) (finds_in s (chain_at s.text mid (Some first))) then new
+      → (later : Answers) → WorkRises (counts_of later) work new
+  counts_rise paired later =
+      subst (λ k. WorkRises (record (counts_of later) { found = k }) work new)
+      (ap (λ (o : Outcome (Unit {0})). finds_in s o.forest) (sym (r.resolves later)))
+      (counts_paired (finds_in s (chain_at s.text mid (Some first))) paired later)
+
+  -- and where memory was refused to pairing, by those of a part of it
+  pub counts_in_part : PairCounts (delimiters_of (trees_at mid.nodes (Some first))) 0 then new
+      → (later : Answers) → RisesInPart (counts_of later) work new
+  counts_in_part paired later = record {
+    part = record (counts_of later) { found = 0 };
+    items = omega arith;
+    delimiters = omega arith;
+    rises = counts_paired 0 paired later;
+  }

@@ -1,11 +1,12 @@
 -- The counts of resolving a chain.
-use Rattle.std.specs.Prelude.{length}
+use Rattle.std.specs.Prelude.{ℕ, ◌≤◌, length}
 use Rattle.markdown_base.specs.Forest.{Forest, roots}
 use Rattle.markdown_document.specs.Above.{Above}
-use Rattle.markdown_document.specs.Counts.{ChainCounts}
+use Rattle.markdown_document.specs.Counts.{ChainCounts, WorkRises}
 use Rattle.markdown_document.specs.Document.{Tags, Label}
 use Rattle.markdown_document.specs.Labels.{delimiters_in}
 use Rattle.markdown_document.specs.Setting.{Setting, Known}
+use Rattle.markdown_document.specs.declared.work.Work.{Work}
 use Rattle.markdown_delims.specs.PairingFinds.{finds_in}
 use Rattle.markdown_resolver.specs.PassOne.{pass_one}
 
@@ -17,3 +18,11 @@ chain_counts s tags above chain known = record {
   delimiters = delimiters_in (pass_one s tags above chain known).forest;
   found = finds_in s (pass_one s tags above chain known).forest;
 }
+
+-- memory was refused before a chain with these counts was resolved, or on the way: the counts rose as for a part of it,
+-- with no more items or delimiter characters, so that each of the others rose by no more than these allow
+pub record RisesInPart (all : ChainCounts) (old new : Work) : Type 0 where
+  pub part : ChainCounts
+  pub items : part.items ≤ all.items
+  pub delimiters : part.delimiters ≤ all.delimiters
+  pub rises : WorkRises part old new

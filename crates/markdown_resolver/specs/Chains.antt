@@ -20,7 +20,7 @@ use Rattle.markdown_resolver.specs.Resolved.{resolved}
 use Rattle.markdown_document.specs.Above.{Above, above_cursor}
 use Rattle.markdown_document.specs.Counts.{WorkRises}
 use Rattle.markdown_document.specs.declared.work.Work.{Work}
-use Rattle.markdown_resolver.specs.ChainCounts.{chain_counts}
+use Rattle.markdown_resolver.specs.ChainCounts.{RisesInPart, chain_counts}
 use Rattle.markdown_document.specs.Setting.{Setting, Known}
 use Rattle.markdown_document.specs.Places.{IsPlaced, trees_from, IsSameAt}
 use Rattle.markdown_document.specs.Document.{plain_tags, Plain}
@@ -99,12 +99,14 @@ pub record ResolvesChain {C : Type 0} (step : C → Question → Option Answer �
       work work'
 
 -- memory was refused on the way: the callback returned these answers to these questions, with which those of the chain
--- begin
+-- begin; the counts rose by a part of those of the chain for these answers
 pub record StopsIn {C : Type 0} (step : C → Question → Option Answer → C → Type 0) (s : Setting) (above : Above)
-    (first : ℕ) (old : Stage C) (callback' : Option C) : Type 0 where
+    (first : ℕ) (old : Stage C) (callback' : Option C) (work work' : Work) : Type 0 where
   pub answers : Answers
   pub questions : List Question
   pub asked : Asks step old.callback questions answers callback'
   pub begins : (later : Answers) → (others : List Question)
       × ((resolved s plain_tags above (chain_at s.text old (Some first)) (known_at old (answers ++ later))).questions
       ≡ questions ++ others)
+  pub counts : (later : Answers) → RisesInPart
+      (chain_counts s plain_tags above (chain_at s.text old (Some first)) (known_at old (answers ++ later))) work work'

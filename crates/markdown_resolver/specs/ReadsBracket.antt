@@ -19,7 +19,7 @@ use Rattle.markdown_resolver.specs.ChainPlace.{CanReadOn}
 use Rattle.markdown_resolver.specs.Closes.{closing_at}
 use Rattle.markdown_resolver.specs.PassOne.{around}
 use Rattle.markdown_resolver.specs.ReadOn.{ReadsOn, StopsOn}
-use Rattle.markdown_resolver.specs.ReadsItem.{LooksAt}
+use Rattle.markdown_resolver.specs.ReadsItem.{LooksAt, LooksAtMost}
 use Rattle.markdown_document.specs.declared.chain_place.ChainPlace.{ChainPlace}
 use Rattle.markdown_resolver.specs.declared.resolver.Resolver.{Resolver}
 use Rattle.markdown_defs.specs.Allocations.{Allocated}
@@ -94,6 +94,13 @@ StopsAtNode step place ix tree old callback' = (first : ℕ) (left : List (Entry
     → WasReadTo place tree old first ix left
     → StopsOn step (setting_by old) (above_cursor old.text.now tree) (Some ix) left (stage_by tree old) old.spent
     callback'
+
+-- and searches have looked at no more items than there are from that node on
+pub record StopsLooking {C : Type 0} (ix : ℕ) (tree : Arena Item) (old new : Resolver C) : Type 0 where
+  pub code_looks : LooksAtMost (has_failed old.code_closers) (has_failed new.code_closers) old.work.code_visits
+      new.work.code_visits (items_from tree.nodes (Some ix))
+  pub math_looks : LooksAtMost (has_failed old.math_closers) (has_failed new.math_closers) old.work.math_visits
+      new.work.math_visits (items_from tree.nodes (Some ix))
 
 -- on success and on error, reading a bracket has changed only the texts and links that were appended, the uses of
 -- footnotes, what asking changes, and what is held of brackets; the names of footnotes are the same

@@ -41,3 +41,7 @@ pub record LooksAt (before after : Bool) (old new items items' : ℕ) : Type 0 w
   pub within : more ≤ items
   pub none : before ≡ true → (more ≡ 0) × (after ≡ true)
   pub past : after ≡ false → more + items' ≤ items
+
+-- memory was refused: it has looked at no more than there are
+abbrev pub LooksAtMost : (before after : Bool) → (old new items : ℕ) → Type 0
+LooksAtMost before after old new items = LooksAt before after old new items 0

@@ -68,7 +68,8 @@ impl<'a, F: BrokenLinkCallback<'a>> Resolver<'a, F> {
     ghost use Rattle.markdown_resolver.specs.PassOne.{pass_one};
     ghost use Rattle.markdown_resolver.specs.ReadOn.{StopsInPassOne};
     ghost use Rattle.markdown_resolver.specs.ReadsBracket.{CanReadNode, ChangesForBracket, ChangesForNode};
-    ghost use Rattle.markdown_resolver.specs.ReadsBracket.{ReadsBracket, ReadsNode, StopsAtNode, setting_by, stage_by};
+    ghost use Rattle.markdown_resolver.specs.ReadsBracket.{ReadsBracket, ReadsNode, StopsAtNode, StopsLooking};
+    ghost use Rattle.markdown_resolver.specs.ReadsBracket.{setting_by, stage_by};
     ghost use Rattle.markdown_resolver.specs.ReadsItem.{LooksAt, ReadsItem};
     ghost use Rattle.markdown_defs.specs.Footnotes.{footnote_at};
 
@@ -101,7 +102,8 @@ impl<'a, F: BrokenLinkCallback<'a>> Resolver<'a, F> {
             (items_from tree.old.nodes (Some ix)) (items_from tree.new.nodes next)) }
         ensures place { IfOk result (λ _. tree.new ≡ record tree.old { nodes = tree.new.nodes }) }
 
-        // on success and on error
+        // on error, and then on success and on error
+        ensures stops_looking { IfErr result (λ _. StopsLooking ix tree.old self.old self.new) }
         ensures kept { self.new ≡ record self.old {
           tables = record self.old.tables { cows = self.new.tables.cows; links = self.new.tables.links };
           work = record self.old.work {
@@ -234,6 +236,7 @@ impl<'a, F: BrokenLinkCallback<'a>> Resolver<'a, F> {
         // on an error, and in any case
         ensures stops { IfErr result (λ _. StopsAtNode F.answers place.now ix tree.old self.old self.new.callback) }
         ensures again { IfSome self.new.callback F.can_ask }
+        ensures stops_looking { IfErr result (λ _. StopsLooking ix tree.old self.old self.new) }
         ensures refused { IfErr result (λ fault. fault ≡ Fault.Memory) }
         ensures scanner { scanner.new.text ≡ scanner.old.text }
         ensures kept { ChangesForNode self.old self.new }
@@ -296,14 +299,14 @@ impl<'a, F: BrokenLinkCallback<'a>> Resolver<'a, F> {
             (pass_one (setting_by self.old) plain_tags (above_cursor self.old.text.now tree.old)) (Some first)
             (stage_by tree.old self.old) (stage_by tree.new self.new)) }
         ensures place { IfOk result (λ _. tree.new ≡ record tree.old { nodes = tree.new.nodes }) }
-        ensures items { self.new.work.items ≡ min (self.old.work.items + items_from tree.old.nodes (Some first))
-            (2 ^ 128 - 1) }
-        ensures code_visits { IfOk result (λ _.
-            RisesAtMost (items_from tree.old.nodes (Some first)) self.old.work.code_visits self.new.work.code_visits) }
-        ensures math_visits { IfOk result (λ _.
-            RisesAtMost (items_from tree.old.nodes (Some first)) self.old.work.math_visits self.new.work.math_visits) }
 
         // on an error, and in any case
+        ensures items { self.new.work.items ≡ min (self.old.work.items + items_from tree.old.nodes (Some first))
+            (2 ^ 128 - 1) }
+        ensures code_visits { RisesAtMost (items_from tree.old.nodes (Some first))
+            self.old.work.code_visits self.new.work.code_visits }
+        ensures math_visits { RisesAtMost (items_from tree.old.nodes (Some first))
+            self.old.work.math_visits self.new.work.math_visits }
         ensures stops { IfErr result (λ _. StopsInPassOne F.answers (setting_by self.old)
             (above_cursor self.old.text.now tree.old) first (stage_by tree.old self.old) self.new.callback) }
         ensures again { IfSome self.new.callback F.can_ask }
@@ -360,7 +363,8 @@ impl<'a, F: BrokenLinkCallback<'a>> Resolver<'a, F> {
         ensures stops { IfErr result (λ _. StopsIn F.answers
             (setting_of self.old.text.now (rules_from self.old.options self.old.tables (is_some self.old.callback)))
             (above_cursor self.old.text.now tree.old) first
-            (stage tree.old self.old.tables self.old.limit self.old.callback) self.new.callback) }
+            (stage tree.old self.old.tables self.old.limit self.old.callback) self.new.callback
+            self.old.work self.new.work) }
         ensures again { IfSome self.new.callback F.can_ask }
         ensures text { self.new.text ≡ self.old.text }
         ensures options { self.new.options ≡ self.old.options }

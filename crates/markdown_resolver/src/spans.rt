@@ -22,7 +22,7 @@ ghost use Rattle.markdown_resolver.specs.ChainPlace.{CanReadItem, IsPlaceOf};
 ghost use Rattle.markdown_resolver.specs.PutCode.{CanPutCode, code_standing};
 ghost use Rattle.markdown_resolver.specs.Rewritten.{Puts};
 ghost use Rattle.markdown_resolver.specs.StoredText.{CanCut, StoresText};
-ghost use Rattle.markdown_resolver.specs.ReadsItem.{LooksAt, ReadsItem};
+ghost use Rattle.markdown_resolver.specs.ReadsItem.{LooksAt, LooksAtMost, ReadsItem};
 
 use crate::found::{put_found, put_pair, settle};
 use markdown_base::cow_str::CowStr;
@@ -194,11 +194,16 @@ pub(crate) fn read_code<'a>(
         (items_from tree.old.nodes (Some ix)) (items_from tree.new.nodes next)) }
     ensures place { IfOk result (λ _. tree.new ≡ record tree.old { nodes = tree.new.nodes }) }
 
-    // on success and on error
+    // on error, and then on success and on error
+    ensures stops_looking { IfErr result (λ _. LooksAtMost (has_failed closers.old) (has_failed closers.new) visits.old visits.new
+        (items_from tree.old.nodes (Some ix))) }
     ensures tables { tables.new ≡ record tables.old { cows = tables.new.cows } }
     ensures refused { IfErr result (λ fault. fault ≡ Fault.Memory) }
 {
-    let Some(closer) = closers.find_code_closer(tree, ix, visits)? else {
+    let found = closers.find_code_closer(tree, ix, visits);
+    // bounds the count
+    let _visits = *visits;
+    let Some(closer) = found? else {
         return Ok(settle(tree, ix));
     };
     let item = *tree.item(ix);
@@ -237,11 +242,16 @@ pub(crate) fn read_math<'a>(
         (items_from tree.old.nodes (Some ix)) (items_from tree.new.nodes next)) }
     ensures place { IfOk result (λ _. tree.new ≡ record tree.old { nodes = tree.new.nodes }) }
 
-    // on success and on error
+    // on error, and then on success and on error
+    ensures stops_looking { IfErr result (λ _. LooksAtMost (has_failed closers.old) (has_failed closers.new) visits.old visits.new
+        (items_from tree.old.nodes (Some ix))) }
     ensures tables { tables.new ≡ record tables.old { cows = tables.new.cows } }
     ensures refused { IfErr result (λ fault. fault ≡ Fault.Memory) }
 {
-    let Some(math) = closers.find_math_closer(tree, ix, visits)? else {
+    let found = closers.find_math_closer(tree, ix, visits);
+    // bounds the count
+    let _visits = *visits;
+    let Some(math) = found? else {
         return Ok(settle(tree, ix));
     };
     let item = *tree.item(ix);

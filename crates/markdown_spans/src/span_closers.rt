@@ -147,6 +147,9 @@ fn walk_on(
     ensures refused { IfErr result (λ _. (low : ℕ) (after : List Numbered)
         → LeadsThrough tree.now.nodes low (sibling_of tree.now.nodes ix) after
         → visits.new ≤ visits.old + length after) }
+
+    // whatever comes
+    ensures rises { visits.old ≤ visits.new }
 {
     note(noted, mark_of(SpanKind::Math, ix, tree.item(ix).body))?;
     walk_to(tree, tree.next(ix), SpanKind::Math, None, noted, visits)?;
@@ -169,6 +172,9 @@ fn walk_for_math(
     ensures refused { IfErr result (λ _. (low : ℕ) (after : List Numbered)
         → LeadsThrough tree.now.nodes low (sibling_of tree.now.nodes opener.number) after
         → visits.new ≤ visits.old + looked_for_math item_in opener.end opener.context after) }
+
+    // whatever comes
+    ensures rises { visits.old ≤ visits.new }
 {
     note_second(tree, opener, noted)?;
     let first = opener.searched_from(tree);
@@ -228,6 +234,9 @@ impl SpanClosers {
         ensures at_most { IfErr result (λ _. (low : ℕ) (chain : List Numbered)
             → LeadsThrough tree.now.nodes low first chain
             → visits.new ≤ visits.old + looked_for_code item_in wanted chain) }
+
+        // whatever comes
+        ensures rises { visits.old ≤ visits.new }
     {
         self.noted.clear();
         let found = walk_to(
@@ -263,6 +272,9 @@ impl SpanClosers {
         ensures at_most { IfErr result (λ _. (low : ℕ) (after : List Numbered)
             → LeadsThrough tree.now.nodes low (sibling_of tree.now.nodes opener.number) after
             → visits.new ≤ visits.old + looked_for_math item_in opener.end opener.context after) }
+
+        // whatever comes
+        ensures rises { visits.old ≤ visits.new }
     {
         self.noted.clear();
         let found = walk_for_math(tree, opener, &mut self.noted, visits)?;
@@ -297,6 +309,9 @@ impl SpanClosers {
         ensures unchanged { OnErr result (self.new ≡ self.old) }
         ensures counted_at_most { IfErr result (λ _. LooksForCodeAtMost self.old tree.now.nodes opener visits.old
             visits.new) }
+
+        // whatever comes
+        ensures rises { visits.old ≤ visits.new }
     {
         let _from = *visits;
         let Some(mark) = mark_of(SpanKind::Code, opener, tree.item(opener).body) else {
@@ -334,6 +349,9 @@ impl SpanClosers {
         ensures unchanged { OnErr result (self.new ≡ self.old) }
         ensures counted_at_most { IfErr result (λ _. LooksForMathAtMost self.old tree.now.nodes opener visits.old
             visits.new) }
+
+        // whatever comes
+        ensures rises { visits.old ≤ visits.new }
     {
         let _from = *visits;
         let Some(opening) = MathOpener::of_node(tree, opener) else {

@@ -1,6 +1,6 @@
 //! Marks of spans in a chain, which are backticks and `$`, and searches along the chain for the next one with a given
 //! key.
-ghost use Rattle.std.specs.Prelude.{◌≡◌, ℕ, ◌+◌, ◌-◌, ◌^◌, ◌++◌, List, min, IfErr, IfOk, OnOk, option_to_list};
+ghost use Rattle.std.specs.Prelude.{◌≡◌, ◌≤◌, ℕ, ◌+◌, ◌-◌, ◌^◌, ◌++◌, List, min, IfErr, IfOk, OnOk, option_to_list};
 ghost use Rattle.markdown_base.specs.BlockTree.{Numbered};
 ghost use Rattle.markdown_spans.specs.ChainInArena.{HasChain, LeadsThrough};
 ghost use Rattle.markdown_spans.specs.ChainWalk.{LooksAlong, WalksTo};
@@ -127,6 +127,9 @@ pub fn walk_to(
         → WalksTo kind wanted tree.now.nodes chain found noted.old.items noted.new.items visits.old visits.new) }
     ensures refused { IfErr result (λ _. (low : ℕ) (chain : List Numbered) → LeadsThrough tree.now.nodes low first chain
         → LooksAlong kind wanted chain visits.old visits.new) }
+
+    // whatever comes
+    ensures rises { visits.old ≤ visits.new }
 {
     let _from = *visits;
     let mut link = first;

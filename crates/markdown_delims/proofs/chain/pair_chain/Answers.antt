@@ -126,21 +126,24 @@ returns-clause-place c =
 
 pub returns-clause-examined : goal.returns-clause-examined
 returns-clause-examined c =
-    on_ok c.pair_runs-done.result
-    (λ bound.
     let f : Forest ℕ = forest_at (links_of c.args.tree.now.nodes) (Some c.args.first) in
     let chain = can_pair c.args.text.now c.as_bytes.result.now c.args.tree.now c.quote_chain.new.tree c.args.first c.as_bytes.ensures.value
     c.requires.chain c.quote_chain.ensures.quotes in
     let as_many = as_many c.args.text.now c.as_bytes.result.now c.args.tree.now c.quote_chain.new.tree c.args.first c.as_bytes.ensures.value
     c.requires.chain c.quote_chain.ensures.quotes in
-    let none : c.clear.new.self.examined ≡ 0 = ap (λ o. o.examined) c.clear.ensures in
+    let none : c.clear.new.self.potential ≡ 0 = ap (λ o. o.potential) c.clear.ensures in
     record {
       examined = c.examined.result;
-      within = omega (arith, bound f chain, as_many, none, c.examined.ensures.value);
-      counted =
-          c.saturating_add-work-2.ensures;
-    })
-    c.pair_runs-done.ensures.examined
+      within = omega (
+        arith,
+        c.pair_runs-done.ensures.paid f chain,
+        as_many,
+        none,
+        c.examined.ensures.value,
+        c.examined.ensures.within,
+      );
+      counted = c.saturating_add-work-2.ensures;
+    }
 
 pub returns-clause-found : goal.returns-clause-found
 returns-clause-found c =

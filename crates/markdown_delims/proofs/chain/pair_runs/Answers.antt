@@ -3,6 +3,7 @@ use Rattle.std.proofs.Common.{◌<◌, ◌+◌, ◌*◌, ◌^◌, [], arith, sub
 use Rattle.markdown_document.specs.Counts.{comparisons_per_delimiter}
 use Rattle.markdown_delims.specs.RunReading.{delimiters_of, ReadFurther}
 use Rattle.markdown_delims.specs.ChainForest.{chain_of}
+use Rattle.markdown_delims.specs.ChainStanding.{Stands}
 use Rattle.markdown_delims.proofs.ChainLemmas.{whole_chain, starts_reading, reads_more, can_go_on, all_read, all_found, goes_down}
 use Rattle.markdown_delims.proofs.ReadLemmas.{head_within}
 use Rattle.markdown_delims.proofs.chain.pair_runs.Goals as goal
@@ -63,7 +64,15 @@ returns-clause-found c f ch =
     (subst (λ l. ReadFurther c.args.marks c.args.text.now h c.args.tree.now c.trees.tree [] (chain_of c.args.tree.now.nodes f)
     c.args.openers.now c.trees.openers c.trees.last l 0) c.in_default.is (c.trees.invariant f ch))
 
-pub returns-clause-examined : goal.returns-clause-examined
-returns-clause-examined c f ch =
+pub returns-clause-paid : goal.returns-clause-paid
+returns-clause-paid c f ch =
     let a = c.trees.invariant f ch in
-    omega (arith, a.paid, c.requires.emptied.potential, c.examined-examined.ensures.within)
+    omega (arith, a.paid)
+
+-- the tree at which memory was refused stands in what was left
+pub returns-in_err-read-clause-paid : goal.returns-in_err-read-clause-paid
+returns-in_err-read-clause-paid c f ch =
+    let a = c.trees.invariant f ch in
+    let stands = subst (λ l. Stands (whole_chain c.args.marks c.args.text.now c.args.tree.now c.args.first f ch) c.trees.tree a.es
+    c.trees.last l a.rest) c.in-Some.is a.is_read.reads.stands in
+    omega (arith, a.paid, c.in_err-read.ensures.paid _ a.es a.rest stands a.whole)

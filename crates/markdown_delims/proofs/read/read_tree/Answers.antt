@@ -1,6 +1,6 @@
 -- A run is turned into Texts and read; any other tree is kept.
 use Rattle.std.proofs.Common.{◌≡◌, ◌<◌, ◌+◌, ◌*◌, ◌^◌, ℕ, arith, subst, ap, sym, ◌∙◌, Ok, Err}
-use Rattle.std.specs.Prelude.{IfOk, Result}
+use Rattle.std.specs.Prelude.{IfErr, IfOk, Result}
 use Rattle.markdown_base.specs.declared.item.Item.{Item}
 use Rattle.markdown_base.specs.BlockTree.{no_item, item_at}
 use Rattle.markdown_document.specs.Counts.{comparisons_per_delimiter}
@@ -80,11 +80,16 @@ returns-in-None c =
           rw c.next.ensures.value
           (read_none c.args.marks c.args.text.now h c.args.tree.now es c.args.last c.args.ix chain c.args.openers.now st w r
           (ap (run_of c.args.text.now) (sym i) ∙ sym c.in-None.ensures));
+      paid = tt;
     }
 
 if_ok : {A E : Type 0} (P Q : A → Type 0) (r : Result A E) → ((x : A) → P x → Q x) → IfOk r P → IfOk r Q
 if_ok P Q (Ok x) h i = h x i
 if_ok P Q (Err e) h i = tt
+
+if_err : {A E : Type 0} {P : Type 0} (r : Result A E) → P → IfErr r (λ e. P)
+if_err (Ok x) p = tt
+if_err (Err e) p = p
 
 pub returns-in-Some : goal.returns-in-Some
 returns-in-Some c =
@@ -102,4 +107,8 @@ returns-in-Some c =
           (all_of_run c.in-Some.run' c.args.ix) c.args.last c.settle_run.new.tree c.read_run.new.tree c.args.openers.now.runs
           c.read_run.new.openers.runs x.0 x.1) i on))
           c.read_run.ensures.ok;
+      paid = if_err c.read_run.result (λ h es chain st w.
+          let here = run_here c.args.marks c.args.text.now h c.args.tree.now es c.args.last c.args.ix c.in-Some.run' chain st w
+          (ap (run_of c.args.text.now) (sym i) ∙ sym c.in-Some.ensures) in
+          omega (arith, here.begins.fewer, c.read_run.ensures.paid));
     }

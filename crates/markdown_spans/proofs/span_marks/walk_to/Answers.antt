@@ -14,6 +14,7 @@ walk-init c = record {
   passes = λ low chain h. walk_begins c.args.kind c.args.wanted c.args.tree.now.nodes chain c.args.first
       c.args.noted.now.items c.args.visits.now low (omega arith) h;
   fits = omega arith;
+  rises = omega arith;
 }
 
 pub item-requires : goal.item-requires
@@ -73,6 +74,7 @@ walk-preserved c =
           c.args.visits.now c.walk.visits c.count_visit.new.visits
           (rw c.in-Some.is at (c.walk.invariant.passes low chain h)) miss noted c.count_visit.ensures);
       fits = omega arith;
+      rises = omega arith;
     }
 
 pub returns-clause-walks : goal.returns-clause-walks

@@ -11,6 +11,7 @@ invariant-walk l = record {
   passes : (low : ℕ) (chain : List Numbered) → LeadsThrough l.tree.nodes low l.fn.first chain
       → Passes l.kind l.wanted l.tree.nodes chain l.link l.fn.noted.items l.noted.items l.fn.visits l.visits;
   fits : l.visits ≤ 2 ^ 128 - 1;
+  rises : l.fn.visits ≤ l.visits;
 }
 
 abbrev pub decreases-walk : goal.decreases-walk

@@ -105,6 +105,6 @@ returns-in-Err-resolve_chain-clause-moves g c =
 pub returns-in-Err-clause-moves : goal.returns-in-Err-clause-moves
 returns-in-Err-clause-moves g c =
     let s = c.args.self.now in
-    moved_refused g.F.BrokenLinkCallback.answers s _ c.take_step.new.tree refl
+    moved_refused g.F.BrokenLinkCallback.answers s _ c.take_step.new.tree refl refl
     (c.in-Err.ensures s.resolver.text.now s.resolver.tables s.stands)
     (stopped c.take_step.new.tree c.stop-in-Err.new.self c.stop-in-Err.ensures)

@@ -36,5 +36,6 @@ returns-in-Err-clause-begun g c = record {
   memory = refl;
   is = over_ended _ (stopped c.args.self.now.tree c.stop.new.self c.stop.ensures);
   callback = refl;
+  work = refl;
   keeps = record { text = refl; definitions = ap (λ (held : Allocated). held.refdefs) c.in-Err.ensures.refused };
 }

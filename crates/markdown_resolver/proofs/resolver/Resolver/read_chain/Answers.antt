@@ -134,6 +134,22 @@ returns-in_err-at-clause-items g c =
     ap (λ (r : Resolver g.row.F.Denot). r.work.items) c.read_item.ensures.kept.kept
     ∙ ap (λ (r : Resolver g.row.F.Denot). r.work.items) c.chain.invariant.kept
 
+pub returns-in_err-at-clause-code_visits : goal.returns-in_err-at-clause-code_visits
+returns-in_err-at-clause-code_visits g c =
+    let at = c.chain.self in
+    let new = c.read_item.new.self in
+    let looks = looked_more (has_failed at.code_closers) (has_failed new.code_closers) c.args.self.now.work.code_visits at.work.code_visits
+    new.work.code_visits _ _ 0 (omega arith) (rw c.in-Some.is at c.chain.invariant.code_looks) c.in_err-at.ensures.stops_looking.code_looks in
+    record { more = looks.more; within = looks.within; counted = looks.counted }
+
+pub returns-in_err-at-clause-math_visits : goal.returns-in_err-at-clause-math_visits
+returns-in_err-at-clause-math_visits g c =
+    let at = c.chain.self in
+    let new = c.read_item.new.self in
+    let looks = looked_more (has_failed at.math_closers) (has_failed new.math_closers) c.args.self.now.work.math_visits at.work.math_visits
+    new.work.math_visits _ _ 0 (omega arith) (rw c.in-Some.is at c.chain.invariant.math_looks) c.in_err-at.ensures.stops_looking.math_looks in
+    record { more = looks.more; within = looks.within; counted = looks.counted }
+
 pub returns-in_err-at-clause-kept : goal.returns-in_err-at-clause-kept
 returns-in_err-at-clause-kept g c = rw (c.read_item.ensures.kept.kept, c.chain.invariant.kept) refl
 

@@ -10,7 +10,7 @@ use Rattle.markdown_resolver.specs.BracketKinds.{kind_of}
 use Rattle.markdown_resolver.specs.ReadsBracket.{setting_by, stage_by}
 use Rattle.markdown_resolver.specs.declared.resolver.Resolver.{Resolver}
 use Rattle.markdown_resolver.proofs.ChainReadLemmas.{can_read_item}
-use Rattle.markdown_resolver.proofs.NodeReadLemmas.{bracket_changes, bracket_read, other_changes, other_read}
+use Rattle.markdown_resolver.proofs.NodeReadLemmas.{bracket_changes, bracket_read, bracket_stops, other_changes, other_read}
 use Rattle.markdown_resolver.proofs.OpenerReadLemmas.{if_err, ready_here}
 use Rattle.markdown_resolver.proofs.ReadingLemmas.{node_within}
 use Rattle.markdown_resolver.proofs.StopsLemmas.{stops_here}
@@ -33,6 +33,8 @@ returns-in-Some g c =
       reads = IfOk-weaker c.read_bracket.result _ _ (λ next r.
           bracket_read c.requires.ready c.requires.code_learned c.requires.math_learned (omega arith) (omega arith) e.kept r) e.reads;
       stops = e.stops;
+      stops_looking = if_err c.read_bracket.result (bracket_stops c.args.ix c.args.tree.now c.args.self.now c.read_bracket.new.self
+          (omega arith) (omega arith) e.kept);
       again = e.again;
       refused = e.refused;
       scanner = refl;
@@ -60,6 +62,7 @@ returns-in-None g c =
       stops = if_err c.read_other.result (λ first left was_read.
           stops_here g.F.BrokenLinkCallback.answers (setting_by s) (above_cursor s.text.now t) (Some c.args.ix) left (stage_by t s) s.spent
           new.self.callback (ap (λ (r : Resolver g.row.F.Denot). r.callback) e.kept));
+      stops_looking = e.stops_looking;
       again = subst (λ (r : Resolver g.row.F.Denot). IfSome r.callback g.F.BrokenLinkCallback.can_ask) (sym e.kept) c.requires.can_ask;
       refused = e.refused;
       scanner = e.scanner;

@@ -12,7 +12,9 @@ use Rattle.markdown_spans.specs.SpanClosers.{has_failed}
 use Rattle.markdown_spans.specs.declared.span_text.SpanKind.{SpanKind}
 use Rattle.markdown_resolver.specs.Chains.{CanResolve}
 use Rattle.markdown_resolver.specs.ReadsBracket.{setting_by}
+use Rattle.markdown_resolver.proofs.OpenerReadLemmas.{if_err, if_err_then}
 use Rattle.markdown_resolver.proofs.ReadingLemmas.{FindsNothing, finds_nothing, node_within, reads_alone, reads_by_rules, settled_reads}
+use Rattle.markdown_resolver.proofs.ReadingLemmas.{stops_at_none}
 use Rattle.markdown_resolver.proofs.resolver.Resolver.read_other.Goals as goal
 
 pub item-requires : goal.item-requires
@@ -39,6 +41,10 @@ returns-in-MaybeCode g c =
       math_learned = read.holds SpanKind.Math s.math_closers c.requires.math_learned;
       code_looks = c.read_code.ensures.looks;
       math_looks = read.looks (has_failed s.math_closers) s.work.math_visits (omega arith);
+      stops_looking = if_err_then c.read_code.result c.read_code.ensures.stops_looking (λ looks. record {
+        code_looks = looks;
+        math_looks = stops_at_none (has_failed s.math_closers) s.work.math_visits _ (omega arith);
+      });
       place = c.read_code.ensures.place;
       kept = rw c.read_code.ensures.tables refl;
       scanner = refl;
@@ -58,6 +64,10 @@ returns-in-MaybeMath g c =
       math_learned = c.read_math.ensures.learned;
       code_looks = read.looks (has_failed s.code_closers) s.work.code_visits (omega arith);
       math_looks = c.read_math.ensures.looks;
+      stops_looking = if_err_then c.read_math.result c.read_math.ensures.stops_looking (λ looks. record {
+        code_looks = stops_at_none (has_failed s.code_closers) s.work.code_visits _ (omega arith);
+        math_looks = looks;
+      });
       place = c.read_math.ensures.place;
       kept = rw c.read_math.ensures.tables refl;
       scanner = refl;
@@ -77,6 +87,10 @@ returns-in-MaybeHtml g c =
       math_learned = read.holds SpanKind.Math s.math_closers c.requires.math_learned;
       code_looks = read.looks (has_failed s.code_closers) s.work.code_visits (omega arith);
       math_looks = read.looks (has_failed s.math_closers) s.work.math_visits (omega arith);
+      stops_looking = if_err c.read_markup.result (record {
+        code_looks = stops_at_none (has_failed s.code_closers) s.work.code_visits _ (omega arith);
+        math_looks = stops_at_none (has_failed s.math_closers) s.work.math_visits _ (omega arith);
+      });
       place = c.read_markup.ensures.place;
       kept = rw c.read_markup.ensures.tables refl;
       scanner = c.read_markup.ensures.scanner;
@@ -105,6 +119,7 @@ returns-in_default g c =
       math_learned = read.holds SpanKind.Math s.math_closers c.requires.math_learned;
       code_looks = read.looks (has_failed s.code_closers) s.work.code_visits (omega arith);
       math_looks = read.looks (has_failed s.math_closers) s.work.math_visits (omega arith);
+      stops_looking = tt;
       place = c.settle.ensures.place;
       kept = refl;
       scanner = refl;
