@@ -27,18 +27,8 @@ pub fn assert_html(
     source: &str,
     wanted: &str,
 ) -> Result<(), Fail> {
-    parser_shows(
-        alloc,
-        source,
-        text_parser(alloc, source, options)?,
-        wanted,
-    )?;
-    merge_shows(
-        alloc,
-        source,
-        text_parser(alloc, source, options)?,
-        wanted,
-    )
+    parser_shows(alloc, source, text_parser(alloc, source, options)?, wanted)?;
+    merge_shows(alloc, source, text_parser(alloc, source, options)?, wanted)
 }
 
 /// Each text gives this HTML.

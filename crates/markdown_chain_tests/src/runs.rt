@@ -95,7 +95,9 @@ fn three_lengths_given(alloc: Global) -> Result<String, AllocError> {
     for before in 0..83u8 {
         push_twelve(alloc, &mut events, before)?;
     }
-    events.push_str("[*]2994..2995 [*]2995..2996 [a]2996..2997 [_]2997..2998 [a]2998..2999 </p>0..2999 ")?;
+    events.push_str(
+        "[*]2994..2995 [*]2995..2996 [a]2996..2997 [_]2997..2998 [a]2998..2999 </p>0..2999 ",
+    )?;
     Ok(events)
 }
 
