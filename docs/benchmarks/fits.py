@@ -10,6 +10,7 @@ import random
 import subprocess
 import sys
 
+sys.dont_write_bytecode = True
 import hostile
 import random_blocks
 
