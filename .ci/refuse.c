@@ -1,5 +1,5 @@
-// Preloaded into a program: refuses its allocation number REFUSE, by whichever call of the C library, and says at the end
-// how many it made.
+// Preloaded into a program: refuses its allocation number REFUSE, or its allocation number REFUSE_FROM and each later one,
+// by whichever call of the C library, and says at the end how many it asked for.
 #include <errno.h>
 #include <stdio.h>
 #include <stdlib.h>
@@ -10,14 +10,20 @@ void *__libc_calloc(size_t count, size_t size);
 void *__libc_realloc(void *held, size_t size);
 void *__libc_memalign(size_t alignment, size_t size);
 
-static long made, refused = -1;
+static long made, only = -1, from;
+
+static long number_of(const char *name) {
+    const char *number = getenv(name);
+    return number ? atol(number) : 0;
+}
 
 static int is_refused(void) {
-    if (refused < 0) {
-        const char *number = getenv("REFUSE");
-        refused = number ? atol(number) : 0;
+    if (only < 0) {
+        only = number_of("REFUSE");
+        from = number_of("REFUSE_FROM");
     }
-    return ++made == refused;
+    made++;
+    return made == only || (from > 0 && made >= from);
 }
 
 void *malloc(size_t size) {

@@ -83,35 +83,25 @@ REPEATED = {
 }
 
 
-def main():
-    kind, size = sys.argv[1], int(sys.argv[2])
-    if kind == "growing":
-        text = growing(size)
-    elif kind == "nested-brackets":
-        text = "[" * (size // 2) + "]" * (size // 2)
-    elif kind == "nested-links":
-        text = "[" * (size // 5) + "a" + "](b)" * (size // 5)
-    elif kind == "defined-references":
-        text = "[a]: b\n\n" + "[a] " * (size // 4)
-    elif kind == "rising-backticks":
-        text = rising(size)
-    elif kind == "blank-list":
-        text = "- a\n" + "\n" * size + "- b\n"
-    elif kind == "blank-items":
-        text = "- a\n\n" * (size // 5)
-    elif kind == "markers-end":
-        text = "- " * (size // 2) + "a\n"
-    elif kind == "quotes-end":
-        text = ">" * size + "a\n" * 2
-    elif kind == "fenced-blank":
-        text = "    a\n" + "\n" * size
-    elif kind == "failing-closers":
-        text = "*a " * (size // 6) + "a~ a~~ a^ " * (size // 20)
-    elif kind == "fence":
-        text = "- ```\n" + "a\n" * (size // 2)
-    else:
-        text = REPEATED[kind] * (size // len(REPEATED[kind]))
-    sys.stdout.write(text)
+OTHERS = {
+    "growing": growing,
+    "nested-brackets": lambda size: "[" * (size // 2) + "]" * (size // 2),
+    "nested-links": lambda size: "[" * (size // 5) + "a" + "](b)" * (size // 5),
+    "defined-references": lambda size: "[a]: b\n\n" + "[a] " * (size // 4),
+    "rising-backticks": rising,
+    "blank-list": lambda size: "- a\n" + "\n" * size + "- b\n",
+    "blank-items": lambda size: "- a\n\n" * (size // 5),
+    "markers-end": lambda size: "- " * (size // 2) + "a\n",
+    "quotes-end": lambda size: ">" * size + "a\n" * 2,
+    "fenced-blank": lambda size: "    a\n" + "\n" * size,
+    "failing-closers": lambda size: "*a " * (size // 6) + "a~ a~~ a^ " * (size // 20),
+    "fence": lambda size: "- ```\n" + "a\n" * (size // 2),
+}
 
 
-main()
+def text(kind, size):
+    return OTHERS[kind](size) if kind in OTHERS else REPEATED[kind] * (size // len(REPEATED[kind]))
+
+
+if __name__ == "__main__":
+    sys.stdout.write(text(sys.argv[1], int(sys.argv[2])))

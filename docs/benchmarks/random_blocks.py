@@ -6,14 +6,15 @@ few characters of it are changed. What the profile writes otherwise everywhere i
 two still differ is made small by deletion, and then it is one of the differences that docs/DIFFERENCES.md lists
 (`KNOWN`, each with the row's first cell), or it is printed. The last lines say how many of each were found. The exit
 status is 1 where a difference is not listed, or where a call that the block pass makes does not fit: that is what the
-program given by `--fits` says of each document by its own exit status. With `--text` only that is
-asked, of a file.
+program given by `--fits`, as "markdown_benchmarks fits", says of each document by its own exit status. With `--text` only
+that is asked, of a file.
 """
 import argparse
 import collections
 import os
 import random
 import re
+import shlex
 import subprocess
 import sys
 
@@ -145,7 +146,7 @@ class Pair:
         return ours != theirs
 
     def misfits(self, text):
-        return self.fits is not None and html_of([self.fits], text).startswith("exit status")
+        return self.fits is not None and html_of(shlex.split(self.fits), text).startswith("exit status")
 
 
 def small(text, fails):

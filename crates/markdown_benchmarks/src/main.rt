@@ -1,26 +1,53 @@
 //! Work that is measured: each line of standard input names a task and its size, `render 1000`, and is
 //! answered by how many bytes, events or finds the task came to.
+//!
+//! With the word `fits` standard input is a document instead, and the status is 1 where a call that the block pass makes
+//! for it does not fit.
 #![tactic(auto)]
 
 mod events;
+mod fits;
 mod labels;
 mod look_ups;
 mod scans;
 mod tasks;
 
-use std::io::Read;
+use std::env::{self, Env};
+use std::io::{self, Read};
 use std::process::ExitCode;
+
+/// The first word of the command line.
+fn first_word(rt: &(impl Env + AllocGlobal)) -> io::Result<Option<String>> {
+    let mut args = env::args(rt)?;
+    drop(args.next());
+    Ok(args.next())
+}
+
+/// Whether the first word is `fits`; None where it can't be read.
+fn is_document(rt: &(impl Env + AllocGlobal)) -> Option<bool> {
+    match first_word(rt) {
+        Ok(Some(word)) => Some(word.as_str() == "fits"),
+        Ok(None) => Some(false),
+        Err(_) => None,
+    }
+}
 
 fn main(rt: HostRuntime) -> ExitCode {
     let alloc = rt.alloc();
+    let Some(is_document) = is_document(&rt) else {
+        return ExitCode::FAILURE;
+    };
     let mut input = Vec::new(alloc);
     if rt.stdin().read_to_end(&mut input).is_err() {
         return ExitCode::FAILURE;
     }
-    let Ok(lines) = String::from_utf8(input) else {
+    let Ok(text) = String::from_utf8(input) else {
         return ExitCode::FAILURE;
     };
-    for line in lines.as_str().lines() {
+    if is_document {
+        return ExitCode::from(u8::from(fits::misfits_of(alloc, text.as_str()) != Some(0)));
+    }
+    for line in text.as_str().lines() {
         let Some((task, size)) = tasks::task_and_size(line) else {
             let _ = rt.println("no task and size");
             return ExitCode::FAILURE;

@@ -30,15 +30,15 @@ impl Beginning {
             Beginning::Entity => "&#",
         }
     }
-}
 
-/// A text so many times.
-fn repeated(alloc: Global, text: &str, times: usize) -> Option<String> {
-    let mut all = String::new(alloc);
-    for _ in 0..times {
-        all.push_str(text).ok()?;
+    /// So many of it.
+    pub fn repeated(self, alloc: Global, times: usize) -> Option<String> {
+        let mut all = String::new(alloc);
+        for _ in 0..times {
+            all.push_str(self.text()).ok()?;
+        }
+        Some(all)
     }
-    Some(all)
 }
 
 /// Whether something is found of which the first byte stands at `at`.
@@ -75,8 +75,7 @@ fn is_found(
 
 /// How much is found in so many beginnings.
 pub fn found(alloc: Global, beginning: Beginning, times: usize) -> Option<usize> {
-    let pattern = beginning.text();
-    let text = repeated(alloc, pattern, times)?;
+    let text = beginning.repeated(alloc, times)?;
     let mut scanner = RawHtmlScanner::new(text.as_str().as_bytes());
     let mut count = 0usize;
     let mut at = 0usize;
@@ -84,7 +83,7 @@ pub fn found(alloc: Global, beginning: Beginning, times: usize) -> Option<usize>
         if is_found(alloc, &mut scanner, text.as_str(), beginning, at) {
             count = count.saturating_add(1);
         }
-        at = at.saturating_add(pattern.len());
+        at = at.saturating_add(beginning.text().len());
     }
     Some(count)
 }

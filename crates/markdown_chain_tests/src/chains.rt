@@ -1,10 +1,10 @@
 //! Chains of open items, which a walk resolves when it reaches them.
+use crate::rows::tree_gives;
 use markdown_base::index::CowIndex;
 use markdown_base::item::{Item, ItemBody};
 use markdown_base::options::Options;
 use markdown_base::tree::Tree;
 use markdown_defs::RefDefs;
-use markdown_inline::runs::gather_offsets;
 use markdown_inline::walk::Parser;
 use markdown_test_helpers::lists::is_nothing;
 use markdown_test_helpers::notes::notes_of;
@@ -107,18 +107,29 @@ fn brackets(alloc: Global) -> Result<Tree<Item>, AllocError> {
     Ok(tree)
 }
 
-/// How many events they give over their text.
-fn events_of_brackets(alloc: Global, source: &str) -> Result<usize, Fail> {
-    let tree = brackets(alloc)?;
-    let parser = parser_of(alloc, source, Options::empty(), tree, no_parts(alloc))?;
-    Ok(gather_offsets(parser.into_offset_iter(), alloc)?.len())
+/// Their events, each with its range: each is a text.
+fn events_of_brackets(alloc: Global) -> Result<String, AllocError> {
+    let mut events = String::from_str(alloc, "<p>0..200000 ")?;
+    for start in 0..200_000usize {
+        let event = format!(in alloc; "[[]{}..{} ", start, start + 1)?;
+        events.push_str(event.as_str())?;
+    }
+    events.push_str("</p>0..200000 ")?;
+    Ok(events)
 }
 
 #[test]
 fn a_long_chain(rt: HostRuntime) -> Result<(), Fail> {
-    let source = "[".repeat(rt.alloc(), 200_000)?;
-    let events = events_of_brackets(rt.alloc(), source.as_str())?;
-    gives("open brackets", events, 200_002)
+    let alloc = rt.alloc();
+    let source = "[".repeat(alloc, 200_000)?;
+    let wanted = events_of_brackets(alloc)?;
+    tree_gives(
+        alloc,
+        "open brackets",
+        source.as_str(),
+        brackets(alloc)?,
+        wanted.as_str(),
+    )
 }
 
 /// Whether a label is defined.

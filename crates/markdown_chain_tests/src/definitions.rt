@@ -1,9 +1,8 @@
 //! The definitions of a text, as `reference_definitions` of its parser lends them.
 use markdown_base::fault::Fault;
 use markdown_defs::RefDefs;
-use markdown_inline::walk::Parser;
 use markdown_test_helpers::rows::gives;
-use markdown_test_parsers::parsers::ask_for;
+use markdown_test_parsers::parsers::{ask_for, plain_parser};
 use std::alloc::{AllocError, Global};
 use std::test::Fail;
 
@@ -23,7 +22,7 @@ fn listed(alloc: Global, definitions: &RefDefs<'_>) -> Result<String, AllocError
 
 /// A text has these definitions.
 fn defines(alloc: Global, source: &str, wanted: &str) -> Result<(), Fail> {
-    let parser = Parser::new(alloc, source)?;
+    let parser = plain_parser(alloc, source)?;
     let list = listed(alloc, parser.reference_definitions())?;
     drop(parser);
     gives(source, list.as_str(), wanted)
@@ -58,7 +57,7 @@ fn finds(
     key: &str,
     span: Option<(usize, usize)>,
 ) -> Result<(), Fail> {
-    let mut parser = Parser::new(alloc, source)?;
+    let mut parser = plain_parser(alloc, source)?;
     ask_for(&mut parser, events);
     let found = span_of(parser.reference_definitions(), key);
     drop(parser);

@@ -1,5 +1,5 @@
 //! A text and the items of a paragraph over it, which grow together.
-use crate::rows::{counted, tree_shows};
+use crate::rows::{counted, tree_gives, tree_shows};
 use markdown_base::item::{Item, ItemBody};
 use markdown_base::tree::Tree;
 use markdown_document::work::Work;
@@ -52,6 +52,12 @@ impl Grown {
     pub fn shows(self, alloc: Global, row: &str, wanted: &str) -> Result<(), Fail> {
         let Grown { source, tree } = self;
         tree_shows(alloc, row, source.as_str(), tree, wanted)
+    }
+
+    /// It gives these events, each with its range.
+    pub fn gives(self, alloc: Global, row: &str, wanted: &str) -> Result<(), Fail> {
+        let Grown { source, tree } = self;
+        tree_gives(alloc, row, source.as_str(), tree, wanted)
     }
 
     /// How many events it gives, and what is counted.

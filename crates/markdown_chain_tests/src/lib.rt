@@ -18,6 +18,8 @@ mod references;
 #[cfg(test)]
 mod rows;
 #[cfg(test)]
+mod runs;
+#[cfg(test)]
 mod spans;
 #[cfg(test)]
 mod walks;

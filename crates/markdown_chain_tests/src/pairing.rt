@@ -1,15 +1,13 @@
 //! Pairing of delimiter runs, quotes and the last break (CommonMark 6.2), through parsers of texts and of trees made
 //! by hand.
-use crate::grown::Grown;
 use crate::rows::{
     compare, compare_events, compare_plain, paragraph_gives, paragraph_shows, work_of,
 };
 use markdown_base::item::ItemBody;
 use markdown_base::options::Options;
-use markdown_document::work::Work;
 use markdown_test_helpers::rows::gives;
 use markdown_test_helpers::trees::{delimiter, item, text};
-use std::alloc::{AllocError, Global};
+use std::alloc::Global;
 use std::test::Fail;
 
 #[test]
@@ -334,56 +332,6 @@ fn a_break_at_the_end_made_by_hand(rt: HostRuntime) -> Result<(), Fail> {
     )
 }
 
-/// Appends a run, and a text behind it.
-fn append_run(
-    over: &mut Grown,
-    mark: &str,
-    count: usize,
-    opens: bool,
-    closes: bool,
-) -> Result<(), AllocError> {
-    'marks: for left in 0..count {
-        over.append(mark, ItemBody::MaybeEmphasis(count - left, opens, closes))?;
-    }
-    over.append_a()
-}
-
-/// A thousand runs of `*` and `_`, of one, two and three characters.
-fn three_lengths(alloc: Global) -> Result<Grown, Fail> {
-    // 1000 characters `a`, and 1999 of the runs
-    let mut over = Grown::new(alloc, 2999)?;
-    for k in 0..1000 {
-        let mark = if k % 2 == 0 { "*" } else { "_" };
-        append_run(&mut over, mark, 1 + k % 3, k % 4 != 2, k % 4 != 0)?;
-    }
-    Ok(over)
-}
-
-/// What they are, paired by the rules with a search that begins afresh for each closer: each twelve runs but the first
-/// few and the last alike.
-fn three_lengths_paired(alloc: Global) -> Result<String, AllocError> {
-    let twelve = "**a<em>a**a</em><strong>a*a</strong>a\
-        <em><strong>a_a</strong>a_<strong>a*a</strong>a</em>"
-        .repeat(alloc, 83)?;
-    format!(in alloc; "<p><em>a__a</em>{twelve}**a_a</p>\n")
-}
-
-#[test]
-fn a_thousand_runs_of_three_lengths(rt: HostRuntime) -> Result<(), Fail> {
-    let (_, work) = three_lengths(rt.alloc())?.counted(rt.alloc())?;
-    gives(
-        "delimiters, and whether few are examined",
-        (work.delimiters, work.examined <= 21989),
-        (1999, true),
-    )
-}
-
-#[test]
-fn a_thousand_runs_of_three_lengths_in_html(rt: HostRuntime) -> Result<(), Fail> {
-    let wanted = three_lengths_paired(rt.alloc())?;
-    three_lengths(rt.alloc())?.shows(rt.alloc(), "a thousand runs", wanted.as_str())
-}
-
 #[test]
 fn quotes_in_a_link_begin_anew(rt: HostRuntime) -> Result<(), Fail> {
     let items = [
@@ -397,32 +345,4 @@ fn quotes_in_a_link_begin_anew(rt: HostRuntime) -> Result<(), Fail> {
     let smart = Options::ENABLE_SMART_PUNCTUATION;
     let wanted = "<p>“<a href=\"b\">a“</a></p>\n";
     paragraph_shows(rt.alloc(), "\"[a\"](b)", smart, &items, wanted)
-}
-
-/// So many runs `_` that can only open, and then as many `*` that can only close, in a text of so many bytes.
-fn apart(alloc: Global, runs: usize, bytes: usize) -> Result<(usize, Work), Fail> {
-    let mut over = Grown::new(alloc, bytes)?;
-    for _ in 0..runs {
-        append_run(&mut over, "_", 1, true, false)?;
-    }
-    for _ in 0..runs {
-        append_run(&mut over, "*", 1, false, true)?;
-    }
-    over.counted(alloc)
-}
-
-#[test]
-fn runs_that_never_pair(rt: HostRuntime) -> Result<(), Fail> {
-    for &(runs, bytes, events, delimiters, examined) in &[
-        (500, 2_000, 2_002, 1_000, 10_000),
-        (50_000, 200_000, 200_002, 100_000, 1_100_000),
-    ] {
-        let (given, work) = apart(rt.alloc(), runs, bytes)?;
-        gives(
-            runs,
-            (given, work.delimiters, work.examined <= examined),
-            (events, delimiters, true),
-        )?;
-    }
-    Ok(())
 }

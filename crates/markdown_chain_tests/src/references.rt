@@ -12,6 +12,7 @@ use markdown_test_helpers::parts::defining;
 use markdown_test_helpers::rows::gives;
 use markdown_test_helpers::trees::{item, text, tree_of};
 use markdown_test_parsers::callbacks::{Recording, Reply, Replying, questions_in};
+use markdown_test_parsers::fits::fits;
 use markdown_test_parsers::parsers::{all_noted, parser_asking, parser_gives, parser_of};
 use std::alloc::Global;
 use std::test::Fail;
@@ -300,7 +301,9 @@ fn is_rendered<'a, F: BrokenLinkCallback<'a>>(
 ) -> Result<(), Fail>
     requires { F.can_ask callback }
 {
-    let html = render(alloc, source, Options::empty(), Some(callback))?;
+    let options = Options::empty();
+    fits(alloc, source, options)?;
+    let html = render(alloc, source, options, Some(callback))?;
     gives(source, html.as_str(), wanted)
 }
 

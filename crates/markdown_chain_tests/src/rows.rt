@@ -10,7 +10,7 @@ use markdown_test_helpers::parts::{no_parts, one_of_each};
 use markdown_test_helpers::rows::gives;
 use markdown_test_helpers::trees::{Outline, append_block, item, tree_of};
 use markdown_test_parsers::html::parser_shows;
-use markdown_test_parsers::parsers::{parser_gives, parser_of};
+use markdown_test_parsers::parsers::{parser_gives, parser_of, plain_parser, text_parser};
 use std::alloc::Global;
 use std::test::Fail;
 
@@ -27,18 +27,8 @@ pub fn assert_html(
     source: &str,
     wanted: &str,
 ) -> Result<(), Fail> {
-    parser_shows(
-        alloc,
-        source,
-        Parser::new_ext(alloc, source, options)?,
-        wanted,
-    )?;
-    merge_shows(
-        alloc,
-        source,
-        Parser::new_ext(alloc, source, options)?,
-        wanted,
-    )
+    parser_shows(alloc, source, text_parser(alloc, source, options)?, wanted)?;
+    merge_shows(alloc, source, text_parser(alloc, source, options)?, wanted)
 }
 
 /// Each text gives this HTML.
@@ -73,7 +63,7 @@ pub fn compare_plain(alloc: Global, rows: &[&str]) -> Result<(), Fail> {
 
 /// A text gives these events, each with its range.
 fn assert_events(alloc: Global, options: Options, source: &str, wanted: &str) -> Result<(), Fail> {
-    let parser = Parser::new_ext(alloc, source, options)?;
+    let parser = text_parser(alloc, source, options)?;
     parser_gives(alloc, source, parser, wanted)
 }
 
@@ -87,7 +77,7 @@ pub fn compare_events(alloc: Global, options: Options, rows: &[(&str, &str)]) ->
 
 /// What was counted when all events of a text were given.
 pub fn work_of(alloc: Global, source: &str) -> Result<Work, Fail> {
-    let mut parser = Parser::new(alloc, source)?;
+    let mut parser = plain_parser(alloc, source)?;
     count_left(&mut parser);
     Ok(parser.work())
 }
@@ -197,6 +187,18 @@ pub fn tree_shows(
 ) -> Result<(), Fail> {
     let parser = parser_of(alloc, source, Options::empty(), tree, no_parts(alloc))?;
     parser_shows(alloc, row, parser, wanted)
+}
+
+/// A tree over a text gives these events, each with its range.
+pub fn tree_gives(
+    alloc: Global,
+    row: &str,
+    source: &str,
+    tree: Tree<Item>,
+    wanted: &str,
+) -> Result<(), Fail> {
+    let parser = parser_of(alloc, source, Options::empty(), tree, no_parts(alloc))?;
+    parser_gives(alloc, row, parser, wanted)
 }
 
 /// How many events a tree over a text gives, and what was counted.

@@ -3,11 +3,10 @@ use crate::rows::{compare, compare_events};
 use crate::walks::count_left;
 use markdown_base::item::ItemBody;
 use markdown_base::options::Options;
-use markdown_inline::walk::Parser;
 use markdown_test_helpers::parts::no_parts;
 use markdown_test_helpers::rows::gives;
 use markdown_test_helpers::trees::{item, text, tree_of};
-use markdown_test_parsers::parsers::{parser_gives, parser_of};
+use markdown_test_parsers::parsers::{parser_gives, parser_of, text_parser};
 use std::alloc::Global;
 use std::test::Fail;
 
@@ -94,7 +93,7 @@ fn pipes_end_in_their_block(rt: HostRuntime) -> Result<(), Fail> {
 
 /// How many events a text gives.
 fn events_of(alloc: Global, source: &str) -> Result<usize, Fail> {
-    let mut parser = Parser::new_ext(alloc, source, Options::ENABLE_WIKILINKS)?;
+    let mut parser = text_parser(alloc, source, Options::ENABLE_WIKILINKS)?;
     Ok(count_left(&mut parser))
 }
 

@@ -15,11 +15,15 @@ mod merged;
 #[cfg(test)]
 mod merges;
 #[cfg(test)]
+mod messages;
+#[cfg(test)]
 mod odd_texts;
 #[cfg(test)]
 mod parser;
 #[cfg(test)]
 mod program;
+#[cfg(test)]
+mod runs;
 #[cfg(test)]
 mod signs;
 #[cfg(test)]

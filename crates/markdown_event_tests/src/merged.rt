@@ -3,13 +3,13 @@ use crate::events::{harden, is_soft_break};
 use markdown_base::cow_str::CowStr;
 use markdown_base::event::Event;
 use markdown_base::fault::Fault;
-use markdown_inline::walk::Parser;
 use markdown_out::laws::a_mapped_iterator_can_be_merged;
 use markdown_out::merge::{TextMergeStream, TextMergeWithOffset};
 use markdown_render::merged::{merged_html, offsets_can_be_merged};
 use markdown_test_helpers::notes::notes_of;
 use markdown_test_helpers::rows::gives;
 use markdown_test_parsers::html::html_of;
+use markdown_test_parsers::parsers::plain_parser;
 use std::alloc::Global;
 use std::ops::Range;
 use std::test::Fail;
@@ -18,14 +18,14 @@ type Placed<'a> = Result<(Event<'a>, Range<usize>), Fault>;
 
 #[test]
 fn html_of_a_map(rt: HostRuntime) -> Result<(), Fail> {
-    let parser = Parser::new(rt.alloc(), "a\nb")?;
+    let parser = plain_parser(rt.alloc(), "a\nb")?;
     let html = html_of(rt.alloc(), parser.map(harden))?;
     gives("a\nb", html.as_str(), "<p>a<br />\nb</p>\n")
 }
 
 #[test]
 fn html_of_a_mapped_merge(rt: HostRuntime) -> Result<(), Fail> {
-    let merge = TextMergeStream::new(rt.alloc(), Parser::new(rt.alloc(), "a\nb")?);
+    let merge = TextMergeStream::new(rt.alloc(), plain_parser(rt.alloc(), "a\nb")?);
     let html = html_of(rt.alloc(), merge.map(harden))?;
     gives("a\nb", html.as_str(), "<p>a<br />\nb</p>\n")
 }
@@ -33,7 +33,7 @@ fn html_of_a_mapped_merge(rt: HostRuntime) -> Result<(), Fail> {
 #[test]
 fn html_of_a_merge(rt: HostRuntime) -> Result<(), Fail> {
     let alloc = rt.alloc();
-    let html = merged_html(alloc, Parser::new(alloc, "a\nb")?)?;
+    let html = merged_html(alloc, plain_parser(alloc, "a\nb")?)?;
     gives("a\nb", html.as_str(), "<p>a\nb</p>\n")
 }
 
@@ -50,7 +50,7 @@ fn soften<'a>(placed: Placed<'a>) -> Placed<'a> {
 #[test]
 fn ranges_of_a_merged_map(rt: HostRuntime) -> Result<(), Fail> {
     let alloc = rt.alloc();
-    let iter = Parser::new(alloc, "a\nb")?.into_offset_iter();
+    let iter = plain_parser(alloc, "a\nb")?.into_offset_iter();
     offsets_can_be_merged(&iter);
     let mapped = iter.map(soften);
     a_mapped_iterator_can_be_merged(&mapped);
@@ -60,7 +60,7 @@ fn ranges_of_a_merged_map(rt: HostRuntime) -> Result<(), Fail> {
 
 /// The merge of a text's events is this, each with its range.
 fn merge_gives(alloc: Global, source: &str, wanted: &str) -> Result<(), Fail> {
-    let iter = Parser::new(alloc, source)?.into_offset_iter();
+    let iter = plain_parser(alloc, source)?.into_offset_iter();
     let notes = notes_of(alloc, TextMergeWithOffset::new(alloc, iter))?;
     gives(source, notes.as_str(), wanted)
 }

@@ -2,11 +2,11 @@
 //! rendered of it is the HTML of its events.
 use markdown_base::options::Options;
 use markdown_defs::DefaultBrokenLinkCallback;
-use markdown_inline::walk::Parser;
 use markdown_render::render;
 use markdown_test_helpers::documents::random_text;
 use markdown_test_helpers::rows::gives;
 use markdown_test_parsers::html::html_of;
+use markdown_test_parsers::parsers::text_parser;
 use markdown_test_parsers::sound::is_sound;
 use std::alloc::Global;
 use std::test::Fail;
@@ -62,7 +62,7 @@ fn all_options() -> Options {
 /// The events of a text are sound, and it is rendered as they are.
 fn is_read(alloc: Global, source: &str, options: Options) -> Result<(), Fail> {
     gives((source, "sound"), is_sound(alloc, source, options)?, true)?;
-    let html = html_of(alloc, Parser::new_ext(alloc, source, options)?)?;
+    let html = html_of(alloc, text_parser(alloc, source, options)?)?;
     let rendered = render(alloc, source, options, None::<DefaultBrokenLinkCallback>)?;
     gives(source, rendered.as_str(), html.as_str())
 }

@@ -5,21 +5,22 @@ use markdown_base::item::ItemBody;
 use markdown_base::options::Options;
 use markdown_defs::{BoxedCallback, BrokenLinkCallback, DefaultBrokenLinkCallback};
 use markdown_inline::runs::{gather, gather_offsets};
-use markdown_inline::walk::Parser;
 use markdown_test_helpers::lists::is_nothing;
 use markdown_test_helpers::parts::no_parts;
 use markdown_test_helpers::rows::gives;
 use markdown_test_helpers::trees::{Outline, item, nested, text, tree_of};
 use markdown_test_parsers::callbacks::{Reply, Replying, questions_in};
 use markdown_test_parsers::html::parser_shows;
-use markdown_test_parsers::parsers::{all_noted, ask_for, parser_asking, parser_gives, parser_of};
-use std::alloc::Global;
+use markdown_test_parsers::parsers::{
+    all_noted, ask_for, parser_asking, parser_gives, parser_of, plain_parser, text_parser,
+};
+use std::alloc::{AllocError, Global};
 use std::ops::Range;
 use std::test::Fail;
 
 /// A text gives these events, each with its range.
 fn text_gives(alloc: Global, source: &str, events: &str) -> Result<(), Fail> {
-    let parser = Parser::new_ext(alloc, source, Options::ENABLE_GFM)?;
+    let parser = text_parser(alloc, source, Options::ENABLE_GFM)?;
     parser_gives(alloc, source, parser, events)
 }
 
@@ -79,19 +80,26 @@ fn trees_made_by_hand(rt: HostRuntime) -> Result<(), Fail> {
     tree_gives(rt.alloc(), "ab", &tight, events)
 }
 
+/// The events of so many paragraphs of one byte, each in the one before it, with their ranges.
+fn events_of_nested(alloc: Global, count: usize) -> Result<String, AllocError> {
+    let starts = "<p>0..1 ".repeat(alloc, count)?;
+    let ends = "</p>0..1 ".repeat(alloc, count)?;
+    format!(in alloc; "{starts}{ends}")
+}
+
 #[test]
 fn a_deep_tree(rt: HostRuntime) -> Result<(), Fail> {
     let alloc = rt.alloc();
+    let wanted = events_of_nested(alloc, 100_000)?;
     let tree = nested(alloc, item(0, 1, ItemBody::Paragraph), 100_000)?;
     let parser = parser_of(alloc, "a", Options::empty(), tree, no_parts(alloc))?;
-    let events = gather_offsets(parser.into_offset_iter(), alloc)?.len();
-    gives("nested paragraphs", events, 200_000)
+    parser_gives(alloc, "nested paragraphs", parser, wanted.as_str())
 }
 
 #[test]
 fn a_walk_that_changes_hands(rt: HostRuntime) -> Result<(), Fail> {
     let alloc = rt.alloc();
-    let mut parser = Parser::new(alloc, "*hello* world")?;
+    let mut parser = plain_parser(alloc, "*hello* world")?;
     let given = ask_for(&mut parser, 3);
     let events = "</em>0..7 [ world]7..13 </p>0..13 ";
     parser_gives(alloc, "*hello* world", parser, events)?;
@@ -101,7 +109,7 @@ fn a_walk_that_changes_hands(rt: HostRuntime) -> Result<(), Fail> {
 #[test]
 fn a_walk_that_is_over_changes_hands(rt: HostRuntime) -> Result<(), Fail> {
     let alloc = rt.alloc();
-    let mut ended = Parser::new(alloc, "")?;
+    let mut ended = plain_parser(alloc, "")?;
     let given = ask_for(&mut ended, 2);
     parser_gives(alloc, "", ended, "")?;
     gives("events before", given, 0)
@@ -119,7 +127,7 @@ fn end_of(item: Result<(Event<'_>, Range<usize>), Fault>) -> usize {
 
 #[test]
 fn adapters(rt: HostRuntime) -> Result<(), Fail> {
-    let iter = Parser::new(rt.alloc(), "a  \nb")?.into_offset_iter();
+    let iter = plain_parser(rt.alloc(), "a  \nb")?.into_offset_iter();
     let ends: Vec<usize> = iter.map(end_of).collect(rt.alloc())?;
     gives("a  \nb", ends.as_slice(), [5, 1, 4, 5, 5].as_slice())
 }
@@ -127,13 +135,26 @@ fn adapters(rt: HostRuntime) -> Result<(), Fail> {
 #[test]
 fn all_at_once(rt: HostRuntime) -> Result<(), Fail> {
     let alloc = rt.alloc();
-    let events = gather(Parser::new(alloc, "a\nb")?, alloc)?;
+    let events = gather(plain_parser(alloc, "a\nb")?, alloc)?;
     let printed = format!(in alloc; "{events:?}");
     drop(events);
     gives(
         "a\nb",
         printed?.as_str(),
         "[Ok(Start(Paragraph)), Ok(Text(\"a\")), Ok(SoftBreak), Ok(Text(\"b\")), Ok(End(Paragraph))]",
+    )
+}
+
+#[test]
+fn all_at_once_with_ranges(rt: HostRuntime) -> Result<(), Fail> {
+    let alloc = rt.alloc();
+    let events = gather_offsets(plain_parser(alloc, "a")?.into_offset_iter(), alloc)?;
+    let printed = format!(in alloc; "{events:?}");
+    drop(events);
+    gives(
+        "a",
+        printed?.as_str(),
+        "[Ok((Start(Paragraph), 0..1)), Ok((Text(\"a\"), 0..1)), Ok((End(Paragraph), 0..1))]",
     )
 }
 

@@ -1,65 +1,33 @@
-//! The program's texts and statuses.
-use markdown_render::run::run;
+//! What the two programs print of texts, with words and without.
+use crate::runs::{Command, Program, words_of};
+use markdown_render::words::options_of;
 use markdown_test_helpers::rows::gives;
-use std::alloc::{AllocError, Global};
-use std::io::{self, ErrorKind, Read, Write};
+use markdown_test_parsers::fits::fits;
+use std::alloc::Global;
 use std::test::Fail;
 
-/// Reads nothing but an error.
-#[derive(Drop)]
-struct NoReader;
-
-impl Read for NoReader {
-    fn read(&mut self, buf: &mut [u8]) -> io::Result<usize> {
-        let _ = buf;
-        Err(io::Error::from(ErrorKind::PermissionDenied))
+/// Each call of the block pass fits for a text, with the options of these words.
+fn fits_with(alloc: Global, words: &[String], input: &str) -> Result<(), Fail> {
+    match options_of(words) {
+        Ok(options) => fits(alloc, input, options),
+        Err(word) => Err(Fail::new(format_args!("unknown option: {word}"))),
     }
 }
 
-/// Takes nothing.
-#[derive(Drop)]
-struct NoWriter;
-
-impl Write for NoWriter {
-    fn write(&mut self, buf: &[u8]) -> io::Result<usize> {
-        let _ = buf;
-        Err(io::Error::from(ErrorKind::BrokenPipe))
-    }
-
-    fn flush(&mut self) -> io::Result<()> {
-        Ok(())
-    }
-}
-
-/// A run over any reader and writer: its status, and what was said.
-fn said<R: Read, W: Write>(
-    alloc: Global,
-    words: &[String],
-    input: &mut R,
-    out: &mut W,
-) -> Result<String, Fail> {
-    let mut err = Vec::new(alloc);
-    let status = run(alloc, words, input, out, &mut err);
-    let text = String::from_utf8(err)?;
-    Ok(format!(in alloc; "{status} {text}")?)
-}
-
-/// The same, and then what was printed.
-fn printed<R: Read>(alloc: Global, words: &[String], input: &mut R) -> Result<String, Fail> {
-    let mut out = Vec::new(alloc);
-    let status = said(alloc, words, input, &mut out)?;
-    let html = String::from_utf8(out)?;
-    Ok(format!(in alloc; "{status}{html}")?)
-}
-
-/// What is printed of a text, with no words.
-fn without_words(alloc: Global, input: &str) -> Result<String, Fail> {
-    printed(alloc, &[], &mut input.as_bytes())
+/// What a program prints of a text, with these words.
+fn printed(alloc: Global, program: Program, words: &[&str], input: &str) -> Result<String, Fail> {
+    let words = words_of(alloc, words)?;
+    fits_with(alloc, &words, input)?;
+    let command = Command {
+        program,
+        words: &words,
+    };
+    command.printed(alloc, &mut input.as_bytes())
 }
 
 /// This is printed of a text, with no words.
-fn prints(alloc: Global, input: &str, wanted: &str) -> Result<(), Fail> {
-    let found = without_words(alloc, input)?;
+fn prints(alloc: Global, program: Program, input: &str, wanted: &str) -> Result<(), Fail> {
+    let found = printed(alloc, program, &[], input)?;
     gives(input, found.as_str(), wanted)
 }
 
@@ -80,38 +48,45 @@ fn prints_html(rt: HostRuntime) -> Result<(), Fail> {
         ("[a]:", "0 <p>[a]:</p>\n"),
     ];
     for &(input, wanted) in rows {
-        prints(rt.alloc(), input, wanted)?;
+        prints(rt.alloc(), Program::Html, input, wanted)?;
     }
     Ok(())
 }
 
-/// Words of the program.
-fn words_of(alloc: Global, list: &[&str]) -> Result<Vec<String>, AllocError> {
-    let mut words = Vec::new(alloc);
-    for word in list {
-        words.push(String::from_str(alloc, word)?)?;
+#[test]
+fn prints_events(rt: HostRuntime) -> Result<(), Fail> {
+    let rows = &[
+        ("", "0 "),
+        (
+            "hello world",
+            "0 [{\"Start\":\"Paragraph\"},{\"start\":0,\"end\":11}]\n\
+            [{\"Text\":\"hello world\"},{\"start\":0,\"end\":11}]\n\
+            [{\"End\":\"Paragraph\"},{\"start\":0,\"end\":11}]\n",
+        ),
+        (
+            "é\n\"",
+            "0 [{\"Start\":\"Paragraph\"},{\"start\":0,\"end\":4}]\n\
+            [{\"Text\":\"é\"},{\"start\":0,\"end\":2}]\n\
+            [\"SoftBreak\",{\"start\":2,\"end\":3}]\n\
+            [{\"Text\":\"\\\"\"},{\"start\":3,\"end\":4}]\n\
+            [{\"End\":\"Paragraph\"},{\"start\":0,\"end\":4}]\n",
+        ),
+    ];
+    for &(input, wanted) in rows {
+        prints(rt.alloc(), Program::Events, input, wanted)?;
     }
-    Ok(words)
+    Ok(())
 }
 
-/// Of two words the second is unknown.
-const UNKNOWN: [&str; 2] = ["tables", "nosuch"];
-
-/// What is printed of a text, with one word.
-fn with_word(alloc: Global, word: &str, input: &str) -> Result<String, Fail> {
-    let words = words_of(alloc, &[word])?;
-    printed(alloc, &words, &mut input.as_bytes())
-}
-
-/// This is printed of a text with one word.
+/// This is printed as HTML of a text with one word.
 fn word_prints(alloc: Global, word: &str, input: &str, wanted: &str) -> Result<(), Fail> {
-    let found = with_word(alloc, word, input)?;
+    let found = printed(alloc, Program::Html, &[word], input)?;
     gives(word, found.as_str(), wanted)
 }
 
 /// Something else is printed of a text with no words.
 fn needs_a_word(alloc: Global, word: &str, input: &str, wanted: &str) -> Result<(), Fail> {
-    let plain = without_words(alloc, input)?;
+    let plain = printed(alloc, Program::Html, &[], input)?;
     gives((word, "alone"), plain.as_str() == wanted, false)
 }
 
@@ -175,44 +150,20 @@ fn words_that_change_no_text(rt: HostRuntime) -> Result<(), Fail> {
 }
 
 #[test]
-fn says_that_the_input_is_no_text(rt: HostRuntime) -> Result<(), Fail> {
-    let mut bad: &[u8] = &[255];
-    let found = printed(rt.alloc(), &[], &mut bad)?;
-    gives("input", found.as_str(), "1 input is not UTF-8\n")
-}
-
-#[test]
-fn says_that_a_word_is_unknown(rt: HostRuntime) -> Result<(), Fail> {
-    let words = words_of(rt.alloc(), &UNKNOWN)?;
-    let found = printed(rt.alloc(), &words, &mut NoReader)?;
-    gives("word", found.as_str(), "2 unknown option: nosuch\n")
-}
-
-#[test]
-fn says_that_a_read_failed(rt: HostRuntime) -> Result<(), Fail> {
-    let found = printed(rt.alloc(), &[], &mut NoReader)?;
-    gives("read", found.as_str(), "1 read failed\n")
-}
-
-#[test]
-fn says_that_a_write_failed(rt: HostRuntime) -> Result<(), Fail> {
-    let found = said(rt.alloc(), &[], &mut "a".as_bytes(), &mut NoWriter)?;
-    gives("write", found.as_str(), "1 write failed\n")
-}
-
-/// The status of a run that can say nothing, and how many bytes it prints.
-fn silent<R: Read>(alloc: Global, words: &[String], input: &mut R) -> (u8, usize) {
-    let mut out = Vec::new(alloc);
-    let status = run(alloc, words, input, &mut out, &mut NoWriter);
-    (status, out.len())
-}
-
-#[test]
-fn answers_the_same_where_nothing_can_be_said(rt: HostRuntime) -> Result<(), Fail> {
-    let words = words_of(rt.alloc(), &UNKNOWN)?;
-    let of_words = silent(rt.alloc(), &words, &mut NoReader);
-    drop(words);
-    let mut bad: &[u8] = &[255];
-    gives("input", silent(rt.alloc(), &[], &mut bad), (1, 0))?;
-    gives("word", of_words, (2, 0))
+fn words_turn_options_of_events_on(rt: HostRuntime) -> Result<(), Fail> {
+    let found = printed(
+        rt.alloc(),
+        Program::Events,
+        &["tables", "strikethrough"],
+        "~~a~~",
+    )?;
+    gives(
+        "~~a~~",
+        found.as_str(),
+        "0 [{\"Start\":\"Paragraph\"},{\"start\":0,\"end\":5}]\n\
+        [{\"Start\":\"Strikethrough\"},{\"start\":0,\"end\":5}]\n\
+        [{\"Text\":\"a\"},{\"start\":2,\"end\":3}]\n\
+        [{\"End\":\"Strikethrough\"},{\"start\":0,\"end\":5}]\n\
+        [{\"End\":\"Paragraph\"},{\"start\":0,\"end\":5}]\n",
+    )
 }

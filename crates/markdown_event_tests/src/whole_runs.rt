@@ -4,14 +4,16 @@ use markdown_defs::{BrokenLinkCallback, DefaultBrokenLinkCallback};
 use markdown_render::{merged_html, render};
 use markdown_test_helpers::rows::gives;
 use markdown_test_parsers::callbacks::{Recording, Reply};
+use markdown_test_parsers::fits::fits;
 use markdown_test_parsers::parsers::{all_noted, parser_asking};
 use std::alloc::Global;
 use std::test::Fail;
 
 /// A text is rendered as this, with nobody to ask.
 fn is_rendered(alloc: Global, source: &str, wanted: &str) -> Result<(), Fail> {
-    let nobody = None::<DefaultBrokenLinkCallback>;
-    let html = render(alloc, source, Options::ENABLE_SUBSCRIPT, nobody)?;
+    let options = Options::ENABLE_SUBSCRIPT;
+    fits(alloc, source, options)?;
+    let html = render(alloc, source, options, None::<DefaultBrokenLinkCallback>)?;
     gives(source, html.as_str(), wanted)
 }
 
@@ -39,6 +41,7 @@ const WEBSITE: Reply = Reply::Target("http://example.com", "my example website")
 #[test]
 fn html_with_a_callback(rt: HostRuntime) -> Result<(), Fail> {
     let (source, wanted) = ASKING;
+    fits(rt.alloc(), source, Options::empty())?;
     let callback = Recording::replying(rt.alloc(), WEBSITE);
     let html = render(rt.alloc(), source, Options::empty(), Some(callback))?;
     gives(source, html.as_str(), wanted)

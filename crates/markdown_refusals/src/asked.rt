@@ -65,10 +65,10 @@ static THREE: [Question; 3] = [
 /// The texts.
 pub fn sources() -> [Source; 11] {
     [
-        plain("a  \nb\n\nc", Options::ENABLE_GFM),
-        plain("`\n `x", Options::ENABLE_GFM),
-        plain("`\nx \ny\n`x", Options::ENABLE_GFM),
-        plain("`a\r\nb`", Options::ENABLE_GFM),
+        plain("a  \nb\n\nc", Options::empty()),
+        plain("`\n `x", Options::empty()),
+        plain("`\nx \ny\n`x", Options::empty()),
+        plain("`a\r\nb`", Options::empty()),
         plain("[[foo]] [[bar|baz]]", Options::ENABLE_WIKILINKS),
         plain(
             "Testing this![^1] out.\n\n[^1]: Footnote.",
@@ -76,15 +76,15 @@ pub fn sources() -> [Source; 11] {
         ),
         plain("'a' \"b\"", Options::ENABLE_SMART_PUNCTUATION),
         plain("$a$ $$b$$", Options::ENABLE_MATH),
-        plain("hello\n=====\n\n* alpha\n* beta\n", Options::ENABLE_GFM),
+        plain("hello\n=====\n\n* alpha\n* beta\n", Options::empty()),
         Source {
             text: "Hello world, check out [my website][].",
-            options: Options::ENABLE_GFM,
+            options: Options::empty(),
             questions: &ONE,
         },
         Source {
             text: "[a] [b][] [c][d]",
-            options: Options::ENABLE_GFM,
+            options: Options::empty(),
             questions: &THREE,
         },
     ]

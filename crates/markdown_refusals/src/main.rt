@@ -1,7 +1,8 @@
 //! What stands after a refused allocation: run with each one refused in turn, it says for each call
 //! whether what stands is what is promised. It ends with status 1 where something else does.
 //!
-//! With the word `quiet` it makes the calls that take no memory instead, and with `still` only what they
+//! With the word `readings` it only reads texts, of which the same is promised where each later allocation is refused
+//! too. With the word `quiet` it makes the calls that take no memory instead, and with `still` only what they
 //! need: both take as many allocations.
 #![tactic(auto)]
 
@@ -39,11 +40,14 @@ fn broken(alloc: Global) -> Option<(&'static str, &'static str)> {
     readings::broken(alloc)
 }
 
-/// The same, or with a word of the calls that take no memory.
+/// The same, or with a word of the readings alone, or of the calls that take no memory.
 fn tried(alloc: Global, word: Option<String>) -> Option<(&'static str, &'static str)> {
     let Some(word) = word else {
         return broken(alloc);
     };
+    if word.as_str() == "readings" {
+        return readings::broken(alloc);
+    }
     if quiet::gives(alloc, word.as_str() == "quiet") {
         return None;
     }

@@ -6,6 +6,7 @@ use markdown_base::fault::Fault;
 use markdown_blocks::Blocks;
 use markdown_inline::walk::Parser;
 use markdown_out::merge::{TextMergeStream, TextMergeWithOffset};
+use markdown_plain::misfits;
 use markdown_render::render;
 use markdown_test_parsers::parsers::all_events;
 use std::alloc::Global;
@@ -181,9 +182,18 @@ fn pushes(alloc: Global, source: Source) -> bool {
     }
 }
 
+/// Each call that the block pass makes fits where it comes, or memory was refused.
+fn fits(alloc: Global, source: Source) -> bool {
+    match misfits(alloc, source.text, source.options) {
+        Ok(count) => count == 0,
+        Err(_) => true,
+    }
+}
+
 /// A way to read a text.
 #[derive(Clone, Copy, Drop)]
 enum Way {
+    Fitting,
     Making,
     Walking,
     WalkingWithRanges,
@@ -194,7 +204,8 @@ enum Way {
     Pushing,
 }
 
-static WAYS: [(&str, Way); 8] = [
+static WAYS: [(&str, Way); 9] = [
+    ("the calls of the block pass", Way::Fitting),
     ("making a parser", Way::Making),
     ("next", Way::Walking),
     ("next with ranges", Way::WalkingWithRanges),
@@ -208,6 +219,7 @@ static WAYS: [(&str, Way); 8] = [
 /// Whether what is promised of a way to read a text stands.
 fn stands(alloc: Global, way: Way, source: Source) -> bool {
     match way {
+        Way::Fitting => fits(alloc, source),
         Way::Making => makes(alloc, source),
         Way::Walking => walks(alloc, source),
         Way::WalkingWithRanges => walks_with_ranges(alloc, source),

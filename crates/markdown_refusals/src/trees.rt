@@ -1,4 +1,5 @@
 //! The promises of trees and of block results.
+use markdown_base::block_parts::BlockParts;
 use markdown_base::cow_str::CowStr;
 use markdown_base::index::{AlignmentIndex, CowIndex, HeadingIndex};
 use markdown_base::item::{Item, ItemBody};
@@ -7,7 +8,7 @@ use markdown_base::tag::HeadingLevel;
 use markdown_base::tree::Tree;
 use markdown_blocks::{Blocks, Fault};
 use markdown_test_helpers::parts::{link_to, one_of_each};
-use markdown_test_helpers::trees::{delimiter, item, text, tree_of};
+use markdown_test_helpers::trees::{Outline, delimiter, item, text, tree_of};
 use std::alloc::{AllocError, Global};
 
 /// A tree with a paragraph in focus.
@@ -46,34 +47,31 @@ pub fn pushes(alloc: Global) -> bool {
 /// A text and the eight open bodies behind it.
 const OPEN: &str = "x*'$`<[![]y";
 
-/// A tree over it: a chain of them, a heading with attributes, and blocks that name a text and alignments.
-fn all_kinds(alloc: Global) -> Result<Tree<Item>, AllocError> {
+/// What stands in a tree over it: a chain of them, a heading with attributes, and blocks that name a text and alignments.
+fn all_kinds() -> [(usize, Item); 15] {
     let heading = ItemBody::Heading(HeadingLevel::H1, Some(HeadingIndex(1)));
-    tree_of(
-        alloc,
-        &[
-            (0, item(0, 11, ItemBody::BlockQuote(None))),
-            (1, item(0, 11, ItemBody::Paragraph)),
-            (2, text(0, 1)),
-            (2, delimiter(1, 1, true, true)),
-            (2, item(2, 3, ItemBody::MaybeSmartQuote(39, true, true))),
-            (2, item(3, 4, ItemBody::MaybeMath(true, true, 0))),
-            (2, item(4, 5, ItemBody::MaybeCode(1, false))),
-            (2, item(5, 6, ItemBody::MaybeHtml)),
-            (2, item(6, 7, ItemBody::MaybeLinkOpen)),
-            (2, item(7, 9, ItemBody::MaybeImage)),
-            (2, item(9, 10, ItemBody::MaybeLinkClose(true))),
-            (2, text(10, 11)),
-            (0, item(11, 11, heading)),
-            (1, item(11, 11, ItemBody::SynthesizeText(CowIndex(0)))),
-            (0, item(11, 11, ItemBody::Table(AlignmentIndex(0)))),
-        ],
-    )
+    [
+        (0, item(0, 11, ItemBody::BlockQuote(None))),
+        (1, item(0, 11, ItemBody::Paragraph)),
+        (2, text(0, 1)),
+        (2, delimiter(1, 1, true, true)),
+        (2, item(2, 3, ItemBody::MaybeSmartQuote(39, true, true))),
+        (2, item(3, 4, ItemBody::MaybeMath(true, true, 0))),
+        (2, item(4, 5, ItemBody::MaybeCode(1, false))),
+        (2, item(5, 6, ItemBody::MaybeHtml)),
+        (2, item(6, 7, ItemBody::MaybeLinkOpen)),
+        (2, item(7, 9, ItemBody::MaybeImage)),
+        (2, item(9, 10, ItemBody::MaybeLinkClose(true))),
+        (2, text(10, 11)),
+        (0, item(11, 11, heading)),
+        (1, item(11, 11, ItemBody::SynthesizeText(CowIndex(0)))),
+        (0, item(11, 11, ItemBody::Table(AlignmentIndex(0)))),
+    ]
 }
 
 /// What is checked, with a definition and a footnote among its parts.
 fn checked(alloc: Global) -> Result<Blocks<'static>, Fault> {
-    let tree = all_kinds(alloc)?;
+    let tree = tree_of(alloc, &all_kinds())?;
     let mut parts = one_of_each(alloc)?;
     parts
         .definitions
@@ -82,21 +80,86 @@ fn checked(alloc: Global) -> Result<Blocks<'static>, Fault> {
     Blocks::checked(alloc, OPEN, Options::ENABLE_MATH, tree, parts)
 }
 
+/// The first child and the next sibling of each node of the tree, from the root on.
+static LINKS: [(Option<usize>, Option<usize>); 16] = [
+    (Some(1), None),
+    (Some(2), Some(13)),
+    (Some(3), None),
+    (None, Some(4)),
+    (None, Some(5)),
+    (None, Some(6)),
+    (None, Some(7)),
+    (None, Some(8)),
+    (None, Some(9)),
+    (None, Some(10)),
+    (None, Some(11)),
+    (None, Some(12)),
+    (None, None),
+    (Some(14), Some(15)),
+    (None, None),
+    (None, None),
+];
+
+/// Whether a tree has these items in preorder, from the root's first child on, and these links.
+fn is_tree(
+    tree: &Tree<Item>,
+    outline: Outline<'_>,
+    links: &[(Option<usize>, Option<usize>)],
+) -> bool {
+    for ix in 0..tree.len() {
+        if links.get(ix) != Some(&(tree.child(ix), tree.next(ix))) {
+            return false;
+        }
+    }
+    'items: for ix in 1..tree.len() {
+        match outline.get(ix - 1) {
+            Some((_, item)) => {
+                if *item != *tree.item(ix) {
+                    return false;
+                }
+            }
+            None => return false,
+        }
+    }
+    tree.len() == links.len()
+}
+
+/// Whether these are one definition, one footnote, one text, one list of no alignments and a heading without attributes.
+fn is_one_of_each(parts: &BlockParts<'_>) -> bool {
+    let is_defined = match parts.definitions.as_slice() {
+        [(label, link)] => {
+            label.as_str() == "a"
+                && link.dest.as_str() == "/u"
+                && link.title.is_none()
+                && link.span == (0..0)
+        }
+        _ => false,
+    };
+    let are_named = match (parts.footnotes.as_slice(), parts.cows.as_slice()) {
+        ([footnote], [text]) => footnote.as_str() == "n" && text.as_str() == "x",
+        _ => false,
+    };
+    let are_bare = match (parts.alignments.as_slice(), parts.headings.as_slice()) {
+        ([alignments], [heading]) => {
+            alignments.is_empty()
+                && heading.id.is_none()
+                && heading.classes.is_empty()
+                && heading.attrs.is_empty()
+        }
+        _ => false,
+    };
+    is_defined && are_named && are_bare
+}
+
 /// A tree that keeps the rules passes and is held as it is, or memory was refused.
 pub fn checks(alloc: Global) -> bool {
     match checked(alloc) {
         Ok(blocks) => {
             let (text, options, tree, parts) = blocks.into_parts();
-            let held = [
-                tree.len(),
-                parts.definitions.len(),
-                parts.footnotes.len(),
-                parts.cows.len(),
-                parts.alignments.len(),
-                parts.headings.len(),
-            ];
+            let is_held = is_tree(&tree, &all_kinds(), &LINKS) && is_one_of_each(&parts);
+            drop(tree);
             drop(parts);
-            text == OPEN && options == Options::ENABLE_MATH && held == [16, 1, 1, 1, 1, 1]
+            is_held && text == OPEN && options == Options::ENABLE_MATH
         }
         Err(fault) => fault == Fault::Memory,
     }

@@ -89,46 +89,6 @@ fn beside<T: Merged>(full: &[T], at: usize, item: T) -> Outcome {
     right_if(item.begins(whole), Outcome::Cut)
 }
 
-/// How the items of a merge are beside those of a full run. Of a beginning the last may be a text cut short.
-pub fn compared<T: Merged, I: Iterator<Item = Result<T, Fault>> + Drop>(
-    items: I,
-    full: &[T],
-) -> Outcome
-    requires can { I.can_next items }
-    requires ends { IsFinite (I.remaining items) }
-{
-    let mut given = 0usize;
-    let mut last = Outcome::Whole;
-    let mut is_over = false;
-    for item in items {
-        if is_over {
-            return Outcome::Wrong;
-        }
-        match item {
-            Ok(item) => {
-                if last != Outcome::Whole {
-                    return Outcome::Wrong;
-                }
-                last = beside(full, given, item);
-                given = given.saturating_add(1);
-            }
-            Err(fault) => {
-                if fault != Fault::Memory || last == Outcome::Wrong {
-                    return Outcome::Wrong;
-                }
-                is_over = true;
-            }
-        }
-    }
-    if is_over {
-        return Outcome::Cut;
-    }
-    right_if(
-        last == Outcome::Whole && given == full.len(),
-        Outcome::Whole,
-    )
-}
-
 /// Whether None comes three times.
 fn stays_over<T: Drop, I: Iterator<Item = T>>(items: &mut I) -> bool
     requires { (left : I) → I.can_next left }
@@ -136,7 +96,39 @@ fn stays_over<T: Drop, I: Iterator<Item = T>>(items: &mut I) -> bool
     is_nothing(items.next()) && is_nothing(items.next()) && is_nothing(items.next())
 }
 
-/// The same, where None has to come ever after; with the iterator as it is then.
+/// How the items of a merge are beside those of a full run, after which None has to come ever after. Of a beginning the
+/// last may be a text cut short.
+pub fn compared<T: Merged, I: Iterator<Item = Result<T, Fault>> + Drop>(
+    items: I,
+    full: &[T],
+) -> Outcome
+    requires can { (left : I) → I.can_next left }
+    requires ends { IsFinite (I.remaining items) }
+{
+    let mut items = items;
+    let mut last = Outcome::Whole;
+    'giving: for at in 0..1000 {
+        match items.next() {
+            Some(Ok(item)) => {
+                if last != Outcome::Whole {
+                    return Outcome::Wrong;
+                }
+                last = beside(full, at, item);
+            }
+            Some(Err(fault)) => {
+                let is_right = fault == Fault::Memory && stays_over(&mut items);
+                return right_if(is_right && last != Outcome::Wrong, Outcome::Cut);
+            }
+            None => {
+                let is_right = at == full.len() && stays_over(&mut items);
+                return right_if(is_right && last == Outcome::Whole, Outcome::Whole);
+            }
+        }
+    }
+    Outcome::Wrong
+}
+
+/// How items are beside those of a full run, after which None has to come ever after; with the iterator as it is then.
 pub fn walked<T: PartialEq + Drop, I: Iterator<Item = Result<T, Fault>> + Drop>(
     items: I,
     full: &[T],

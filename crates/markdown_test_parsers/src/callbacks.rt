@@ -3,12 +3,12 @@ ghost use Rattle.std.specs.Prelude.{◌≡◌, ◌+◌, ◌%◌, ◌^◌, None};
 
 use crate::parsers::parser_asking;
 use markdown_base::cow_str::CowStr;
-use markdown_base::fault::Fault;
 use markdown_base::tag::LinkType;
 use markdown_defs::{BoxedCallback, BrokenLink, BrokenLinkCallback, Closure};
 use markdown_test_helpers::lists::take_some;
 use std::alloc::{AllocError, Global};
 use std::ops::Range;
+use std::test::Fail;
 
 /// What a callback answers.
 #[derive(Clone, Copy, Drop)]
@@ -141,15 +141,15 @@ pub fn take_events<'a, F: BrokenLinkCallback<'a>>(
     source: &'a str,
     callback: F,
     most: usize,
-) -> Result<usize, Fault>
+) -> Result<usize, Fail>
     requires { F.can_ask callback }
 {
-    take_some(parser_asking(alloc, source, callback)?, most)
+    Ok(take_some(parser_asking(alloc, source, callback)?, most)?)
 }
 
 /// Takes at most `most` events of a text with a closure that answers no question. Returns how many
 /// it took, and how many questions were asked.
-pub fn questions_in(alloc: Global, source: &str, most: usize) -> Result<(usize, u64), Fault> {
+pub fn questions_in(alloc: Global, source: &str, most: usize) -> Result<(usize, u64), Fail> {
     let mut asked = 0u64;
     let counting = |link: BrokenLink| -> Option<(CowStr, CowStr)>
         ensures answer { result ≡ None }

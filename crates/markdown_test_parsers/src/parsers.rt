@@ -1,7 +1,8 @@
-//! Parsers of trees, of texts and with callbacks, and the events that they give.
+//! Parsers of trees, of texts and with callbacks, and the events that they give. Each text has to fit.
 ghost use Rattle.std.specs.Prelude.{IfOk, IfSome};
 ghost use Rattle.markdown_inline.specs.ParserLeft.{parser_callback};
 
+use crate::fits::fits;
 use markdown_base::block_parts::BlockParts;
 use markdown_base::event::Event;
 use markdown_base::fault::Fault;
@@ -30,16 +31,34 @@ pub fn parser_of<'a>(
     Ok(Parser::from_blocks(alloc, blocks, None)?)
 }
 
+/// A parser of a text with these options.
+pub fn text_parser<'a>(
+    alloc: Global,
+    source: &'a str,
+    options: Options,
+) -> Result<Parser<'a>, Fail> {
+    fits(alloc, source, options)?;
+    Ok(Parser::new_ext(alloc, source, options)?)
+}
+
+/// A parser of a text with no options.
+pub fn plain_parser<'a>(alloc: Global, source: &'a str) -> Result<Parser<'a>, Fail> {
+    fits(alloc, source, Options::empty())?;
+    Ok(Parser::new(alloc, source)?)
+}
+
 /// A parser of a text that asks a callback, with no options.
 pub fn parser_asking<'a, F: BrokenLinkCallback<'a>>(
     alloc: Global,
     source: &'a str,
     callback: F,
-) -> Result<Parser<'a, F>, Fault>
+) -> Result<Parser<'a, F>, Fail>
     requires { F.can_ask callback }
     ensures { IfOk result (λ parser. IfSome (parser_callback parser) F.can_ask) }
 {
-    Parser::new_with_broken_link_callback(alloc, source, Options::empty(), Some(callback))
+    let options = Options::empty();
+    fits(alloc, source, options)?;
+    Ok(Parser::new_with_broken_link_callback(alloc, source, options, Some(callback))?)
 }
 
 /// All events of a parser, each with its range, and the callback.

@@ -1,10 +1,9 @@
 //! What holds of the events of every text: each End closes the last Start that is open, no Start stays open, and each
 //! range lies in the text, between characters.
-use crate::parsers::all_events;
+use crate::parsers::{all_events, text_parser};
 use markdown_base::event::Event;
 use markdown_base::options::Options;
 use markdown_base::tag::TagEnd;
-use markdown_inline::walk::Parser;
 use std::alloc::{AllocError, Global};
 use std::ops::Range;
 use std::test::Fail;
@@ -51,7 +50,7 @@ fn all_lie_in(source: &str, events: &[(Event<'_>, Range<usize>)]) -> bool {
 
 /// Whether the walk of a text ends and its events are so.
 pub fn is_sound(alloc: Global, source: &str, options: Options) -> Result<bool, Fail> {
-    let (events, callback) = all_events(Parser::new_ext(alloc, source, options)?)?;
+    let (events, callback) = all_events(text_parser(alloc, source, options)?)?;
     drop(callback);
     let balanced = are_balanced(alloc, events.as_slice());
     let placed = all_lie_in(source, events.as_slice());

@@ -1,9 +1,10 @@
 //! The block pass on small texts, and the items of a line.
+use crate::rows::fits;
 use markdown_base::item::ItemBody;
 use markdown_base::options::Options;
 use markdown_builder::builder::Builder;
 use markdown_items::items;
-use markdown_plain::{blocks, misfits};
+use markdown_plain::blocks;
 use markdown_test_helpers::documents::random_text;
 use markdown_test_helpers::rows::gives;
 use markdown_test_helpers::trees::{push_items, text};
@@ -25,6 +26,7 @@ fn name_of(alloc: Global, body: ItemBody) -> Result<String, AllocError> {
 
 /// A text has blocks of these items.
 fn has_blocks(alloc: Global, text: &str, want: &str) -> Result<(), Fail> {
+    fits(alloc, text, Options::ENABLE_GFM)?;
     let list = listed(alloc, text)?;
     gives(text, list.as_str(), want)
 }
@@ -102,7 +104,9 @@ fn breaks(rt: HostRuntime) -> Result<(), Fail> {
 
 #[test]
 fn nothing_is_named(rt: HostRuntime) -> Result<(), Fail> {
-    let (tree, parts) = blocks(rt.alloc(), "a  \nb\\\n\nc", Options::ENABLE_GFM)?;
+    let text = "a  \nb\\\n\nc";
+    fits(rt.alloc(), text, Options::ENABLE_GFM)?;
+    let (tree, parts) = blocks(rt.alloc(), text, Options::ENABLE_GFM)?;
     let nodes = tree.len();
     let named = [
         parts.definitions.len(),
@@ -135,9 +139,12 @@ fn each_call_fits(rt: HostRuntime) -> Result<(), Fail> {
     let mut seed = 1;
     for _ in 0..1000 {
         let text = random_text(rt.alloc(), &mut seed)?;
-        for &options in &[Options::ENABLE_FOOTNOTES, Options::ENABLE_OLD_FOOTNOTES] {
-            let count = misfits(rt.alloc(), text.as_str(), options)?;
-            gives(text.as_str(), count, 0)?;
+        for &options in &[
+            Options::empty(),
+            Options::ENABLE_FOOTNOTES,
+            Options::ENABLE_OLD_FOOTNOTES,
+        ] {
+            fits(rt.alloc(), text.as_str(), options)?;
         }
     }
     Ok(())

@@ -1,5 +1,6 @@
 //! Block results: empty, large and deep ones; what comes back of one; and the blocks of a text.
 use crate::block_rules::is_well_formed;
+use crate::rows::fits;
 use markdown_base::block_parts::BlockParts;
 use markdown_base::cow_str::CowStr;
 use markdown_base::item::{Item, ItemBody};
@@ -76,6 +77,7 @@ fn listed(alloc: Global, tree: Tree<Item>, parts: BlockParts<'_>) -> Result<Stri
 
 /// The blocks of a text are of these items, and the text and the options come back.
 fn has_items(alloc: Global, source: &str, items: &str) -> Result<(), Fail> {
+    fits(alloc, source, Options::ENABLE_MATH)?;
     let blocks = Blocks::of_text(alloc, source, Options::ENABLE_MATH)?;
     let (text, options, tree, parts) = blocks.into_parts();
     let held = listed(alloc, tree, parts);

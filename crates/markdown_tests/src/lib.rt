@@ -23,9 +23,15 @@ mod callbacks;
 #[cfg(test)]
 mod code;
 #[cfg(test)]
+mod containers_of_text;
+#[cfg(test)]
+mod definitions_of_text;
+#[cfg(test)]
 mod line_items;
 #[cfg(test)]
 mod look_ups;
+#[cfg(test)]
+mod rows;
 #[cfg(test)]
 mod texts;
 #[cfg(test)]

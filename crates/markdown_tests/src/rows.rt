@@ -1,0 +1,93 @@
+//! What tests of the block pass compare: small texts with their items and definitions. Each text also has to fit.
+use markdown_base::block_parts::LinkDef;
+use markdown_base::cow_str::CowStr;
+use markdown_base::item::ItemBody;
+use markdown_base::options::Options;
+use markdown_plain::{blocks, misfits};
+use markdown_test_helpers::rows::gives;
+use markdown_test_helpers::trees::push_items;
+use std::alloc::{AllocError, Global};
+use std::test::Fail;
+
+/// A body as it is printed.
+fn printed(alloc: Global, body: ItemBody) -> Result<String, AllocError> {
+    format!(in alloc; "{body:?}")
+}
+
+/// Lists a definition: its label, its destination, its title, and its range.
+fn push_definition(
+    alloc: Global,
+    list: &mut String,
+    label: &str,
+    link: &LinkDef<'_>,
+) -> Result<(), AllocError> {
+    let title = match &link.title {
+        Some(title) => title.as_str(),
+        None => "",
+    };
+    let row = format!(in alloc;
+        "[{}]: <{}> \"{}\" {}..{};",
+        label,
+        link.dest.as_str(),
+        title,
+        link.span.start,
+        link.span.end
+    )?;
+    list.push_str(row.as_str())
+}
+
+/// Lists definitions.
+fn push_definitions(
+    alloc: Global,
+    list: &mut String,
+    definitions: &[(CowStr<'_>, LinkDef<'_>)],
+) -> Result<(), AllocError> {
+    for (label, link) in definitions {
+        push_definition(alloc, list, label.as_str(), link)?;
+    }
+    Ok(())
+}
+
+/// The items of a text's blocks, and then the definitions.
+fn listed(alloc: Global, text: &str, options: Options) -> Result<String, AllocError> {
+    let (mut tree, parts) = blocks(alloc, text, options)?;
+    let mut list = String::new(alloc);
+    let items_done = push_items(alloc, &mut list, &mut tree, printed);
+    let definitions_done = push_definitions(alloc, &mut list, &parts.definitions);
+    drop(tree);
+    drop(parts);
+    items_done?;
+    definitions_done?;
+    Ok(list)
+}
+
+const TEXT: &str = "Text { backslash_escaped: false }";
+
+/// The same, in which `T` stands for a Text.
+fn shown(alloc: Global, text: &str, options: Options) -> Result<String, AllocError> {
+    let list = listed(alloc, text, options)?;
+    let short = list.as_str().replace(alloc, TEXT, "T");
+    drop(list);
+    short
+}
+
+/// Each call that the block pass makes for a text fits where it comes.
+pub fn fits(alloc: Global, text: &str, options: Options) -> Result<(), Fail> {
+    let count = misfits(alloc, text, options)?;
+    gives((text, "calls that do not fit"), count, 0)
+}
+
+/// A text is made into this.
+pub fn assert_made(alloc: Global, text: &str, options: Options, want: &str) -> Result<(), Fail> {
+    fits(alloc, text, options)?;
+    let made = shown(alloc, text, options)?;
+    gives(text, made.as_str(), want)
+}
+
+/// Compares what is made of each text with its row.
+pub fn compare(alloc: Global, rows: &[(&str, &str)]) -> Result<(), Fail> {
+    for (text, want) in rows {
+        assert_made(alloc, text, Options::ENABLE_GFM, want)?;
+    }
+    Ok(())
+}
