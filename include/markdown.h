@@ -3,7 +3,7 @@
 
 /** # NAME
  *
- * **markdown** - Markdown to HTML, and to events as JSON
+ * **markdown** - Markdown to HTML, and to its events and its headings as JSON
  *
  * # DESCRIPTION
  *
@@ -106,6 +106,17 @@ int64_t markdown_to_html(const uint8_t *text, size_t text_length, uint32_t optio
  */
 int64_t markdown_to_json(const uint8_t *text, size_t text_length, uint32_t options, uint8_t *out,
                          size_t out_length);
+
+/** Makes a table of the headings of `text`, as JSON: a line for each, as
+ * `{"level":1,"text":"A b","range":{"start":0,"end":7}}` for `# A *b*`. The level is 1 to 6. The text is without markup,
+ * with a space for each line break. The ranges are byte offsets in `text`. Each line ends with a line feed.
+ *
+ * Returns how many bytes the lines have. If that is at most `out_length`, the lines stand at the front of `out`, and
+ * what was behind them stays; else `out` stays as it was. Returns `MARKDOWN_NOT_UTF8` or `MARKDOWN_NO_MEMORY` where
+ * there are none, and `out` stays as it was.
+ */
+int64_t markdown_to_outline(const uint8_t *text, size_t text_length, uint32_t options, uint8_t *out,
+                            size_t out_length);
 
 #ifdef __cplusplus
 }

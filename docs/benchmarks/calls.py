@@ -1,14 +1,14 @@
 """Calls of the static library beside those of md4c and cmark, on the same texts, as a table: `calls.py LIBRARY LIBC`.
 
 LIBRARY is libmarkdown_c.a, LIBC the toolchain's liblibc_c.a. Instructions are counted by valgrind, for one call more;
-microseconds are the best of seven runs of many calls, for one of them.
+microseconds, of the processor, are the best of seven runs of many calls, for one of them.
 """
 import os
 import re
+import resource
 import subprocess
 import sys
 import tempfile
-import time
 
 HERE = os.path.dirname(os.path.abspath(__file__))
 SIZES = {"1 KB": (1000, 20000), "100 KB": (100000, 200), "10 MB": (10000000, 2)}
@@ -29,10 +29,14 @@ def instructions(program, text):
 
 
 def microseconds(program, text, count):
+    def spent():
+        used = resource.getrusage(resource.RUSAGE_CHILDREN)
+        return used.ru_utime + used.ru_stime
+
     def of(count):
-        start = time.monotonic()
+        start = spent()
         run([*program, str(count)], text, stdout=subprocess.DEVNULL)
-        return time.monotonic() - start
+        return spent() - start
 
     return (min(of(count + 1) for _ in range(7)) - min(of(1) for _ in range(7))) / count * 1e6
 

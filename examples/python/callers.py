@@ -29,14 +29,19 @@ def try_not_utf8(library, call):
 
 
 def try_text(library, folder, name):
-    text, html, lines = ((folder / f"{name}.{kind}").read_bytes() for kind in ("md", "html", "jsonl"))
+    kinds = ("md", "html", "jsonl", "outline")
+    text, html, lines, headings = ((folder / f"{name}.{kind}").read_bytes() for kind in kinds)
     assert library.to_html(text, STRIKETHROUGH) == html, name
     assert library.to_json(text, STRIKETHROUGH) == lines, name
+    assert library.to_outline(text, STRIKETHROUGH) == headings, name
+    for line in headings.splitlines():
+        assert set(json.loads(line)) == {"level", "text", "range"}, name
     for line in lines.splitlines():
         event, range_ = json.loads(line)
         assert 0 <= range_["start"] <= range_["end"] <= len(text), name
     try_buffers(library, library.html, text, html)
     try_buffers(library, library.json, text, lines)
+    try_buffers(library, library.outline, text, headings)
 
 
 def main(path, folder, *names):
@@ -45,6 +50,7 @@ def main(path, folder, *names):
         try_text(library, Path(folder), name)
     try_not_utf8(library, library.html)
     try_not_utf8(library, library.json)
+    try_not_utf8(library, library.outline)
     print(f"Python: {len(names)} texts, as stored")
 
 

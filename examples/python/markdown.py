@@ -14,9 +14,9 @@ REFUSALS = {-1: "not UTF-8", -2: "out of memory", -3: "image nested too deeply"}
 class Markdown:
     def __init__(self, path):
         library = ctypes.CDLL(path)
-        self.html, self.json = library.markdown_to_html, library.markdown_to_json
+        self.html, self.json, self.outline = library.markdown_to_html, library.markdown_to_json, library.markdown_to_outline
         # These fit include/markdown.h. Nothing compares the declarations.
-        for call in (self.html, self.json):
+        for call in (self.html, self.json, self.outline):
             call.argtypes = [ctypes.c_char_p, ctypes.c_size_t, ctypes.c_uint32, ctypes.c_char_p, ctypes.c_size_t]
             call.restype = ctypes.c_int64
 
@@ -43,3 +43,7 @@ class Markdown:
     def to_json(self, text, options=0):
         """Returns the events of a text, as lines of JSON."""
         return self.whole(self.json, text, options)
+
+    def to_outline(self, text, options=0):
+        """Returns the headings of a text, as lines of JSON."""
+        return self.whole(self.outline, text, options)

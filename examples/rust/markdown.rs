@@ -19,6 +19,7 @@ type Call = unsafe extern "C" fn(*const u8, usize, u32, *mut u8, usize) -> i64;
 unsafe extern "C" {
     fn markdown_to_html(text: *const u8, text_length: usize, options: u32, out: *mut u8, out_length: usize) -> i64;
     fn markdown_to_json(text: *const u8, text_length: usize, options: u32, out: *mut u8, out_length: usize) -> i64;
+    fn markdown_to_outline(text: *const u8, text_length: usize, options: u32, out: *mut u8, out_length: usize) -> i64;
 }
 
 /// Makes one call: returns how many bytes the whole has, which stand in `out` if they fit.
@@ -55,6 +56,11 @@ pub fn to_json(text: &str, options: u32) -> Result<String, Refusal> {
     whole(markdown_to_json, text, options)
 }
 
+/// Returns the headings of a text, as lines of JSON.
+pub fn to_outline(text: &str, options: u32) -> Result<String, Refusal> {
+    whole(markdown_to_outline, text, options)
+}
+
 /// Writes the HTML of bytes to `out`, if it fits, and returns how many bytes it has.
 pub fn html_into(text: &[u8], options: u32, out: &mut [u8]) -> Result<usize, Refusal> {
     call(markdown_to_html, text, options, out)
@@ -63,4 +69,9 @@ pub fn html_into(text: &[u8], options: u32, out: &mut [u8]) -> Result<usize, Ref
 /// Writes the events of bytes to `out`, if they fit, and returns how many bytes they have.
 pub fn json_into(text: &[u8], options: u32, out: &mut [u8]) -> Result<usize, Refusal> {
     call(markdown_to_json, text, options, out)
+}
+
+/// Writes the headings of bytes to `out`, if they fit, and returns how many bytes they have.
+pub fn outline_into(text: &[u8], options: u32, out: &mut [u8]) -> Result<usize, Refusal> {
+    call(markdown_to_outline, text, options, out)
 }

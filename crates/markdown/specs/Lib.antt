@@ -1,4 +1,5 @@
 -- words of clauses, passed on from the crates below
+pub mod ByteWords
 pub mod EventWords
 pub mod OptionWords
 pub mod BlockWords

@@ -7,8 +7,7 @@ use Rattle.markdown_base.specs.declared.fault.Fault.TheVariants as fault
 use Rattle.markdown_base.specs.declared.options.Options.{Options}
 use Rattle.markdown_render.specs.Rendering.{IsRenderingFor, IsTooDeepFor}
 use Rattle.markdown_render.proofs.RenderingLemmas.{rendering_alone, too_deep_alone}
-use Rattle.markdown_text_json.specs.TextJson.{IsJsonOf}
-use Rattle.markdown_c.specs.CallsFromC.{IsHtmlOutcome, IsJsonOutcome, refusal_of}
+use Rattle.markdown_c.specs.CallsFromC.{IsHtmlOutcome, IsLinesOutcome, refusal_of}
 
 module _ (text bytes : List ℕ) (options wanted : Options) (same : (text ≡ bytes) × IsUtf8 bytes) (is : options ≡ wanted) where
   -- the HTML
@@ -23,10 +22,12 @@ module _ (text bytes : List ℕ) (options wanted : Options) (same : (text ≡ by
   html_refused step f (inl e) = rw e tt
   html_refused step f (inr (e, deep)) = rw e (too_deep_alone step bytes wanted same.1 (rw (same.0, is) at deep))
 
-  -- the lines of the events
-  pub json_of_text : (json : List ℕ) → IsJsonOf text options json → IsJsonOutcome bytes wanted (Ok json)
-  json_of_text json r = rw (same.0, is) at r
+  -- lines
+  pub lines_of_text : (AreLines : List ℕ → Options → List ℕ → Type 0) (lines : List ℕ) → AreLines text options lines
+      → IsLinesOutcome AreLines bytes wanted (Ok lines)
+  lines_of_text AreLines lines r = rw (same.0, is) at r
 
-  -- reading events fails by memory
-  pub json_refused : (f : Fault) → f ≡ fault.Memory → IsJsonOutcome bytes wanted (Err (refusal_of f))
-  json_refused f e = rw e tt
+  -- making them fails by memory
+  pub lines_refused : (AreLines : List ℕ → Options → List ℕ → Type 0) (f : Fault) → f ≡ fault.Memory
+      → IsLinesOutcome AreLines bytes wanted (Err (refusal_of f))
+  lines_refused AreLines f e = rw e tt

@@ -6,7 +6,7 @@ use Rattle.markdown_base.specs.declared.fault.Fault.{Fault}
 use Rattle.markdown_base.specs.declared.fault.Fault.TheVariants as fault
 use Rattle.markdown_base.specs.declared.options.Options.{Options}
 use Rattle.markdown_render.specs.Rendering.{IsRenderingOf, IsTooDeepOf}
-use Rattle.markdown_text_json.specs.TextJson.{IsJsonOf}
+use Rattle.markdown_text_json.specs.TextJson.{IsJsonOf, IsOutlineJsonOf}
 use Rattle.markdown_c.specs.declared.readings.Refusal.{Refusal}
 use Rattle.markdown_c.specs.declared.readings.Refusal.TheVariants.{NotUtf8, Memory, Depth}
 
@@ -28,12 +28,21 @@ IsHtmlOutcome text options (Err NotUtf8) = IsUtf8 text → ⊥
 IsHtmlOutcome text options (Err Memory) = Unit {0}
 IsHtmlOutcome text options (Err Depth) = IsTooDeepOf text options
 
--- the lines of a text's events, or why there are none
+-- lines of JSON that are made of a text so, or why there are none
+abbrev pub IsLinesOutcome : (AreLines : List ℕ → Options → List ℕ → Type 0) → (text : List ℕ) → Options
+    → Result (List ℕ) Refusal → Type 0
+IsLinesOutcome AreLines text options (Ok lines) = AreLines text options lines
+IsLinesOutcome AreLines text options (Err NotUtf8) = IsUtf8 text → ⊥
+IsLinesOutcome AreLines text options (Err Memory) = Unit {0}
+IsLinesOutcome AreLines text options (Err Depth) = ⊥
+
+-- the lines of a text's events
 abbrev pub IsJsonOutcome : (text : List ℕ) → Options → Result (List ℕ) Refusal → Type 0
-IsJsonOutcome text options (Ok json) = IsJsonOf text options json
-IsJsonOutcome text options (Err NotUtf8) = IsUtf8 text → ⊥
-IsJsonOutcome text options (Err Memory) = Unit {0}
-IsJsonOutcome text options (Err Depth) = ⊥
+IsJsonOutcome text options outcome = IsLinesOutcome IsJsonOf text options outcome
+
+-- the lines of its headings
+abbrev pub IsOutlineOutcome : (text : List ℕ) → Options → Result (List ℕ) Refusal → Type 0
+IsOutlineOutcome text options outcome = IsLinesOutcome IsOutlineJsonOf text options outcome
 
 -- the status of a refusal: -1, -2 and -3
 abbrev pub status_of : Refusal → ℤ

@@ -1,4 +1,5 @@
-//! The library for C and for all that calls C: the HTML and the events of a text. include/markdown.h declares the calls.
+//! The library for C and for all that calls C: the HTML, the events and the headings of a text. include/markdown.h
+//! declares the calls.
 #![tactic(auto)]
 
 mod buffer;

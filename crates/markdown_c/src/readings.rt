@@ -2,7 +2,7 @@
 ghost use Rattle.std.specs.Prelude.{◌≡◌, IfOk, IfErr};
 ghost use Rattle.std.specs.Str.{IsUtf8};
 ghost use Rattle.markdown_render.specs.Words.{of_bits};
-ghost use Rattle.markdown_c.specs.CallsFromC.{IsHtmlOutcome, IsJsonOutcome, bytes_of};
+ghost use Rattle.markdown_c.specs.CallsFromC.{IsHtmlOutcome, IsJsonOutcome, IsOutlineOutcome, bytes_of};
 ghost use Rattle.markdown_c.specs.declared.readings.Refusal.{Refusal};
 
 use bitflags::Flags;
@@ -10,7 +10,7 @@ use markdown_base::fault::Fault;
 use markdown_base::options::Options;
 use markdown_defs::DefaultBrokenLinkCallback;
 use markdown_render::render;
-use markdown_text_json::text_json;
+use markdown_text_json::{outline_json, text_json};
 use std::alloc::Global;
 use std::str;
 
@@ -73,4 +73,12 @@ pub(crate) fn json_of(alloc: Global, bytes: &[u8], bits: u32) -> Result<String, 
 {
     let text = text_of(bytes)?;
     Ok(text_json(alloc, text, options_of(bits))?)
+}
+
+/// Returns the lines of the headings of a text.
+pub(crate) fn outline_of(alloc: Global, bytes: &[u8], bits: u32) -> Result<String, Refusal>
+    ensures { IsOutlineOutcome bytes.now (of_bits bits) (bytes_of result) }
+{
+    let text = text_of(bytes)?;
+    Ok(outline_json(alloc, text, options_of(bits))?)
 }

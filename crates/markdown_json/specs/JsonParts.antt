@@ -30,6 +30,11 @@ abbrev pub range_json : List ℕ → List ℕ → List ℕ
 range_json start end =
     joined (codes ",{\"start\":" ∷ start ∷ codes ",\"end\":" ∷ end ∷ codes "}]\n" ∷ [])
 
+-- the line of an entry, by the digits of its numbers
+abbrev pub entry_parts : (level text start end : List ℕ) → List ℕ
+entry_parts level text start end = joined (codes "{\"level\":" ∷ level ∷ codes ",\"text\":" ∷ string text
+    ∷ codes ",\"range\":{\"start\":" ∷ start ∷ codes ",\"end\":" ∷ end ∷ codes "}}\n" ∷ [])
+
 -- a text, wherever it is held
 abbrev pub text_json : CowStr → List ℕ
 text_json text = string (text_of text)

@@ -1,4 +1,5 @@
-//! Events as JSON, a line for each with its range: what `serde` writes for the types of `pulldown_cmark`.
+//! Events as JSON, a line for each with its range: what `serde` writes for the types of `pulldown_cmark`; and outlines, a
+//! line for each entry.
 #![tactic(auto)]
 
 mod array;
@@ -7,6 +8,7 @@ mod events;
 mod heading;
 pub mod laws;
 mod link;
+pub mod outline;
 mod pieces;
 pub mod push;
 mod tag_ends;
@@ -14,4 +16,5 @@ mod tags;
 mod value;
 mod words;
 
+pub use outline::push_outline;
 pub use push::push_json;

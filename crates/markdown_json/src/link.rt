@@ -2,6 +2,7 @@
 use crate::pieces::{Piece, push_pieces};
 use crate::value::Value;
 use crate::words::link_type_text;
+use markdown_base::cow_str::CowStr;
 use markdown_base::tag::LinkType;
 use std::alloc::AllocError;
 
@@ -12,6 +13,34 @@ pub(crate) struct Link<'x> {
     pub dest_url: &'x str,
     pub title: &'x str,
     pub id: &'x str,
+}
+
+impl<'x> Link<'x> {
+    ghost use Rattle.std.specs.Prelude.{◌≡◌};
+    ghost use Rattle.markdown_base.specs.CowText.{text_of};
+    ghost use Rattle.markdown_json.specs.JsonParts.{link_of};
+
+    /// Returns what such a Start holds, by its texts.
+    pub fn new(
+        link_type: LinkType,
+        dest_url: &'x CowStr<'_>,
+        title: &'x CowStr<'_>,
+        id: &'x CowStr<'_>,
+    ) -> Link<'x>
+        ensures { link_of result ≡ record {
+          kind = link_type;
+          destination = text_of dest_url.now;
+          title = text_of title.now;
+          label = text_of id.now;
+        } }
+    {
+        Link {
+            link_type,
+            dest_url: dest_url.as_str(),
+            title: title.as_str(),
+            id: id.as_str(),
+        }
+    }
 }
 
 impl Value for Link<'_> {

@@ -78,29 +78,13 @@ impl Value for Tag<'_> {
                 dest_url,
                 title,
                 id,
-            } => {
-                let link = Link {
-                    link_type: *link_type,
-                    dest_url: dest_url.as_str(),
-                    title: title.as_str(),
-                    id: id.as_str(),
-                };
-                push_variant(s, "Link", &link)
-            }
+            } => push_variant(s, "Link", &Link::new(*link_type, dest_url, title, id)),
             Tag::Image {
                 link_type,
                 dest_url,
                 title,
                 id,
-            } => {
-                let link = Link {
-                    link_type: *link_type,
-                    dest_url: dest_url.as_str(),
-                    title: title.as_str(),
-                    id: id.as_str(),
-                };
-                push_variant(s, "Image", &link)
-            }
+            } => push_variant(s, "Image", &Link::new(*link_type, dest_url, title, id)),
             Tag::MetadataBlock(kind) => push_variant(s, "MetadataBlock", kind),
             fixed => push_raw(s, fixed_text(fixed)),
         }

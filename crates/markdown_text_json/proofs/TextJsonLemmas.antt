@@ -1,7 +1,9 @@
 -- What a parser gives with ranges, up to its first None, is all that was left of it.
 use Rattle.std.proofs.Common.{◌≡◌, ℕ, List, [], ◌∷◌, ◌++◌, map, Ok, Err, Option, Some, None, Result}
-use Rattle.std.proofs.Common.{ap, refl, subst, sym, ◌∙◌, is_some}
+use Rattle.std.proofs.Common.{ap, refl, sym, ◌∙◌, is_some, false}
+use Rattle.std.proofs.lemmas.List.Folds.{flat_map-map}
 use Rattle.std.specs.Iterator.{Drains, Yields}
+use Rattle.std.specs.List.{flat_map}
 use Rattle.std.specs.Str.{IsUtf8}
 use Rattle.std.specs.declared.ops.Range.{Range}
 use Rattle.markdown_base.specs.Event.{event_view}
@@ -11,14 +13,20 @@ use Rattle.markdown_base.specs.declared.fault.Fault.{Fault}
 use Rattle.markdown_base.specs.declared.fault.Fault.TheVariants.{Memory}
 use Rattle.markdown_base.specs.declared.options.Options.{Options}
 use Rattle.markdown_defs.specs.Callback.{Asks}
+use Rattle.markdown_inline.specs.Balanced.{ranged}
 use Rattle.markdown_inline.specs.Elements.{Element, event, events_of}
+use Rattle.markdown_inline.specs.Elements.{Placed as Read}
 use Rattle.markdown_inline.specs.NextGives.{NextGives, IsPlacedOf}
 use Rattle.markdown_inline.specs.ParserLeft.{ReadsText, elements, parser_callback, offset_parser, reading_of}
 use Rattle.markdown_inline.specs.declared.walk.OffsetIter.{OffsetIter}
 use Rattle.markdown_inline.specs.declared.walk.Parser.{Parser}
 use Rattle.markdown_inline.proofs.RunLemmas.{events_of-questions}
 use Rattle.markdown_json.specs.JsonLines.{Placed, IsWritten, StopsAtError, items, lines_of}
-use Rattle.markdown_text_json.specs.TextJson.{IsJsonOf, reading_lines}
+use Rattle.markdown_json.specs.Json.{line_json}
+use Rattle.markdown_json.specs.OutlineJson.{outline_lines}
+use Rattle.markdown_outline.specs.Outline.{EntryView, Ranged, entries_of}
+use Rattle.markdown_outline.specs.OutlineRead.{IsOutlineOfAll, ranged_view}
+use Rattle.markdown_text_json.specs.TextJson.{IsJsonOf, IsOutlineJsonOf, placed_line}
 
 -- with no callback nothing is asked, and there is none afterwards
 unasked : {F : Type 0} (step : F → Question → Option Answer → F → Type 0) (after : Option F) (questions : List Question)
@@ -28,13 +36,24 @@ unasked step after [] (a ∷ answers) asked = absurd asked
 unasked step after (q ∷ questions) [] asked = absurd asked
 unasked step after (q ∷ questions) (a ∷ answers) asked = absurd asked
 
+-- the line of an event with its range
+abbrev ranged_line : Ranged → List ℕ
+ranged_line e = line_json e.0 e.1.start e.1.end
+
+-- lines are those of what is seen of the events
+lines_seen : (given : List Placed) → lines_of given ≡ flat_map ranged_line (map ranged_view given)
+lines_seen given = sym (flat_map-map ranged_line ranged_view given)
+
+lines_placed : (events : List Read) → flat_map ranged_line (ranged events) ≡ flat_map placed_line events
+lines_placed events = flat_map-map ranged_line (λ (e : Read). (e.0, e.1)) events
+
 module _ {F : Type 0} (step : F → Question → Option Answer → F → Type 0) where
   -- calls of `next`
   abbrev Steps : OffsetIter F → Option (Result Placed Fault) → OffsetIter F → Type 0
   Steps o item t = NextGives step IsPlacedOf (offset_parser o) item (offset_parser t)
 
   -- an error item is one of memory
-  memory_alone : (o left : OffsetIter F) (given : List Placed) (fault : Fault)
+  pub memory_alone : (o left : OffsetIter F) (given : List Placed) (fault : Fault)
       → Yields Steps o (items given ++ Err fault ∷ []) left → fault ≡ Memory
   memory_alone o left [] fault (j, h, y) = h.gives.memory
   memory_alone o left (e ∷ given) fault (j, h, y) = memory_alone j left given fault y
@@ -43,10 +62,10 @@ module _ {F : Type 0} (step : F → Question → Option Answer → F → Type 0)
       → fault ≡ Memory
   stopped_by_memory o old new fault s = memory_alone o s.left s.events fault s.read
 
-  -- where nobody is asked, the lines of all events given are those of what was left
+  -- where nobody is asked, the events given are those of what was left
   drained : (o : OffsetIter F) (given : List Placed) → Drains Steps o (items given)
       → parser_callback (offset_parser o) ≡ None
-      → (later : Answers) → reading_lines (elements (offset_parser o) later) ≡ lines_of given
+      → (later : Answers) → ranged (events_of (elements (offset_parser o) later)) ≡ map ranged_view given
   drained o [] (u, (t, y, z)) none later = rw (y, z.gives.none_left later) refl
   drained o (e ∷ given) (u, (t, (j, h, y), z)) none later =
       let g = h.gives in
@@ -63,22 +82,39 @@ module _ {F : Type 0} (step : F → Question → Option Answer → F → Type 0)
       ) refl
 
   -- so they are those of the text, where all of its reading was left
-  lines_of_text : (o : OffsetIter F) (text old new : List ℕ) (options : Options) → IsUtf8 text
-      → ReadsText text options (offset_parser o) → parser_callback (offset_parser o) ≡ None → old ≡ []
-      → IsWritten Steps o old new → IsJsonOf text options new
-  lines_of_text o text old new options utf8 reads none empty w = record {
-    is_text = utf8;
-    blocks = reads.blocks;
-    of_text = reads.of_text;
-    written = λ answers.
-        let left = reads.left answers ∙ ap (λ (c : Option F). reading_of reads.blocks (is_some c) answers) none in
-        w.stands ∙ (ap (λ bytes. bytes ++ lines_of w.events) empty
-        ∙ (sym (drained o w.events w.read none answers) ∙ ap reading_lines left));
-  }
+  events_of_text : (p : Parser F) (o : OffsetIter F) (text : List ℕ) (options : Options) (given : List Placed)
+      → offset_parser o ≡ p → (reads : ReadsText text options p) → parser_callback p ≡ None → Drains Steps o (items given)
+      → (answers : Answers) → map ranged_view given ≡ ranged (events_of (reading_of reads.blocks false answers))
+  events_of_text p o text options given is reads none all answers =
+      let left = reads.left answers ∙ ap (λ (c : Option F). reading_of reads.blocks (is_some c) answers) none in
+      sym (drained o given all (ap (λ (q : Parser F). parser_callback q) is ∙ none) answers)
+      ∙ ap (λ (q : Parser F). ranged (events_of (elements q answers))) is
+      ∙ ap (λ (es : List Element). ranged (events_of es)) left
 
   pub json_of_text : (p : Parser F) (o : OffsetIter F) (text old new : List ℕ) (options : Options) → IsUtf8 text
       → offset_parser o ≡ p → ReadsText text options p → parser_callback p ≡ None → old ≡ []
       → IsWritten Steps o old new → IsJsonOf text options new
-  json_of_text p o text old new options utf8 is reads none empty w =
-      lines_of_text o text old new options utf8 (subst (ReadsText text options) (sym is) reads)
-      (ap (λ (q : Parser F). parser_callback q) is ∙ none) empty w
+  json_of_text p o text old new options utf8 is reads none empty w = record {
+    is_text = utf8;
+    blocks = reads.blocks;
+    of_text = reads.of_text;
+    written = λ answers.
+        w.stands ∙ ap (λ bytes. bytes ++ lines_of w.events) empty
+        ∙ lines_seen w.events
+        ∙ ap (flat_map ranged_line) (events_of_text p o text options w.events is reads none w.read answers)
+        ∙ lines_placed (events_of (reading_of reads.blocks false answers));
+  }
+
+  -- and the entries of them are those of the text
+  pub outline_of_text : (p : Parser F) (o : OffsetIter F) (text old new : List ℕ) (entries : List EntryView) (options : Options)
+      → IsUtf8 text → offset_parser o ≡ p → ReadsText text options p → parser_callback p ≡ None → old ≡ []
+      → IsOutlineOfAll Steps o entries → new ≡ old ++ outline_lines entries → IsOutlineJsonOf text options new
+  outline_of_text p o text old new entries options utf8 is reads none empty all stands = record {
+    is_text = utf8;
+    blocks = reads.blocks;
+    of_text = reads.of_text;
+    written = λ answers.
+        stands ∙ ap (λ bytes. bytes ++ outline_lines entries) empty
+        ∙ ap outline_lines (all.are
+        ∙ ap entries_of (events_of_text p o text options all.events is reads none all.read answers));
+  }

@@ -1,4 +1,4 @@
--- The JSON of a text: the lines of the events of its reading.
+-- The JSON of a text: the lines of the events of its reading, and those of its headings.
 use Rattle.std.specs.Prelude.{◌≡◌, ℕ, false, List}
 use Rattle.std.specs.List.{flat_map}
 use Rattle.std.specs.Str.{IsUtf8}
@@ -6,9 +6,12 @@ use Rattle.markdown_base.specs.Questions.{Answers}
 use Rattle.markdown_base.specs.declared.options.Options.{Options}
 use Rattle.markdown_blocks.specs.Blocks.{IsOfText}
 use Rattle.markdown_blocks.specs.declared.blocks.Blocks.{Blocks}
+use Rattle.markdown_inline.specs.Balanced.{ranged}
 use Rattle.markdown_inline.specs.Elements.{Element, Placed, events_of}
 use Rattle.markdown_inline.specs.ParserLeft.{reading_of}
 use Rattle.markdown_json.specs.Json.{line_json}
+use Rattle.markdown_json.specs.OutlineJson.{outline_lines}
+use Rattle.markdown_outline.specs.Outline.{EntryView, entries_of}
 
 -- the line of an event of a reading, with its range
 abbrev pub placed_line : Placed → List ℕ
@@ -25,3 +28,15 @@ pub record IsJsonOf (bytes : List ℕ) (options : Options) (json : List ℕ) : T
   pub blocks : Blocks
   pub of_text : IsOfText bytes options blocks
   pub written : (answers : Answers) → json ≡ reading_lines (reading_of blocks false answers)
+
+-- the entries of the headings among the events of these elements
+abbrev pub reading_entries : List Element → List EntryView
+reading_entries elements = entries_of (ranged (events_of elements))
+
+-- the input is text, and these are the lines of the headings of a block result of it with these options, read with nobody
+-- to ask
+pub record IsOutlineJsonOf (bytes : List ℕ) (options : Options) (json : List ℕ) : Type 0 where
+  pub is_text : IsUtf8 bytes
+  pub blocks : Blocks
+  pub of_text : IsOfText bytes options blocks
+  pub written : (answers : Answers) → json ≡ outline_lines (reading_entries (reading_of blocks false answers))

@@ -3,4 +3,5 @@ pub mod SiteGeneratorLemmas
 pub mod TextReadingLemmas
 pub mod LinkCheckerLemmas
 pub mod LinterLemmas
+pub mod ContentsSoFarLemmas
 pub mod ContentsLemmas

@@ -6,22 +6,14 @@ use Rattle.std.specs.Char.Unicode.Alphabetic.{is_alphabetic}
 use Rattle.std.specs.Char.Unicode.Numeric.{is_numeric}
 use Rattle.std.specs.List.{list_any}
 use Rattle.std.specs.StrCase.Lower.{str_to_lowercase}
+use Rattle.markdown.specs.ByteWords.{carriage_return, hyphen, line_feed, space, underscore}
 use Rattle.markdown.specs.OutlineWords.{EntryView, entries_of}
 use Rattle.markdown.specs.ReadingWords.{Ranged}
 use Rattle.markdown_uses.specs.TextReading.{AreEventsOf}
 
-abbrev pub space : ℕ
-space = 32
-
-abbrev pub hyphen : ℕ
-hyphen = 45
-
-abbrev pub low_line : ℕ
-low_line = 95
-
 -- letters and digits of every script, `-` and `_` stand in an anchor
 abbrev pub stays_in_anchor : ℕ → Bool
-stays_in_anchor c = ((c == hyphen) || (c == low_line)) || (is_alphabetic c || is_numeric c)
+stays_in_anchor c = ((c == hyphen) || (c == underscore)) || (is_alphabetic c || is_numeric c)
 
 -- what stands in an anchor for a character: `-` for a space, and nothing for those that do not stay
 abbrev pub anchor_char : ℕ → List ℕ
@@ -47,8 +39,8 @@ is_markup c = list_any (λ mark. c == mark) (codes "\\[]*_`<&")
 -- what stands in a link's text for a character: a reference for a line ending, and a backslash before what may be markup
 abbrev pub escaped_char : ℕ → List ℕ
 escaped_char c =
-    if c == 10 then codes "&#10;"
-    else if c == 13 then codes "&#13;"
+    if c == line_feed then codes "&#10;"
+    else if c == carriage_return then codes "&#13;"
     else if is_markup c then codes "\\" ++ encode_utf8 c
     else encode_utf8 c
 

@@ -4,3 +4,5 @@ pub mod TextReading
 pub mod LinkChecker
 pub mod Linter
 pub mod Contents
+-- For private clauses.
+pub mod ContentsSoFar

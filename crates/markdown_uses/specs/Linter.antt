@@ -2,16 +2,11 @@
 use Rattle.std.specs.Prelude.{◌≡◌, ℕ, zero, suc, ◌+◌, min, Bool, true, false, not, ◌==◌, ◌&&◌, ◌||◌}
 use Rattle.std.specs.Prelude.{List, [], ◌∷◌, count_by, filter, length, map, slice_index}
 use Rattle.std.specs.List.{prefix_len}
+use Rattle.markdown.specs.ByteWords.{carriage_return, line_feed}
 use Rattle.markdown.specs.EventWords.{EventView, html, inline_html}
 use Rattle.markdown.specs.ReadingWords.{Ranged}
 use Rattle.markdown_uses.specs.TextReading.{AreEventsOf}
 use Rattle.markdown_uses.specs.declared.linter.Place.{Place}
-
-abbrev pub line_feed : ℕ
-line_feed = 10
-
-abbrev pub carriage_return : ℕ
-carriage_return = 13
 
 -- a line ends with the byte at an offset: a line feed, or a carriage return with no line feed after
 -- it

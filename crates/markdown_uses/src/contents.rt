@@ -1,14 +1,16 @@
 //! A table of contents: a nested Markdown list of links to the headings of a text.
-ghost use Rattle.std.specs.Prelude.{◌≡◌, ◌++◌, IfOk, IfErr, OnOk, count_by, bytes_eq, encode_utf8};
-ghost use Rattle.std.specs.Prelude.{map, reverse, string_bytes};
+ghost use Rattle.std.specs.Prelude.{◌≡◌, ◌++◌, ◌∷◌, ◌+◌, ◌^◌, ◌<◌, ◌≤◌, ℕ, List, IfOk, IfErr, OnOk};
+ghost use Rattle.std.specs.Prelude.{encode_utf8, length, map, reverse, string_bytes, take};
 ghost use Rattle.markdown.specs.OutlineWords.{entry_view};
 ghost use Rattle.markdown_uses.specs.Contents.{AreHeadingsOf, IsContentsOf, contents_of};
 ghost use Rattle.markdown_uses.specs.Contents.{anchor_char, depth, escaped, escaped_char, is_markup};
 ghost use Rattle.markdown_uses.specs.Contents.{indent, line, numbered, plain_anchor, stays_in_anchor};
+ghost use Rattle.markdown_uses.specs.ContentsSoFar.{AreOpen, CountsOneMore, lower_from, times_of};
 
 use markdown::outline::{Entry, outline};
 use markdown::{Fault, Parser};
 use std::alloc::Global;
+use std::collections::BTreeMap;
 
 /// Returns whether a character stands in an anchor: letters and digits of every script, `-` and `_`.
 fn stays_in_anchor(c: char) -> bool
@@ -45,19 +47,6 @@ fn plain_anchor(alloc: Global, text: &str) -> Result<String, Fault>
     Ok(anchor)
 }
 
-/// Returns how many of these anchors are this one.
-fn times_among(anchors: &[String], anchor: &str) -> usize
-    ensures { result ≡ count_by (λ other. bytes_eq (string_bytes other) anchor.now) anchors.now }
-{
-    let mut times = 0;
-    for other in anchors {
-        if other.as_str() == anchor {
-            times += 1;
-        }
-    }
-    times
-}
-
 /// Returns an anchor that stood so many times before: with that number behind it, if it did.
 fn numbered(alloc: Global, anchor: &str, times: usize) -> Result<String, Fault>
     ensures anchor { IfOk result (λ made. string_bytes made ≡ numbered anchor.now times) }
@@ -69,20 +58,51 @@ fn numbered(alloc: Global, anchor: &str, times: usize) -> Result<String, Fault>
     Ok(format!(in alloc; "{anchor}-{times}")?)
 }
 
-/// Returns how many headings stand above one of this level behind others: the nearest of a lower level, and those above
-/// that.
-fn depth_behind(before: &[Entry], level: u8) -> usize
-    ensures { result ≡ depth level (reverse (map (λ b. b.level) before.now)) }
+/// Returns the anchor of a heading's text, with a number behind it if it stood before, and counts it once more.
+fn next_anchor(
+    alloc: Global,
+    times: &mut BTreeMap<String, usize>,
+    text: &str,
+) -> Result<String, Fault>
+    requires room { times_of times.old (plain_anchor text.now) + 1 < 2 ^ 64 }
+    ensures anchor { IfOk result (λ anchor. string_bytes anchor
+        ≡ numbered (plain_anchor text.now) (times_of times.old (plain_anchor text.now))) }
+    ensures counted { OnOk result (CountsOneMore times.old times.new (plain_anchor text.now)) }
+    ensures refused { IfErr result (λ fault. fault ≡ Fault.Memory) }
 {
-    let mut nearest = level;
-    let mut depth = 0;
-    for heading in before.iter().rev() {
-        if heading.level < nearest {
-            nearest = heading.level;
-            depth += 1;
-        }
+    let plain = plain_anchor(alloc, text)?;
+    let before = times.get(plain.as_str()).copied().unwrap_or(0);
+    let anchor = numbered(alloc, plain.as_str(), before)?;
+    times.insert(plain, before + 1)?;
+    Ok(anchor)
+}
+
+/// Returns how many of the open levels a heading of this level stands below: all but those at the end that are no lower.
+fn count_above(open_levels: &[u8], level: u8) -> usize
+    ensures within { result ≤ length open_levels.now }
+    ensures lower { reverse (take result open_levels.now) ≡ lower_from level (reverse open_levels.now) }
+{
+    let mut above = open_levels.len();
+    'closed: while above > 0 && open_levels[above - 1] >= level {
+        above -= 1;
     }
-    depth
+    above
+}
+
+/// Returns how many headings stand above the next one, which is of this level. From then on it is open, and of the levels
+/// before only those above it, so that each is taken off once.
+fn next_depth(open_levels: &mut Vec<u8>, level: u8) -> Result<usize, Fault>
+    ensures depth { IfOk result (λ above. (levels : List ℕ)
+        → AreOpen (reverse open_levels.old.items) levels → above ≡ depth level levels) }
+    ensures open_levels { OnOk result ((levels : List ℕ)
+        → AreOpen (reverse open_levels.old.items) levels
+        → AreOpen (reverse open_levels.new.items) (level ∷ levels)) }
+    ensures refused { IfErr result (λ fault. fault ≡ Fault.Memory) }
+{
+    let above = count_above(open_levels, level);
+    open_levels.truncate(above);
+    open_levels.push(level)?;
+    Ok(above)
 }
 
 /// Returns whether a character may be markup in the text of a link.
@@ -147,22 +167,21 @@ fn push_line(list: &mut String, depth: usize, text: &str, anchor: &str) -> Resul
     Ok(())
 }
 
-/// Returns the table of contents of these headings.
+/// Returns the table of contents of these headings, in a time that grows as their number by its logarithm.
 fn list_of(alloc: Global, headings: &[Entry]) -> Result<String, Fault>
     ensures list { IfOk result (λ list.
         string_bytes list ≡ contents_of (map entry_view headings.now)) }
     ensures refused { IfErr result (λ fault. fault ≡ Fault.Memory) }
 {
     let mut list = String::new(alloc);
-    let mut anchors = Vec::new(alloc);
+    let mut open_levels = Vec::new(alloc);
+    // Ordered, not hashed, so that no choice of headings makes look-ups slow.
+    let mut times = BTreeMap::new(alloc);
     for at in 0..headings.len() {
         let heading = &headings[at];
-        let depth = depth_behind(&headings[..at], heading.level);
-        let plain = plain_anchor(alloc, heading.text.as_str())?;
-        let times = times_among(anchors.as_slice(), plain.as_str());
-        let anchor = numbered(alloc, plain.as_str(), times)?;
+        let depth = next_depth(&mut open_levels, heading.level)?;
+        let anchor = next_anchor(alloc, &mut times, heading.text.as_str())?;
         push_line(&mut list, depth, heading.text.as_str(), anchor.as_str())?;
-        anchors.push(plain)?;
     }
     Ok(list)
 }

@@ -1,13 +1,13 @@
-use Rattle.std.proofs.Common.{◌≡◌, ◌++◌, drop, map, string_bytes, take}
+use Rattle.std.proofs.Common.{◌≡◌, ◌++◌, drop, map, reverse, string_bytes, take}
 use Rattle.markdown.specs.OutlineWords.{entry_view}
 use Rattle.markdown_uses.specs.Contents.{contents_of, lines_after}
-use Rattle.markdown_uses.proofs.ContentsLemmas.{anchor_of_entry}
+use Rattle.markdown_uses.specs.ContentsSoFar.{AreReadyAfter}
 use Rattle.markdown_uses.proofs.contents.list_of.Given as goal
 
--- the plain anchors and the lines so far, and the lines that are left
+-- the lines so far, what they leave for the next heading, and the lines that are left
 abbrev pub invariant-loop-at : goal.invariant-loop-at
 invariant-loop-at l = record {
-  anchors : map string_bytes l.anchors.items ≡ map anchor_of_entry (take l.at l.headings);
+  ready : AreReadyAfter (reverse l.open_levels.items) l.times (map entry_view (take l.at l.headings));
   lines : string_bytes l.list ++ lines_after (map entry_view (take l.at l.headings)) (map entry_view (drop l.at l.headings))
       ≡ contents_of (map entry_view l.headings);
 }

@@ -1,0 +1,17 @@
+-- The entries of an outline in JSON: a line for each, which is an object of its level, its text and its range.
+use Rattle.std.specs.Prelude.{ℕ, List, [], ◌∷◌, codes}
+use Rattle.std.specs.Fmt.{decimal}
+use Rattle.std.specs.List.{flat_map}
+use Rattle.markdown_out.specs.ByteLists.{joined}
+use Rattle.markdown_outline.specs.Outline.{EntryView}
+use Rattle.markdown_json.specs.Json.{string}
+
+-- the line of an entry
+abbrev pub entry_line : EntryView → List ℕ
+entry_line e = joined (codes "{\"level\":" ∷ decimal e.level ∷ codes ",\"text\":" ∷ string e.text
+    ∷ codes ",\"range\":{\"start\":" ∷ decimal e.range.start ∷ codes ",\"end\":" ∷ decimal e.range.end
+    ∷ codes "}}\n" ∷ [])
+
+-- the lines of entries, one after another
+abbrev pub outline_lines : List EntryView → List ℕ
+outline_lines entries = flat_map entry_line entries
