@@ -24,7 +24,7 @@ use Rattle.markdown_builder.proofs.BodiesLemmas.{not_open, inline_loose, tight_l
 use Rattle.markdown_builder.proofs.RisingLemmas.{below_spelled, rising_reached, throughout_below}
 
 -- a fact of each node, as a fact of the tree
-each_node : (nodes : List (Node Item)) (p : Numbered → Forest Numbered → Forest Numbered → Type 0) → AreRising (links_of nodes)
+pub each_node : (nodes : List (Node Item)) (p : Numbered → Forest Numbered → Forest Numbered → Type 0) → AreRising (links_of nodes)
     → ((i : ℕ) (below after : Forest ℕ) → 0 < i → i < length nodes → Spells (links_of nodes) ((links_of nodes).child i) below
     → Spells (links_of nodes) ((links_of nodes).next i) after
     → p (numbered nodes i) (relabelled (numbered nodes) below) (relabelled (numbered nodes) after))
@@ -88,7 +88,7 @@ not_in_tight b true chain e h t = inline_chain_loose (roots chain) h
 not_in_tight b false chain e h t = let x = tight_leaf b t in cc (x, e)
 
 -- nothing is below a childless item
-childless : (text : List ℕ) (counts : PartCounts) (nodes : List (Node Item)) (i : ℕ) (f : Forest ℕ) → KeepsNodes text counts nodes
+pub childless : (text : List ℕ) (counts : PartCounts) (nodes : List (Node Item)) (i : ℕ) (f : Forest ℕ) → KeepsNodes text counts nodes
     → Spells (links_of nodes) ((links_of nodes).child i) f → IsTrue (is_childless (item_at nodes i).body)
     → relabelled (numbered nodes) f ≡ nil
 childless text counts nodes i nil k s c = refl

@@ -5,6 +5,7 @@ pub mod MarkLemmas
 pub mod BuilderRulesLemmas
 pub mod RunLemmas
 pub mod FormedLemmas
+pub mod HeadingsHoldInlineLemmas
 pub mod StandingLemmas
 pub mod StepLemmas
 pub mod TightLemmas

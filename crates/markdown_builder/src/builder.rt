@@ -71,6 +71,7 @@ impl<'a> Builder<'a> {
     ghost use Rattle.std.specs.Prelude.{slice_index, slice_get, IfOk, IfSome, MatchOption};
     ghost use Rattle.std.specs.Str.{IsCharBoundary};
     ghost use Rattle.markdown_base.specs.declared.item.ItemBody.TheVariants as variant;
+    ghost use Rattle.markdown_base.specs.BlockTree.{tree_of};
     ghost use Rattle.markdown_base.specs.CowText.{text_of};
     ghost use Rattle.markdown_base.specs.Coverage.{Covers};
     ghost use Rattle.markdown_base.specs.WellFormed.{IsWellFormed, is_delimiter};
@@ -78,6 +79,7 @@ impl<'a> Builder<'a> {
     ghost use Rattle.markdown_builder.specs.Bodies.{is_leaf, is_plain_block, is_settled, mark_byte};
     ghost use Rattle.markdown_builder.specs.BuilderView.{IsWhite, IsRunOf, follows_run, innermost_block, nothing_made};
     ghost use Rattle.markdown_builder.specs.BuilderView.{LastHasBody, LastBegins, Opens, OpensNaming};
+    ghost use Rattle.markdown_builder.specs.HeadingsHoldInline.{HeadingsHoldInline};
     ghost use Rattle.markdown_builder.specs.Tightness.{TightInTightLists};
 
     /// Returns a builder that has made nothing yet.
@@ -435,6 +437,7 @@ impl<'a> Builder<'a> {
         ensures formed { IsWellFormed self.entry.text result.0.nodes result.1 }
         ensures covered { Covers self.entry.text result.0.nodes result.1 }
         ensures tight { TightInTightLists result.0.nodes }
+        ensures headings { HeadingsHoldInline (tree_of result.0.nodes) }
     {
         let mut tree = self.tree;
         tighten_lists(&mut tree);

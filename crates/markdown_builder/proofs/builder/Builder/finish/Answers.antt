@@ -1,7 +1,8 @@
--- What was made is well formed, covers the text, and has its tight paragraphs.
+-- What was made is well formed, covers the text, has its tight paragraphs, and no block in a heading.
 use Rattle.std.proofs.Common.{ap, refl}
 use Rattle.markdown_builder.specs.Standing.{standpoint}
 use Rattle.markdown_builder.proofs.FormedLemmas.{keeps_formed}
+use Rattle.markdown_builder.proofs.HeadingsHoldInlineLemmas.{headings_hold_inline}
 use Rattle.markdown_builder.proofs.CoveredLemmas.{covers_at_end}
 use Rattle.markdown_builder.proofs.TightLemmas.{tight_in_tight_lists}
 use Rattle.markdown_builder.proofs.CallLemmas.{finish_keeps}
@@ -32,3 +33,9 @@ returns-clause-covered c =
 pub returns-clause-tight : goal.returns-clause-tight
 returns-clause-tight c = tight_in_tight_lists c.self.inside.tree.nodes c.tighten_lists.new.tree.nodes c.self.invariant.loose
     c.tighten_lists.ensures.makes
+
+pub returns-clause-headings : goal.returns-clause-headings
+returns-clause-headings c =
+    let k = finish_keeps (standpoint c.args.self) c.tighten_lists.new.tree c.self.invariant (ap standpoint c.self.view_is) c.requires.closed
+    c.tighten_lists.ensures.steps in
+    headings_hold_inline c.self.inside.text.now _ c.tighten_lists.new.tree.nodes k.stands.nodes
