@@ -90,8 +90,8 @@ impl<'a> Blocks<'a> {
         (self.text, self.options, self.tree, self.parts)
     }
 
-    /// The block result of a text, which is well formed and covers the text. An error is
-    /// `Fault::Memory`; then nothing is made.
+    /// The block result of a text, which is well formed, covers the text and has inline items alone in its headings.
+    /// An error is `Fault::Memory`; then nothing is made.
     pub fn of_text(alloc: Global, text: &'a str, options: Options) -> Result<Blocks<'a>, Fault>
         ensures { MatchResult result (IsOfText text.now options) (λ fault. fault ≡ Fault.Memory) }
     {
