@@ -6,5 +6,8 @@ pub use Rattle.markdown_outline.specs.Outline.{text_added, joined_text, up_to_en
 pub use Rattle.markdown_outline.specs.declared.entry.Entry.{Entry}
 -- what is read of an iterator
 pub use Rattle.markdown_outline.specs.OutlineRead.{IsOutlineOfAll, MeetsError, NeedsMemory, entries_of_events}
+-- the entries of a block result
+pub use Rattle.markdown_outline.specs.TreeOutline.{AreEntriesOf, HeadingsApart, HeadingsOfTextsApart, tree_entries}
+pub use Rattle.markdown_outline.specs.TreeOutline.{own_entry, tree_level}
 -- a law of merges
 pub use Rattle.markdown_outline.specs.OutlineLaws.{MergingKeepsOutline, merge_items}
