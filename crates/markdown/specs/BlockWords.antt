@@ -5,6 +5,7 @@ pub use Rattle.markdown_blocks.specs.Blocks.{block_text, block_options, block_tr
 pub use Rattle.markdown_blocks.specs.declared.blocks.Blocks.{Blocks}
 pub use Rattle.markdown_base.specs.WellFormed.{IsWellFormed, KeepsRules, AllKeepRules, PartCounts, counts_of}
 pub use Rattle.markdown_base.specs.Coverage.{Covers, is_covered, is_in_block, is_inside}
+pub use Rattle.markdown_builder.specs.HeadingsHoldInline.{HeadingsHoldInline, is_heading_block}
 -- a tree, as nodes by number and as a forest of items
 pub use Rattle.markdown_base.specs.Arena.{Arena, items_of, child_of, sibling_of, innermost, single, changed_at}
 pub use Rattle.markdown_base.specs.Arena.{follower, led_to, appended}

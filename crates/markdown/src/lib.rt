@@ -39,9 +39,9 @@ pub mod html {
     pub use markdown_render::{merged_html, render};
 }
 
-/// Tables of headings, over events with their source ranges.
+/// Tables of headings, over events with their source ranges, and of block results.
 pub mod outline {
-    pub use markdown_outline::{Entry, outline};
+    pub use markdown_outline::{Entry, outline, outline_of};
 }
 
 /// Laws over the definitions that the contracts cite: functions without code, each of which is called for its clause.
@@ -63,7 +63,8 @@ pub mod laws {
         merging_keeps_the_html, merging_twice_is_merging_once,
     };
     pub use markdown_outline::laws::{
-        merging_keeps_the_outline, outline_of_a_merge_is_that_of_the_events,
+        headings_of_texts_are_apart, merging_keeps_the_outline,
+        outline_of_a_merge_is_that_of_the_events,
     };
     pub use markdown_render::laws::html_of_a_parser_is_that_of_its_reading;
     pub use markdown_render::merged::{offsets_can_be_merged, parsers_can_be_merged};

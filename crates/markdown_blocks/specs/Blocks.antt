@@ -4,8 +4,10 @@ use Rattle.markdown_base.specs.declared.block_parts.BlockParts.{BlockParts}
 use Rattle.markdown_base.specs.declared.item.Item.{Item}
 use Rattle.markdown_base.specs.declared.options.Options.{Options}
 use Rattle.markdown_base.specs.Arena.{Arena}
+use Rattle.markdown_base.specs.BlockTree.{tree_of}
 use Rattle.markdown_base.specs.Coverage.{Covers}
 use Rattle.markdown_base.specs.WellFormed.{IsWellFormed}
+use Rattle.markdown_builder.specs.HeadingsHoldInline.{HeadingsHoldInline}
 use Rattle.markdown_blocks.specs.declared.blocks.Blocks.{Blocks}
 
 -- the text
@@ -24,9 +26,11 @@ block_tree b = b.tree
 abbrev pub block_parts : Blocks → BlockParts
 block_parts b = b.parts
 
--- b has this text and these options, and is a well-formed block result that covers the text
+-- b has this text and these options, and is a well-formed block result that covers the text and whose headings hold
+-- inline items alone
 pub record IsOfText (text : List ℕ) (options : Options) (b : Blocks) : Type 0 where
   pub holds_text : block_text b ≡ text
   pub holds_options : block_options b ≡ options
   pub well_formed : IsWellFormed (block_text b) (block_tree b).nodes (block_parts b)
   pub covers : Covers (block_text b) (block_tree b).nodes (block_parts b)
+  pub headings_hold_inline : HeadingsHoldInline (tree_of (block_tree b).nodes)

@@ -6,3 +6,4 @@ pub mod NodeRules
 pub use Rattle.markdown_base.specs.Arena
 pub use Rattle.markdown_base.specs.Coverage
 pub use Rattle.markdown_base.specs.WellFormed
+pub use Rattle.markdown_builder.specs.HeadingsHoldInline

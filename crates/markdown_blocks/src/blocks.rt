@@ -94,7 +94,8 @@ impl<'a> Blocks<'a> {
         (self.text, self.options, self.tree, self.parts)
     }
 
-    /// Returns the block result of a text, which is well formed and covers the text.
+    /// Returns the block result of a text, which is well formed, covers the text and has inline items alone in its
+    /// headings.
     ///
     /// # Errors
     ///

@@ -1,5 +1,8 @@
--- Lemmas of outlines: on the entries so far, on what is read, and on merges.
+-- Lemmas of outlines: on the entries so far, on what is read, on merges, and on the trees of block results.
 pub mod OutlineSoFarLemmas
 pub mod OutlineReadLemmas
 pub mod MergedOutlineLemmas
 pub mod DrainedOutlineLemmas
+pub mod TreeOutlineLemmas
+pub mod TreeHeadingsLemmas
+pub mod ParserOutlineLemmas

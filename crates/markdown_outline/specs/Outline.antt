@@ -5,8 +5,7 @@ use Rattle.std.specs.String.{string_bytes}
 use Rattle.std.specs.declared.ops.Range.{Range}
 use Rattle.markdown_base.specs.Event.{EventView, start, end, text, code, inline_math, display_math, soft_break, hard_break}
 use Rattle.markdown_base.specs.Event.{TagView, heading}
-use Rattle.markdown_base.specs.declared.tag.HeadingLevel.{HeadingLevel}
-use Rattle.markdown_base.specs.declared.tag.HeadingLevel.TheVariants as levels
+use Rattle.markdown_base.specs.HeadingLevels.{level_number}
 use Rattle.markdown_base.specs.declared.tag.TagEnd.{TagEnd}
 use Rattle.markdown_base.specs.declared.tag.TagEnd.TheVariants as closes
 use Rattle.markdown_outline.specs.declared.entry.Entry.{Entry}
@@ -25,15 +24,6 @@ pub record EntryView : Type 0 where
 -- an entry, by the bytes of its text
 abbrev pub entry_view : Entry → EntryView
 entry_view e = record { level = e.level; text = string_bytes e.text; range = e.range }
-
--- a level as a number
-abbrev pub level_number : HeadingLevel → ℕ
-level_number levels.H1 = 1
-level_number levels.H2 = 2
-level_number levels.H3 = 3
-level_number levels.H4 = 4
-level_number levels.H5 = 5
-level_number levels.H6 = 6
 
 -- the level of a heading's tag; other tags have none
 abbrev pub tag_level : TagView → Option ℕ

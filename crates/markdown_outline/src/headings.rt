@@ -1,7 +1,8 @@
 //! What an event says of headings.
 ghost use Rattle.std.specs.Prelude.{◌≡◌};
 ghost use Rattle.markdown_base.specs.Event.{event_view};
-ghost use Rattle.markdown_outline.specs.Outline.{ends_heading, level_number, opened_level, text_added};
+ghost use Rattle.markdown_base.specs.HeadingLevels.{level_number};
+ghost use Rattle.markdown_outline.specs.Outline.{ends_heading, opened_level, text_added};
 
 use markdown_base::event::Event;
 use markdown_base::tag::{HeadingLevel, Tag, TagEnd};

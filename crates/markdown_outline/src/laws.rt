@@ -7,6 +7,7 @@ ghost use Rattle.markdown_out.specs.Places.{ranged, through_ranges};
 ghost use Rattle.markdown_outline.specs.Outline.{EntryView};
 ghost use Rattle.markdown_outline.specs.OutlineLaws.{MergingKeepsOutline};
 ghost use Rattle.markdown_outline.specs.OutlineRead.{IsOutlineOfAll};
+ghost use Rattle.markdown_outline.specs.TreeOutline.{HeadingsOfTextsApart};
 
 use markdown_base::event::Event;
 use markdown_base::fault::Fault;
@@ -29,4 +30,9 @@ pub fn outline_of_a_merge_is_that_of_the_events<
         → IsOutlineOfAll (merge_steps through_ranges (item_view ranged) I.next_gives I.can_next I.remaining offset_state)
         merge.now entries
         → IsOutlineOfAll I.next_gives (offset_state merge.now).iter entries }
+{}
+
+/// No heading of the block result of a text holds another, so that `outline_of` has an entry for each of them.
+pub fn headings_of_texts_are_apart()
+    ensures { HeadingsOfTextsApart }
 {}

@@ -5,7 +5,9 @@ mod entries;
 mod entry;
 mod headings;
 pub mod laws;
+mod of_blocks;
 mod read;
 
 pub use entry::Entry;
+pub use of_blocks::outline_of;
 pub use read::outline;

@@ -1,17 +1,31 @@
 //! The headings of texts, with ample memory.
 use crate::notes::said_of;
 use markdown_base::options::Options;
-use markdown_inline::walk::Parser;
-use markdown_outline::outline;
+use markdown_blocks::Blocks;
+use markdown_outline::{outline, outline_of};
 use markdown_test_helpers::rows::gives;
+use markdown_test_parsers::parsers::text_parser;
 use std::alloc::Global;
 use std::test::Fail;
 
-/// A text has these headings.
-fn text_has(alloc: Global, source: &str, options: Options, wanted: &str) -> Result<(), Fail> {
-    let parser = Parser::new_ext(alloc, source, options)?;
+/// The events of a text have these headings.
+fn events_have(alloc: Global, source: &str, options: Options, wanted: &str) -> Result<(), Fail> {
+    let parser = text_parser(alloc, source, options)?;
     let notes = said_of(alloc, outline(alloc, parser.into_offset_iter()))?;
     gives(source, notes.as_str(), wanted)
+}
+
+/// So has its block result.
+fn blocks_have(alloc: Global, source: &str, options: Options, wanted: &str) -> Result<(), Fail> {
+    let blocks = Blocks::of_text(alloc, source, options)?;
+    let notes = said_of(alloc, outline_of(alloc, blocks))?;
+    gives(source, notes.as_str(), wanted)
+}
+
+/// A text has these headings.
+fn text_has(alloc: Global, source: &str, options: Options, wanted: &str) -> Result<(), Fail> {
+    events_have(alloc, source, options, wanted)?;
+    blocks_have(alloc, source, options, wanted)
 }
 
 /// Each of these texts has the headings beside it.

@@ -2,8 +2,10 @@
 //! continues (CommonMark, appendix on parsing). Functions that return a `Result` fail only where memory is refused;
 //! what was built by then is not used.
 ghost use Rattle.std.specs.Prelude.{◌≡◌, [], length, IfOk};
+ghost use Rattle.markdown_base.specs.BlockTree.{tree_of};
 ghost use Rattle.markdown_base.specs.Coverage.{Covers};
 ghost use Rattle.markdown_base.specs.WellFormed.{IsWellFormed};
+ghost use Rattle.markdown_builder.specs.HeadingsHoldInline.{HeadingsHoldInline};
 ghost use Rattle.markdown_builder.specs.Tightness.{TightInTightLists};
 
 use crate::containers::{Reached, reach};
@@ -394,6 +396,7 @@ pub fn blocks<'a>(
     ensures formed { IfOk result (λ made. IsWellFormed text.now made.0.nodes made.1) }
     ensures covered { IfOk result (λ made. Covers text.now made.0.nodes made.1) }
     ensures tight { IfOk result (λ made. TightInTightLists made.0.nodes) }
+    ensures headings { IfOk result (λ made. HeadingsHoldInline (tree_of made.0.nodes)) }
 {
     let Placing {
         builder,

@@ -63,7 +63,7 @@ static THREE: [Question; 3] = [
 ];
 
 /// The texts.
-pub fn sources() -> [Source; 11] {
+pub fn sources() -> [Source; 12] {
     [
         plain("a  \nb\n\nc", Options::empty()),
         plain("`\n `x", Options::empty()),
@@ -77,6 +77,7 @@ pub fn sources() -> [Source; 11] {
         plain("'a' \"b\"", Options::ENABLE_SMART_PUNCTUATION),
         plain("$a$ $$b$$", Options::ENABLE_MATH),
         plain("hello\n=====\n\n* alpha\n* beta\n", Options::empty()),
+        plain("# A *b* `c`\n\nx\n\n## D", Options::empty()),
         Source {
             text: "Hello world, check out [my website][].",
             options: Options::empty(),

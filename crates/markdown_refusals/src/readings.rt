@@ -6,6 +6,7 @@ use markdown_base::fault::Fault;
 use markdown_blocks::Blocks;
 use markdown_inline::walk::Parser;
 use markdown_out::merge::{TextMergeStream, TextMergeWithOffset};
+use markdown_outline::{Entry, outline, outline_of};
 use markdown_plain::misfits;
 use markdown_render::render;
 use markdown_test_parsers::parsers::all_events;
@@ -190,6 +191,58 @@ fn fits(alloc: Global, source: Source) -> bool {
     }
 }
 
+/// The headings of the events of a text.
+fn outline_read(alloc: Global, source: Source) -> Result<Vec<Entry>, Fault> {
+    outline(alloc, parser(alloc, source)?.into_offset_iter())
+}
+
+/// Those of its block result.
+fn outline_of_blocks(alloc: Global, source: Source) -> Result<Vec<Entry>, Fault> {
+    let blocks = Blocks::of_text(alloc, source.text, source.options)?;
+    outline_of(alloc, blocks)
+}
+
+fn is_same_entry(given: &Entry, full: &Entry) -> bool {
+    given.level == full.level
+        && given.text.as_str() == full.text.as_str()
+        && given.range == full.range
+}
+
+/// Whether two outlines have the same entries.
+fn are_same_entries(given: &[Entry], full: &[Entry]) -> bool {
+    if given.len() != full.len() {
+        return false;
+    }
+    for at in 0..given.len() {
+        if !is_same_entry(&given[at], &full[at]) {
+            return false;
+        }
+    }
+    true
+}
+
+/// All entries, or none.
+fn is_outline(given: Result<Vec<Entry>, Fault>, full: &[Entry]) -> bool {
+    match given {
+        Ok(entries) => are_same_entries(entries.as_slice(), full),
+        Err(fault) => fault == Fault::Memory,
+    }
+}
+
+fn outlines(alloc: Global, source: Source) -> bool {
+    match outline_read(alloc, source) {
+        Ok(full) => is_outline(outline_read(alloc, source), full.as_slice()),
+        Err(fault) => fault == Fault::Memory,
+    }
+}
+
+fn outlines_blocks(alloc: Global, source: Source) -> bool {
+    match outline_of_blocks(alloc, source) {
+        Ok(full) => is_outline(outline_of_blocks(alloc, source), full.as_slice()),
+        Err(fault) => fault == Fault::Memory,
+    }
+}
+
 /// A way to read a text.
 #[derive(Clone, Copy, Drop)]
 enum Way {
@@ -202,9 +255,11 @@ enum Way {
     Collecting,
     Rendering,
     Pushing,
+    Outlining,
+    OutliningBlocks,
 }
 
-static WAYS: [(&str, Way); 9] = [
+static WAYS: [(&str, Way); 11] = [
     ("the calls of the block pass", Way::Fitting),
     ("making a parser", Way::Making),
     ("next", Way::Walking),
@@ -214,6 +269,8 @@ static WAYS: [(&str, Way); 9] = [
     ("into_events", Way::Collecting),
     ("render", Way::Rendering),
     ("push_html", Way::Pushing),
+    ("outline", Way::Outlining),
+    ("outline_of", Way::OutliningBlocks),
 ];
 
 /// Whether what is promised of a way to read a text stands.
@@ -228,6 +285,8 @@ fn stands(alloc: Global, way: Way, source: Source) -> bool {
         Way::Collecting => collects(alloc, source),
         Way::Rendering => renders(alloc, source),
         Way::Pushing => pushes(alloc, source),
+        Way::Outlining => outlines(alloc, source),
+        Way::OutliningBlocks => outlines_blocks(alloc, source),
     }
 }
 

@@ -8,4 +8,5 @@ returns c = record {
   holds_options = refl;
   well_formed = c.in_ok-tree.ensures.formed;
   covers = c.in_ok-tree.ensures.covered;
+  headings_hold_inline = c.in_ok-tree.ensures.headings;
 }

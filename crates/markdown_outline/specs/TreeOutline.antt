@@ -1,0 +1,49 @@
+-- The headings of the tree of a document: an entry for each, in preorder, with its level and its range, and with the
+-- text of the events of what is below it.
+use Rattle.std.specs.Prelude.{◌≡◌, ℕ, false, IsTrue, List, [], ◌∷◌, ◌++◌, Option, Some, None}
+use Rattle.std.specs.declared.ops.Range.{Range}
+use Rattle.markdown_base.specs.BlockTree.{tree_of}
+use Rattle.markdown_base.specs.Forest.{Forest, nil, node, Throughout, Each}
+use Rattle.markdown_base.specs.Questions.{Answers}
+use Rattle.markdown_base.specs.declared.options.Options.{Options}
+use Rattle.markdown_blocks.specs.Blocks.{block_tree, IsOfText}
+use Rattle.markdown_blocks.specs.declared.blocks.Blocks.{Blocks}
+use Rattle.markdown_builder.specs.HeadingsHoldInline.{is_heading_block}
+use Rattle.markdown_document.specs.Document.{Shape, enclosed, Label}
+use Rattle.markdown_inline.specs.Balanced.{ranged}
+use Rattle.markdown_inline.specs.ResolvedDocument.{resolved_blocks}
+use Rattle.markdown_inline.specs.TreeReading.{events_in}
+use Rattle.markdown_outline.specs.Outline.{EntryView, tag_level, joined_text}
+
+-- the level of a tree that is a heading; others have none
+abbrev pub tree_level : Shape → Option ℕ
+tree_level (enclosed tag) = tag_level tag
+tree_level other = None
+
+-- the entry of a tree over a range, if it is a heading
+abbrev pub own_entry : {A : Type 0} → Option ℕ → Range ℕ → (below : Forest (Label A)) → List EntryView
+own_entry None range below = []
+own_entry (Some l) range below =
+    record { level = l; text = joined_text (ranged (events_in below)); range = range } ∷ []
+
+-- the entries of trees, one for each heading at any depth, in preorder
+abbrev pub tree_entries : {A : Type 0} → Forest (Label A) → List EntryView
+tree_entries nil = []
+tree_entries (node a below after) =
+    own_entry (tree_level a.part.shape) a.part.range below ++ (tree_entries below ++ tree_entries after)
+
+-- no heading of a block result holds another, at any depth
+abbrev pub HeadingsApart : Blocks → Type 0
+HeadingsApart blocks = Throughout (λ a below after. IsTrue (is_heading_block a.item.body)
+    → Each (λ b. is_heading_block b.item.body ≡ false) below) (tree_of (block_tree blocks).nodes)
+
+-- these are the entries of the tree of a block result, with its chains resolved; nobody is asked, so it is the same
+-- tree whatever would be answered
+abbrev pub AreEntriesOf : Blocks → List EntryView → Type 0
+AreEntriesOf blocks entries = (answers : Answers)
+    → entries ≡ tree_entries (resolved_blocks blocks false answers).trees
+
+-- in the block result of a text no heading holds another
+abbrev pub HeadingsOfTextsApart : Type 0
+HeadingsOfTextsApart = (text : List ℕ) (options : Options) (blocks : Blocks) → IsOfText text options blocks
+    → HeadingsApart blocks

@@ -1,0 +1,37 @@
+//! The outline of a block result.
+ghost use Rattle.std.specs.Prelude.{◌≡◌, IfOk, IfErr, map};
+ghost use Rattle.markdown_base.specs.declared.fault.Fault.TheVariants.{Memory};
+ghost use Rattle.markdown_outline.specs.Outline.{entry_view};
+ghost use Rattle.markdown_outline.specs.TreeOutline.{AreEntriesOf, HeadingsApart};
+
+use crate::entry::Entry;
+use crate::read::outline;
+use markdown_base::fault::Fault;
+use markdown_blocks::Blocks;
+use markdown_defs::DefaultBrokenLinkCallback;
+use markdown_inline::walk::Parser;
+use std::alloc::Global;
+
+/// Returns an entry for each heading of a block result, in the order of their Starts.
+///
+/// That of a text has no heading within another, as `laws::headings_of_texts_are_apart` says. References that are
+/// defined nowhere stay text: nobody is asked about them.
+///
+/// ```
+/// let blocks = Blocks::of_text(alloc, "# A *b*", Options::empty())?;
+/// let entries = outline_of(alloc, blocks)?;
+/// // level 1, text "A b", range 0..7
+/// ```
+///
+/// # Errors
+///
+/// `Memory` where an allocation is refused. There is no list then.
+pub fn outline_of(alloc: Global, blocks: Blocks<'_>) -> Result<Vec<Entry>, Fault>
+    ensures entries { IfOk result (λ entries.
+        HeadingsApart blocks.entry → AreEntriesOf blocks.entry (map entry_view entries.items)) }
+    ensures refused { IfErr result (λ fault. fault ≡ Memory) }
+{
+    let nobody: Option<DefaultBrokenLinkCallback> = None;
+    let parser = Parser::from_blocks(alloc, blocks, nobody)?;
+    outline(alloc, parser.into_offset_iter())
+}
