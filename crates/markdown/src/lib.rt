@@ -80,8 +80,8 @@ pub use markdown_base::fault::Fault;
 pub use markdown_base::inline_str::InlineStr;
 pub use markdown_base::options::Options;
 pub use markdown_base::tag::{
-    Alignment, BlockQuoteKind, CodeBlockKind, HeadingLevel, InvalidHeadingLevel, LinkType, MetadataBlockKind, Tag,
-    TagEnd,
+    Alignment, BlockQuoteKind, CodeBlockKind, HeadingLevel, InvalidHeadingLevel, LinkType,
+    MetadataBlockKind, Tag, TagEnd,
 };
 pub use merge::{TextMergeStream, TextMergeWithOffset};
 pub use walk::{OffsetIter, Parser, Work};
