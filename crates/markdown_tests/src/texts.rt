@@ -4,10 +4,10 @@ use markdown_base::cow_str::CowStr;
 use markdown_base::event::Event;
 use markdown_base::fault::Fault;
 use markdown_base::inline_str::InlineStr;
-use markdown_base::tag::{HeadingLevel, LinkType, Tag, TagEnd};
+use markdown_base::tag::{HeadingLevel, InvalidHeadingLevel, LinkType, Tag, TagEnd};
 use markdown_test_helpers::rows::gives;
 use std::alloc::{AllocError, Global};
-use std::convert::AsStr;
+use std::convert::{AsStr, TryFrom};
 use std::hash::{DefaultHasher, Hash, Hasher};
 use std::ops::Range;
 use std::test::Fail;
@@ -118,7 +118,10 @@ fn texts_are_copied(rt: HostRuntime) -> Result<(), Fail> {
 fn texts_are_printed(rt: HostRuntime) -> Result<(), Fail> {
     let printed = format!(in rt.alloc(); "{} {:?}", CowStr::from("b"), CowStr::from("c"))?;
     gives("printed", printed.as_str(), "b \"c\"")?;
-    gives("lent", lent_bytes(&CowStr::from("bc")), 2)
+    gives("lent", lent_bytes(&CowStr::from("bc")), 2)?;
+    // the methods of `str`
+    let text = CowStr::from("bc");
+    gives("as a str", (text.len(), text.ends_with("c")), (2, true))
 }
 
 /// How many bytes are lent.
@@ -134,6 +137,27 @@ fn faults_say_what_failed(rt: HostRuntime) -> Result<(), Fail> {
         said.as_str(),
         "out of memory; bad block result; image nested too deeply",
     )
+}
+
+#[test]
+fn levels_have_numbers_and_are_printed(rt: HostRuntime) -> Result<(), Fail> {
+    let said = format!(in rt.alloc();
+        "{} {}; {}",
+        HeadingLevel::H1,
+        HeadingLevel::H6,
+        InvalidHeadingLevel(7)
+    )?;
+    gives(
+        "levels",
+        said.as_str(),
+        "h1 h6; no heading level has number 7",
+    )?;
+    let levels = [
+        HeadingLevel::try_from(0usize).is_err(),
+        HeadingLevel::try_from(2usize) == Ok(HeadingLevel::H2),
+        HeadingLevel::try_from(7usize) == Err(InvalidHeadingLevel(7)),
+    ];
+    gives("numbers", levels, [true; 3])
 }
 
 /// A link's Start that outlives the text from which it was made.
