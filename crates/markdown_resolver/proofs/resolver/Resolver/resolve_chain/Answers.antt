@@ -13,7 +13,6 @@ use Rattle.markdown_delims.specs.PairingFinds.{finds_in}
 use Rattle.markdown_resolver.specs.declared.resolver.Resolver.{Resolver}
 use Rattle.markdown_resolver.proofs.PairedLemmas.{read_can_pair, then_pairs, stops_in, stops_resolving}
 use Rattle.markdown_resolver.proofs.WorkLemmas.{AreCounts, ReadCounts, counts_in_part, counts_rise, read_in_part}
-use Rattle.markdown_resolver.proofs.resolver.Resolver.resolve_chain.Given as given
 use Rattle.markdown_resolver.proofs.resolver.Resolver.resolve_chain.Goals as goal
 
 if_err : {X E : Type 0} {P : Type 0} (r : Result X E) → P → IfErr r (λ fault. P)
@@ -30,30 +29,23 @@ pair_chain-requires g c =
     (stage c.read_chain.new.tree after.tables after.limit after.callback) c.requires.ready.quiet_below c.in_ok-read_chain.ensures.reads in
     record { chain = rw c.read_chain.ensures.kept can }
 
--- what pass one makes of the counts, whatever comes
-read_counts : (g : given.Over) (c : goal.After-read_chain g)
-    → ReadCounts (items_from c.args.tree.now.nodes (Some c.args.first)) c.args.self.now.work c.read_chain.new.self.work
-read_counts g c =
-    let kept = c.read_chain.ensures.kept in
-    record {
-      items_counted = c.read_chain.ensures.items;
-      same_delimiters = ap (λ (r : Resolver g.row.F.Denot). r.work.delimiters) kept;
-      same_examined = ap (λ (r : Resolver g.row.F.Denot). r.work.examined) kept;
-      code = c.read_chain.ensures.code_visits;
-      math = c.read_chain.ensures.math_visits;
-    }
-
 pub returns-in_err-read_chain-clause-stops : goal.returns-in_err-read_chain-clause-stops
 returns-in_err-read_chain-clause-stops g c =
     let s = c.args.self.now in
     let rules = rules_from s.options s.tables (is_some s.callback) in
+    let read : ReadCounts (items_from c.args.tree.now.nodes (Some c.args.first)) s.work c.read_chain.new.self.work = record {
+      items_counted = c.read_chain.ensures.items;
+      same_delimiters = ap (λ (r : Resolver g.row.F.Denot). r.work.delimiters) c.read_chain.ensures.kept;
+      same_examined = ap (λ (r : Resolver g.row.F.Denot). r.work.examined) c.read_chain.ensures.kept;
+      code = c.read_chain.ensures.code_visits;
+      math = c.read_chain.ensures.math_visits;
+    } in
     if_err c.from_residual.result
     (stops_resolving g.F.BrokenLinkCallback.answers (setting_of s.text.now rules) (above_cursor s.text.now c.args.tree.now) c.args.first
     (stage c.args.tree.now s.tables s.limit s.callback) c.read_chain.new.self.callback s.work c.read_chain.new.self.work
     c.in_err-read_chain.ensures.stops
     (λ later. read_in_part (setting_of s.text.now rules) (above_cursor s.text.now c.args.tree.now) c.args.first
-    (stage c.args.tree.now s.tables s.limit s.callback) _ s.work c.read_chain.new.self.work c.requires.ready.reaches.spelled
-    (read_counts g (goal.at.returns-in_err-read_chain-clause-stops g c).After-read_chain)))
+    (stage c.args.tree.now s.tables s.limit s.callback) _ s.work c.read_chain.new.self.work c.requires.ready.reaches.spelled read))
 
 pub returns-in_err-pair_chain-clause-stops : goal.returns-in_err-pair_chain-clause-stops
 returns-in_err-pair_chain-clause-stops g c =
@@ -68,10 +60,17 @@ returns-in_err-pair_chain-clause-stops g c =
     let reads = c.in_ok-read_chain.ensures.reads in
     let paired = c.pair_chain.ensures in
     let fits : AreCounts s.work = record { delimiters = omega arith; examined = omega arith } in
+    let read : ReadCounts (items_from c.args.tree.now.nodes (Some c.args.first)) s.work c.read_chain.new.self.work = record {
+      items_counted = c.read_chain.ensures.items;
+      same_delimiters = ap (λ (r : Resolver g.row.F.Denot). r.work.delimiters) c.read_chain.ensures.kept;
+      same_examined = ap (λ (r : Resolver g.row.F.Denot). r.work.examined) c.read_chain.ensures.kept;
+      code = c.read_chain.ensures.code_visits;
+      math = c.read_chain.ensures.math_visits;
+    } in
     if_err c.from_residual-in_err-pair_chain.result
     (stops_in step setting above c.args.first old mid s.work c.pair_chain.new.work reads
     (counts_in_part step setting above c.args.first old mid s.work after.work c.pair_chain.new.work c.requires.ready.reaches.spelled
-    reads fits (read_counts g (goal.at.returns-in_err-pair_chain-clause-stops g c).After-read_chain)
+    reads fits read
     (record { counted = paired.counted; compared = paired.examined; finds = omega (arith, paired.examined.counted) })))
 
 pub returns-clause-resolves : goal.returns-clause-resolves
@@ -94,6 +93,13 @@ returns-clause-resolves g c =
     after.work.examined c.pair_chain.new.work.examined) (ap (λ (r : Resolver g.row.F.Denot). r.text.now) kept)
     (c.in_ok-pair_chain.ensures.found rules (tables_of after.tables) (rw kept refl)) in
     let fits : AreCounts s.work = record { delimiters = omega arith; examined = omega arith } in
+    let read : ReadCounts (items_from c.args.tree.now.nodes (Some c.args.first)) s.work c.read_chain.new.self.work = record {
+      items_counted = c.read_chain.ensures.items;
+      same_delimiters = ap (λ (r : Resolver g.row.F.Denot). r.work.delimiters) c.read_chain.ensures.kept;
+      same_examined = ap (λ (r : Resolver g.row.F.Denot). r.work.examined) c.read_chain.ensures.kept;
+      code = c.read_chain.ensures.code_visits;
+      math = c.read_chain.ensures.math_visits;
+    } in
     record {
       tree = c.in_ok-pair_chain.ensures.place ∙ ap (λ (t : Arena Item). let u : Arena Item =
           record t { nodes = c.pair_chain.new.tree.nodes } in u) reads.place;
@@ -101,6 +107,6 @@ returns-clause-resolves g c =
       footnotes = λ name. c.read_chain.ensures.footnotes name;
       chain = then_pairs step setting above c.args.first old mid c.pair_chain.new.tree.nodes c.requires.ready.quiet_below reads.reads pairs;
       counted = counts_rise step setting above c.args.first old mid s.work after.work c.pair_chain.new.work c.requires.ready.reaches.spelled
-          reads.reads fits (read_counts g (goal.at.returns-clause-resolves g c).After-read_chain)
+          reads.reads fits read
           (record { counted = c.pair_chain.ensures.counted; compared = c.pair_chain.ensures.examined; finds = finds });
     }
