@@ -1,6 +1,7 @@
 //! Text rendered: what a parser gives, merged or not, written as HTML; and the program over any reader and two writers.
 #![tactic(auto)]
 
+pub mod command;
 pub mod laws;
 pub mod merged;
 mod pushed;
