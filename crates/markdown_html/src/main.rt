@@ -1,33 +1,20 @@
 //! Markdown on standard input, HTML on standard output.
 #![tactic(auto)]
 
+use markdown_render::command::command_words;
 use markdown_render::run::run;
-use std::env::{self, Env};
-use std::io::{self, ErrorKind};
 use std::process::ExitCode;
 
-/// The words of the command line.
-fn words(rt: &(impl Env + AllocGlobal)) -> io::Result<Vec<String>> {
-    let args = env::args(rt)?;
-    Ok(args.skip(1).collect(rt.alloc())?)
-}
-
 fn main(rt: HostRuntime) -> ExitCode {
-    match words(&rt) {
-        Ok(words) => ExitCode::from(run(
+    let mut err = rt.stderr();
+    ExitCode::from(match command_words(&rt, &mut err) {
+        Ok(words) => run(
             rt.alloc(),
             &words,
             &mut rt.stdin(),
             &mut rt.stdout(),
-            &mut rt.stderr(),
-        )),
-        Err(error) if error.kind() == ErrorKind::OutOfMemory => {
-            let _ = rt.eprintln("out of memory");
-            ExitCode::from(1)
-        }
-        Err(_) => {
-            let _ = rt.eprintln("unknown option: a word that is not UTF-8");
-            ExitCode::from(2)
-        }
-    }
+            &mut err,
+        ),
+        Err(status) => status,
+    })
 }

@@ -2,6 +2,7 @@
 //! over any reader and two writers.
 #![tactic(auto)]
 
+pub mod command;
 pub mod laws;
 pub mod merged;
 mod pushed;
