@@ -13,7 +13,7 @@
  *
  * ## Pointers and lengths
  *
- * Lengths count bytes. No text ends with a NUL: none is read behind `text_length` bytes, and none is written. No
+ * Lengths count bytes. No text ends with a NUL: none is read past `text_length` bytes, and none is written. No
  * pointer may be NULL, not even where its length is 0; `""` and the address of any byte are fine then. `text` is only
  * read, and may hold any bytes, NUL among them. `out` is written only in its first `out_length` bytes. The two may not
  * overlap. Nothing keeps a pointer past the call.
@@ -91,7 +91,7 @@ extern "C" {
 /** Renders `text` as HTML.
  *
  * Returns how many bytes the HTML has. If that is at most `out_length`, the HTML stands at the front of `out`, and what
- * was behind it stays; else `out` stays as it was. Returns `MARKDOWN_NOT_UTF8`, `MARKDOWN_NO_MEMORY` or
+ * was after it stays; else `out` stays as it was. Returns `MARKDOWN_NOT_UTF8`, `MARKDOWN_NO_MEMORY` or
  * `MARKDOWN_TOO_DEEP` where there is no HTML, and `out` stays as it was.
  */
 int64_t markdown_to_html(const uint8_t *text, size_t text_length, uint32_t options, uint8_t *out,
@@ -101,7 +101,7 @@ int64_t markdown_to_html(const uint8_t *text, size_t text_length, uint32_t optio
  * ranges are byte offsets in `text`. Each line ends with a line feed.
  *
  * Returns how many bytes the lines have. If that is at most `out_length`, the lines stand at the front of `out`, and
- * what was behind them stays; else `out` stays as it was. Returns `MARKDOWN_NOT_UTF8` or `MARKDOWN_NO_MEMORY` where
+ * what was after them stays; else `out` stays as it was. Returns `MARKDOWN_NOT_UTF8` or `MARKDOWN_NO_MEMORY` where
  * there are none, and `out` stays as it was.
  */
 int64_t markdown_to_json(const uint8_t *text, size_t text_length, uint32_t options, uint8_t *out,
@@ -112,7 +112,7 @@ int64_t markdown_to_json(const uint8_t *text, size_t text_length, uint32_t optio
  * with a space for each line break. The ranges are byte offsets in `text`. Each line ends with a line feed.
  *
  * Returns how many bytes the lines have. If that is at most `out_length`, the lines stand at the front of `out`, and
- * what was behind them stays; else `out` stays as it was. Returns `MARKDOWN_NOT_UTF8` or `MARKDOWN_NO_MEMORY` where
+ * what was after them stays; else `out` stays as it was. Returns `MARKDOWN_NOT_UTF8` or `MARKDOWN_NO_MEMORY` where
  * there are none, and `out` stays as it was.
  */
 int64_t markdown_to_outline(const uint8_t *text, size_t text_length, uint32_t options, uint8_t *out,
