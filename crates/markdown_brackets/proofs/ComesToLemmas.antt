@@ -23,6 +23,7 @@ use Rattle.markdown_brackets.proofs.FootnoteUseLemmas.{uses_grow, uses_stay}
 use Rattle.markdown_base.specs.CowText.{text_of}
 use Rattle.markdown_base.specs.declared.cow_str.CowStr.{CowStr}
 use Rattle.markdown_document.specs.ChainRest.{start_of}
+use Rattle.markdown_document.specs.LinkOrigins.{IsTitleFrom}
 use Rattle.markdown_defs.specs.Definitions.{Labelled}
 use Rattle.markdown_brackets.specs.BracketDecision as decision
 use Rattle.markdown_base.specs.declared.block_parts.LinkDef.{LinkDef}
@@ -38,7 +39,7 @@ use Rattle.markdown_brackets.specs.LeftList.{Split}
 use Rattle.markdown_brackets.specs.LinkTail as scanned
 use Rattle.markdown_brackets.specs.Lookup.{LookedUp, answered, asked, defined_or_asked, finds_nothing, look_up, unknown}
 use Rattle.markdown_brackets.specs.LookupView.{LooksUp, question}
-use Rattle.markdown_brackets.specs.TitleOrigin.{IsLookedUp, IsTitleFrom, TargetIsFrom}
+use Rattle.markdown_brackets.specs.TargetOrigins.{IsLookedUp, IsTargetFrom}
 use Rattle.markdown_brackets.specs.declared.closing_bracket.ClosedBracket.{ClosedBracket}
 use Rattle.markdown_brackets.specs.declared.closing_bracket.ClosedBracket.TheVariants.{Text, Link, Footnote as ClosedFootnote, Wikilinked}
 
@@ -86,10 +87,10 @@ none_inline defined asks limit answers q h = by_limit (limit == 0)
     by_limit false = by_definition (definitions.look_up q.reference defined)
 
 -- so nothing is said of its title
-none_from : (source : List ℕ) (target : Target) → IsLookedUp target.link_type → TargetIsFrom source target
-none_from source target h = by target.link_type h
+none_from : (source : List ℕ) (start end : ℕ) (target : Target) → IsLookedUp target.link_type → IsTargetFrom source start end target
+none_from source start end target h = by target.link_type h
   where
-    by : (link_type : LinkType) → IsLookedUp link_type → IsTitleFrom source link_type (origin_of target.title) (text_of target.title)
+    by : (link_type : LinkType) → IsLookedUp link_type → IsTitleFrom source start end link_type (origin_of target.title) (text_of target.title)
     by kind.Inline h = absurd h
     by other h = tt
 
@@ -144,7 +145,7 @@ module _ {C : Type 0} (step : C → Question → Option Answer → C → Type 0)
     is.1,
     is.2,
     is.3,
-    none_from w.setting.text b (subst (λ (v : LinkView). IsLookedUp v.kind) (sym is.1) h),
+    none_from w.setting.text (start_of o.opener) end b (subst (λ (v : LinkView). IsLookedUp v.kind) (sym is.1) h),
   )
   is_link_or_text end next (Some target) (ClosedFootnote a b) is h = absurd is
   is_link_or_text end next (Some target) (Wikilinked a b c d e) is h = absurd is

@@ -8,7 +8,7 @@ use Rattle.markdown_scan.specs.Unescape.{unescaped}
 use Rattle.markdown_brackets.specs.LinkTail as tail
 use Rattle.markdown_brackets.specs.LinkTail.{link_tail, destination_at, past_separator, after_destination, after_title, closed_at}
 use Rattle.markdown_brackets.specs.LinkTailView.{ReadsTail, BorrowsTail}
-use Rattle.markdown_brackets.specs.LinkTitle.{Title, title_at}
+use Rattle.markdown_document.specs.LinkTitle.{Title, title_at}
 use Rattle.markdown_brackets.specs.TitlePart.{IsTitleText, IsTitlePart}
 use Rattle.markdown_brackets.specs.declared.link_tail.LinkTail.{LinkTail}
 

@@ -7,15 +7,21 @@ use Rattle.markdown_base.specs.CowText.{text_of, IsBorrowed}
 use Rattle.markdown_base.specs.declared.cow_str.CowStr.{CowStr}
 use Rattle.markdown_base.specs.declared.cow_str.CowStr.TheVariants.{Boxed, Borrowed, Inlined}
 use Rattle.markdown_base.specs.Bytes.{backslash}
+use Rattle.markdown_base.specs.declared.tag.LinkType.{LinkType}
+use Rattle.markdown_base.specs.declared.tag.LinkType.TheVariants as kind
+use Rattle.std.proofs.Math.Logic.{∥∥₁_map}
 use Rattle.markdown_scan.specs.Backslash.{is_bare}
 use Rattle.markdown_scan.specs.Unescape.{unescaped}
-use Rattle.markdown_brackets.specs.LinkTitle.{Title, after_text, byte_shown, first_closer, is_line, next_line, opened_by, passed_with}
-use Rattle.markdown_brackets.specs.LinkTitle.{refuses, title_at, title_from}
-use Rattle.markdown_document.specs.Origins.{origin_of, sliced}
+use Rattle.markdown_document.specs.LinkTitle.{Title, after_text, byte_shown, first_closer, is_line, next_line, opened_by, passed_with}
+use Rattle.markdown_document.specs.LinkTitle.{refuses, title_at, title_from}
+use Rattle.markdown_document.specs.LinkOrigins.{IsTitleFrom, IsWrittenTitle}
+use Rattle.markdown_document.specs.Origins.{Origin, origin_of, sliced}
 use Rattle.markdown_brackets.specs.LinkTail as tail
 use Rattle.markdown_brackets.specs.LinkTail.{after_destination, after_title, closed_at, destination_at, link_tail, past_separator}
 use Rattle.markdown_brackets.specs.LinkTailView.{BorrowsTail, ReadsTail}
-use Rattle.markdown_brackets.specs.TitleOrigin.{HasTitle, IsWrittenTitle}
+use Rattle.markdown_brackets.specs.WrittenView.{WrittenIsFrom}
+use Rattle.markdown_brackets.specs.declared.written.Written.{Written}
+use Rattle.markdown_brackets.specs.declared.written.Written.TheVariants.{Footnote, Inline, Label, Nothing}
 use Rattle.markdown_brackets.specs.declared.link_tail.LinkTail.{LinkTail}
 
 -- a title from the byte i on, no line of which is joined, is the bytes up to its closing mark
@@ -82,36 +88,46 @@ borrowed_sliced (Borrowed slice) h = refl
 borrowed_sliced (Boxed boxed) h = absurd h
 borrowed_sliced (Inlined inlined) h = absurd h
 
-module _ (in_table : Bool) (skipped : List ℕ → Option ℕ) (starts : ℕ → Option ℕ) (text : List ℕ) (found : LinkTail) where
-  -- the title of what was found is written in the text
+module _ (in_table : Bool) (skipped : List ℕ → Option ℕ) (starts : ℕ → Option ℕ) (source : List ℕ) (block_end at : ℕ)
+    (found : LinkTail) where
+  abbrev text : List ℕ
+  text = take block_end source
+
+  -- the title of what was found is written in the text, from the byte `at` on and before the end
   abbrev IsWritten : Type 0
-  IsWritten = (text_of found.title ≡ [] → ⊥) → IsWrittenTitle text (origin_of found.title) (text_of found.title)
+  IsWritten = (text_of found.title ≡ [] → ⊥) → IsWrittenTitle source at found.end (origin_of found.title) (text_of found.title)
 
   -- it is, where that is this tail
   abbrev Titled : Option tail.LinkTail → Type 0
   Titled t = ReadsTail in_table t (Some found) → BorrowsTail t (Some found) → IsWritten
 
   closed : (i : ℕ) (written title : List ℕ) (joined : Bool)
-      → (text_of found.title ≡ unescaped in_table title
+      → (found.end ≡ i + 1 → text_of found.title ≡ unescaped in_table title
       → (joined ≡ false → text_of found.title ≡ title → IsBorrowed found.title) → IsWritten)
       → Titled (closed_at text i written title joined)
   closed i written title joined h = by (slice_index text i == 41)
     where
       by : (b : Bool)
           → Titled (if b then Some (record { ends = i + 1; destination = written; title = title; is_joined = joined }) else None)
-      by true reads borrows = h reads.title borrows.title
+      by true reads borrows = h reads.ends reads.title borrows.title
       by false reads borrows = absurd reads
 
-  titled : (next : ℕ) (written : List ℕ) (o : Option Title) → title_at starts text next ≡ o
+  past : (i : ℕ) → i ≤ past_separator skipped text i
+  past i = omega arith
+
+  titled : (next : ℕ) (written : List ℕ) (o : Option Title) → at ≤ next → title_at starts text next ≡ o
       → Titled (after_title skipped text next written o)
-  titled next written None e = closed next written [] false (λ empty borrows some. absurd (some empty))
-  titled next written (Some t) e = closed (past_separator skipped text t.ends) written t.text t.is_joined
-      (λ reads borrows some. record {
+  titled next written None later e = closed next written [] false (λ ends empty borrows some. absurd (some empty))
+  titled next written (Some t) later e = closed (past_separator skipped text t.ends) written t.text t.is_joined
+      (λ ends reads borrows some. record {
         starts = starts;
+        block_end = block_end;
         at = next;
         in_table = in_table;
         written = t;
-        stands = e;
+        is_written = e;
+        from = later;
+        to = omega (arith, ends, past t.ends);
         reads = reads;
         slice = λ unjoined same. (
           borrowed_sliced found.title (borrows unjoined same),
@@ -119,28 +135,56 @@ module _ (in_table : Bool) (skipped : List ℕ → Option ℕ) (starts : ℕ →
         );
       })
 
-  tail_titled : (at : ℕ) → Titled (link_tail skipped starts text at)
-  tail_titled at = by (slice_index text at == 40)
+  tail_titled : Titled (link_tail skipped starts text at)
+  tail_titled = by (slice_index text at == 40)
     where
-      led : (d : Option (ℕ × List ℕ)) → Titled (after_destination skipped starts text (past_separator skipped text (at + 1)) d)
+      start : ℕ
+      start = past_separator skipped text (at + 1)
+
+      led : (d : Option (ℕ × List ℕ)) → Titled (after_destination skipped starts text start d)
       led None = λ reads borrows. absurd reads
-      led (Some d) = titled (past_separator skipped text (past_separator skipped text (at + 1) + d.0)) d.1
-          (title_at starts text (past_separator skipped text (past_separator skipped text (at + 1) + d.0))) refl
+      led (Some d) =
+          let next = past_separator skipped text (start + d.0) in
+          titled next d.1 (title_at starts text next) (omega (arith, past (at + 1), past (start + d.0))) refl
 
       by : (b : Bool)
-          → Titled (if b then after_destination skipped starts text (past_separator skipped text (at + 1))
-          (destination_at text (past_separator skipped text (at + 1))) else None)
-      by true = led (destination_at text (past_separator skipped text (at + 1)))
+          → Titled (if b then after_destination skipped starts text start (destination_at text start) else None)
+      by true = led (destination_at text start)
       by false = λ reads borrows. absurd reads
 
 -- the title of a tail that was read up to a block's end
-pub has_title : (in_table : Bool) (skipped : List ℕ → Option ℕ) (starts : ℕ → Option ℕ) (source text : List ℕ) (block_end at : ℕ)
-    (found : LinkTail) → text ≡ take block_end source
-    → ReadsTail in_table (link_tail skipped starts text at) (Some found) → BorrowsTail (link_tail skipped starts text at) (Some found)
-    → HasTitle source (origin_of found.title) (text_of found.title)
-has_title in_table skipped starts source text block_end at found e reads borrows some =
-    ∣ (
-      block_end,
-      subst (λ (t : List ℕ). IsWrittenTitle t (origin_of found.title) (text_of found.title)) e
-          (tail_titled in_table skipped starts text found at reads borrows some),
-    ) ∣₁
+pub has_title : (in_table : Bool) (skipped : List ℕ → Option ℕ) (starts : ℕ → Option ℕ) (source bytes : List ℕ) (block_end at : ℕ)
+    (found : LinkTail) → bytes ≡ take block_end source
+    → ReadsTail in_table (link_tail skipped starts bytes at) (Some found) → BorrowsTail (link_tail skipped starts bytes at) (Some found)
+    → WrittenIsFrom source at (Inline found)
+has_title in_table skipped starts source bytes block_end at found e reads borrows some =
+    let t = λ (bytes : List ℕ). link_tail skipped starts bytes at in
+    ∣ tail_titled in_table skipped starts source block_end at found (subst (λ bytes. ReadsTail in_table (t bytes) (Some found)) e reads)
+    (subst (λ bytes. BorrowsTail (t bytes) (Some found)) e borrows) some ∣₁
+
+-- what comes from a range comes from a wider one
+pub title_wider : (source : List ℕ) (start end start' end' : ℕ) (link_type : LinkType) (origin : Origin) (title : List ℕ)
+    → start' ≤ start → end ≤ end' → IsTitleFrom source start end link_type origin title
+    → IsTitleFrom source start' end' link_type origin title
+title_wider source start end start' end' kind.Inline origin title low high h = λ some.
+    ∥∥₁_map (h some) (λ (w : IsWrittenTitle source start end origin title). record {
+      starts = w.starts;
+      block_end = w.block_end;
+      at = w.at;
+      in_table = w.in_table;
+      written = w.written;
+      is_written = w.is_written;
+      from = omega (arith, low, w.from);
+      to = omega (arith, high, w.to);
+      reads = w.reads;
+      slice = w.slice;
+    })
+title_wider source start end start' end' other origin title low high h = tt
+
+pub written_wider : (source : List ℕ) (start start' : ℕ) (read : Written) → start' ≤ start → WrittenIsFrom source start read
+    → WrittenIsFrom source start' read
+written_wider source start start' (Inline found) low h =
+    title_wider source start found.end start' found.end kind.Inline (origin_of found.title) (text_of found.title) low (omega arith) h
+written_wider source start start' (Label link_type label end next) low h = h
+written_wider source start start' (Footnote name) low h = tt
+written_wider source start start' Nothing low h = tt

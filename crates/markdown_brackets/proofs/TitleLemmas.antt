@@ -8,8 +8,8 @@ use Rattle.markdown_base.specs.CowText.{text_of, IsBorrowed}
 use Rattle.markdown_base.specs.declared.cow_str.CowStr.{CowStr}
 use Rattle.markdown_base.specs.Bytes.{backslash, line_feed, carriage_return}
 use Rattle.markdown_scan.specs.Backslash.{is_bare}
-use Rattle.markdown_brackets.specs.LinkTitle.{Title, title_from, after_text, refuses, next_line, byte_shown, is_line, passed_with}
-use Rattle.markdown_brackets.specs.LinkTitle.{start_past}
+use Rattle.markdown_document.specs.LinkTitle.{Title, title_from, after_text, refuses, next_line, byte_shown, is_line, passed_with}
+use Rattle.markdown_document.specs.LinkTitle.{start_past}
 use Rattle.markdown_brackets.specs.TitleView.{BorrowsTitle, ReadsTitle}
 
 -- bytes that are left out

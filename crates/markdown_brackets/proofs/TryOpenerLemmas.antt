@@ -1,6 +1,6 @@
 -- What is read in an arena at an opener and its `]` is what the definition reads from their labels, and the result is
 -- the same.
-use Rattle.std.proofs.Common.{◌≡◌, ℕ, ◌-◌, ◌<◌, ◌||◌, Bool, true, false, List, [], ◌++◌, Option, Some, None, refl, sym, ◌∙◌, ap, take}
+use Rattle.std.proofs.Common.{◌≡◌, ℕ, ◌-◌, ◌<◌, ◌||◌, Bool, true, false, List, [], ◌++◌, Option, Some, None, refl, sym, ◌∙◌, ap, take, ◌≤◌}
 use Rattle.std.proofs.Common.{append-nil}
 use Rattle.std.proofs.Math.Path.{fun_ext}
 use Rattle.std.specs.Option.{option_and_then, option_map}
@@ -32,6 +32,7 @@ use Rattle.markdown_brackets.specs.declared.openers.Opener.{Opener}
 use Rattle.markdown_brackets.specs.declared.spent_ends.SpentEnds.{SpentEnds}
 use Rattle.markdown_document.specs.declared.chain_place.ChainPlace.{ChainPlace}
 use Rattle.markdown_brackets.specs.declared.written.Written.{Written}
+use Rattle.markdown_brackets.proofs.TailTitleLemmas.{written_wider}
 use Rattle.markdown_brackets.proofs.AheadOfBracketLemmas.{closers_ahead, form_ahead_is, form_behind, starts_ahead}
 
 -- a reference by two tests that agree past byte 0
@@ -92,16 +93,17 @@ module _ (nodes : List (Node Item)) (place : ChainPlace) (skipped : List ℕ →
     -- by what was read
     pub comes_by_live : (opener : Opener) (live : Bool) (item : Item) (read : Written) (spent spent' : SpentEnds) → live ≡ true
         → item ≡ item_at nodes opener.node
-        → 0 < (item_at nodes closer).end → IsRead place.in_table (written_at nodes place (lines w) closer could_be (item.end - 1)) read
-        → WrittenIsFrom place.text.now read → ((v : Around) (s : Split ℕ) (x : decision.Written) → KnowsRules v definitions footnotes asks (footnote_style place.options)
-        → opener ≡ opener_of s → start_of s.opener ≡ item.start → IsRead v.above.in_table x read → WrittenIsFrom v.setting.text read
+        → 0 < (item_at nodes closer).end → item.start ≤ (item_at nodes closer).end
+        → IsRead place.in_table (written_at nodes place (lines w) closer could_be (item.end - 1)) read
+        → WrittenIsFrom place.text.now (item_at nodes closer).end read → ((v : Around) (s : Split ℕ) (x : decision.Written) → KnowsRules v definitions footnotes asks (footnote_style place.options)
+        → opener ≡ opener_of s → start_of s.opener ≡ item.start → IsRead v.above.in_table x read → WrittenIsFrom v.setting.text item.start read
         → ComesTo step v (tried v s x) (spent_in x) limit limit' uses uses' callback callback' found)
         → ((in_table : Bool) (x : decision.Written) → IsRead in_table x read → (end : ℕ)
         → is_spent spent' end ≡ (among end (spent_in x) || is_spent spent end))
         → (o : Option (Split ℕ)) → TriesOpener nodes closer could_be (Some (opener, live)) c o
         → ComesToOpener step w c o limit limit' uses uses' spent spent' callback callback' found
-    comes_by_live opener live item read spent spent' e is some h from comes spends None t = absurd t.openers
-    comes_by_live opener live item read spent spent' e is some h from comes spends (Some o) t =
+    comes_by_live opener live item read spent spent' e is some low h from comes spends None t = absurd t.openers
+    comes_by_live opener live item read spent spent' e is some low h from comes spends (Some o) t =
         let x : decision.Written = written_at nodes place (lines w) closer could_be (item.end - 1) in
         let rules : KnowsRules w definitions footnotes asks (footnote_style place.options) =
         record { definitions_are = refl; footnotes_are = λ name. refl; asks_is = refl; style_is = refl } in
@@ -111,7 +113,8 @@ module _ (nodes : List (Node Item)) (place : ChainPlace) (skipped : List ℕ →
           more = spent_in x;
           comes = comes_by_opener o x (spent_in x) (sym t.openers.live ∙ e) (written_is (Some (opener, live)) (Some o) o (item.end - 1) t
               some opens)
-              (comes w o x rules t.openers.opener starts h from);
+              (comes w o x rules t.openers.opener starts h
+              (written_wider place.text.now (item_at nodes closer).end item.start read low from));
           spends = spends place.in_table x h;
         }
 

@@ -1,6 +1,5 @@
 -- what a closing bracket finds
 pub mod Separator
-pub mod LinkTitle
 pub mod TitleView
 pub mod LinkTail
 pub mod LinkTailView
@@ -9,7 +8,7 @@ pub mod ReferenceView
 pub mod Lookup
 pub mod LookupView
 pub mod LookupLaws
-pub mod TitleOrigin
+pub mod TargetOrigins
 pub mod FootnoteUse
 pub mod Wikilink
 pub mod WikilinkView

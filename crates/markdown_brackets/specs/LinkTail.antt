@@ -4,7 +4,7 @@
 use Rattle.std.specs.Prelude.{ℕ, ◌+◌, Bool, false, ◌==◌, List, [], Option, Some, None, if◌then◌else◌, drop, slice_index}
 use Rattle.markdown_base.specs.Bytes.{close_parenthesis, open_parenthesis}
 use Rattle.markdown_scan.specs.Destination.{destination}
-use Rattle.markdown_brackets.specs.LinkTitle.{Title, title_at}
+use Rattle.markdown_document.specs.LinkTitle.{Title, title_at}
 use Rattle.markdown_brackets.specs.Separator.{separator}
 
 -- the byte offset after the `)`; the destination and the title as they are written; and whether lines of the title were

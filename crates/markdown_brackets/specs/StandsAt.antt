@@ -26,10 +26,10 @@ use Rattle.markdown_brackets.specs.declared.openers.Opener.{Opener}
 use Rattle.markdown_brackets.specs.declared.spent_ends.SpentEnds.{SpentEnds}
 use Rattle.markdown_document.specs.declared.chain_place.ChainPlace.{ChainPlace}
 
--- an opener can be tried: it is a node, and its `[` is at a byte offset from which the text can be read
+-- an opener can be tried: it is a node, it has bytes, and its `[` is at a byte offset from which the text can be read
 pub record CanTry (nodes : List (Node Item)) (place : ChainPlace) (closer opener : ℕ) : Type 0 where
   pub within : opener < length nodes
-  pub opens : 0 < (item_at nodes opener).end
+  pub opens : (item_at nodes opener).start < (item_at nodes opener).end
   pub reads : CanRead nodes place closer ((item_at nodes opener).end - 1)
 
 -- the opener that was taken off a stack is this one of the left list, and has its range

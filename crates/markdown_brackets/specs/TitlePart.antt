@@ -4,7 +4,7 @@ use Rattle.markdown_base.specs.CowText.{text_of, IsBorrowed}
 use Rattle.markdown_base.specs.declared.cow_str.CowStr.{CowStr}
 use Rattle.markdown_scan.specs.Unescape.{unescaped}
 use Rattle.markdown_brackets.specs.LinkTail.{past_separator}
-use Rattle.markdown_brackets.specs.LinkTitle.{Title}
+use Rattle.markdown_document.specs.LinkTitle.{Title}
 
 -- the byte offset after both, and the title, if these are its offset and its text as written
 pub record IsTitleText (in_table : Bool) (close end : ℕ) (text : List ℕ) (is_joined : Bool) (found : CowStr) : Type 0

@@ -3,7 +3,7 @@ use Rattle.std.specs.Prelude.{◌≡◌, ℕ, Bool, false, Option, Some, None}
 use Rattle.markdown_base.specs.CowText.{text_of, IsBorrowed}
 use Rattle.markdown_base.specs.declared.cow_str.CowStr.{CowStr}
 use Rattle.markdown_scan.specs.Unescape.{unescaped}
-use Rattle.markdown_brackets.specs.LinkTitle.{Title}
+use Rattle.markdown_document.specs.LinkTitle.{Title}
 
 -- the title is returned, if there is one: the byte offset after it, and its text with escapes and entities replaced
 abbrev pub ReadsTitle : Bool → Option Title → Option (ℕ × CowStr) → Type 0

@@ -6,6 +6,7 @@ use Rattle.markdown_base.specs.Arena.{sibling_of}
 use Rattle.markdown_base.specs.BlockTree.{item_at}
 use Rattle.markdown_base.specs.CowText.{text_of}
 use Rattle.markdown_base.specs.declared.item.Item.{Item}
+use Rattle.markdown_base.specs.declared.tag.LinkType.TheVariants as kind
 use Rattle.markdown_base.specs.declared.node.Node.{Node}
 use Rattle.markdown_brackets.specs.BracketDecision.{no_link, inline_link, link_label, footnote_label, reference_written}
 use Rattle.markdown_brackets.specs.BracketDecision.{tail_or}
@@ -15,7 +16,8 @@ use Rattle.markdown_brackets.specs.ChainAhead.{IsChain, reaches_closer, starts_f
 use Rattle.markdown_brackets.specs.LinkTail.{link_tail}
 use Rattle.markdown_brackets.specs.LinkTailView.{IsTail}
 use Rattle.markdown_brackets.specs.Reference.{Form, form_at, own_label, reference}
-use Rattle.markdown_brackets.specs.TitleOrigin.{HasTitle, IsLookedUp}
+use Rattle.markdown_brackets.specs.TargetOrigins.{IsLookedUp}
+use Rattle.markdown_document.specs.LinkOrigins.{IsTitleFrom}
 use Rattle.markdown_document.specs.Origins.{origin_of}
 use Rattle.markdown_document.specs.declared.chain_place.ChainPlace.{ChainPlace}
 use Rattle.markdown_brackets.specs.declared.written.Written.{Written}
@@ -30,11 +32,13 @@ IsRead in_table (link_label kind label end next) (Label found_kind found found_e
 IsRead in_table (footnote_label name) (Footnote found) = text_of found ≡ name
 IsRead in_table other found = ⊥
 
--- the title of an inline link comes from the source, and a label is none of an inline link
-abbrev pub WrittenIsFrom : List ℕ → Written → Type 0
-WrittenIsFrom source (Inline found) = HasTitle source (origin_of found.title) (text_of found.title)
-WrittenIsFrom source (Label kind label end next) = IsLookedUp kind
-WrittenIsFrom source other = ⊤
+-- the title of an inline link comes from the source, from this byte offset on and up to the link's end; and a label is
+-- none of an inline link
+abbrev pub WrittenIsFrom : List ℕ → (start : ℕ) → Written → Type 0
+WrittenIsFrom source start (Inline found) =
+    IsTitleFrom source start found.end kind.Inline (origin_of found.title) (text_of found.title)
+WrittenIsFrom source start (Label kind label end next) = IsLookedUp kind
+WrittenIsFrom source start other = ⊤
 
 -- the form of a reference whose `]` is at a node
 abbrev pub form_ahead : List (Node Item) → ChainPlace → (List ℕ → Option ℕ) → (closer : ℕ) → Form

@@ -67,7 +67,7 @@ pub enum ClosedBracket<'a> {
 // Returns the inline link or image with this tail.
 fn inline_link(opener: Opener, tail: LinkTail<'_>) -> ClosedBracket<'_>
     ensures { (w : Around) (o : Split ℕ) (t : scanned.LinkTail) → opener ≡ opener_of o
-        → IsTail w.above.in_table t tail.entry → WrittenIsFrom w.setting.text (Inline tail.entry)
+        → IsTail w.above.in_table t tail.entry → WrittenIsFrom w.setting.text (start_of o.opener) (Inline tail.entry)
         → IsBecome w (a_link o (inline_target w t) t.ends t.ends) result }
 {
     ClosedBracket::Link {
@@ -175,7 +175,7 @@ pub(crate) fn find_written<'a, F: BrokenLinkCallback<'a>>(
     ensures comes { IfOk result (λ found. (w : Around) (o : Split ℕ) (x : decision.Written)
         → KnowsRules w definitions.now footnotes.old (is_some callback.old) style → opener ≡ opener_of o
         → start_of o.opener ≡ start → IsRead w.above.in_table x written.entry
-        → WrittenIsFrom w.setting.text written.entry
+        → WrittenIsFrom w.setting.text start written.entry
         → ComesTo F.answers w (tried w o x) (spent_in x) limit.old limit.new (uses_of footnotes.old)
         (uses_of footnotes.new) callback.old callback.new found) }
     ensures spent { IfOk result (λ _. (in_table : Bool) (x : decision.Written) → IsRead in_table x written.entry

@@ -4,7 +4,7 @@ ghost use Rattle.std.specs.Option.{option_map};
 ghost use Rattle.std.specs.Str.{IsCharBoundary};
 ghost use Rattle.markdown_brackets.specs.LinkTail.{destination_at, link_tail, past_separator};
 ghost use Rattle.markdown_brackets.specs.LinkTailView.{ReadsTail, BorrowsTail};
-ghost use Rattle.markdown_brackets.specs.LinkTitle.{title_at};
+ghost use Rattle.markdown_document.specs.LinkTitle.{title_at};
 ghost use Rattle.markdown_brackets.specs.TitlePart.{IsTitlePart};
 
 use crate::byte_at::stands_at;

@@ -2,8 +2,8 @@
 ghost use Rattle.std.specs.Prelude.{◌≡◌, ◌+◌, ◌^◌, ◌≤◌, ◌<◌, ℕ, Some, false, IfOk, IfSome, drop, length, slice_index};
 ghost use Rattle.std.specs.Str.{IsCharBoundary};
 ghost use Rattle.markdown_scan.specs.Backslash as backslash;
-ghost use Rattle.markdown_brackets.specs.LinkTitle as title;
-ghost use Rattle.markdown_brackets.specs.LinkTitle.{title_at, title_from};
+ghost use Rattle.markdown_document.specs.LinkTitle as title;
+ghost use Rattle.markdown_document.specs.LinkTitle.{title_at, title_from};
 ghost use Rattle.markdown_brackets.specs.TitleView.{ReadsTitle, BorrowsTitle};
 
 use crate::items_after::ItemsAfter;

@@ -12,7 +12,7 @@ ghost use Rattle.markdown_brackets.specs.ChainAhead.{IsChain, reaches_closer};
 ghost use Rattle.markdown_brackets.specs.Reference.{own_label};
 ghost use Rattle.markdown_brackets.specs.ReferenceView.{form_view, label_view};
 ghost use Rattle.markdown_brackets.specs.WrittenView.{CanRead, EndsBehind, IsRead, form_ahead, reference_at};
-ghost use Rattle.markdown_brackets.specs.TitleOrigin.{IsLookedUp};
+ghost use Rattle.markdown_brackets.specs.TargetOrigins.{IsLookedUp};
 ghost use Rattle.markdown_brackets.specs.WrittenView.{WrittenIsFrom, written_at};
 
 use crate::footnote::FootnoteStyle;
@@ -70,7 +70,7 @@ fn of_own_label(label: FoundLabel<'_>, link_type: LinkType, end: usize, next: us
     requires { IsLookedUp link_type }
     ensures read { (in_table : Bool)
         → IsRead in_table (own_written link_type end next (Some (label_view label.entry))) result }
-    ensures from { (source : List ℕ) → WrittenIsFrom source result }
+    ensures from { (source : List ℕ) (at : ℕ) → WrittenIsFrom source at result }
 {
     if label.is_footnote {
         return Written::Footnote(label.name);
@@ -103,7 +103,7 @@ fn read_own<'t, R: LineRule>(
     ensures read { IfOk result (λ found. (in_table : Bool) → IsRead in_table
         (own_written link_type end next (own_label (footnote_style place.now.options) (R.skipped rule.now)
         place.now.in_table (take place.now.block_end place.now.text.now) start end)) found) }
-    ensures from { IfOk result (λ found. (source : List ℕ) → WrittenIsFrom source found) }
+    ensures from { IfOk result (λ found. (source : List ℕ) (at : ℕ) → WrittenIsFrom source at found) }
 {
     let style = footnote_style(place.options);
     let text = &place.text[..place.block_end];
@@ -125,7 +125,7 @@ fn read_full<'t>(
     ensures read { (in_table : Bool) → IsRead in_table
         (if reaches_closer tree.now.nodes end next then link_label kind.Reference (text_of label.entry) end end
         else no_link) result }
-    ensures from { (source : List ℕ) → WrittenIsFrom source result }
+    ensures from { (source : List ℕ) (at : ℕ) → WrittenIsFrom source at result }
 {
     if !reaches_closer(tree, next, end) {
         drop(label);
@@ -158,7 +158,7 @@ fn read_form<'t, R: LineRule>(
     ensures read { IfOk result (λ found. (in_table : Bool) → IsRead in_table
         (reference_at tree.now.nodes place.now (R.skipped rule.now) closer could_be start (form_view form.entry))
         found) }
-    ensures from { IfOk result (λ found. (source : List ℕ) → WrittenIsFrom source found) }
+    ensures from { IfOk result (λ found. (source : List ℕ) (at : ℕ) → WrittenIsFrom source at found) }
 {
     let end = tree.item(closer).end;
     let (link_type, next) = match form {
@@ -213,7 +213,7 @@ fn read_reference<'t, R: LineRule>(
     ensures read { IfOk result (λ found. (in_table : Bool) → IsRead in_table
         (reference_at tree.now.nodes place.now (R.skipped rule.now) closer could_be start
         (form_ahead tree.now.nodes place.now (R.skipped rule.now) closer)) found) }
-    ensures from { IfOk result (λ found. (source : List ℕ) → WrittenIsFrom source found) }
+    ensures from { IfOk result (λ found. (source : List ℕ) (at : ℕ) → WrittenIsFrom source at found) }
 {
     let form = read_form_ahead(alloc, tree, closer, place, rule)?;
     read_form(alloc, tree, closer, could_be, place, rule, start, form)
@@ -234,7 +234,7 @@ pub(crate) fn read_written<'t, R: LineRule>(
     requires { CanRead tree.now.nodes place.now closer start }
     ensures read { IfOk result (IsRead place.now.in_table
         (written_at tree.now.nodes place.now (R.skipped rule.now) closer could_be start)) }
-    ensures from { IfOk result (WrittenIsFrom place.now.text.now) }
+    ensures from { IfOk result (WrittenIsFrom place.now.text.now (item_at tree.now.nodes closer).end) }
 {
     let end = tree.item(closer).end;
     if end > place.block_end {

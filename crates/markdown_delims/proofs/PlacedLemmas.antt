@@ -41,15 +41,15 @@ next_is : (nodes : List (Node Item)) (l : Option ℕ) (f : Forest ℕ) → Spell
 next_is nodes l nil s = rw s refl
 next_is nodes l (node ix below after) s = rw s.0 refl
 
--- what a body names is there, and a slice where it has to be one
-pub record NamesThere (text : List ℕ) (tables : Tables) (b : ItemBody) : Type 0 where
-  pub named : NamesEntries tables b
-  pub slices : HasSlices text tables b
+-- what an item names is there, and comes from the source before its end where it has to
+pub record NamesThere (text : List ℕ) (tables : Tables) (item : Item) : Type 0 where
+  pub named : NamesEntries tables item.body
+  pub slices : HasSlices text tables item.end item.body
 
 -- the items of an arena are placed just where those of its forest are right and name entries
 module _ (text : List ℕ) (tables : Tables) (nodes : List (Node Item)) where
   abbrev pub EachNames : Forest Numbered → Type 0
-  EachNames f = Each (λ a. NamesThere text tables a.item.body) f
+  EachNames f = Each (λ a. NamesThere text tables a.item) f
 
   pub right_of : (l : Option ℕ) (f : Forest ℕ) → Spells (links_of nodes) l f → Each (IsPlaced text tables nodes) f
       → AllStandRight text (chain_of nodes f)
@@ -81,10 +81,11 @@ module _ (text : List ℕ) (tables : Tables) (nodes : List (Node Item)) where
       )
 
 -- what pairing makes names entries
-made_names : (text : List ℕ) (tables : Tables) (b : ItemBody) → IsMade b → NamesThere text tables b
-made_names text tables b e = record {
+made_names : (text : List ℕ) (tables : Tables) (start end : ℕ) (b : ItemBody) → IsMade b
+    → NamesThere text tables (record { start = start; end = end; body = b })
+made_names text tables start end b e = record {
   named = record { text = rw e.0 tt; link = rw e.1 tt; alignments = rw e.2 tt; attributes = rw e.3 tt };
-  slices = slices-unnamed text tables b e.0 e.1;
+  slices = slices-unnamed text tables end b e.0 e.1;
 }
 
 any_first : (f : Forest Numbered) → IfSome (first_root f) (λ b. (0 ≤ b.item.start) × (0 ≤ b.number))
@@ -104,7 +105,7 @@ items_placed m text tables old new l k f g whole runs blocks s h t is =
     false whole) runs order) in
     let names : EachNames text tables new (chain_of new g) =
     subst (λ x. EachNames text tables new x) (sym is)
-    (each-paired (λ a. NamesThere text tables a.item.body) (λ number start end b e. made_names text tables b e) m text (chain_of old f)
+    (each-paired (λ a. NamesThere text tables a.item) (λ number start end b e. made_names text tables start end b e) m text (chain_of old f)
     (names_of text tables old f h)) in
     placed_of text tables new k g t right names
 

@@ -6,13 +6,13 @@ use Rattle.markdown_base.specs.Forest.{Forest, nil, node}
 use Rattle.markdown_base.specs.declared.item.ItemBody.{ItemBody}
 use Rattle.markdown_base.specs.declared.item.ItemBody.TheVariants as body
 use Rattle.markdown_document.specs.Document.{Shape, leaf, enclosed, plain, backslash_break, unresolved, Label, shaped}
-use Rattle.markdown_document.specs.Document.{made}
+use Rattle.markdown_document.specs.Document.{inlined}
 use Rattle.markdown_delims.specs.declared.quotes.Kind.{Kind}
 use Rattle.markdown_delims.specs.declared.quotes.Kind.TheVariants as kind
 
 -- a Text of one character
 abbrev pub synthesized : ℕ → Shape
-synthesized c = leaf (text (encode_utf8 c)) (made ∷ [])
+synthesized c = leaf (text (encode_utf8 c)) (inlined ∷ [])
 
 -- a left single quotation mark
 abbrev pub left_single : Shape

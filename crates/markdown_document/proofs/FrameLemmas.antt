@@ -45,17 +45,18 @@ shape-same tables tables' source (body.Heading level named) h e = rw e refl
 shape-same tables tables' source other h e = refl
 
 -- what is a slice of the source stays one
-pub slices-same : (source : List ℕ) (tables tables' : Tables) (b : ItemBody)
-    → ((m : Named) → 0 < times_named m b → IsSameEntry tables tables' m) → HasSlices source tables b → HasSlices source tables' b
-slices-same source tables tables' (body.Code ix) h p = let same = h (some_text ix.0) (omega (arith, same-refl ix.0))
+pub slices-same : (source : List ℕ) (tables tables' : Tables) (end : ℕ) (b : ItemBody)
+    → ((m : Named) → 0 < times_named m b → IsSameEntry tables tables' m) → HasSlices source tables end b
+    → HasSlices source tables' end b
+slices-same source tables tables' end (body.Code ix) h p = let same = h (some_text ix.0) (omega (arith, same-refl ix.0))
     in rw (same.0, same.1) p
-slices-same source tables tables' (body.Math ix display) h p = let same = h (some_text ix.0) (omega (arith, same-refl ix.0))
+slices-same source tables tables' end (body.Math ix display) h p = let same = h (some_text ix.0) (omega (arith, same-refl ix.0))
     in rw (same.0, same.1) p
-slices-same source tables tables' (body.Link ix) h p = let same = h (some_link ix.0) (omega (arith, same-refl ix.0))
+slices-same source tables tables' end (body.Link ix) h p = let same = h (some_link ix.0) (omega (arith, same-refl ix.0))
     in rw (same.0, same.1) p
-slices-same source tables tables' (body.Image ix) h p = let same = h (some_link ix.0) (omega (arith, same-refl ix.0))
+slices-same source tables tables' end (body.Image ix) h p = let same = h (some_link ix.0) (omega (arith, same-refl ix.0))
     in rw (same.0, same.1) p
-slices-same source tables tables' other h p = tt
+slices-same source tables tables' end other h p = tt
 
 pub label-same : (source : List ℕ) (tables tables' : Tables) (nodes nodes' : List (Node Item)) (n : ℕ) → Stays tables tables' nodes nodes' n
     → label_at source tables' nodes' n ≡ label_at source tables nodes n
@@ -115,7 +116,7 @@ placed_same source tables tables' nodes nodes' l (node ix below after) s z h p =
   record {
     lies = rw h.0.at.item p.0.lies;
     named = rw h.0.at.item (entries-longer tables tables' (item_at nodes ix).body z p.0.named);
-    slices = rw h.0.at.item (slices-same source tables tables' (item_at nodes ix).body h.0.entries p.0.slices);
+    slices = rw h.0.at.item (slices-same source tables tables' (item_at nodes ix).end (item_at nodes ix).body h.0.entries p.0.slices);
     keeps = rw (h.0.at.next, h.0.at.child, h.0.at.item, following_same tables tables' nodes nodes' (sibling_of nodes ix) after s.3 h.2)
         p.0.keeps;
   },

@@ -8,7 +8,7 @@ use Rattle.markdown_base.specs.declared.cow_str.CowStr.{CowStr}
 use Rattle.markdown_base.specs.declared.item.ItemBody.{ItemBody}
 use Rattle.markdown_defs.specs.Allocations.{LinkParts}
 use Rattle.markdown_document.specs.Origins.{origin_at}
-use Rattle.markdown_document.specs.Tables.{Tables, Named, some_text, some_link, some_alignments, text_at, link_at, link_origin_at, link_named}
+use Rattle.markdown_document.specs.Tables.{Tables, Named, some_text, some_link, some_alignments, text_at, link_at, link_origins_at, link_named}
 use Rattle.markdown_document.specs.Tables.{number_of, size_for, NamesEntries, IsSameEntry, IsNoShorter, HasGrown}
 use Rattle.markdown_document.specs.Totals.{same, same_as, times_named}
 
@@ -76,15 +76,15 @@ link_at-append [] more n l = absurd (omega (arith, l))
 link_at-append (c ∷ links) more zero l = refl
 link_at-append (c ∷ links) more (suc n) l = link_at-append links more n (omega (arith, l))
 
-link_origin_at-append : (links more : List LinkParts) (n : ℕ) → n < length links → link_origin_at (links ++ more) n ≡ link_origin_at links n
-link_origin_at-append [] more n l = absurd (omega (arith, l))
-link_origin_at-append (c ∷ links) more zero l = refl
-link_origin_at-append (c ∷ links) more (suc n) l = link_origin_at-append links more n (omega (arith, l))
+link_origins_at-append : (links more : List LinkParts) (n : ℕ) → n < length links → link_origins_at (links ++ more) n ≡ link_origins_at links n
+link_origins_at-append [] more n l = absurd (omega (arith, l))
+link_origins_at-append (c ∷ links) more zero l = refl
+link_origins_at-append (c ∷ links) more (suc n) l = link_origins_at-append links more n (omega (arith, l))
 
 appended_same : (tables : Tables) (cows : List CowStr) (links : List LinkParts) (n : Named) → number_of n < size_for tables n
     → IsSameEntry tables (record tables { cows = tables.cows ++ cows; links = tables.links ++ links }) n
 appended_same tables cows links (some_text n) l = (text_at-append tables.cows cows n l, origin_at-append tables.cows cows n l)
-appended_same tables cows links (some_link n) l = (link_at-append tables.links links n l, link_origin_at-append tables.links links n l)
+appended_same tables cows links (some_link n) l = (link_at-append tables.links links n l, link_origins_at-append tables.links links n l)
 appended_same tables cows links (some_alignments n) l = refl
 
 appended_sizes : (tables : Tables) (cows : List CowStr) (links : List LinkParts) (n : Named)

@@ -16,7 +16,7 @@ use Rattle.markdown_base.specs.Item.{is_open, is_block, range_of}
 use Rattle.markdown_base.specs.declared.item.Item.{Item}
 use Rattle.markdown_base.specs.declared.item.ItemBody.{ItemBody}
 use Rattle.markdown_base.specs.declared.node.Node.{Node}
-pub use Rattle.markdown_document.specs.Origins.{Origin, sliced, made, origin_at}
+pub use Rattle.markdown_document.specs.Origins.{Origin, sliced, inlined, made, origin_at}
 use Rattle.markdown_document.specs.Tables.{Tables, text_at, link_at, alignments_at, attributes_for, heading_with}
 
 -- how a tree reads: as one event, with the origins of its texts, while what is below it is not read; as a Start, what
@@ -117,7 +117,7 @@ unless_open false b = plain
 abbrev pub other_shape : Tables → List ℕ → ItemBody → Shape
 other_shape tables source (body.Text escaped) = text_over source
 other_shape tables source (body.SynthesizeText ix) = leaf (text (text_at tables.cows ix.0)) (made ∷ [])
-other_shape tables source (body.SynthesizeChar c) = leaf (text (encode_utf8 c)) (made ∷ [])
+other_shape tables source (body.SynthesizeChar c) = leaf (text (encode_utf8 c)) (inlined ∷ [])
 other_shape tables source (body.Code ix) = leaf (code (text_at tables.cows ix.0)) (origin_at tables.cows ix.0 ∷ [])
 other_shape tables source (body.Math ix display) = leaf (math display (text_at tables.cows ix.0))
     (origin_at tables.cows ix.0 ∷ [])

@@ -1,6 +1,8 @@
 -- what resolving chains depends on, and how items read
 pub mod Setting
 pub mod Origins
+pub mod LinkTitle
+pub mod LinkOrigins
 pub mod Tables
 pub mod Document
 pub mod Above

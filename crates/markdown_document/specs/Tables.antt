@@ -17,7 +17,8 @@ use Rattle.markdown_base.specs.declared.item.ItemBody.{ItemBody}
 use Rattle.markdown_base.specs.declared.tag.Alignment.{Alignment}
 use Rattle.markdown_base.specs.declared.tag.HeadingLevel.{HeadingLevel}
 use Rattle.markdown_base.specs.declared.tag.LinkType.TheVariants.{ShortcutUnknown}
-use Rattle.markdown_document.specs.Origins.{Origin, made, origin_at, origin_of}
+use Rattle.markdown_document.specs.LinkOrigins.{LinkOrigins}
+use Rattle.markdown_document.specs.Origins.{made, origin_at, origin_of}
 use Rattle.markdown_defs.specs.Allocations.{Allocated, LinkParts}
 
 -- the entries that can be referred to
@@ -61,11 +62,15 @@ link_at [] ix = record { kind = ShortcutUnknown; destination = []; title = []; l
 link_at (l ∷ links) zero = link_view l
 link_at (l ∷ links) (suc ix) = link_at links ix
 
--- the origin of the destination of that link
-abbrev pub link_origin_at : List LinkParts → ℕ → Origin
-link_origin_at [] ix = made
-link_origin_at (l ∷ links) zero = origin_of l.1
-link_origin_at (l ∷ links) (suc ix) = link_origin_at links ix
+-- the origins of a link's destination and title
+abbrev pub link_origins : LinkParts → LinkOrigins
+link_origins link = record { destination = origin_of link.1; title = origin_of link.2 }
+
+-- those of the link with this number
+abbrev pub link_origins_at : List LinkParts → ℕ → LinkOrigins
+link_origins_at [] ix = record { destination = made; title = made }
+link_origins_at (l ∷ links) zero = link_origins l
+link_origins_at (l ∷ links) (suc ix) = link_origins_at links ix
 
 -- the alignments with this number
 abbrev pub alignments_at : List (Vec Alignment Global) → ℕ → List Alignment
@@ -139,13 +144,13 @@ pub record NamesEntries (tables : Tables) (b : ItemBody) : Type 0 where
   pub alignments : IfSome (alignments_named b) (λ n. n < length tables.alignments)
   pub attributes : IfSome (attributes_named b) (λ n. (1 ≤ n) × (n ≤ length tables.headings))
 
--- an entry is the same in two tables; of a text, and of a link's destination, the origin is the same too
+-- an entry is the same in two tables; of a text, and of a link's destination and title, the origin is the same too
 abbrev pub IsSameEntry : (tables tables' : Tables) → Named → Type 0
 IsSameEntry tables tables' (some_text n) =
     (text_at tables'.cows n ≡ text_at tables.cows n) × (origin_at tables'.cows n ≡ origin_at tables.cows n)
 IsSameEntry tables tables' (some_link n) =
     (link_at tables'.links n ≡ link_at tables.links n)
-    × (link_origin_at tables'.links n ≡ link_origin_at tables.links n)
+    × (link_origins_at tables'.links n ≡ link_origins_at tables.links n)
 IsSameEntry tables tables' (some_alignments n) = alignments_at tables'.alignments n ≡ alignments_at tables.alignments n
 
 -- the second tables are no shorter than the first, and have the same heading attributes, which nothing adds or takes

@@ -6,7 +6,7 @@ use Rattle.std.proofs.lemmas.Option.{IfSome_then}
 use Rattle.markdown_base.specs.Event.{EventView, TagView, link, image, text}
 use Rattle.markdown_base.specs.Forest.{Forest, nil, node}
 use Rattle.markdown_document.specs.ChainRest.{end_of, start_of}
-use Rattle.markdown_document.specs.Document.{Origin, made, sliced, Shape, leaf, enclosed, Label, as_text, is_unresolved, text_over}
+use Rattle.markdown_document.specs.Document.{Origin, inlined, sliced, Shape, leaf, enclosed, Label, as_text, is_unresolved, text_over}
 use Rattle.markdown_document.specs.Setting.{Setting}
 use Rattle.markdown_document.specs.Waiting.{as_closed, text_if}
 use Rattle.markdown_delims.specs.Layers.{enclosed_if, layer_of_one, layer_of_two, marks_of, spanned}
@@ -273,8 +273,8 @@ module _ (own : Shape → List ℕ) (numbers : NumbersNoMarks own) where
         let shape : Shape = (first_turn a after single double).made in
         let turned : (ns ms : List ℕ) → IsWithin ns ms → IsWithin (own shape ++ ns) (of a ++ ms) =
         turn-made (λ (x : Shape). (ns ms : List ℕ) → IsWithin ns ms → IsWithin (own x ++ ns) (of a ++ ms))
-        (λ c ns ms w. in_place (leaf (text (encode_utf8 c)) (made ∷ [])) a.part.shape ns ms
-        (numbers.lone (text (encode_utf8 c)) (made ∷ []) tt) w)
+        (λ c ns ms w. in_place (leaf (text (encode_utf8 c)) (inlined ∷ [])) a.part.shape ns ms
+        (numbers.lone (text (encode_utf8 c)) (inlined ∷ []) tt) w)
         (kind_of_shape a.part.shape) a.part.shape single double (is_closed_later after) (is_end after) (λ ns ms w. keep_list (of a) ns ms w)
         in
         ends_mono own below (own shape ++ rest) (of a ++ ends after t)

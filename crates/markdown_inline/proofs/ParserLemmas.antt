@@ -97,7 +97,7 @@ took_same s t u item k took = record {
 -- what is given of a step past the beginning of an item
 past_gives : {F : Type 0} (s t u : Parser F) (item : Item) (e : Event)
     → Passed t.resolver.text.now s.tree t.tree t.resolver.tables item → Took t u item
-    → OpensWith (parser_text t) (shape_in t item) e
+    → OpensWith (parser_text t) (range_of item) (shape_in t item) e
     → Gives t.resolver.text.now s.tree u.tree t.resolver.tables u.resolver.tables e (range_of item)
 past_gives s t u item e p took o = record {
   origins = o.origins;

@@ -74,12 +74,13 @@ no_link (body.Image ix) r = cc r
 no_link other r = refl
 
 -- nor is a link, code or math, whose text would have to be a slice
-unresolved_slices : (source : List ℕ) (tables : Tables) (b : ItemBody) → is_resolved b ≡ false → HasSlices source tables b
-unresolved_slices source tables (body.Code ix) r = cc r
-unresolved_slices source tables (body.Math ix display) r = cc r
-unresolved_slices source tables (body.Link ix) r = cc r
-unresolved_slices source tables (body.Image ix) r = cc r
-unresolved_slices source tables other r = tt
+unresolved_slices : (source : List ℕ) (tables : Tables) (end : ℕ) (b : ItemBody) → is_resolved b ≡ false
+    → HasSlices source tables end b
+unresolved_slices source tables end (body.Code ix) r = cc r
+unresolved_slices source tables end (body.Math ix display) r = cc r
+unresolved_slices source tables end (body.Link ix) r = cc r
+unresolved_slices source tables end (body.Image ix) r = cc r
+unresolved_slices source tables end other r = tt
 
 entries_named : (parts : BlockParts) (b : ItemBody) → PartsAreNamed (counts_of parts) b → is_resolved b ≡ false
     → NamesEntries (tables_at_start parts) b
@@ -146,7 +147,7 @@ each_placed source counts tables nodes l (node ix below after) s w named =
       record {
         lies = k.ranges_lie_in;
         named = named.0;
-        slices = unresolved_slices source tables (item_at nodes ix).body k.nothing_resolved;
+        slices = unresolved_slices source tables (item_at nodes ix).end (item_at nodes ix).body k.nothing_resolved;
         keeps = rw (following_root nodes (sibling_of nodes ix) after s.3) (record {
           in_order = in_order_from source counts (numbered nodes ix) (relabelled (numbered nodes) after) k.nothing_resolved w.2
               k.inline_in_order;

@@ -26,16 +26,17 @@ use Rattle.markdown_base.specs.declared.tag.Alignment.{Alignment}
 use Rattle.markdown_base.specs.declared.tag.HeadingLevel.{HeadingLevel}
 use Rattle.markdown_base.specs.declared.tag.Tag.{Tag}
 use Rattle.markdown_defs.specs.Allocations.{Allocated, LinkParts, LeavesEmptyCow, LeavesEmptyLink, LeavesEmptyAlignment}
-use Rattle.markdown_document.specs.Origins.{IsLinkFrom, IsSlicedOf, Origin, origin_at, origin_of}
+use Rattle.markdown_document.specs.LinkOrigins.{IsLinkFrom, LinkOrigins}
+use Rattle.markdown_document.specs.Origins.{IsSlicedOf, Origin, origin_at, origin_of}
 use Rattle.markdown_document.specs.Document.{Shape, leaf, enclosed, plain, backslash_break, unresolved, sliced, made, container_of}
 use Rattle.markdown_document.specs.Document.{shape_of, event_of_shape}
 use Rattle.markdown_document.specs.Places.{HasSliceLink}
-use Rattle.markdown_document.specs.Tables.{Tables, Named, some_text, some_link, some_alignments, text_at, link_at, link_origin_at, link_view}
+use Rattle.markdown_document.specs.Tables.{Tables, Named, some_text, some_link, some_alignments, text_at, link_at, link_origins, link_origins_at, link_view}
 use Rattle.markdown_document.specs.Tables.{link_named, alignments_at, attributes_at, attributes_view, size_for, tables_of, NamesEntries}
 use Rattle.markdown_document.specs.Tables.{IsSameEntry}
 use Rattle.markdown_document.specs.Totals.{same, times_named}
 use Rattle.markdown_document.proofs.TablesLemmas.{same_entry-refl}
-use Rattle.markdown_inline.specs.Slices.{texts_of, IsFrom, TagIsFrom, StartIsFrom}
+use Rattle.markdown_inline.specs.Slices.{slice_start, texts_of, IsFrom, TagIsFrom, StartIsFrom}
 use Rattle.markdown_inline.specs.WalkSteps.{OpensWith, TakesOnly, beginning, way_at_shape, way_at}
 
 -- an entry that is read
@@ -50,16 +51,17 @@ origin_at-read (d ∷ cows) zero c l e = ap origin_of (sym e)
 origin_at-read (d ∷ cows) (suc n) c l e = origin_at-read cows n c (omega (arith, l)) e
 
 -- the text has the origin that the table says
-from_itself : (source : List ℕ) (c : CowStr) → IsSlicedOf source (origin_of c) (text_of c) → IsFrom source (origin_of c) c
-from_itself source (Borrowed slice) h = h refl
-from_itself source other h = tt
+from_itself : (source : List ℕ) (start end : ℕ) (c : CowStr) → IsSlicedOf source start end (origin_of c) (text_of c)
+    → IsFrom source start end (origin_of c) c
+from_itself source start end (Borrowed slice) h = h refl
+from_itself source start end other h = tt
 
-pub is_from : (source : List ℕ) (cows : List CowStr) (n : ℕ) (c : CowStr) → n < length cows → c ≡ get_or cows n c
-    → IsSlicedOf source (origin_at cows n) (text_at cows n)
-    → IsFrom source (origin_at cows n) c
-is_from source cows n c l e h =
+pub is_from : (source : List ℕ) (start end : ℕ) (cows : List CowStr) (n : ℕ) (c : CowStr) → n < length cows → c ≡ get_or cows n c
+    → IsSlicedOf source start end (origin_at cows n) (text_at cows n)
+    → IsFrom source start end (origin_at cows n) c
+is_from source start end cows n c l e h =
     let origin = origin_at-read cows n c l e in
-    rw origin (from_itself source c (rw (origin, text_at-read cows n c l e) at h))
+    rw origin (from_itself source start end c (rw (origin, text_at-read cows n c l e) at h))
 
 pub link_at-read : (links : List LinkParts) (n : ℕ) (c : LinkParts) → n < length links → c ≡ get_or links n c
     → link_at links n ≡ link_view c
@@ -67,19 +69,19 @@ link_at-read [] n c l e = absurd (omega (arith, l))
 link_at-read (d ∷ links) zero c l e = ap link_view (sym e)
 link_at-read (d ∷ links) (suc n) c l e = link_at-read links n c (omega (arith, l)) e
 
-link_origin_at-read : (links : List LinkParts) (n : ℕ) (c : LinkParts) → n < length links → c ≡ get_or links n c
-    → link_origin_at links n ≡ origin_of c.1
-link_origin_at-read [] n c l e = absurd (omega (arith, l))
-link_origin_at-read (d ∷ links) zero c l e = ap (λ (link : LinkParts). origin_of link.1) (sym e)
-link_origin_at-read (d ∷ links) (suc n) c l e = link_origin_at-read links n c (omega (arith, l)) e
+link_origins_at-read : (links : List LinkParts) (n : ℕ) (c : LinkParts) → n < length links → c ≡ get_or links n c
+    → link_origins_at links n ≡ link_origins c
+link_origins_at-read [] n c l e = absurd (omega (arith, l))
+link_origins_at-read (d ∷ links) zero c l e = ap link_origins (sym e)
+link_origins_at-read (d ∷ links) (suc n) c l e = link_origins_at-read links n c (omega (arith, l)) e
 
--- a link leads where its entry does
-pub leads_from : (source : List ℕ) (tables : Tables) (n : ℕ) (c : LinkParts) → n < length tables.links → c ≡ get_or tables.links n c
-    → HasSliceLink source tables n
-    → IsLinkFrom source (origin_of c.1) (link_view c)
-leads_from source tables n c l e h =
-    subst (λ (v : LinkView). IsLinkFrom source (origin_of c.1) v) (link_at-read tables.links n c l e)
-    (subst (λ (o : Origin). IsLinkFrom source o (link_at tables.links n)) (link_origin_at-read tables.links n c l e) h)
+-- a link comes from where its entry does
+pub leads_from : (source : List ℕ) (end : ℕ) (tables : Tables) (n : ℕ) (c : LinkParts) → n < length tables.links
+    → c ≡ get_or tables.links n c → HasSliceLink source tables end n
+    → IsLinkFrom source 0 end (link_origins c) (link_view c)
+leads_from source end tables n c l e h =
+    subst (λ (v : LinkView). IsLinkFrom source 0 end (link_origins c) v) (link_at-read tables.links n c l e)
+    (subst (λ (o : LinkOrigins). IsLinkFrom source 0 end o (link_at tables.links n)) (link_origins_at-read tables.links n c l e) h)
 
 pub alignments_at-read : (alignments : List (Vec Alignment Global)) (n : ℕ) (c : Vec Alignment Global) → n < length alignments
     → c ≡ get_or alignments n c → alignments_at alignments n ≡ c.items
@@ -125,13 +127,13 @@ link_at-set (d ∷ links) zero (suc m) c h = refl
 link_at-set (d ∷ links) (suc n) zero c h = refl
 link_at-set (d ∷ links) (suc n) (suc m) c h = link_at-set links n m c h
 
-link_origin_at-set : (links : List LinkParts) (n m : ℕ) (c : LinkParts) → same m n ≡ 0
-    → link_origin_at (set links n c) m ≡ link_origin_at links m
-link_origin_at-set [] n m c h = refl
-link_origin_at-set (d ∷ links) zero zero c h = cc h
-link_origin_at-set (d ∷ links) zero (suc m) c h = refl
-link_origin_at-set (d ∷ links) (suc n) zero c h = refl
-link_origin_at-set (d ∷ links) (suc n) (suc m) c h = link_origin_at-set links n m c h
+link_origins_at-set : (links : List LinkParts) (n m : ℕ) (c : LinkParts) → same m n ≡ 0
+    → link_origins_at (set links n c) m ≡ link_origins_at links m
+link_origins_at-set [] n m c h = refl
+link_origins_at-set (d ∷ links) zero zero c h = cc h
+link_origins_at-set (d ∷ links) zero (suc m) c h = refl
+link_origins_at-set (d ∷ links) (suc n) zero c h = refl
+link_origins_at-set (d ∷ links) (suc n) (suc m) c h = link_origins_at-set links n m c h
 
 alignments_at-set : (alignments : List (Vec Alignment Global)) (n m : ℕ) (c : Vec Alignment Global) → same m n ≡ 0
     → alignments_at (set alignments n c) m ≡ alignments_at alignments m
@@ -180,7 +182,7 @@ link_others : (tables : Tables) (b : ItemBody) (ix : ℕ) (left : LinkParts) (n 
     → IsSameEntry tables (record tables { links = set tables.links ix left }) n
 link_others tables b ix left (some_text n) e h = (refl, refl)
 link_others tables b ix left (some_link n) e h = let apart = rw e at h
-    in (link_at-set tables.links ix n left apart, link_origin_at-set tables.links ix n left apart)
+    in (link_at-set tables.links ix n left apart, link_origins_at-set tables.links ix n left apart)
 link_others tables b ix left (some_alignments n) e h = refl
 
 link_sizes : (tables : Tables) (ix : ℕ) (left : LinkParts) (n : Named)
@@ -221,45 +223,47 @@ takes_alignments b held held' ix e l = rw l.others (record {
 })
 
 -- an event of one text is not a Start
-pub no_start : (source : List ℕ) (e : Event) (c : CowStr) → texts_of e ≡ c ∷ [] → StartIsFrom source e
-no_start source (step.Start tag) c h = cc h
-no_start source other c h = tt
+pub no_start : (source : List ℕ) (end : ℕ) (e : Event) (c : CowStr) → texts_of e ≡ c ∷ [] → StartIsFrom source end e
+no_start source end (step.Start tag) c h = cc h
+no_start source end other c h = tt
 
 -- an event of one text that is a slice of the source
 pub opens_slice : (source : List ℕ) (range : Range ℕ) (view : List ℕ → EventView) (e : CowStr → Event) (c : CowStr)
     → ((slice : Bor (List ℕ)) × (c ≡ Borrowed slice) × (slice.now ≡ slice_range source range.start range.end))
     → ((d : CowStr) → event_view (e d) ≡ view (text_of d)) → ((d : CowStr) → texts_of (e d) ≡ d ∷ [])
-    → OpensWith source (leaf (view (slice_range source range.start range.end)) (sliced ∷ [])) (e c)
-opens_slice source range view e c (slice, is, over) viewed texts = rw is (record {
+    → ((d : CowStr) → slice_start (e d) range.start ≡ range.start)
+    → OpensWith source range (leaf (view (slice_range source range.start range.end)) (sliced ∷ [])) (e c)
+opens_slice source range view e c (slice, is, over) viewed texts from = rw is (record {
   origins = sliced ∷ [];
   begins = rw (viewed (Borrowed slice), over) refl;
-  texts = rw (texts (Borrowed slice)) (∣ (range, over) ∣₁, tt);
-  start = no_start source (e (Borrowed slice)) (Borrowed slice) (texts (Borrowed slice));
+  texts = rw (texts (Borrowed slice), from (Borrowed slice)) (∣ (range, omega arith, omega arith, over) ∣₁, tt);
+  start = no_start source range.end (e (Borrowed slice)) (Borrowed slice) (texts (Borrowed slice));
 })
 
 -- an event of one text that is referred to, and is taken
-pub opens_made : (source : List ℕ) (cows : List CowStr) (n : ℕ) (view : List ℕ → EventView) (e : CowStr → Event) (c : CowStr)
+pub opens_made : (source : List ℕ) (range : Range ℕ) (cows : List CowStr) (n : ℕ) (view : List ℕ → EventView) (e : CowStr → Event) (c : CowStr)
     → n < length cows → c ≡ get_or cows n c
     → ((d : CowStr) → event_view (e d) ≡ view (text_of d)) → ((d : CowStr) → texts_of (e d) ≡ d ∷ [])
-    → OpensWith source (leaf (view (text_at cows n)) (made ∷ [])) (e c)
-opens_made source cows n view e c within read viewed texts = record {
+    → OpensWith source range (leaf (view (text_at cows n)) (made ∷ [])) (e c)
+opens_made source range cows n view e c within read viewed texts = record {
   origins = made ∷ [];
   begins = rw (viewed c, text_at-read cows n c within read) refl;
   texts = rw (texts c) (tt, tt);
-  start = no_start source (e c) c (texts c);
+  start = no_start source range.end (e c) c (texts c);
 }
 
 -- the same for the text of a span, which is a slice of the source where the table says so
-pub opens_span : (source : List ℕ) (cows : List CowStr) (n : ℕ) (view : List ℕ → EventView) (e : CowStr → Event) (c : CowStr)
+pub opens_span : (source : List ℕ) (range : Range ℕ) (cows : List CowStr) (n : ℕ) (view : List ℕ → EventView) (e : CowStr → Event) (c : CowStr)
     → n < length cows → c ≡ get_or cows n c
-    → IsSlicedOf source (origin_at cows n) (text_at cows n)
+    → IsSlicedOf source 0 range.end (origin_at cows n) (text_at cows n)
     → ((d : CowStr) → event_view (e d) ≡ view (text_of d)) → ((d : CowStr) → texts_of (e d) ≡ d ∷ [])
-    → OpensWith source (leaf (view (text_at cows n)) (origin_at cows n ∷ [])) (e c)
-opens_span source cows n view e c within read slice viewed texts = record {
+    → ((d : CowStr) → slice_start (e d) range.start ≡ 0)
+    → OpensWith source range (leaf (view (text_at cows n)) (origin_at cows n ∷ [])) (e c)
+opens_span source range cows n view e c within read slice viewed texts from = record {
   origins = origin_at cows n ∷ [];
   begins = rw (viewed c, text_at-read cows n c within read) refl;
-  texts = rw (texts c) (is_from source cows n c within read slice, tt);
-  start = no_start source (e c) c (texts c);
+  texts = rw (texts c, from c) (is_from source 0 range.end cows n c within read slice, tt);
+  start = no_start source range.end (e c) c (texts c);
 }
 
 -- where a walk goes over an item, its event is that of the shape
@@ -339,6 +343,6 @@ container_shape tables over b tag None e s h = cc s
 container_shape tables over b tag (Some t) e s h = rw e (ap enclosed (sym h))
 
 -- a Start is the event that a tree of its tag begins with
-pub opens_start : (source : List ℕ) (shape : Shape) (tag : Tag) → shape ≡ enclosed (tag_view tag) → TagIsFrom source tag
-    → OpensWith source shape (step.Start tag)
-opens_start source shape tag h from = record { origins = []; begins = rw h refl; texts = tt; start = from }
+pub opens_start : (source : List ℕ) (range : Range ℕ) (shape : Shape) (tag : Tag) → shape ≡ enclosed (tag_view tag)
+    → TagIsFrom source range.end tag → OpensWith source range shape (step.Start tag)
+opens_start source range shape tag h from = record { origins = []; begins = rw h refl; texts = tt; start = from }

@@ -17,7 +17,7 @@ use Rattle.markdown_blocks.specs.Blocks.{block_parts, block_text, block_tree}
 use Rattle.markdown_blocks.specs.declared.blocks.Blocks.{Blocks}
 use Rattle.markdown_document.specs.Above.{Above, inside_label, no_blocks}
 use Rattle.markdown_document.specs.ChainRest.{cut_event, cut_shape, without_first}
-use Rattle.markdown_document.specs.Document.{Origin, sliced, made, Shape, leaf, enclosed, plain, backslash_break, unresolved, Label, Plain}
+use Rattle.markdown_document.specs.Document.{Origin, sliced, inlined, made, Shape, leaf, enclosed, plain, backslash_break, unresolved, Label, Plain}
 use Rattle.markdown_document.specs.Document.{plain_tags, document, label_of, shape_of}
 use Rattle.markdown_document.specs.Setting.{Setting, Known, setting_of}
 use Rattle.markdown_document.specs.Tables.{Tables, tables_at_start}
@@ -89,6 +89,7 @@ lone_none other h = refl
 
 cut_alone : (n : ℕ) (e : EventView) (origins : List Origin) → alone_event (cut_event n e origins) ≡ alone_event e
 cut_alone n e [] = refl
+cut_alone n e (inlined ∷ origins) = refl
 cut_alone n e (made ∷ origins) = refl
 cut_alone n e (sliced ∷ origins) = shortened e
   where

@@ -122,7 +122,7 @@ pub record Took {F : Type 0} (s t : Parser F) (item : Item) : Type 0 where
 -- the event of an item was made
 pub record Began {F : Type 0} (s t : Parser F) (item : Item) (e : Event) : Type 0 where
   pub took : Took s t item
-  pub opens : OpensWith (parser_text s) (shape_in s item) e
+  pub opens : OpensWith (parser_text s) (range_of item) (shape_in s item) e
 
 -- the event was not made, since memory was refused, and the walk is over
 pub record RefusedAt {F : Type 0} (s t : Parser F) (fault : Fault) : Type 0 where
@@ -135,7 +135,7 @@ pub record RefusedAt {F : Type 0} (s t : Parser F) (fault : Fault) : Type 0 wher
 -- the walk went past the beginning of an item, whose event is given once it is made
 pub record WentPast {F : Type 0} (s t : Parser F) (item : Item) (w : Way) : Type 0 where
   pub ready : IsToBegin t item w
-  pub gave : (u : Parser F) (e : Event) → Took t u item → OpensWith (parser_text t) (shape_in t item) e
+  pub gave : (u : Parser F) (e : Event) → Took t u item → OpensWith (parser_text t) (range_of item) (shape_in t item) e
       → GaveEvent s u e (range_of item)
   pub callback : parser_callback t ≡ parser_callback s
   pub work : parser_work t ≡ parser_work s

@@ -12,15 +12,15 @@ use Rattle.markdown_resolver.specs.ChainCounts.{RisesInPart}
 use Rattle.markdown_inline.specs.Elements.{Placed, Element, question, event}
 use Rattle.markdown_inline.specs.ParserLeft.{parser_text, parser_definitions, parser_callback, elements, parser_counts}
 use Rattle.markdown_inline.specs.ParserLeft.{parser_work, IsOver}
-use Rattle.markdown_inline.specs.Slices.{texts_of, AreFrom, StartIsFrom}
+use Rattle.markdown_inline.specs.Slices.{slice_start, texts_of, AreFrom, StartIsFrom}
 use Rattle.markdown_inline.specs.declared.walk.Parser.{Parser}
 
 -- an event is this one of a reading of the source: its texts have the same bytes and the origins of the reading, and
--- the destination of an autolink or a wikilink is a slice of the source
+-- the destination and the title of a link come from the source as its type says
 pub record IsEventOf (source : List ℕ) (e : Event) (placed : Placed) : Type 0 where
   pub view : placed.0 ≡ event_view e
-  pub texts : AreFrom source placed.2 (texts_of e)
-  pub start : StartIsFrom source e
+  pub texts : AreFrom source (slice_start e placed.1.start) placed.1.end placed.2 (texts_of e)
+  pub start : StartIsFrom source placed.1.end e
 
 -- the same for an event with its range
 pub record IsPlacedOf (source : List ℕ) (e : Event × Range ℕ) (placed : Placed) : Type 0 where

@@ -1,19 +1,21 @@
--- Texts of events that are slices of the source: those of events that are one leaf, and destinations of links.
+-- Where the texts of events come from: those of events that are one leaf, and the destinations and titles of links.
 use Rattle.markdown_base.specs.declared.event.Event.TheVariants as step
 use Rattle.std.specs.Prelude.{ℕ, List, [], ◌∷◌}
+use Rattle.markdown_base.specs.CowText.{IsInlined}
 use Rattle.markdown_base.specs.declared.cow_str.CowStr.{CowStr}
 use Rattle.markdown_base.specs.declared.cow_str.CowStr.TheVariants.{Borrowed}
 use Rattle.markdown_base.specs.declared.event.Event.{Event}
-use Rattle.markdown_base.specs.declared.tag.LinkType.{LinkType}
 use Rattle.markdown_base.specs.declared.tag.Tag.{Tag}
 use Rattle.markdown_base.specs.declared.tag.Tag.TheVariants as opens
-use Rattle.markdown_document.specs.Origins.{Origin, sliced, made, origin_of, StandsIn, IsLinkFrom}
-use Rattle.markdown_document.specs.Tables.{link_view}
+use Rattle.markdown_defs.specs.Allocations.{LinkParts}
+use Rattle.markdown_document.specs.LinkOrigins.{IsLinkFrom}
+use Rattle.markdown_document.specs.Origins.{Origin, sliced, inlined, made, IsSliceWithin}
+use Rattle.markdown_document.specs.Tables.{link_origins, link_view}
 
--- a text is borrowed, and is a slice of the source
-abbrev pub IsSliceOf : List ℕ → CowStr → Type 0
-IsSliceOf source (Borrowed slice) = StandsIn source slice.now
-IsSliceOf source owned = ⊥
+-- a text is borrowed, and is a slice of the source within these byte offsets
+abbrev pub IsSliceOf : List ℕ → (start end : ℕ) → CowStr → Type 0
+IsSliceOf source start end (Borrowed slice) = IsSliceWithin source start end slice.now
+IsSliceOf source start end owned = ⊥
 
 -- the texts of an event that is one leaf
 abbrev pub texts_of : Event → List CowStr
@@ -26,29 +28,41 @@ texts_of (step.InlineHtml c) = c ∷ []
 texts_of (step.FootnoteReference c) = c ∷ []
 texts_of other = []
 
--- a text has this origin
-abbrev pub IsFrom : List ℕ → Origin → CowStr → Type 0
-IsFrom source sliced c = IsSliceOf source c
-IsFrom source made c = Unit {0}
+-- the byte offset from which on the text of an event that starts here is a slice, where it is one: the event's start,
+-- but for code and math, which keep their whole text where the pipe of a wikilink cuts off their beginning
+abbrev pub slice_start : Event → (start : ℕ) → ℕ
+slice_start (step.Code c) start = 0
+slice_start (step.InlineMath c) start = 0
+slice_start (step.DisplayMath c) start = 0
+slice_start other start = start
+
+-- a text has this origin: it is a slice of the source within these byte offsets, or is held in place, if the origin
+-- says so
+abbrev pub IsFrom : List ℕ → (start end : ℕ) → Origin → CowStr → Type 0
+IsFrom source start end sliced c = IsSliceOf source start end c
+IsFrom source start end inlined c = IsInlined c
+IsFrom source start end made c = Unit {0}
 
 -- each of these texts has its origin
-abbrev pub AreFrom : List ℕ → List Origin → List CowStr → Type 0
-AreFrom source (origin ∷ origins) (c ∷ cows) = IsFrom source origin c × AreFrom source origins cows
-AreFrom source (origin ∷ origins) [] = Unit {0}
-AreFrom source [] cows = Unit {0}
+abbrev pub AreFrom : List ℕ → (start end : ℕ) → List Origin → List CowStr → Type 0
+AreFrom source start end (origin ∷ origins) (c ∷ cows) =
+    IsFrom source start end origin c × AreFrom source start end origins cows
+AreFrom source start end (origin ∷ origins) [] = Unit {0}
+AreFrom source start end [] cows = Unit {0}
 
--- the destination of a link or an image is a slice of the source, if its type says so
-abbrev pub LeadsFrom : List ℕ → LinkType → (destination title label : CowStr) → Type 0
-LeadsFrom source link_type destination title label =
-    IsLinkFrom source (origin_of destination) (link_view (link_type, destination, title, label))
+-- the destination and the title of a link or an image come from the source before its end, as its type says
+abbrev pub LeadsFrom : List ℕ → (end : ℕ) → LinkParts → Type 0
+LeadsFrom source end link = IsLinkFrom source 0 end (link_origins link) (link_view link)
 
 -- the same for a tag that is a link or an image
-abbrev pub TagIsFrom : List ℕ → Tag → Type 0
-TagIsFrom source (opens.Link link_type destination title label) = LeadsFrom source link_type destination title label
-TagIsFrom source (opens.Image link_type destination title label) = LeadsFrom source link_type destination title label
-TagIsFrom source other = Unit {0}
+abbrev pub TagIsFrom : List ℕ → (end : ℕ) → Tag → Type 0
+TagIsFrom source end (opens.Link link_type destination title label) =
+    LeadsFrom source end (link_type, destination, title, label)
+TagIsFrom source end (opens.Image link_type destination title label) =
+    LeadsFrom source end (link_type, destination, title, label)
+TagIsFrom source end other = Unit {0}
 
 -- the same for the Start of such a tag
-abbrev pub StartIsFrom : List ℕ → Event → Type 0
-StartIsFrom source (step.Start tag) = TagIsFrom source tag
-StartIsFrom source other = Unit {0}
+abbrev pub StartIsFrom : List ℕ → (end : ℕ) → Event → Type 0
+StartIsFrom source end (step.Start tag) = TagIsFrom source end tag
+StartIsFrom source end other = Unit {0}

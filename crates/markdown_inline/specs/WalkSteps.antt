@@ -18,7 +18,7 @@ use Rattle.markdown_document.specs.Document.{shape_of}
 use Rattle.markdown_document.specs.Places.{HasSlices}
 use Rattle.markdown_inline.specs.Elements.{Placed, Reading, event}
 use Rattle.markdown_document.specs.Setting.{Rules, Setting, Known, setting_of}
-use Rattle.markdown_inline.specs.Slices.{texts_of, AreFrom, StartIsFrom}
+use Rattle.markdown_inline.specs.Slices.{slice_start, texts_of, AreFrom, StartIsFrom}
 use Rattle.markdown_inline.specs.Standing.{Stands}
 use Rattle.markdown_document.specs.Totals.{times_named}
 use Rattle.markdown_document.specs.Tables.{Tables, Named, NamesEntries, tables_of, no_tables, IsSameEntry, IsNoShorter}
@@ -36,12 +36,12 @@ beginning plain = None
 beginning backslash_break = Some (hard_break, [])
 beginning (unresolved b) = None
 
--- an item of this shape begins with this event, whose texts have the origins that the shape determines
-pub record OpensWith (source : List ℕ) (shape : Shape) (e : Event) : Type 0 where
+-- an item of this shape over this range begins with this event, whose texts have the origins that the shape determines
+pub record OpensWith (source : List ℕ) (range : Range ℕ) (shape : Shape) (e : Event) : Type 0 where
   pub origins : List Origin
   pub begins : beginning shape ≡ Some (event_view e, origins)
-  pub texts : AreFrom source origins (texts_of e)
-  pub start : StartIsFrom source e
+  pub texts : AreFrom source (slice_start e range.start) range.end origins (texts_of e)
+  pub start : StartIsFrom source range.end e
 
 -- how a walk moves at a tree of this shape
 abbrev pub way_at_shape : Shape → Way
@@ -59,7 +59,7 @@ way_at b = way_at_shape (shape_of no_tables [] b)
 pub record CanBegin (source : List ℕ) (tables : Tables) (item : Item) : Type 0 where
   pub lies : LiesIn source item
   pub named : NamesEntries tables item.body
-  pub slices : HasSlices source tables item.body
+  pub slices : HasSlices source tables item.end item.body
 
 -- a tree with this body at its root ends with this End, or without one
 abbrev pub ClosesTo : ItemBody → Option TagEnd → Type 0
@@ -103,8 +103,8 @@ pub record Went (source : List ℕ) (s t : Arena Item) (held held' : Allocated) 
 pub record Gives (source : List ℕ) (s t : Arena Item) (held held' : Allocated) (e : Event) (range : Range ℕ) : Type 0
   where
     pub origins : List Origin
-    pub texts : AreFrom source origins (texts_of e)
-    pub start : StartIsFrom source e
+    pub texts : AreFrom source (slice_start e range.start) range.end origins (texts_of e)
+    pub start : StartIsFrom source range.end e
     pub went : Went source s t held held' ((event_view e, range, origins) ∷ [])
 
 -- a step went past the beginning of an item, whose event is not made yet: the event is given once it is made, whatever

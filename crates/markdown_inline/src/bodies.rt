@@ -2,12 +2,12 @@
 ghost use Rattle.std.specs.Prelude.{◌≡◌, ◌<◌, ◌∷◌, [], IfOk, IfSome, List, OnErr, slice_range, length, ℕ};
 ghost use Rattle.markdown_base.specs.Event.{event_view, tag_view, link, image};
 ghost use Rattle.markdown_base.specs.CowText.{text_of};
-ghost use Rattle.markdown_base.specs.Item.{LiesIn};
+ghost use Rattle.markdown_base.specs.Item.{LiesIn, range_of};
 ghost use Rattle.markdown_defs.specs.Allocations.{HasLink, LeavesEmptyLink};
 ghost use Rattle.markdown_document.specs.Document.{container_of, enclosed, math, shape_of};
 ghost use Rattle.markdown_document.specs.Places.{HasSliceLink, HasSlices};
 ghost use Rattle.markdown_document.specs.Tables.{NamesEntries, link_at, tables_of};
-ghost use Rattle.markdown_inline.specs.Slices.{TagIsFrom, texts_of};
+ghost use Rattle.markdown_inline.specs.Slices.{TagIsFrom, slice_start, texts_of};
 ghost use Rattle.markdown_inline.specs.WalkSteps.{CanBegin, ClosesTo, OpensWith, TakesOnly, way_at};
 
 use crate::heading::heading_start;
@@ -68,7 +68,7 @@ pub fn way_of(body: ItemBody) -> Way
 pub fn leaf_event<'a>(text: &'a str, tables: &mut Allocations<'a>, item: Item) -> Event<'a>
     requires can { CanBegin text.now (tables_of tables.old) item }
     requires leaf { way_at item.body ≡ Way.Leaf }
-    ensures opens { OpensWith text.entry.now
+    ensures opens { OpensWith text.entry.now (range_of item)
         (shape_of (tables_of tables.old) (slice_range text.entry.now item.start item.end) item.body) result }
     ensures taken { TakesOnly item.body tables.old tables.new }
 {
@@ -101,7 +101,8 @@ pub fn start_tag<'a>(
     requires named { NamesEntries (tables_of tables.old) body }
     ensures tag { (over : List ℕ) → IfOk result (λ tag. shape_of (tables_of tables.old) over body
         ≡ enclosed (tag_view tag)) }
-    ensures from { (source : List ℕ) → HasSlices source (tables_of tables.old) body → IfOk result (TagIsFrom source) }
+    ensures from { (source : List ℕ) (end : ℕ) → HasSlices source (tables_of tables.old) end body
+        → IfOk result (TagIsFrom source end) }
     ensures taken { IfOk result (λ _. TakesOnly body tables.old tables.new) }
     ensures refused { OnErr result (tables.new ≡ tables.old) }
 {
@@ -121,7 +122,7 @@ pub fn start_tag<'a>(
 /// Returns the tag of a container that refers to nothing; for any other body, `Tag::Paragraph`.
 fn container_tag<'a>(body: ItemBody) -> Tag<'a>
     ensures tag { IfSome (container_of body) (λ tag. tag_view result ≡ tag) }
-    ensures from { (source : List ℕ) → TagIsFrom source result }
+    ensures from { (source : List ℕ) (end : ℕ) → TagIsFrom source end result }
 {
     match body {
         ItemBody::BlockQuote(kind) => Tag::BlockQuote(kind),
@@ -159,6 +160,7 @@ fn slice_of<'a>(text: &'a str, item: Item) -> CowStr<'a>
 fn math_event<'a>(display: bool, text: CowStr<'a>) -> Event<'a>
     ensures event { event_view result ≡ math display (text_of text.entry) }
     ensures text { texts_of result ≡ text.entry ∷ [] }
+    ensures from { (start : ℕ) → slice_start result start ≡ 0 }
 {
     if display {
         Event::DisplayMath(text)
@@ -171,7 +173,8 @@ fn math_event<'a>(display: bool, text: CowStr<'a>) -> Event<'a>
 fn link_tag<'a>(tables: &mut Allocations<'a>, ix: LinkIndex) -> Tag<'a>
     requires { HasLink tables.old ix }
     ensures tag { tag_view result ≡ link (link_at tables.old.links ix.0) }
-    ensures from { (source : List ℕ) → HasSliceLink source (tables_of tables.old) ix.0 → TagIsFrom source result }
+    ensures from { (source : List ℕ) (end : ℕ) → HasSliceLink source (tables_of tables.old) end ix.0
+        → TagIsFrom source end result }
     ensures left { LeavesEmptyLink tables.old tables.new ix }
 {
     let (link_type, dest_url, title, id) = tables.take_link(ix);
@@ -187,7 +190,8 @@ fn link_tag<'a>(tables: &mut Allocations<'a>, ix: LinkIndex) -> Tag<'a>
 fn image_tag<'a>(tables: &mut Allocations<'a>, ix: LinkIndex) -> Tag<'a>
     requires { HasLink tables.old ix }
     ensures tag { tag_view result ≡ image (link_at tables.old.links ix.0) }
-    ensures from { (source : List ℕ) → HasSliceLink source (tables_of tables.old) ix.0 → TagIsFrom source result }
+    ensures from { (source : List ℕ) (end : ℕ) → HasSliceLink source (tables_of tables.old) end ix.0
+        → TagIsFrom source end result }
     ensures left { LeavesEmptyLink tables.old tables.new ix }
 {
     let (link_type, dest_url, title, id) = tables.take_link(ix);

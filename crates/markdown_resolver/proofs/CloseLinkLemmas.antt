@@ -15,15 +15,18 @@ use Rattle.markdown_brackets.specs.ClosingBracket.{linked}
 use Rattle.markdown_brackets.specs.DecisionView.{IsBecome, opener_of}
 use Rattle.markdown_brackets.specs.LeftList.{Entry, Split, before_link, inside}
 use Rattle.markdown_brackets.specs.LookupView.{target_view}
+use Rattle.markdown_brackets.specs.TargetOrigins.{IsTargetFrom}
 use Rattle.markdown_brackets.specs.declared.closing_bracket.ClosedBracket.TheVariants.{Link}
 use Rattle.markdown_brackets.specs.declared.look_up.Target.{Target}
 use Rattle.markdown_brackets.specs.declared.openers.Opener.{Opener}
 use Rattle.markdown_document.specs.ChainRest.{start_of, end_of}
 use Rattle.markdown_document.specs.Document.{Label, Plain, enclosed, label_of}
-use Rattle.markdown_document.specs.Origins.{IsLinkFrom, Origin, destination_origin, made, origin_of}
+use Rattle.markdown_document.specs.LinkOrigins.{IsLinkFrom, IsTitleFrom, LinkOrigins, destination_origin}
+use Rattle.markdown_document.specs.Origins.{made, origin_of}
 use Rattle.markdown_document.specs.Tables.{Named, Tables, link_at, link_view, number_of, size_for, some_alignments, some_link, some_text}
-use Rattle.markdown_document.specs.Tables.{tables_of}
+use Rattle.markdown_document.specs.Tables.{link_origins, tables_of}
 use Rattle.markdown_document.specs.Totals.{times_named}
+use Rattle.markdown_brackets.proofs.TailTitleLemmas.{title_wider}
 use Rattle.markdown_resolver.specs.ClosedOver.{CanClose, CanPutOver, PutsOver, over_inside}
 use Rattle.markdown_resolver.specs.Closes.{ClosesAt, PutsClosed}
 use Rattle.markdown_resolver.specs.PutsTrees.{numbered_label, without_numbers}
@@ -36,16 +39,22 @@ use Rattle.markdown_resolver.proofs.StandsToLemmas.{link_stands}
 use Rattle.markdown_defs.specs.Allocations.{Allocated, LinkParts, with_link}
 
 -- what becomes a link or an image
-pub record BecomesLink (becomes : Becomes ℕ) (opener : Opener) (view : LinkView) (end next : ℕ) : Type 0 where
+pub record BecomesLink (text : List ℕ) (becomes : Becomes ℕ) (opener : Opener) (found : Target) (end next : ℕ) : Type 0 where
   pub split : Split ℕ
-  pub is : becomes ≡ a_link split view end next
+  pub is : becomes ≡ a_link split (target_view found) end next
   pub opener_is : opener ≡ opener_of split
+  pub from : IsTargetFrom text (start_of split.opener) end found
 
 pub becomes_link : (w : Around) (becomes : Becomes ℕ) (opener : Opener) (found : Target) (end next : ℕ)
     → IsBecome w becomes (Link opener found end next)
-    → BecomesLink becomes opener (target_view found) end next
+    → BecomesLink w.setting.text becomes opener found end next
 becomes_link w a_text opener found end next h = absurd h
-becomes_link w (a_link o target e n) opener found end next h = record { split = o; is = rw (h.1, h.2, h.3) refl; opener_is = h.0 }
+becomes_link w (a_link o target e n) opener found end next h = record {
+  split = o;
+  is = rw (h.1, h.2, h.3) refl;
+  opener_is = h.0;
+  from = rw h.2 h.4;
+}
 becomes_link w (a_footnote o name) opener found end next h = absurd h
 becomes_link w (a_wikilink o v e) opener found end next h = absurd h
 
@@ -67,12 +76,13 @@ pub link_item : (nodes : List (Node Item)) (opener : Opener) (number : LinkIndex
 link_item nodes opener number end begin b begins is = rw (begins, is) refl
 
 -- its destination may have been made, unless it is an autolink or a wikilink
-made_link : (source : List ℕ) (origin : Origin) (view : LinkView) → destination_origin view.kind ≡ made → IsLinkFrom source origin view
-made_link source origin view other slice = cc (other, slice)
+made_link : (source : List ℕ) (start end : ℕ) (origins : LinkOrigins) (view : LinkView) → destination_origin view.kind ≡ made
+    → IsTitleFrom source start end view.kind origins.title view.title → IsLinkFrom source start end origins view
+made_link source start end origins view other title = record { leads = λ slice. cc (other, slice); title = title }
 
 -- it can be put in place, where it lies in the text
 pub can_put_link : (source : List ℕ) (tables tables' : Tables) (is_image : Bool) (number : LinkIndex) (view : LinkView) (start end : ℕ)
-    → PutsLink source tables tables' number view
+    → PutsLink source end tables tables' number view
     → start ≤ end → IsCharBoundary source start → IsCharBoundary source end
     → CanPut source tables tables' (link_over is_image number start end)
 can_put_link source tables tables' true number view start end put ordered from to = record {
@@ -120,7 +130,8 @@ link_label source tables tag false number view start start' end e found = rw (e,
 
 pub linked_label : (source : List ℕ) (tables tables' : Tables) (nodes : List (Node Item)) (o : Split ℕ) (number : LinkIndex)
     (view : LinkView) (end : ℕ)
-    → o.opener ≡ numbered_label source tables nodes o.opener.tag → PutsLink source tables tables' number view
+    → o.opener ≡ numbered_label source tables nodes o.opener.tag
+    → PutsLink source end tables tables' number view
     → label_of source tables' (link_from nodes (opener_of o) number end) ≡ record { tag = tt; part = (linked o view end).part }
 linked_label source tables tables' nodes o number view end is put =
     link_label source tables' o.opener.tag o.mark.is_image number view (item_at nodes o.opener.tag).start (start_of o.opener) end
@@ -129,7 +140,8 @@ linked_label source tables tables' nodes o number view end is put =
 -- a link that ends between characters, at the `]` or later
 pub link_over_opener : (source : List ℕ) (tables tables' : Tables) (nodes : List (Node Item)) (first closer : ℕ) (o : Split ℕ)
     (number : LinkIndex) (view : LinkView) (end byte : ℕ)
-    → OpenerAt source tables nodes first closer o → PutsLink source tables tables' number view → IsCharBoundary source end
+    → OpenerAt source tables nodes first closer o → PutsLink source end tables tables' number view
+    → IsCharBoundary source end
     → (item_at nodes closer).end ≤ end → end ≤ byte
     → CanPutOver source tables tables' nodes o.opener.tag (link_from nodes (opener_of o) number end) byte
 link_over_opener source tables tables' nodes first closer o number view end byte at put between behind le =
@@ -148,7 +160,7 @@ link_over_opener source tables tables' nodes first closer o number view end byte
 -- it can be put in place of an opener, up to a byte offset, once its entry is in its table
 pub record MayLink (source : List ℕ) (tables tables' : Tables) (nodes : List (Node Item)) (closer : ℕ) (o : Split ℕ) (opener : Opener)
     (number : LinkIndex) (view : LinkView) (end byte : ℕ) (item : Item) : Type 0 where
-  pub put : PutsLink source tables tables' number view
+  pub put : PutsLink source end tables tables' number view
   pub is : item ≡ link_from nodes opener number end
   pub close : CanClose source tables nodes opener.node closer (inside_numbers o) byte
   pub over : CanPutOver source tables tables' nodes opener.node item byte
@@ -156,15 +168,18 @@ pub record MayLink (source : List ℕ) (tables tables' : Tables) (nodes : List (
 pub may_link : {source : List ℕ} {nodes : List (Node Item)} {first closer : ℕ} {left : List (Entry ℕ)} {w : Around} {c : Closing ℕ}
     {o : Split ℕ} {opener : Opener} {view : LinkView} {end byte : ℕ} (held held' : Allocated) (parts : LinkParts) (number : LinkIndex)
     (begin : Item) (b : ItemBody) → ClosesAt source (tables_of held) nodes first closer left w c (a_link o view end byte)
-    → opener ≡ opener_of o → held' ≡ with_link held parts → number.0 ≡ length held.links → link_view parts ≡ view
+    → opener ≡ opener_of o → IsTitleFrom source (start_of o.opener) end view.kind (origin_of parts.2) view.title
+    → held' ≡ with_link held parts → number.0 ≡ length held.links → link_view parts ≡ view
     → begin ≡ item_at nodes opener.node → b ≡ (if opener.is_image then body.Image number else body.Link number)
     → MayLink source (tables_of held) (tables_of held') nodes closer o opener number view end byte (item_over begin.start end b)
-may_link {source} {nodes} {first} {closer} {left} {w} {c} {o} {opener} {view} {end} {byte} held held' parts number begin b closes is put
-    last same begins body_is =
+may_link {source} {nodes} {first} {closer} {left} {w} {c} {o} {opener} {view} {end} {byte} held held' parts number begin b closes is
+    title put last same begins body_is =
     let tables = tables_of held in
     let tables' = tables_of held' in
-    let there = link_put source held held' parts number view put last (made_link source (origin_of parts.1) view closes.ends.4) same in
     let at = opener_at source tables nodes first closer left o closes.stands closes.splits in
+    let wide = title_wider source (start_of o.opener) end 0 end view.kind (origin_of parts.2) view.title (omega arith) (omega arith) title in
+    let there = link_put source end held held' parts number view put last
+    (made_link source 0 end (link_origins parts) view closes.ends.4 wide) same in
     let behind : (item_at nodes closer).end ≤ end = subst (λ (a : Label ℕ). end_of a ≤ end) closes.label_is closes.ends.2 in
     let item : item_over begin.start end b ≡ link_from nodes opener number end = link_item nodes opener number end begin b begins body_is in
     record {

@@ -25,8 +25,9 @@ use Rattle.markdown_brackets.specs.declared.wikilink_nodes.ShownNodes.{ShownNode
 use Rattle.markdown_brackets.specs.declared.wikilink_nodes.ShownNodes.TheVariants.{From, Over}
 use Rattle.markdown_document.specs.ChainRest.{begun_at, cut_shape, end_of, past_byte, start_of}
 use Rattle.markdown_document.specs.Document.{Label, Plain, Shape, backslash_break, enclosed, label_of, leaf, plain, unresolved}
-use Rattle.markdown_document.specs.Origins.{IsLinkFrom, Origin, StandsIn, origin_of, sliced}
-use Rattle.markdown_document.specs.Tables.{Tables, link_view, tables_of}
+use Rattle.markdown_document.specs.LinkOrigins.{IsLinkFrom, LinkOrigins}
+use Rattle.markdown_document.specs.Origins.{IsSliceWithin, origin_of, sliced}
+use Rattle.markdown_document.specs.Tables.{Tables, link_origins, link_view, tables_of}
 use Rattle.markdown_document.specs.Waiting.{is_quiet}
 use Rattle.markdown_defs.specs.Allocations.{Allocated, LinkParts, with_link}
 use Rattle.markdown_resolver.specs.ClosedOver.{CanClose, CanPutOver, CanShow, PutsOver, first_trees, over_shown, over_text, trees_past}
@@ -185,7 +186,7 @@ can_wikilink : (source : List ℕ) (tables tables' : Tables) (nodes : List (Node
     (w : Around) (c : Closing ℕ) (o : Split ℕ) (opener : Opener)
     (number : LinkIndex) (v : Wikilink ℕ) (end : ℕ) → ClosesAt source tables nodes first closer left w c (a_wikilink o v end)
     → opener ≡ opener_of o
-    → PutsLink source tables tables' number (wikilink_target v)
+    → PutsLink source end tables tables' number (wikilink_target v)
     → CanWikilink source tables tables' nodes closer o opener number end
 can_wikilink source tables tables' nodes first closer left w c o opener number v end closes is put =
     let at = opener_at source tables nodes first closer left o closes.stands closes.splits in
@@ -202,9 +203,12 @@ target_is : (has_pothole : Bool) (name : List ℕ) (v : Wikilink ℕ) → has_po
 target_is has_pothole name v e e' = rw (e, e') refl
 
 -- the entry of a wikilink leads to its name in the source
-name_from : (source : List ℕ) (origin : Origin) (v : Wikilink ℕ) → origin ≡ sliced → StandsIn source v.name
-    → IsLinkFrom source origin (wikilink_target v)
-name_from source origin v is stands e = record { destination = rw is stands; no_title = refl; no_label = refl }
+name_from : (source : List ℕ) (end : ℕ) (origins : LinkOrigins) (v : Wikilink ℕ) → origins.destination ≡ sliced
+    → IsSliceWithin source 0 end v.name → IsLinkFrom source 0 end origins (wikilink_target v)
+name_from source end origins v is slice = record {
+  leads = λ e. record { destination = rw is slice; no_title = refl; no_label = refl };
+  title = tt;
+}
 
 -- its opener is a node
 pub opener_there : {source : List ℕ} {tables : Tables} {nodes : List (Node Item)} {first closer : ℕ} {left : List (Entry ℕ)} {w : Around}
@@ -225,7 +229,7 @@ pub record MayShow (source : List ℕ) (tables tables' : Tables) (nodes : List (
   pub is : becomes ≡ a_wikilink split found end
   pub opener_is : opener ≡ opener_of split
   pub closes : ClosesAt source tables nodes first closer left w c (a_wikilink split found end)
-  pub put : PutsLink source tables tables' number (wikilink_target found)
+  pub put : PutsLink source end tables tables' number (wikilink_target found)
   pub item_is : item ≡ link_from nodes opener number end
   pub close : CanClose source tables nodes opener.node closer (inside_numbers split) end
   pub over : CanPutOver source tables tables' nodes opener.node item end
@@ -252,8 +256,8 @@ may_show {source} {nodes} {first} {closer} {left} {w} {c} {becomes} held held' o
     let tables' = tables_of held' in
     let i = wikilink_is w becomes opener name has_pothole shown end h in
     let so = subst (ClosesAt source tables nodes first closer left w c) i.is closes in
-    let there = link_put source held held' link number (wikilink_target i.found) put last (name_from source (origin_of link.1) i.found
-    origin so.ends.2)
+    let there = link_put source end held held' link number (wikilink_target i.found) put last
+    (name_from source end (link_origins link) i.found origin so.ends.2)
     (view ∙ target_is has_pothole name.now i.found i.pothole_is i.name_is) in
     let can = can_wikilink source tables tables' nodes first closer left w c i.split opener number i.found end so i.opener_is there in
     let item : item_over begin.start end b ≡ link_from nodes opener number end = link_item nodes opener number end begin b begins body_is in
@@ -333,7 +337,7 @@ by_name : (source : List ℕ) (tables tables' : Tables) (old new : List (Node It
     (left : List (Entry ℕ)) (w : Around) (c : Closing ℕ) (o : Split ℕ)
     (opener : Opener) (number : LinkIndex) (v : Wikilink ℕ) (end n from to : ℕ)
     → ClosesAt source tables old first closer left w c (a_wikilink o v end) → opener ≡ opener_of o
-    → PutsLink source tables tables' number (wikilink_target v) → CanName source tables tables' w o v n from to
+    → PutsLink source end tables tables' number (wikilink_target v) → CanName source tables tables' w o v n from to
     → PutsOver source opener.node closer (inside_numbers o) (over_text source tables' (link_from old opener number end)
     (text_item_over from to)) end (opener.node ∷ []) next old new tables tables'
     → PutsClosed source first closer next left w c (a_wikilink o v end) old new tables tables'
@@ -457,7 +461,7 @@ by_shown : (source : List ℕ) (tables tables' : Tables) (old new : List (Node I
     (left : List (Entry ℕ)) (w : Around) (c : Closing ℕ) (o : Split ℕ)
     (opener : Opener) (number : LinkIndex) (v : Wikilink ℕ) (end n from : ℕ)
     → ClosesAt source tables old first closer left w c (a_wikilink o v end) → opener ≡ opener_of o
-    → PutsLink source tables tables' number (wikilink_target v) → (s : ShowsFrom source old o v n from)
+    → PutsLink source end tables tables' number (wikilink_target v) → (s : ShowsFrom source old o v n from)
     → PutsOver source opener.node closer (inside_numbers o) (over_shown source tables' (link_from old opener number end) (length s.skipped)
     from) end (opener.node ∷ []) next old new tables tables'
     → PutsClosed source first closer next left w c (a_wikilink o v end) old new tables tables'

@@ -33,6 +33,7 @@ use Rattle.markdown_spans.specs.Finds.{code_found, find_by, is_escaped, text_bet
 use Rattle.markdown_spans.specs.SpanClosers.{ClosesCode, item_in}
 use Rattle.markdown_spans.specs.declared.span_text.SpanKind.TheVariants.{Code}
 use Rattle.markdown_defs.specs.Allocations.{Allocated, LinkParts, with_cow}
+use Rattle.markdown_spans.proofs.SliceLemmas.{sliced_wider}
 use Rattle.markdown_resolver.specs.Chains.{CanResolve}
 use Rattle.markdown_resolver.specs.PutCode.{CanPutCode, CanPutSpan, code_standing}
 use Rattle.markdown_resolver.specs.Rewritten.{IsFoundAt, first_past, settled}
@@ -224,11 +225,12 @@ origin_put held held' cow ix put number =
     ap (λ (h : Allocated). origin_at h.cows ix.0) put ∙ origin_pushed held.cows cow ix.0 number
 
 -- the same for the number that putting it in returns
-pub cow_stored : (source : List ℕ) (held held' : Allocated) (cow : CowStr) (origin : Origin) (r : Result CowIndex Fault)
-    → origin_of cow ≡ origin → IsSlicedOf source (origin_of cow) (text_of cow) → IfOk r (λ ix. ix.0 ≡ length held.cows)
-    → IfOk r (λ ix. held' ≡ with_cow held cow) → IfOk r (λ ix. StoresText source (tables_of held) (tables_of held') ix origin)
-cow_stored source held held' cow origin (Err fault) is slice number put = tt
-cow_stored source held held' cow origin (Ok ix) is slice number put =
+pub cow_stored : (source : List ℕ) (start end : ℕ) (held held' : Allocated) (cow : CowStr) (origin : Origin) (r : Result CowIndex Fault)
+    → origin_of cow ≡ origin → IsSlicedOf source start end (origin_of cow) (text_of cow) → IfOk r (λ ix. ix.0 ≡ length held.cows)
+    → IfOk r (λ ix. held' ≡ with_cow held cow)
+    → IfOk r (λ ix. StoresText source start end (tables_of held) (tables_of held') ix origin)
+cow_stored source start end held held' cow origin (Err fault) is slice number put = tt
+cow_stored source start end held held' cow origin (Ok ix) is slice number put =
     let stored = text_put held held' cow ix (text_of cow) put number refl in
     let from = origin_put held held' cow ix put number in
     record {
@@ -274,7 +276,7 @@ two_at_least (suc (suc n)) h = omega arith
 can_put_code : (source : List ℕ) (tables tables' : Tables) (nodes : List (Node Item)) (ix x count : ℕ) (escaped : Bool) (cow : CowIndex)
     (origin : Origin)
     → CanResolve source tables nodes (Some ix) → (item_at nodes ix).body ≡ body.MaybeCode count escaped → ClosesCode nodes ix (Some x)
-    → x < length nodes → StoresText source tables tables' cow origin
+    → x < length nodes → StoresText source (item_at nodes ix).end (item_at nodes x).start tables tables' cow origin
     → CanPutCode source tables tables' nodes ix x (body.Code cow)
 can_put_code source tables tables' nodes ix x count escaped cow origin ready is closes within puts =
     let o = opens_chain source tables nodes ix ready in
@@ -302,7 +304,8 @@ can_put_code source tables tables' nodes ix x count escaped cow origin ready is 
                 = there.lies.end;
           };
           named = record { text = puts.within; link = tt; alignments = tt; attributes = tt };
-          slices = puts.slice;
+          slices = sliced_wider source (item_at nodes ix).end (item_at nodes x).start 0 (item_at nodes x).end
+              (origin_at tables'.cows cow.0) (text_at tables'.cows cow.0) (omega arith) there.lies.ordered puts.slice;
           new_names = λ n old. code_names tables cow n puts.number old;
         }
     by true e two =
@@ -327,7 +330,8 @@ can_put_code source tables tables' nodes ix x count escaped cow origin ready is 
             no_block = refl;
             lies = record { ordered = omega (arith, byte.0, there.behind, there.lies.ordered); start = byte.1; end = there.lies.end };
             named = record { text = puts.within; link = tt; alignments = tt; attributes = tt };
-            slices = puts.slice;
+            slices = sliced_wider source item.end (item_at nodes x).start 0 (item_at nodes x).end
+                (origin_at tables'.cows cow.0) (text_at tables'.cows cow.0) (omega arith) there.lies.ordered puts.slice;
             new_names = λ n old. code_names tables cow n puts.number old;
           };
           names_nothing = text_names;
@@ -358,13 +362,15 @@ pub record FoundCode (source : List ℕ) (tables tables' : Tables) (nodes : List
   pub can : CanPutCode source tables tables' nodes ix x (body.Code cow)
 
 pub found_code : (source : List ℕ) (tables tables' : Tables) (nodes : List (Node Item)) (ix x count : ℕ) (escaped : Bool) (cow : CowIndex)
-    (origin : Origin) (found : Option ℕ)
+    (origin : Origin) (found : Option ℕ) (opener closer : Item)
     → CanResolve source tables nodes (Some ix) → (item_at nodes ix).body ≡ body.MaybeCode count escaped
-    → ClosesCode nodes ix found → found ≡ Some x → IfSome found (λ x. x < length nodes) → StoresText source tables tables' cow origin
+    → ClosesCode nodes ix found → found ≡ Some x → IfSome found (λ x. x < length nodes)
+    → opener ≡ item_at nodes ix → closer ≡ item_at nodes x → StoresText source opener.end closer.start tables tables' cow origin
     → FoundCode source tables tables' nodes ix x cow
-found_code source tables tables' nodes ix x count escaped cow origin found ready is closes here within stored =
+found_code source tables tables' nodes ix x count escaped cow origin found opener closer ready is closes here within opens ends stored =
     let there : ClosesCode nodes ix (Some x) = subst (ClosesCode nodes ix) here closes in
     record {
       closes = there;
-      can = can_put_code source tables tables' nodes ix x count escaped cow origin ready is there (rw here at within) stored;
+      can = can_put_code source tables tables' nodes ix x count escaped cow origin ready is there (rw here at within)
+          (rw (opens, ends) at stored);
     }

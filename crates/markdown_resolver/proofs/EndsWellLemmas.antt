@@ -38,10 +38,12 @@ use Rattle.markdown_brackets.specs.declared.footnote.FootnoteStyle.{FootnoteStyl
 use Rattle.markdown_brackets.proofs.OpenerHeldLemmas.{trees_stay}
 use Rattle.markdown_document.specs.ChainRest.{end_of, open_body, start_of}
 use Rattle.markdown_document.specs.Document.{Label}
-use Rattle.markdown_document.specs.Origins.{StandsIn, destination_origin, made}
+use Rattle.markdown_document.specs.LinkOrigins.{destination_origin}
+use Rattle.markdown_document.specs.Origins.{IsSliceWithin, made}
 use Rattle.markdown_document.specs.Tables.{Tables}
 use Rattle.markdown_defs.specs.Definitions as definitions
 use Rattle.markdown_defs.specs.Definitions.{Labelled}
+use Rattle.markdown_spans.proofs.SliceLemmas.{slice_wider}
 use Rattle.markdown_resolver.specs.Closes.{CanGoOn, EndsWell, ShowsWell}
 use Rattle.markdown_resolver.specs.PutsTrees.{numbered_from, numbered_label}
 use Rattle.markdown_resolver.specs.ReadOn.{StandsTo}
@@ -50,7 +52,7 @@ use Rattle.markdown_resolver.proofs.GoesOnLemmas.{EndsThere, StandsBehind, ends_
 use Rattle.markdown_resolver.proofs.GoesOnLemmas.{second_ends}
 use Rattle.markdown_resolver.proofs.StandsToLemmas.{stands_rest}
 use Rattle.markdown_resolver.proofs.TailEndLemmas.{tail_closes}
-use Rattle.markdown_resolver.proofs.WikilinkShowsLemmas.{AllLie, inside_lies, left_lies, names_stand, shows_well}
+use Rattle.markdown_resolver.proofs.WikilinkShowsLemmas.{AllLie, inside_lies, left_lies, names_slice, shows_well}
 
 -- a reference is written in collapsed form only where a `]` starts after the next byte
 collapsed_stands : (style : FootnoteStyle) (skipped : List ℕ → Option ℕ) (in_table : Bool) (text : List ℕ) (p : ℕ)
@@ -84,10 +86,11 @@ pub record MayGoOn (source : List ℕ) (w : Around) (c : Closing ℕ) : Type 0 w
   pub labelled : (i : ℕ) → closer_ends_at i c.rest ≡ true → CanGoOn source c i
   pub emptied : form_of w c ≡ collapsed → CanGoOn source c (end_of c.label + 2)
   pub doubled : (a : Label ℕ) (below after : Forest (Label ℕ)) → c.rest ≡ node a below after → CanGoOn source c (end_of a)
-  -- a wikilink of a body before it shows what can be shown, and its name is a slice of the text
+  -- a wikilink of a body before it shows what can be shown, and its name is a slice of the source before the `]`
   pub shows : (f : Forest (Label ℕ)) (v : Wikilink ℕ) → AllLie source f → wikilink_in w f (start_of c.label) ≡ Some v
       → ShowsWell source f v.children
-  pub names : (f : Forest (Label ℕ)) (v : Wikilink ℕ) → wikilink_in w f (start_of c.label) ≡ Some v → StandsIn source v.name
+  pub names : (f : Forest (Label ℕ)) (v : Wikilink ℕ) → wikilink_in w f (start_of c.label) ≡ Some v
+      → IsSliceWithin source 0 (end_of c.label) v.name
 
 -- what is written ends like this
 EndsSo : List ℕ → Closing ℕ → (end next : ℕ) → Type 0
@@ -231,19 +234,23 @@ module _ (source : List ℕ) (w : Around) (c : Closing ℕ) (may : MayGoOn sourc
   one_well : (p : Progress ℕ) → EndsWell source c (one_decided w c p).becomes
   one_well p = opener_well (nearest opens_bracket p.left) (record p { left = bracket_taken p.left })
 
+  -- what a wikilink shows and its name
+  abbrev Shows : Split ℕ → Wikilink ℕ → Type 0
+  Shows o v = ShowsWell source (past_second (inside o)) v.children × IsSliceWithin source 0 (end_of c.label) v.name
+
   wikilink_well : (end : ℕ) (left : List (Entry ℕ)) (found : Option (Split ℕ)) (p : Progress ℕ) → CanGoOn source c end
       → AllLie source (trees_onto left nil)
       → nearest opens_wikilink left ≡ found → EndsWell source c (wikilink_tried w c end found p).becomes
   wikilink_well end left None p on lies e = one_well p
   wikilink_well end left (Some o) p on lies e = by_flag (is_live o.mark.wikilink)
     where
-      by : (v : Option (Wikilink ℕ)) → IfSome v (λ v. ShowsWell source (past_second (inside o)) v.children × StandsIn source v.name)
+      by : (v : Option (Wikilink ℕ)) → IfSome v (Shows o)
           → EndsWell source c (wikilink_or_one w c end o v p).becomes
       by None h = one_well (record p { left = wikilink_taken p.left })
-      by (Some v) h = (on, h.0, h.1)
+      by (Some v) h = (on, h.0, slice_wider source 0 (end_of c.label) 0 end v.name (omega arith) on.behind h.1)
 
       shown : (v : Option (Wikilink ℕ)) → wikilink_in w (past_second (inside o)) (start_of c.label) ≡ v
-          → IfSome v (λ v. ShowsWell source (past_second (inside o)) v.children × StandsIn source v.name)
+          → IfSome v (Shows o)
       shown None same = tt
       shown (Some v) same = (
         may.shows (past_second (inside o)) v (inside_lies source opens_wikilink left o lies e) same,
@@ -277,8 +284,9 @@ module _ (source : List ℕ) (w : Around) (c : Closing ℕ) (may : MayGoOn sourc
 -- the chain after a `]` can continue at each of these byte offsets
 may_go_on : (source : List ℕ) (tables : Tables) (nodes : List (Node Item)) (w : Around) (c : Closing ℕ) (f : Forest ℕ)
     → StandsBehind source tables nodes c f
-    → IsCharBoundary source (start_of c.label) → w.setting.text ≡ source → IsUtf8 source → MayGoOn source w c
-may_go_on source tables nodes w c f k starts text utf8 = record {
+    → IsCharBoundary source (start_of c.label) → start_of c.label ≤ end_of c.label → w.setting.text ≡ source → IsUtf8 source
+    → MayGoOn source w c
+may_go_on source tables nodes w c f k starts ordered text utf8 = record {
   here = goes_on_here source tables nodes c f k;
   closed = λ t e.
       let closes = tail_closes (lines w) (start_of_first_past c.rest) (block_text w) (end_of c.label) t e in
@@ -305,7 +313,9 @@ may_go_on source tables nodes w c f k starts text utf8 = record {
       subst (λ (bytes : List ℕ). IsUtf8 bytes → AllLie bytes g → IsCharBoundary bytes (start_of c.label)
       → ShowsWell bytes g v.children) text
       (λ u l b. shows_well w g (start_of c.label) v u l b e) utf8 lies starts;
-  names = λ g v e. subst (λ (bytes : List ℕ). StandsIn bytes v.name) text (names_stand w g (start_of c.label) v e);
+  names = λ g v e.
+      slice_wider source 0 (start_of c.label) 0 (end_of c.label) v.name (omega arith) ordered
+          (subst (λ (bytes : List ℕ). IsSliceWithin bytes 0 (start_of c.label) v.name) text (names_slice w g (start_of c.label) v e));
 }
   where
     first_ends : (g : Forest ℕ) (a : Label ℕ) (below after : Forest (Label ℕ)) → StandsBehind source tables nodes c g
@@ -342,7 +352,8 @@ ends_well source tables nodes first closer left w c p becomes q h label rest tex
       ordered = subst (λ (i : ℕ). InOrder nodes i (roots f)) end o.ordered;
       between = subst (IsCharBoundary source) end o.placed.lies.end;
     } in
-    let may = may_go_on source tables nodes w c f k (subst (IsCharBoundary source) start o.placed.lies.start) text utf8 in
+    let may = may_go_on source tables nodes w c f k (subst (IsCharBoundary source) start o.placed.lies.start)
+    (rw label o.placed.lies.ordered) text utf8 in
     let lies : AllLie source (trees_onto p.left nil) = subst (λ (l : List (Entry ℕ)). AllLie source (trees_onto l nil)) (sym stands)
     (left_lies source tables nodes first (Some closer) left h) in
     subst (λ (d : Decision ℕ). EndsWell source c d.becomes) e (decided_well source w c may p lies)

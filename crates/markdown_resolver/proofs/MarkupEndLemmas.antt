@@ -21,13 +21,13 @@ use Rattle.markdown_base.specs.declared.item.Item.{Item}
 use Rattle.markdown_base.specs.declared.item.ItemBody.{ItemBody}
 use Rattle.markdown_base.specs.declared.node.Node.{Node}
 use Rattle.markdown_base.proofs.ArenaForestLemmas.{opens}
-use Rattle.markdown_document.specs.Origins.{StandsIn}
+use Rattle.markdown_document.specs.Origins.{IsSliceWithin}
 use Rattle.markdown_document.specs.Places.{IsPlaced}
 use Rattle.markdown_document.specs.Tables.{Tables}
 use Rattle.markdown_spans.specs.AfterLess.{Markup, autolink, html, declared_end, html_at, markup_at, unbroken}
 use Rattle.markdown_spans.specs.Autolink.{begins_scheme, closed_uri, uri_length, uri_autolink}
 use Rattle.markdown_spans.specs.Finds.{end_of_markup}
-use Rattle.markdown_spans.proofs.SliceLemmas.{stands_between}
+use Rattle.markdown_spans.proofs.SliceLemmas.{slice_between, slice_wider}
 use Rattle.markdown_raw_html.specs.HtmlTag.{html_tag}
 use Rattle.markdown_raw_html.specs.LinePrefix.{prefix_after}
 use Rattle.markdown_raw_html.specs.RawHtml.{cdata_section, comment, declaration, end_from, processing_instruction}
@@ -189,20 +189,22 @@ uri_ends text at = by_byte (begins_scheme (drop at text)) (slice_index (drop at 
           closed = ap (λ i. get_or text i 0) (sym place) ∙ (sym (get_or-drop at text n 0) ∙ eqb-true (slice_index (drop at text) n) 62 e);
         }
 
--- the URI of an autolink is a slice of the text
-uri_stands : (text : List ℕ) (at : ℕ) → IfSome (uri_autolink text at) (λ found. StandsIn text found.1)
-uri_stands text at = by (closed_uri (drop at text))
+-- the URI of an autolink is a slice of the text, before its end
+uri_slice : (text : List ℕ) (at : ℕ) → IfSome (uri_autolink text at) (λ found. IsSliceWithin text at found.0 found.1)
+uri_slice text at = by (closed_uri (drop at text))
   where
     by : (size : Option ℕ) → IfSome {T = ℕ × List ℕ} (option_map (λ n. (at + n + 1, take n (drop at text))) size)
-        (λ found. StandsIn text found.1)
+        (λ found. IsSliceWithin text at found.0 found.1)
     by None = tt
     by (Some n) =
         let size : n ≡ at + n - at = omega arith in
-        stands_between text at (at + n) (take n (drop at text)) (ap (λ k. take k (drop at text)) size)
+        let bytes = take n (drop at text) in
+        slice_wider text at (at + n) at (at + n + 1) bytes (omega arith) (omega arith)
+        (slice_between text at (at + n) bytes (ap (λ k. take k (drop at text)) size))
 
--- an autolink has bytes after its `<`, and its URI is a slice of the text
+-- an autolink has bytes after its `<`, of which its URI is a slice
 abbrev pub EndsPast : List ℕ → ℕ → Markup → Type 0
-EndsPast text at (autolink end uri) = (at < end) × StandsIn text uri
+EndsPast text at (autolink end uri) = (at < end) × IsSliceWithin text at end uri
 EndsPast text at (html end bytes) = Unit {0}
 
 pub record MarkupEnds (text : List ℕ) (start at : ℕ) (m : Markup) : Type 0 where
@@ -215,11 +217,11 @@ pub markup_ends : (skipped : List ℕ → Option ℕ) (text : List ℕ) (start a
 unfolding markup_at
 markup_ends skipped text start at m later within e =
     subst (λ (o : Option Markup). IfSome o (MarkupEnds text start at)) e (first_of (uri_autolink text at) (html_at skipped text start at)
-    (uri_ends text at) (uri_stands text at)
+    (uri_ends text at) (uri_slice text at)
     (html_ends skipped text start at later within))
   where
     first_of : (uri : Option (ℕ × List ℕ)) (tag : Option (ℕ × Option (List ℕ))) → IfSome uri (λ found. EndsClosed text at found.0)
-        → IfSome uri (λ found. StandsIn text found.1)
+        → IfSome uri (λ found. IsSliceWithin text at found.0 found.1)
         → EndsAt text start tag
         → IfSome (option_or (option_map (λ found. autolink found.0 found.1) uri) (option_map (λ found. html found.0 found.1) tag))
         (MarkupEnds text start at)

@@ -3,7 +3,7 @@
 use Rattle.std.specs.Option.{option_map_or}
 use Rattle.std.specs.Prelude.{IfOk, slice_range}
 use Rattle.std.specs.declared.result.Result.{Result}
-use Rattle.std.proofs.Common.{Bool, Err, IsUtf8, List, None, Ok, Option, Some, ap, arith, false, length, refl, subst, sym, take, true, ℕ}
+use Rattle.std.proofs.Common.{Bool, Err, IsUtf8, List, None, Ok, Option, Some, ap, arith, false, length, refl, subst, sym, take, true, ℕ, ◌+◌}
 use Rattle.std.proofs.Common.{◌-◌, ◌<◌, ◌==◌, ◌∙◌, ◌≡◌, ◌≤◌}
 use Rattle.std.proofs.Math.Path.{fun_ext}
 use Rattle.std.proofs.lemmas.List.{length-take}
@@ -18,7 +18,7 @@ use Rattle.markdown_base.proofs.ArenaForestLemmas.{opens}
 use Rattle.markdown_document.specs.Above.{Above, above_cursor}
 use Rattle.markdown_document.specs.ChainRest.{next_starts_at, past}
 use Rattle.markdown_document.specs.Document.{plain_tags}
-use Rattle.markdown_document.specs.Origins.{StandsIn}
+use Rattle.markdown_document.specs.Origins.{IsSliceWithin}
 use Rattle.markdown_document.specs.Places.{IsPlaced, label_at, trees_from}
 use Rattle.markdown_document.specs.Setting.{Rules, Setting, setting_of}
 use Rattle.markdown_document.specs.Tables.{Tables, tables_of}
@@ -29,7 +29,7 @@ use Rattle.markdown_spans.specs.Finds.{prefix_below}
 use Rattle.markdown_spans.specs.PrefixView.{length_by}
 use Rattle.markdown_spans.specs.declared.prefixes.ContainerPrefix.{ContainerPrefix}
 use Rattle.markdown_spans.proofs.AfterLessLemmas.{closed_boundary}
-use Rattle.markdown_spans.proofs.SliceLemmas.{stands_within}
+use Rattle.markdown_spans.proofs.SliceLemmas.{slice_of_slice, slice_wider}
 use Rattle.markdown_defs.specs.Allocations.{Allocated}
 use Rattle.markdown_resolver.specs.ChainPlace.{CanReadItem, IsPlaceOf}
 use Rattle.markdown_resolver.specs.Chains.{CanResolve}
@@ -225,8 +225,12 @@ has_address place tree held ix (autolink end uri) can ends = record {
   some = ends.address.0;
   lies = address_lies place.text.now (tables_of held) tree.nodes ix place.block_end end can.ready
       (record { after = ends.address.0; within = ends.ends.within; closed = ends.ends.closed });
-  stands = stands_within place.text.now 0 place.block_end uri
-      (subst (λ (text : List ℕ). StandsIn text uri) (sym (text_up_to place.text.now place.block_end)) ends.address.1);
+  slice =
+      let item = item_at tree.nodes ix in
+      slice_wider place.text.now (0 + item.end) (0 + end) 0 end uri (omega arith) (omega arith)
+      (slice_of_slice place.text.now 0 place.block_end item.end end uri
+      (subst (λ (text : List ℕ). IsSliceWithin text item.end end uri) (sym (text_up_to place.text.now place.block_end))
+      ends.address.1));
 }
 
 pub markup_stands : (place : ChainPlace) (tree : Arena Item) (held : Allocated) (ix : ℕ) (prefix : ContainerPrefix) (m : Markup)

@@ -31,6 +31,7 @@ use Rattle.markdown_spans.specs.MathOpening.{dollar_at}
 use Rattle.markdown_spans.specs.SpanClosers.{ClosesMath, found_math, item_in}
 use Rattle.markdown_spans.specs.declared.span_closers.FoundMath.{FoundMath}
 use Rattle.markdown_spans.specs.declared.span_text.SpanKind.TheVariants.{Math}
+use Rattle.markdown_spans.proofs.SliceLemmas.{sliced_wider}
 use Rattle.markdown_resolver.specs.Chains.{CanResolve}
 use Rattle.markdown_resolver.specs.Rewritten.{CanPut, IsFoundAt, one, settled}
 use Rattle.markdown_resolver.specs.StoredText.{CanCut, StoresText}
@@ -342,11 +343,13 @@ pub record PutsMath (source : List ℕ) (tables tables' : Tables) (nodes : List 
   pub can : CanPut source tables tables' item
 
 pub puts_math : (source : List ℕ) (tables tables' : Tables) (nodes : List (Node Item)) (ix : ℕ) (m : FoundMath) (opener last : Item)
-    (cow : CowIndex) (origin : Origin) (found : Option FoundMath)
+    (cow : CowIndex) (origin : Origin) (found : Option FoundMath) (start : ℕ) (closer : Item)
     → CanResolve source tables nodes (Some ix) → is_dollar (item_at nodes ix).body ≡ true → ClosesMath nodes ix found → found ≡ Some m
-    → opener ≡ item_at nodes ix → last ≡ item_at nodes m.last → StoresText source tables tables' cow origin
+    → opener ≡ item_at nodes ix → last ≡ item_at nodes m.last → closer ≡ item_at nodes m.closer
+    → StoresText source start closer.start tables tables' cow origin
     → PutsMath source tables tables' nodes ix m cow (span_of opener last m cow)
-puts_math source tables tables' nodes ix m opener last cow origin found ready dollar closed here opens ends stored =
+puts_math source tables tables' nodes ix m opener last cow origin found start closes_at ready dollar closed here opens ends closer_is
+    stored =
     let is = (dollar_body (item_at nodes ix).body dollar).is in
     let o = opens_chain source tables nodes ix ready in
     let closes : ClosesMath nodes ix (Some m) = subst (ClosesMath nodes ix) here closed in
@@ -373,7 +376,9 @@ puts_math source tables tables' nodes ix m opener last cow origin found ready do
           end = last_placed.lies.end;
         };
         named = record { text = stored.within; link = tt; alignments = tt; attributes = tt };
-        slices = stored.slice;
+        slices = sliced_wider source start closes_at.start 0 (item_at nodes m.last).end
+            (origin_at tables'.cows cow.0) (text_at tables'.cows cow.0) (omega arith)
+            (rw closer_is (omega (arith, closer.lies.ordered, there.to_last))) stored.slice;
         new_names = λ n old. math_names tables cow m.display n stored.number old;
       });
     }

@@ -55,7 +55,7 @@ use Rattle.markdown_resolver.proofs.StandsToLemmas.{numbered_none, numbered_open
 
 -- an opener ends with its `[`, and begins with a byte that is a character
 pub record EndsWithBracket (source : List ℕ) (item : Item) : Type 0 where
-  pub opens : 0 < item.end
+  pub opens : item.start < item.end
   pub bracket : IsCharBoundary source (item.end - 1)
   pub mark : IsCharBoundary source (item.start + 1)
 
@@ -275,7 +275,7 @@ reads_on_opener {C} step s above first ix next left is_image old new spent brack
     let new_start : (item_at new.nodes ix).start ≡ item.start = ap (λ (c : Part). c.range.start) part in
     let opener : IsOpener s.text new.nodes ix = record {
       within = at.within;
-      opens = rw new_end ends.opens;
+      opens = rw (new_start, new_end) ends.opens;
       bracket = rw new_end ends.bracket;
       mark = rw new_start ends.mark;
       closed = text_closed old.tables (slice_range s.text (item_at new.nodes ix).start (item_at new.nodes ix).end)

@@ -19,7 +19,7 @@ use Rattle.markdown_base.specs.declared.node.Node.{Node}
 use Rattle.markdown_base.proofs.ArenaForestLemmas.{opens, forest_at-none}
 use Rattle.markdown_base.proofs.ArenaLemmas.{length-changed_at}
 use Rattle.markdown_base.specs.Event.{code}
-use Rattle.markdown_document.specs.Origins.{Origin, made, origin_at, sliced}
+use Rattle.markdown_document.specs.Origins.{Origin, inlined, made, origin_at, sliced}
 use Rattle.markdown_document.specs.ChainRest.{begun_at, end_of, cut_shape, past_byte}
 use Rattle.markdown_document.specs.Document.{Label, Plain, block_of, label_of, shape_of, leaf, math}
 use Rattle.markdown_document.specs.ItemRules.{StandsBefore, KeepsItemRules}
@@ -121,14 +121,17 @@ shape_begun tables bytes n (body.Code ix) = by (origin_at tables.cows ix.0)
     by : (origin : Origin) → leaf (code (text_at tables.cows ix.0)) (origin ∷ [])
         ≡ cut_shape n (leaf (code (text_at tables.cows ix.0)) (origin ∷ []))
     by sliced = refl
+    by inlined = refl
     by made = refl
 shape_begun tables bytes n (body.Math ix display) = by display (origin_at tables.cows ix.0)
   where
     by : (display : Bool) (origin : Origin) → leaf (math display (text_at tables.cows ix.0)) (origin ∷ [])
         ≡ cut_shape n (leaf (math display (text_at tables.cows ix.0)) (origin ∷ []))
     by true sliced = refl
+    by true inlined = refl
     by true made = refl
     by false sliced = refl
+    by false inlined = refl
     by false made = refl
 shape_begun tables bytes n other = refl
 

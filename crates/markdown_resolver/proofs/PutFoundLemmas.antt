@@ -41,7 +41,7 @@ no_markup source item closed = (keeps-closed source (record { number = 0; item =
 
 -- a node into which an item was written that is not open
 pub closed_head : (source : List ℕ) (ix : ℕ) (item : Item) (old mid : List (Node Item)) (tables t : Tables) → HasGrown tables t
-    → is_open item.body ≡ false → LiesIn source item → NamesEntries t item.body → HasSlices source t item.body
+    → is_open item.body ≡ false → LiesIn source item → NamesEntries t item.body → HasSlices source t item.end item.body
     → ((n : Named) → number_of n < size_for tables n → times_named n item.body ≡ 0) → item_at mid ix ≡ item → length old ≤ length mid
     → ((n : ℕ) → n < length old → (n ≡ ix → ⊥) → IsSameAt old mid n) → HeadWritten source ix old mid tables t
 closed_head source ix item old mid tables t grown closed lies entries slices names is more others = record {
@@ -196,7 +196,7 @@ leaf_below source ix inside old mid new tables t later next s h m b puts names w
     let placed : IsPlaced source later new k = record {
       lies = rw item puts.lies;
       named = rw item (entries-longer t later inside.body longer puts.named);
-      slices = rw item (slices-none source later inside.body names);
+      slices = rw item (slices-none source later inside.end inside.body names);
       keeps = keeps-closed source (numbered new k) (child_of new k) (next_at new k) (rw item puts.closed) (rw follows tt);
     } in
     let stays : Stays t later mid new k = record {

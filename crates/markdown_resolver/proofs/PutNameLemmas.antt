@@ -161,7 +161,7 @@ module _ (source : List ℕ) (tables t : Tables) (grown : HasGrown tables t) (ol
     placed = record {
       lies = rw item_is puts.lies;
       named = rw item_is (entries_of_none tables t text.body grown names_nothing puts.named);
-      slices = rw item_is (slices-none source tables text.body names_nothing);
+      slices = rw item_is (slices-none source tables text.end text.body names_nothing);
       keeps = keeps-closed source (numbered folded first) (child_of folded first) (next_at folded first) (rw item_is puts.closed)
           (rw follows tt);
     }

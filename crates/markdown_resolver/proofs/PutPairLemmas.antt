@@ -189,7 +189,7 @@ pair_begun source ix closer first second old mid tables t grown finds can v =
     let size = v.size in
     let h = closed_head source ix first old mid tables tables (grown-nothing tables) opener.closed opener.lies
     (entries_of_none tables t first.body grown can.names_nothing opener.named)
-    (slices-none source tables first.body can.names_nothing) (λ n k. can.names_nothing n) v.item_is (omega (arith, size))
+    (slices-none source tables first.end first.body can.names_nothing) (λ n k. can.names_nothing n) v.item_is (omega (arith, size))
     (λ n k d. v.others n d) in
     let a = after_head source ix old mid tables tables (stands_ready source tables old (Some ix) finds.ready) h in
     let listed : roots (forest_at (links_of mid) l) ≡ can.before ++ closer ∷ can.after = ap (λ (f : Forest ℕ). roots f) a.rest.forest

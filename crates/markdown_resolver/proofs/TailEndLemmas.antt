@@ -5,8 +5,8 @@ use Rattle.std.specs.Prelude.{IfSome, if◌then◌else◌, slice_index}
 use Rattle.std.specs.Option.{option_map}
 use Rattle.std.proofs.lemmas.Bool.{eqb-true}
 use Rattle.markdown_brackets.specs.LinkTail.{LinkTail, after_destination, after_title, closed_at, link_tail, past_separator}
-use Rattle.markdown_brackets.specs.LinkTitle.{Title, after_text, byte_shown, first_closer, is_line, next_line, opened_by, passed_with}
-use Rattle.markdown_brackets.specs.LinkTitle.{refuses, title_at, title_from}
+use Rattle.markdown_document.specs.LinkTitle.{Title, after_text, byte_shown, first_closer, is_line, next_line, opened_by, passed_with}
+use Rattle.markdown_document.specs.LinkTitle.{refuses, title_at, title_from}
 use Rattle.markdown_resolver.proofs.MarkupEndLemmas.{byte_there}
 
 -- a title ends where it begins, or later

@@ -29,12 +29,12 @@ use Rattle.markdown_brackets.proofs.OpenerHeldLemmas.{splits_at}
 use Rattle.markdown_brackets.proofs.WikilinkPipeLemmas.{some_in_block}
 use Rattle.markdown_document.specs.ChainRest.{begun_at, end_of, joined, past_byte, start_of}
 use Rattle.markdown_document.specs.Document.{Label, is_unresolved}
-use Rattle.markdown_document.specs.Origins.{StandsIn}
+use Rattle.markdown_document.specs.Origins.{IsSliceWithin}
 use Rattle.markdown_document.specs.Places.{IsPlaced}
 use Rattle.markdown_document.specs.Tables.{Tables}
 use Rattle.markdown_document.specs.Waiting.{is_quiet, waits_for_pairing}
 use Rattle.markdown_document.proofs.PlaceLemmas.{open-unresolved, shape-open}
-use Rattle.markdown_spans.proofs.SliceLemmas.{stands_between, stands_within}
+use Rattle.markdown_spans.proofs.SliceLemmas.{slice_between, slice_inside, slice_wider}
 use Rattle.markdown_resolver.specs.Closes.{FirstLies, IsNotCut, NoneOpenAround, ShowsWell}
 use Rattle.markdown_resolver.specs.Kept.{IsQuiet}
 use Rattle.markdown_resolver.specs.PutsTrees.{numbered_label}
@@ -262,57 +262,66 @@ shows_well w f end v utf8 all ends e = record {
   not_cut = λ at same. none_cut w.setting.text at f all;
 }
 
--- and its name is a slice of the text
-named_stands : (text name : List ℕ) (shows : Shows) → StandsIn text name → IfSome (named name shows) (λ b. StandsIn text b.name)
-named_stands text [] shows h = tt
-named_stands text (b ∷ name) shows h = h
+-- and its name is a slice of the text before the body's end
+named_slice : (text : List ℕ) (start end : ℕ) (name : List ℕ) (shows : Shows) → IsSliceWithin text start end name
+    → IfSome (named name shows) (λ b. IsSliceWithin text start end b.name)
+named_slice text start end [] shows h = tt
+named_slice text start end (b ∷ name) shows h = h
 
-pipe_stands : (text : List ℕ) (start end : ℕ)
+pipe_slice : (text : List ℕ) (start end : ℕ) → start ≤ end
     → IfSome {T = ℕ × List ℕ} (option_map (λ n. (start + n + 1, take n (slice_range text start end)))
-    (position (λ b. b == 124) (slice_range text start end))) (λ pipe. StandsIn text pipe.1)
-pipe_stands text start end = by (position (λ b. b == 124) body)
+    (position (λ b. b == 124) (slice_range text start end))) (λ pipe. IsSliceWithin text start end pipe.1)
+pipe_slice text start end order = by (position (λ b. b == 124) body)
   where
     body : List ℕ
     body = slice_range text start end
 
-    by : (found : Option ℕ) → IfSome {T = ℕ × List ℕ} (option_map (λ n. (start + n + 1, take n body)) found) (λ pipe. StandsIn text pipe.1)
+    by : (found : Option ℕ)
+        → IfSome {T = ℕ × List ℕ} (option_map (λ n. (start + n + 1, take n body)) found) (λ pipe. IsSliceWithin text start end pipe.1)
     by None = tt
     by (Some n) =
         let size : n ≡ n - 0 = omega arith in
-        stands_within text start end (take n body) (stands_between body 0 n (take n body) (ap (λ k. take k body) size))
+        slice_inside text start end n (take n body) order (slice_between body 0 n (take n body) (ap (λ k. take k body) size))
 
-cut_stands : (text : List ℕ) (start end : ℕ) (found : Option (ℕ × List ℕ)) → IfSome found (λ pipe. StandsIn text pipe.1)
-    → IfSome (cut_at text start end found) (λ b. StandsIn text b.name)
-cut_stands text start end None h = named_stands text (slice_range text start end) shows_name
-    (stands_between text start end (slice_range text start end) refl)
-cut_stands text start end (Some pipe) h = named_stands text pipe.1 (shown_from pipe.0 end) h
+cut_slice : (text : List ℕ) (start end : ℕ) (found : Option (ℕ × List ℕ)) → IfSome found (λ pipe. IsSliceWithin text start end pipe.1)
+    → IfSome (cut_at text start end found) (λ b. IsSliceWithin text start end b.name)
+cut_slice text start end None h = named_slice text start end (slice_range text start end) shows_name
+    (slice_between text start end (slice_range text start end) refl)
+cut_slice text start end (Some pipe) h = named_slice text start end pipe.1 (shown_from pipe.0 end) h
 
-body_stands : (text : List ℕ) (block_end start end : ℕ) → IfSome (wikilink_body text block_end start end) (λ b. StandsIn text b.name)
-body_stands text block_end start end = by (nat_lt start end) _
-    (some_in_block text block_end start (end - start) (λ pipe. StandsIn text pipe.1) (pipe_stands text start end))
+body_slice : (text : List ℕ) (block_end start end : ℕ)
+    → IfSome (wikilink_body text block_end start end) (λ b. IsSliceWithin text start end b.name)
+body_slice text block_end start end = by (nat_lt start end) refl _
+    (λ order. some_in_block text block_end start (end - start) (λ pipe. IsSliceWithin text start end pipe.1)
+    (pipe_slice text start end order))
   where
-    by : (order : Bool) (found : Option (ℕ × List ℕ)) → IfSome found (λ pipe. StandsIn text pipe.1)
-        → IfSome (if order then cut_at text start end found else None) (λ b. StandsIn text b.name)
-    by true found h = cut_stands text start end found h
-    by false found h = tt
+    by : (order : Bool) → nat_lt start end ≡ order → (found : Option (ℕ × List ℕ))
+        → (start ≤ end → IfSome found (λ pipe. IsSliceWithin text start end pipe.1))
+        → IfSome (if order then cut_at text start end found else None) (λ b. IsSliceWithin text start end b.name)
+    by true e found h =
+        let order : start ≤ end = grind (arith, nat_tests, e) in
+        cut_slice text start end found (h order)
+    by false e found h = tt
 
-name_stands : (w : Around) (f : Forest (Label ℕ)) (end : ℕ) → IfSome (wikilink_in w f end) (λ v. StandsIn w.setting.text v.name)
-name_stands w nil end = tt
-name_stands w (node first below after) end = by (wikilink_body w.setting.text w.above.block_end (start_of first) end)
-    (body_stands w.setting.text w.above.block_end (start_of first) end)
+name_slice : (w : Around) (f : Forest (Label ℕ)) (end : ℕ)
+    → IfSome (wikilink_in w f end) (λ v. IsSliceWithin w.setting.text 0 end v.name)
+name_slice w nil end = tt
+name_slice w (node first below after) end = by (wikilink_body w.setting.text w.above.block_end (start_of first) end)
+    (body_slice w.setting.text w.above.block_end (start_of first) end)
   where
-    made : (b : WikilinkBody) (children : Option (Forest (Label ℕ))) → StandsIn w.setting.text b.name
+    made : (b : WikilinkBody) (children : Option (Forest (Label ℕ))) → IsSliceWithin w.setting.text 0 end b.name
         → IfSome {T = Wikilink ℕ} (option_map (λ children. record { name = b.name; has_pothole = has_pothole b.shows; children = children })
-        children) (λ v. StandsIn w.setting.text v.name)
+        children) (λ v. IsSliceWithin w.setting.text 0 end v.name)
     made b None h = tt
     made b (Some children) h = h
 
-    by : (found : Option WikilinkBody) → IfSome found (λ b. StandsIn w.setting.text b.name)
-        → IfSome (option_and_then (wikilink_by w first (node first below after) end) found) (λ v. StandsIn w.setting.text v.name)
+    by : (found : Option WikilinkBody) → IfSome found (λ b. IsSliceWithin w.setting.text (start_of first) end b.name)
+        → IfSome (option_and_then (wikilink_by w first (node first below after) end) found) (λ v. IsSliceWithin w.setting.text 0 end v.name)
     by None h = tt
-    by (Some b) h = made b (children_of w first (node first below after) end b.shows) h
+    by (Some b) h = made b (children_of w first (node first below after) end b.shows)
+        (slice_wider w.setting.text (start_of first) end 0 end b.name (omega arith) (omega arith) h)
 
-pub names_stand : (w : Around) (f : Forest (Label ℕ)) (end : ℕ) (v : Wikilink ℕ) → wikilink_in w f end ≡ Some v
-    → StandsIn w.setting.text v.name
-names_stand w f end v e = subst (λ (found : Option (Wikilink ℕ)). IfSome found (λ v. StandsIn w.setting.text v.name)) e
-    (name_stands w f end)
+pub names_slice : (w : Around) (f : Forest (Label ℕ)) (end : ℕ) (v : Wikilink ℕ) → wikilink_in w f end ≡ Some v
+    → IsSliceWithin w.setting.text 0 end v.name
+names_slice w f end v e = subst (λ (found : Option (Wikilink ℕ)). IfSome found (λ v. IsSliceWithin w.setting.text 0 end v.name)) e
+    (name_slice w f end)

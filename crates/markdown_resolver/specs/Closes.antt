@@ -16,7 +16,8 @@ use Rattle.markdown_brackets.specs.SpentEnds.{is_spent}
 use Rattle.markdown_brackets.specs.declared.spent_ends.SpentEnds.{SpentEnds}
 use Rattle.markdown_document.specs.ChainRest.{end_of, past, past_byte, start_of}
 use Rattle.markdown_document.specs.Document.{Label, is_unresolved}
-use Rattle.markdown_document.specs.Origins.{StandsIn, destination_origin, made}
+use Rattle.markdown_document.specs.LinkOrigins.{destination_origin}
+use Rattle.markdown_document.specs.Origins.{IsSliceWithin, made}
 use Rattle.markdown_document.specs.Places.{trees_from}
 use Rattle.markdown_document.specs.Stages.{items_from}
 use Rattle.markdown_document.specs.Tables.{Tables}
@@ -63,7 +64,8 @@ pub record ShowsWell (source : List ℕ) (body children : Forest (Label ℕ)) : 
   pub not_cut : (at : ℕ) → past_byte at body ≡ children → NoneOpenAround at body
 
 -- what a `]` becomes ends between characters, at or after the end of the `]`, and no later than where the chain
--- continues; a link is neither an autolink nor a wikilink; and the name of a wikilink is a slice of the text
+-- continues; a link is neither an autolink nor a wikilink; and the name of a wikilink is a slice
+-- of the source before its end
 abbrev pub EndsWell : List ℕ → Closing ℕ → Becomes ℕ → Type 0
 EndsWell source c a_text = ⊤
 EndsWell source c (a_link o target end next) =
@@ -71,7 +73,8 @@ EndsWell source c (a_link o target end next) =
     × (destination_origin target.kind ≡ made)
 EndsWell source c (a_footnote o name) = CanGoOn source c (end_of c.label)
 EndsWell source c (a_wikilink o found end) =
-    CanGoOn source c end × ShowsWell source (past_second (inside o)) found.children × StandsIn source found.name
+    CanGoOn source c end × ShowsWell source (past_second (inside o)) found.children
+    × IsSliceWithin source 0 end found.name
 
 -- after a left list there is a `]` of an arena, which becomes this
 pub record ClosesAt (source : List ℕ) (tables : Tables) (nodes : List (Node Item)) (first closer : ℕ)

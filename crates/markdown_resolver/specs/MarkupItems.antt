@@ -6,7 +6,7 @@ use Rattle.markdown_base.specs.declared.item.Item.{Item}
 use Rattle.markdown_base.specs.declared.item.ItemBody.{ItemBody}
 use Rattle.markdown_base.specs.declared.item.ItemBody.TheVariants as body
 use Rattle.markdown_base.specs.declared.node.Node.{Node}
-use Rattle.markdown_document.specs.Origins.{StandsIn}
+use Rattle.markdown_document.specs.Origins.{IsSliceWithin}
 use Rattle.markdown_document.specs.Setting.{Rules, setting_of}
 use Rattle.markdown_document.specs.Tables.{Tables}
 use Rattle.markdown_spans.specs.AfterLess.{Markup, autolink, html}
@@ -22,10 +22,11 @@ abbrev pub address_to : List (Node Item) → (ix end : ℕ) → Item
 address_to nodes ix end = record { start = (item_at nodes ix).end; end = end - 1; body = body.Text false }
 
 -- the text of an autolink is not empty and lies in the source, and the URI is a slice of the source
+-- before its end
 pub record IsAddress (source : List ℕ) (nodes : List (Node Item)) (ix end : ℕ) (uri : List ℕ) : Type 0 where
   pub some : (item_at nodes ix).end < end
   pub lies : LiesIn source (address_to nodes ix end)
-  pub stands : StandsIn source uri
+  pub slice : IsSliceWithin source 0 end uri
 
 -- where an autolink was found, it has such a text
 abbrev pub HasAddress : List ℕ → List (Node Item) → ℕ → Markup → Type 0

@@ -35,7 +35,7 @@ left_without_numbers left = retag_left (λ n. tt) left
 -- an opener that waits: a Text that begins with a character of one byte, ends with its `[`, and has no children
 pub record IsOpener (source : List ℕ) (nodes : List (Node Item)) (ix : ℕ) : Type 0 where
   pub within : ix < length nodes
-  pub opens : 0 < (item_at nodes ix).end
+  pub opens : (item_at nodes ix).start < (item_at nodes ix).end
   pub bracket : IsCharBoundary source ((item_at nodes ix).end - 1)
   pub mark : IsCharBoundary source ((item_at nodes ix).start + 1)
   pub closed : is_open (item_at nodes ix).body ≡ false

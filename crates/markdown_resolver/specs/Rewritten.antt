@@ -98,13 +98,13 @@ pub record IsFoundAt (source : List ℕ) (tables : Tables) (nodes : List (Node I
       → (item_at nodes next).start < end → is_open (item_at nodes next).body ≡ false
 
 -- an item can be put into a node: it is not open and not a block, lies in the text, and refers only to new entries,
--- which are slices where they have to be
+-- which come from the source before its end where they have to
 pub record CanPut (source : List ℕ) (tables tables' : Tables) (item : Item) : Type 0 where
   pub closed : is_open item.body ≡ false
   pub no_block : is_block item.body ≡ false
   pub lies : LiesIn source item
   pub named : NamesEntries tables' item.body
-  pub slices : HasSlices source tables' item.body
+  pub slices : HasSlices source tables' item.end item.body
   pub new_names : (n : Named) → number_of n < size_for tables n → times_named n item.body ≡ 0
 
 -- the first item of a chain was read in place, and the chain continues at a link

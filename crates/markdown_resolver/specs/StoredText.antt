@@ -11,10 +11,11 @@ pub record CanCut (source : List ℕ) (start end : ℕ) : Type 0 where
   pub from : IsCharBoundary source start
   pub to : IsCharBoundary source end
 
--- a text of this origin was appended, with the next free number
-pub record StoresText (source : List ℕ) (tables tables' : Tables) (cow : CowIndex) (origin : Origin) : Type 0 where
-  pub grown : HasGrown tables tables'
-  pub number : cow.0 ≡ length tables.cows
-  pub within : cow.0 < length tables'.cows
-  pub origin_is : origin_at tables'.cows cow.0 ≡ origin
-  pub slice : IsSlicedOf source (origin_at tables'.cows cow.0) (text_at tables'.cows cow.0)
+-- the text of a span between two byte offsets, of this origin, was appended, with the next free number
+pub record StoresText (source : List ℕ) (start end : ℕ) (tables tables' : Tables) (cow : CowIndex) (origin : Origin)
+    : Type 0 where
+    pub grown : HasGrown tables tables'
+    pub number : cow.0 ≡ length tables.cows
+    pub within : cow.0 < length tables'.cows
+    pub origin_is : origin_at tables'.cows cow.0 ≡ origin
+    pub slice : IsSlicedOf source start end (origin_at tables'.cows cow.0) (text_at tables'.cows cow.0)

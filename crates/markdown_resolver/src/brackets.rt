@@ -16,6 +16,8 @@ ghost use Rattle.markdown_brackets.specs.LeftList.{Entry, Split, inside};
 ghost use Rattle.markdown_brackets.specs.LookupView.{target_view};
 ghost use Rattle.markdown_brackets.specs.Openers as waiting;
 ghost use Rattle.markdown_brackets.specs.Reference.{is_opener};
+ghost use Rattle.markdown_brackets.specs.TargetOrigins.{IsTargetFrom};
+ghost use Rattle.markdown_document.specs.ChainRest.{start_of};
 ghost use Rattle.markdown_document.specs.Tables.{Tables, tables_of};
 ghost use Rattle.markdown_resolver.specs.ChainPlace.{CanReadOn};
 ghost use Rattle.markdown_resolver.specs.Chains.{CanResolve};
@@ -127,12 +129,13 @@ fn put_target<'a>(
 ) -> Result<Option<usize>, Fault>
     requires { (source : List ℕ) × (first : ℕ) × (left : List (Entry ℕ)) × (w : Around) × (c : Closing ℕ)
         × (o : Split ℕ) × ClosesAt source (tables_of tables.old) tree.old.nodes first closer left w c
-        (a_link o (target_view target) end next) × (opener ≡ opener_of o) }
+        (a_link o (target_view target) end next) × (opener ≡ opener_of o)
+        × IsTargetFrom source (start_of o.opener) end target }
     ensures puts { IfOk result (λ goes_on. (source : List ℕ) (first : ℕ) (left : List (Entry ℕ)) (w : Around)
         (c : Closing ℕ) (o : Split ℕ)
         → ClosesAt source (tables_of tables.old) tree.old.nodes first closer left w c
         (a_link o (target_view target.entry) end next)
-        → opener ≡ opener_of o
+        → opener ≡ opener_of o → IsTargetFrom source (start_of o.opener) end target.entry
         → PutsClosed source first closer goes_on left w c (a_link o (target_view target.entry) end next)
         tree.old.nodes tree.new.nodes (tables_of tables.old) (tables_of tables.new)) }
     ensures place { IfOk result (λ _. tree.new ≡ record tree.old { nodes = tree.new.nodes }) }

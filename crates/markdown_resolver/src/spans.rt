@@ -54,7 +54,7 @@ fn text_between<'a>(
         kind start end) }
     ensures origin { IfOk result (λ span. origin_of span
         ≡ span_origin (above_cursor place.now.text.now tree.now).in_table (slice_range place.now.text.now start end)) }
-    ensures slice { IfOk result (λ span. IsSlicedOf place.now.text.now (origin_of span) (text_of span)) }
+    ensures slice { IfOk result (λ span. IsSlicedOf place.now.text.now start end (origin_of span) (text_of span)) }
     ensures refused { IfErr result (λ fault. fault ≡ Fault.Memory) }
 {
     let prefix = ContainerPrefix::new(tree, place.gfm_footnotes());
@@ -81,8 +81,8 @@ fn store_text<'a>(
     requires place { IsPlaceOf place.now tree.now }
     requires above { HasBlocks tree.now }
     requires cut { CanCut place.now.text.now start end }
-    ensures stored { IfOk result (λ cow. StoresText place.now.text.now (tables_of tables.old) (tables_of tables.new) cow
-        (span_origin (above_cursor place.now.text.now tree.now).in_table (slice_range place.now.text.now start end))) }
+    ensures stored { IfOk result (λ cow. StoresText place.now.text.now start end (tables_of tables.old)
+        (tables_of tables.new) cow (span_origin (above_cursor place.now.text.now tree.now).in_table (slice_range place.now.text.now start end))) }
     ensures text { IfOk result (λ cow. (rules : Rules) → gfm_footnotes_on rules.options ≡ gfm_footnotes_on place.now.options
         → text_at tables.new.cows cow.0 ≡ text_between (setting_of place.now.text.now rules)
         (above_cursor place.now.text.now tree.now) kind start end) }

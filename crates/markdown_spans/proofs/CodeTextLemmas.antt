@@ -16,13 +16,11 @@ use Rattle.markdown_scan.specs.Beginnings.{begins_with}
 use Rattle.markdown_scan.specs.LineEnd.{line_ending, begins_line_feed}
 use Rattle.markdown_scan.proofs.BoundaryLemmas.{before_ascii_of_rest, after_ascii_of_rest}
 use Rattle.markdown_scan.proofs.BeginsWithLemmas.{begins_with-split}
-use Rattle.markdown_document.specs.Origins.{StandsIn}
 use Rattle.markdown_spans.specs.CodeText.{Piece, piece_at, begins_escaped_pipe, replaced_past, shown_ending, is_sliced, has_outer_spaces}
 use Rattle.markdown_spans.specs.CodeText.{is_space, without_outer_spaces}
 use Rattle.markdown_spans.specs.PrefixView.{length_by}
 use Rattle.markdown_spans.specs.declared.span_text.SpanKind.{SpanKind}
 use Rattle.markdown_spans.specs.declared.prefixes.ContainerPrefix.{ContainerPrefix}
-use Rattle.markdown_spans.proofs.SliceLemmas.{stands_between, stands_whole}
 use Rattle.markdown_spans.proofs.ContainerPrefixLemmas.{IsAsciiPrefix, length_by_is_ascii}
 
 -- ASCII bytes, and ASCII bytes after them
@@ -210,15 +208,6 @@ sliced_on in_table text at h none =
 pub sliced_end : (in_table : Bool) (text : List ℕ) (at : ℕ) → length text ≤ at → is_sliced in_table (drop at text) ≡ true
 unfolding is_sliced
 sliced_end in_table text at past = rw (drop_all at text past) refl
-
--- a text without the spaces at its ends is a slice of the text
-pub stands_inside : (text : List ℕ) → StandsIn text (without_outer_spaces text)
-stands_inside text = by (has_outer_spaces text) refl
-  where
-    by : (b : Bool) → has_outer_spaces text ≡ b → StandsIn text (without_outer_spaces text)
-    by true e = rw e (stands_between text 1 (length text - 1) (take (length text - 2) (drop 1 text))
-        (ap (λ n. take n (drop 1 text)) (omega arith)))
-    by false e = rw e (stands_whole text)
 
 first_is_ascii : (x : ℕ) (rest : Bool) → (is_ascii x && rest) ≡ true → x < 128
 first_is_ascii x rest all = grind (arith, nat_tests)

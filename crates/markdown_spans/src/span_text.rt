@@ -6,7 +6,7 @@ ghost use Rattle.std.specs.List.{list_all};
 ghost use Rattle.std.specs.Char.{is_ascii};
 ghost use Rattle.markdown_base.specs.CowText.{text_of, IsBorrowed};
 ghost use Rattle.markdown_spans.specs.CodeText as code;
-ghost use Rattle.markdown_document.specs.Origins.{IsSlicedOf, StandsIn, origin_of};
+ghost use Rattle.markdown_document.specs.Origins.{IsSlicedOf, IsSliceWithin, origin_of};
 ghost use Rattle.markdown_spans.specs.CodeText.{has_outer_spaces, without_outer_spaces, is_sliced, span_origin};
 ghost use Rattle.markdown_spans.specs.PrefixView.{length_by};
 ghost use Rattle.markdown_scan.specs.LineEnd.{line_ending};
@@ -134,7 +134,7 @@ fn has_outer_spaces(bytes: &[u8]) -> bool
 /// Returns the slice without one space at each end, if it has spaces at both ends and is not all spaces.
 fn slice_outer_spaces(text: &str) -> &str
     ensures value { result.now ≡ without_outer_spaces text.now }
-    ensures stands { StandsIn text.now result.now }
+    ensures part { IsSliceWithin text.now 0 (length text.now) result.now }
 {
     if has_outer_spaces(text.as_bytes()) {
         &text[1..text.len() - 1]
@@ -170,7 +170,8 @@ pub fn span_text<'t>(
         text.entry.now) }
     ensures borrowed { is_sliced in_table text.entry.now ≡ true → IsOkAnd result IsBorrowed }
     ensures origin { IfOk result (λ span. origin_of span ≡ span_origin in_table text.entry.now) }
-    ensures slice { IfOk result (λ span. IsSlicedOf text.entry.now (origin_of span) (text_of span)) }
+    ensures slice { IfOk result (λ span. IsSlicedOf text.entry.now 0 (length text.entry.now) (origin_of span)
+        (text_of span)) }
 {
     if kind.split_at_piece(text, in_table, prefix).is_none() {
         return Ok(CowStr::Borrowed(match kind {

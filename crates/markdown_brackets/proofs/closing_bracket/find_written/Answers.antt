@@ -1,5 +1,6 @@
 -- What was read comes to what was looked up, or counted.
-use Rattle.std.proofs.Common.{is_some, subst}
+use Rattle.std.proofs.Common.{is_some, subst, sym}
+use Rattle.markdown_document.specs.ChainRest.{start_of}
 use Rattle.markdown_document.specs.Setting.{uses_of}
 use Rattle.markdown_brackets.specs.WrittenView.{IsRead, WrittenIsFrom}
 use Rattle.markdown_brackets.proofs.ComesToLemmas.{comes_read_nothing, comes_read_inline, comes_read_label, comes_read_footnote}
@@ -17,7 +18,8 @@ returns-in-Inline-clause-comes g c w o x rules opener start read from =
     comes_read_inline g.F.BrokenLinkCallback.answers w o w.above.in_table x c.args.limit.now (uses_of c.args.footnotes.now)
     c.args.callback.now
     c.in-Inline.tail c.inline_link.result (subst (λ v. IsRead w.above.in_table x v) c.in-Inline.is read)
-    (λ t is. c.inline_link.ensures w o t opener is (subst (WrittenIsFrom w.setting.text) c.in-Inline.is from))
+    (λ t is. c.inline_link.ensures w o t opener is (subst (WrittenIsFrom w.setting.text (start_of o.opener)) c.in-Inline.is
+    (subst (λ n. WrittenIsFrom w.setting.text n c.args.written) (sym start) from)))
 
 pub returns-in-Footnote-clause-comes : goal.returns-in-Footnote-clause-comes
 returns-in-Footnote-clause-comes g c =
@@ -36,4 +38,4 @@ returns-in_ok-spend-in-Label-clause-comes g c =
     c.in-Label.link_type c.in-Label.label c.in-Label.end c.in-Label.next c.args.start c.args.opener c.args.definitions.now
     (is_some c.args.callback.now)
     looks.0 found (subst (λ v. IsRead w.above.in_table x v) c.in-Label.is read) rules.definitions_are rules.asks_is opener start looks.1
-    looks.2 (subst (WrittenIsFrom w.setting.text) c.in-Label.is from))
+    looks.2 (subst (WrittenIsFrom w.setting.text c.args.start) c.in-Label.is from))

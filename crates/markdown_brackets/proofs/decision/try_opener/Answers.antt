@@ -1,8 +1,9 @@
 -- What is read at a live opener is what the definition tries.
-use Rattle.std.proofs.Common.{◌≡◌, ◌-◌, Some, is_some, sym, subst}
+use Rattle.std.proofs.Common.{◌≡◌, ◌-◌, ◌≤◌, Some, is_some, sym, subst, arith}
 use Rattle.std.proofs.Math.Path.{fun_ext}
 use Rattle.std.specs.Prelude.{IfSome}
-use Rattle.markdown_base.specs.BlockTree.{no_item}
+use Rattle.markdown_base.specs.BlockTree.{item_at, no_item}
+use Rattle.markdown_base.specs.declared.item.Item.{Item}
 use Rattle.markdown_document.specs.Setting.{uses_of}
 use Rattle.markdown_brackets.specs.DecisionView.{KnowsRules, around_at}
 use Rattle.markdown_brackets.specs.StandsAt.{CanTry, TriesOpener}
@@ -45,6 +46,8 @@ returns-clause-tries g c =
     _ found
     c.in-Some.opener c.in-Some.is_live c.item-item.result.now c.in_ok-written.written c.args.spent.now _ c.if-not-is_live.false
     (c.item-item.ensures no_item) can.reads.some
+    (subst (λ (i : Item). i.start ≤ (item_at nodes c.args.closer).end) (sym (c.item-item.ensures no_item))
+    (omega (arith, can.opens, can.reads.order)))
     (subst (λ rule. IsRead place.in_table (written_at nodes place rule c.args.closer c.args.could_be (c.item-item.result.now.end - 1))
     c.in_ok-written.written) lines c.in_ok-written.ensures.read) c.in_ok-written.ensures.from
     (λ v s x rules. comes v s x

@@ -5,7 +5,7 @@ use Rattle.markdown_scan.specs.Backslash.{is_bare}
 use Rattle.std.proofs.lemmas.Bool.{false≢true}
 use Rattle.std.proofs.lemmas.List.{append-nil}
 use Rattle.std.proofs.lemmas.Str.{IsCharBoundary-after_ascii}
-use Rattle.markdown_brackets.specs.LinkTitle.{title_from, after_text}
+use Rattle.markdown_document.specs.LinkTitle.{title_from, after_text}
 use Rattle.markdown_brackets.specs.TitleText.{so_far}
 use Rattle.markdown_brackets.proofs.TitleLemmas.{whole_closes, whole_past_byte, whole_past_end, whole_past_line, next_line_same, slice_more}
 use Rattle.markdown_brackets.proofs.TitleLemmas.{slice_empty, bare_is, BorrowsTitle-closed, ReadsTitle-none}

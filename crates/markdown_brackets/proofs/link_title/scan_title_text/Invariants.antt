@@ -2,7 +2,7 @@
 use Rattle.std.proofs.Common.{◌≡◌, ◌≤◌, ◌-◌, ℕ, false, [], drop, length, string_bytes}
 use Rattle.std.specs.Option.{option_map}
 use Rattle.std.specs.Str.{IsCharBoundary}
-use Rattle.markdown_brackets.specs.LinkTitle.{title_from, after_text}
+use Rattle.markdown_document.specs.LinkTitle.{title_from, after_text}
 use Rattle.markdown_brackets.specs.TitleText.{so_far}
 use Rattle.markdown_brackets.proofs.link_title.scan_title_text.Given as goal
 

@@ -5,8 +5,8 @@ use Rattle.markdown_base.specs.BlockTree.{item_at, no_item}
 use Rattle.markdown_base.specs.declared.item.Item.{Item}
 use Rattle.markdown_brackets.specs.BracketDecision as decision
 use Rattle.markdown_brackets.specs.ChainAhead.{starts_from}
-use Rattle.markdown_brackets.specs.WrittenView.{IsRead}
-use Rattle.markdown_brackets.specs.declared.written.Written.TheVariants.{Nothing}
+use Rattle.markdown_brackets.specs.WrittenView.{IsRead, WrittenIsFrom}
+use Rattle.markdown_brackets.specs.declared.written.Written.TheVariants.{Inline, Nothing}
 use Rattle.markdown_brackets.proofs.WrittenLemmas.{boundary_within, nothing_past_block, read_tail, read_other, tail_at, whole_range}
 use Rattle.markdown_brackets.proofs.WrittenLemmas.{ok_map, within_taken}
 use Rattle.markdown_brackets.specs.LinkTail.{link_tail}
@@ -69,10 +69,12 @@ returns-in-Some-clause-from g c =
     let starts = starts_from c.args.tree.now.nodes c.next.result in
     let written = c.range-text.result.now in
     let end = c.item.result.now.end in
-    has_title place.in_table skipped starts place.text.now written place.block_end end c.in-Some.tail text
+    subst (λ (i : Item). WrittenIsFrom place.text.now i.end (Inline c.in-Some.tail)) (c.item.ensures no_item)
+    (has_title place.in_table skipped starts place.text.now written place.block_end end c.in-Some.tail text
     (subst (ReadsTail place.in_table (link_tail skipped starts written end)) c.in-Some.is c.in_ok-tail.ensures.value)
-    (subst (BorrowsTail (link_tail skipped starts written end)) c.in-Some.is c.in_ok-tail.ensures.borrowed)
+    (subst (BorrowsTail (link_tail skipped starts written end)) c.in-Some.is c.in_ok-tail.ensures.borrowed))
 
 pub returns-in-None-clause-from : goal.returns-in-None-clause-from
 returns-in-None-clause-from g c =
-    ok_map c.read_reference.result _ _ c.read_reference.ensures.from (λ found from. from c.args.place.now.text.now)
+    ok_map c.read_reference.result _ _ c.read_reference.ensures.from (λ found from.
+    from c.args.place.now.text.now (item_at c.args.tree.now.nodes c.args.closer).end)

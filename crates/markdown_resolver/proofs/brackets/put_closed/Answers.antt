@@ -1,8 +1,10 @@
 -- What a `]` becomes is put, in each of its forms.
-use Rattle.std.proofs.Common.{ℕ, Some, sym, subst}
+use Rattle.std.proofs.Common.{ℕ, List, Some, sym, subst}
 use Rattle.markdown_brackets.specs.BracketDecision.{Becomes}
 use Rattle.markdown_brackets.specs.DecisionView.{IsBecome}
+use Rattle.markdown_brackets.specs.TargetOrigins.{IsTargetFrom}
 use Rattle.markdown_brackets.specs.declared.closing_bracket.ClosedBracket.{ClosedBracket}
+use Rattle.markdown_document.specs.ChainRest.{start_of}
 use Rattle.markdown_document.specs.Tables.{tables_of}
 use Rattle.markdown_resolver.specs.Closes.{ClosesAt, PutsClosed}
 use Rattle.markdown_resolver.proofs.CloseFootnoteLemmas.{becomes_footnote}
@@ -42,7 +44,8 @@ returns-in-Link-clause-puts c =
     let b = becomes_link w becomes c.in-Link.opener c.in-Link.target c.in-Link.end c.in-Link.next
     (subst (λ (found : ClosedBracket). IsBecome w becomes found) c.in-Link.is is) in
     subst (λ (x : Becomes ℕ). PutsClosed source first closer next left w closing x old new tables tables') (sym b.is)
-    (puts source first left w closing b.split (subst (ClosesAt source tables old first closer left w closing) b.is closes) b.opener_is))
+    (puts source first left w closing b.split (subst (ClosesAt source tables old first closer left w closing) b.is closes) b.opener_is
+    (subst (λ (bytes : List ℕ). IsTargetFrom bytes (start_of b.split.opener) c.in-Link.end c.in-Link.target) closes.text_is b.from)))
     c.put_target.ensures.puts
 
 pub returns-in-Footnote-clause-puts : goal.returns-in-Footnote-clause-puts

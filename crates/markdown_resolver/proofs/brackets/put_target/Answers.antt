@@ -37,7 +37,7 @@ put_link-requires c =
     let tables = tables_of c.args.tables.now in
     let inside = inside_numbers c.requires.5 in
     let r = may_link c.args.tables.now c.allocate_link.new.self _ c.in_ok-link.link c.item.result.now c.link_body.result
-    c.requires.6 c.requires.7 c.in_ok-link.ensures.put c.in_ok-link.ensures.number refl (c.item.ensures no_item) c.link_body.ensures in (
+    c.requires.6 c.requires.7 c.requires.8 c.in_ok-link.ensures.put c.in_ok-link.ensures.number refl (c.item.ensures no_item) c.link_body.ensures in (
       source,
       tables,
       tables_of c.allocate_link.new.self,
@@ -49,10 +49,10 @@ put_link-requires c =
     )
 
 pub returns-clause-puts : goal.returns-clause-puts
-returns-clause-puts c source first left w closing o closes is =
+returns-clause-puts c source first left w closing o closes is from =
     let tables = tables_of c.args.tables.now in
     let inside = inside_numbers o in
-    let r = may_link c.args.tables.now c.allocate_link.new.self _ c.in_ok-link.link c.item.result.now c.link_body.result closes is
+    let r = may_link c.args.tables.now c.allocate_link.new.self _ c.in_ok-link.link c.item.result.now c.link_body.result closes is from
     c.in_ok-link.ensures.put c.in_ok-link.ensures.number refl (c.item.ensures no_item) c.link_body.ensures in
     link_closed closes is r (c.put_link.ensures.puts source tables (tables_of c.allocate_link.new.self) inside r.put.grown r.close r.over
     (c.last_before-last.ensures source tables inside c.args.next r.close))

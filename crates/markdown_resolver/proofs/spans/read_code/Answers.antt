@@ -73,8 +73,9 @@ put_code-requires c =
       tables',
       (
           found_code c.args.place.now.text.now tables tables' c.args.tree.now.nodes c.args.ix c.in-Some.closer c.requires.opener.0
-          c.requires.opener.1 c.in_ok-cow.cow _ c.in_ok-closer.field-0 c.requires.chain.ready c.requires.opener.2 found.found c.in-Some.is
-          found.within c.in_ok-cow.ensures.stored
+          c.requires.opener.1 c.in_ok-cow.cow _ c.in_ok-closer.field-0 c.item-item.result.now c.item-close.result.now
+          c.requires.chain.ready c.requires.opener.2 found.found c.in-Some.is found.within (c.item-item.ensures no_item)
+          (c.item-close.ensures no_item) c.in_ok-cow.ensures.stored
           ).can,
     )
 
@@ -83,8 +84,9 @@ put_here : (c : goal.After-put_code) → FoundCode c.args.place.now.text.now (ta
 put_here c =
     let found = c.in_ok-closer.ensures in
     found_code c.args.place.now.text.now (tables_of c.args.tables.now) (tables_of c.store_text.new.tables) c.args.tree.now.nodes c.args.ix
-    c.in-Some.closer c.requires.opener.0 c.requires.opener.1 c.in_ok-cow.cow _ c.in_ok-closer.field-0 c.requires.chain.ready
-    c.requires.opener.2 found.found c.in-Some.is found.within c.in_ok-cow.ensures.stored
+    c.in-Some.closer c.requires.opener.0 c.requires.opener.1 c.in_ok-cow.cow _ c.in_ok-closer.field-0 c.item-item.result.now
+    c.item-close.result.now c.requires.chain.ready c.requires.opener.2 found.found c.in-Some.is found.within
+    (c.item-item.ensures no_item) (c.item-close.ensures no_item) c.in_ok-cow.ensures.stored
 
 abbrev standing : goal.After-put_code → Standing
 standing c =

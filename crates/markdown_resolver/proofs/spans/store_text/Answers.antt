@@ -10,7 +10,7 @@ use Rattle.markdown_resolver.proofs.spans.store_text.Goals as goal
 pub returns-clause-stored : goal.returns-clause-stored
 returns-clause-stored c =
     let made = c.in_ok-text_between.ensures in
-    cow_stored c.args.place.now.text.now c.args.tables.now c.allocate_cow.new.self c.in_ok-text_between.field-0 _ c.allocate_cow.result
+    cow_stored c.args.place.now.text.now c.args.start c.args.end c.args.tables.now c.allocate_cow.new.self c.in_ok-text_between.field-0 _ c.allocate_cow.result
     made.origin made.slice c.allocate_cow.ensures.number c.allocate_cow.ensures.put
 
 pub returns-clause-text : goal.returns-clause-text

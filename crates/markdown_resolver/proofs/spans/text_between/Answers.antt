@@ -1,10 +1,10 @@
 -- The text of a span is that over the bytes between its delimiters, by the prefix of the blocks above.
-use Rattle.std.proofs.Common.{ℕ, List, sym, ap, ◌∙◌, subst}
+use Rattle.std.proofs.Common.{ℕ, List, length, sym, ap, ◌∙◌, subst}
 use Rattle.std.proofs.Math.Path.{fun_ext}
 use Rattle.markdown_base.specs.Arena.{Arena}
 use Rattle.markdown_base.specs.declared.item.Item.{Item}
 use Rattle.markdown_base.specs.CowText.{text_of}
-use Rattle.markdown_spans.proofs.SliceLemmas.{sliced_within}
+use Rattle.markdown_spans.proofs.SliceLemmas.{sliced_inside}
 use Rattle.markdown_document.specs.Origins.{IsSlicedOf, origin_of}
 use Rattle.markdown_document.specs.Above.{above_cursor}
 use Rattle.markdown_document.specs.Setting.{Setting, setting_of}
@@ -36,5 +36,5 @@ returns-clause-origin c =
 pub returns-clause-slice : goal.returns-clause-slice
 returns-clause-slice c =
     let text = c.in_ok-span_text.field-0 in
-    sliced_within c.args.place.now.text.now c.args.start c.args.end (origin_of text) (text_of text)
-    (subst (λ (b : List ℕ). IsSlicedOf b (origin_of text) (text_of text)) c.range.ensures.value c.in_ok-span_text.ensures.slice)
+    sliced_inside c.args.place.now.text.now c.args.start c.args.end _ (origin_of text) (text_of text) c.requires.cut.ordered
+    (subst (λ (b : List ℕ). IsSlicedOf b 0 (length b) (origin_of text) (text_of text)) c.range.ensures.value c.in_ok-span_text.ensures.slice)

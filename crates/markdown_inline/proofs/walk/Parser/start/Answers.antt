@@ -2,6 +2,7 @@
 use Rattle.std.proofs.Common.{refl, ap}
 use Rattle.markdown_defs.specs.Allocations.{Allocated}
 use Rattle.markdown_document.specs.Tables.{tables_of}
+use Rattle.markdown_base.specs.Item.{range_of}
 use Rattle.markdown_inline.proofs.ParserLemmas.{over_ended}
 use Rattle.markdown_inline.proofs.TakingLemmas.{opens_start}
 use Rattle.markdown_inline.proofs.WalkStepsLemmas.{stands_ended, stopped}
@@ -27,8 +28,8 @@ returns-in-Ok-clause-begun g c = record {
     tree = refl;
     tables = c.in-Ok.ensures.taken;
   };
-  opens = opens_start c.args.self.now.resolver.text.now _ c.in-Ok.tag (c.in-Ok.ensures.tag _)
-      (c.in-Ok.ensures.from c.args.self.now.resolver.text.now c.requires.begins.can.slices);
+  opens = opens_start c.args.self.now.resolver.text.now (range_of c.args.item) _ c.in-Ok.tag (c.in-Ok.ensures.tag _)
+      (c.in-Ok.ensures.from c.args.self.now.resolver.text.now c.args.item.end c.requires.begins.can.slices);
 }
 
 pub returns-in-Err-clause-begun : goal.returns-in-Err-clause-begun

@@ -1,0 +1,81 @@
+-- Where the destination and the title of a link or an image come from.
+use Rattle.std.specs.Prelude.{◌≡◌, ◌≤◌, ℕ, ◌+◌, ◌-◌, ⊤, Bool, false, List, [], Option, Some, slice_range, take}
+use Rattle.std.proofs.Props.{props}
+use Rattle.std.proofs.Math.Logic.{∥∥₁_prop}
+use Rattle.std.specs.Coded.{Coded-set, Unit-prop, coded_ℕ, coded_list}
+use Rattle.markdown_base.specs.Event.{LinkView}
+use Rattle.markdown_base.specs.declared.tag.LinkType.{LinkType}
+use Rattle.markdown_base.specs.declared.tag.LinkType.TheVariants as kind
+use Rattle.markdown_scan.specs.Unescape.{unescaped}
+use Rattle.markdown_document.specs.LinkTitle.{Title, title_at}
+use Rattle.markdown_document.specs.Origins.{Origin, sliced, made, IsSliceWithin}
+
+-- the origins of a link's destination and of its title
+pub record LinkOrigins : Type 0 where
+  pub destination : Origin
+  pub title : Origin
+
+-- the origin that a link's type determines: the destination of an autolink is a slice of the source, and so is the name
+-- of a wikilink; the destination of another link may have been made
+abbrev pub destination_origin : LinkType → Origin
+destination_origin kind.Autolink = sliced
+destination_origin (kind.WikiLink has_pothole) = sliced
+destination_origin other = made
+
+-- the origin says that the bytes are a slice of the source within these byte offsets, and they are
+abbrev pub IsSlice : List ℕ → (start end : ℕ) → Origin → List ℕ → Type 0
+IsSlice source start end sliced bytes = IsSliceWithin source start end bytes
+IsSlice source start end other bytes = ⊥
+
+-- a link leads to a slice of its range in the source: its destination is one, and it has neither a title nor a label
+pub record LeadsToSlice (source : List ℕ) (start end : ℕ) (origin : Origin) (link : LinkView) : Type 0 where
+  pub destination : IsSlice source start end origin link.destination
+  pub no_title : link.title ≡ []
+  pub no_label : link.label ≡ []
+
+-- a title is what is written between two marks of the source within these byte offsets, up to some block's end, with
+-- escapes and entities replaced; it is the slice between the marks if no lines are joined in it and nothing is replaced
+pub record IsWrittenTitle (source : List ℕ) (start end : ℕ) (origin : Origin) (title : List ℕ) : Type 0 where
+  pub starts : ℕ → Option ℕ
+  pub block_end : ℕ
+  pub at : ℕ
+  pub in_table : Bool
+  pub written : Title
+  pub is_written : title_at starts (take block_end source) at ≡ Some written
+  pub from : start ≤ at
+  pub to : written.ends ≤ end
+  pub reads : title ≡ unescaped in_table written.text
+  pub slice : written.is_joined ≡ false → title ≡ written.text
+      → (origin ≡ sliced) × (title ≡ slice_range (take block_end source) (at + 1) (written.ends - 1))
+
+-- the title of an inline link is written in the link's range, unless it is empty; nothing is said of other titles
+abbrev pub IsTitleFrom : List ℕ → (start end : ℕ) → LinkType → Origin → List ℕ → Type 0
+IsTitleFrom source start end kind.Inline origin title =
+    (title ≡ [] → ⊥) → ∥ IsWrittenTitle source start end origin title ∥₁
+IsTitleFrom source start end other origin title = ⊤
+
+-- A link or an image over this range comes from the source: an autolink and a wikilink lead to a slice of the range,
+-- and the title of an inline link is written there.
+pub record IsLinkFrom (source : List ℕ) (start end : ℕ) (origins : LinkOrigins) (link : LinkView) : Type 0 where
+  pub leads : destination_origin link.kind ≡ sliced → LeadsToSlice source start end origins.destination link
+  pub title : IsTitleFrom source start end link.kind origins.title link.title
+
+-- `IsSlice` has at most one proof
+IsSlice-prop : (source : List ℕ) (start end : ℕ) (origin : Origin) (bytes : List ℕ)
+    → IsProp (IsSlice source start end origin bytes)
+IsSlice-prop source start end sliced bytes = hlevel ∥∥₁_prop
+IsSlice-prop source start end other bytes = hlevel
+
+-- `IsTitleFrom` has at most one proof
+IsTitleFrom-prop : (source : List ℕ) (start end : ℕ) (link_type : LinkType) (origin : Origin) (title : List ℕ)
+    → IsProp (IsTitleFrom source start end link_type origin title)
+IsTitleFrom-prop source start end kind.Inline origin title = hlevel ∥∥₁_prop
+IsTitleFrom-prop source start end other origin title = Unit-prop
+
+-- `IsLinkFrom` has at most one proof
+pub IsLinkFrom-prop : (source : List ℕ) (start end : ℕ) (origins : LinkOrigins) (link : LinkView)
+    → IsProp (IsLinkFrom source start end origins link)
+IsLinkFrom-prop source start end origins link =
+    let slice = IsSlice-prop source start end origins.destination link.destination in
+    let title = IsTitleFrom-prop source start end link.kind origins.title link.title in
+    hlevel (props, slice, title, Coded-set (coded_list coded_ℕ))
