@@ -315,7 +315,7 @@ may_go_on source tables nodes w c f k starts ordered text utf8 = record {
       (λ u l b. shows_well w g (start_of c.label) v u l b e) utf8 lies starts;
   names = λ g v e.
       slice_wider source 0 (start_of c.label) 0 (end_of c.label) v.name (omega arith) ordered
-          (subst (λ (bytes : List ℕ). IsSliceWithin bytes 0 (start_of c.label) v.name) text (names_slice w g (start_of c.label) v e));
+      (subst (λ (bytes : List ℕ). IsSliceWithin bytes 0 (start_of c.label) v.name) text (names_slice w g (start_of c.label) v e));
 }
   where
     first_ends : (g : Forest ℕ) (a : Label ℕ) (below after : Forest (Label ℕ)) → StandsBehind source tables nodes c g

@@ -14,8 +14,8 @@ pub record CanCut (source : List ℕ) (start end : ℕ) : Type 0 where
 -- the text of a span between two byte offsets, of this origin, was appended, with the next free number
 pub record StoresText (source : List ℕ) (start end : ℕ) (tables tables' : Tables) (cow : CowIndex) (origin : Origin)
     : Type 0 where
-    pub grown : HasGrown tables tables'
-    pub number : cow.0 ≡ length tables.cows
-    pub within : cow.0 < length tables'.cows
-    pub origin_is : origin_at tables'.cows cow.0 ≡ origin
-    pub slice : IsSlicedOf source start end (origin_at tables'.cows cow.0) (text_at tables'.cows cow.0)
+  pub grown : HasGrown tables tables'
+  pub number : cow.0 ≡ length tables.cows
+  pub within : cow.0 < length tables'.cows
+  pub origin_is : origin_at tables'.cows cow.0 ≡ origin
+  pub slice : IsSlicedOf source start end (origin_at tables'.cows cow.0) (text_at tables'.cows cow.0)
