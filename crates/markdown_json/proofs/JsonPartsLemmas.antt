@@ -12,11 +12,9 @@ use Rattle.markdown_base.specs.declared.tag.CodeBlockKind.{CodeBlockKind}
 use Rattle.markdown_base.specs.declared.tag.CodeBlockKind.TheVariants as code_block
 use Rattle.markdown_out.specs.ByteLists.{AppendsPrefix, joined}
 use Rattle.markdown_out.proofs.ByteListsLemmas.{append-more, prefix-after, prefix-first, joined-flat_map}
-use Rattle.markdown_outline.specs.Outline.{entry_view}
-use Rattle.markdown_outline.specs.declared.entry.Entry.{Entry}
 use Rattle.markdown_json.specs.Json.{string, optional, array, further, attribute_json, heading_json, level_json, tag_json, variant, event_json, line_json}
-use Rattle.markdown_json.specs.JsonParts.{piece_json, spelled, text_json, pair_json, heading_of, code_block_json, range_json}
-use Rattle.markdown_json.specs.OutlineJson.{entry_line, outline_lines}
+use Rattle.markdown_json.specs.JsonParts.{text_json, pair_json, heading_of, code_block_json, range_json}
+use Rattle.markdown_json.specs.JsonPieces.{piece_json, spelled}
 use Rattle.markdown_json.specs.declared.heading.Heading.{Heading}
 use Rattle.markdown_json.specs.declared.pieces.Piece.{Piece}
 
@@ -98,10 +96,3 @@ pub line_appended : (old mid new : List ℕ) (e : EventView) (start end : ℕ) �
     → new ≡ mid ++ range_json (decimal start) (decimal end) → new ≡ old ++ line_json e start end
 line_appended old mid new e start end event range =
     append-more old mid new (codes "[" ++ event_json e) (range_json (decimal start) (decimal end)) event range
-
--- the line of an entry, by its view, and the lines of entries
-abbrev pub line_of_entry : Entry → List ℕ
-line_of_entry e = entry_line (entry_view e)
-
-pub lines_of_entries : (entries : List Entry) → flat_map line_of_entry entries ≡ outline_lines (map entry_view entries)
-lines_of_entries entries = sym (flat_map-map entry_line entry_view entries)

@@ -13,27 +13,11 @@ use Rattle.markdown_out.specs.ByteLists.{joined}
 use Rattle.markdown_json.specs.Json.{string, variant, attribute_json}
 use Rattle.markdown_json.specs.declared.heading.Heading.{Heading}
 use Rattle.markdown_json.specs.declared.link.Link.{Link}
-use Rattle.markdown_json.specs.declared.pieces.Piece.{Piece}
-use Rattle.markdown_json.specs.declared.pieces.Piece.TheVariants as piece
-
--- the bytes of a piece
-abbrev pub piece_json : Piece → List ℕ
-piece_json (piece.Raw s) = s.now
-piece_json (piece.Text s) = string s.now
-
--- the bytes of pieces, one after another
-abbrev pub spelled : List Piece → List ℕ
-spelled pieces = joined (map piece_json pieces)
 
 -- a range, by its digits, up to the end of its line
 abbrev pub range_json : List ℕ → List ℕ → List ℕ
 range_json start end =
     joined (codes ",{\"start\":" ∷ start ∷ codes ",\"end\":" ∷ end ∷ codes "}]\n" ∷ [])
-
--- the line of an entry, by the digits of its numbers
-abbrev pub entry_parts : (level text start end : List ℕ) → List ℕ
-entry_parts level text start end = joined (codes "{\"level\":" ∷ level ∷ codes ",\"text\":" ∷ string text
-    ∷ codes ",\"range\":{\"start\":" ∷ start ∷ codes ",\"end\":" ∷ end ∷ codes "}}\n" ∷ [])
 
 -- a text, wherever it is held
 abbrev pub text_json : CowStr → List ℕ

@@ -2,12 +2,10 @@
 pub mod Json
 pub mod JsonLines
 pub mod JsonLaws
--- What stands for an outline.
-pub mod OutlineJson
+pub mod JsonPieces
 -- For private clauses.
 pub mod JsonParts
 -- Words of other crates that the clauses stand on.
 pub use Rattle.markdown_base.specs.Event
 pub use Rattle.markdown_out.specs.ByteLists
-pub use Rattle.markdown_outline.specs.Outline
 pub use Rattle.json.specs.Text

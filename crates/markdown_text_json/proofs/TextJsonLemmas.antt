@@ -23,7 +23,7 @@ use Rattle.markdown_inline.specs.declared.walk.Parser.{Parser}
 use Rattle.markdown_inline.proofs.RunLemmas.{events_of-questions}
 use Rattle.markdown_json.specs.JsonLines.{Placed, IsWritten, StopsAtError, items, lines_of}
 use Rattle.markdown_json.specs.Json.{line_json}
-use Rattle.markdown_json.specs.OutlineJson.{outline_lines}
+use Rattle.markdown_text_json.specs.OutlineJson.{outline_lines}
 use Rattle.markdown_outline.specs.Outline.{EntryView, Ranged, entries_of}
 use Rattle.markdown_outline.specs.OutlineRead.{IsOutlineOfAll, ranged_view}
 use Rattle.markdown_text_json.specs.TextJson.{IsJsonOf, IsOutlineJsonOf, placed_line}

@@ -3,8 +3,10 @@
 #![tactic(auto)]
 
 pub mod outline;
+pub mod outline_lines;
 pub mod run;
 pub mod text;
 
 pub use outline::outline_json;
+pub use outline_lines::push_outline;
 pub use text::text_json;

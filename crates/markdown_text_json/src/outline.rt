@@ -2,10 +2,10 @@
 ghost use Rattle.std.specs.Prelude.{◌≡◌, IfOk, IfErr, string_bytes};
 ghost use Rattle.markdown_text_json.specs.TextJson.{IsOutlineJsonOf};
 
+use crate::outline_lines::push_outline;
 use markdown_base::fault::Fault;
 use markdown_base::options::Options;
 use markdown_inline::walk::Parser;
-use markdown_json::push_outline;
 use markdown_outline::outline;
 use std::alloc::Global;
 

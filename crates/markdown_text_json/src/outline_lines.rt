@@ -2,11 +2,10 @@
 ghost use Rattle.std.specs.Prelude.{OnOk, OnErr, map};
 ghost use Rattle.markdown_out.specs.ByteLists.{Appends, AppendsPart};
 ghost use Rattle.markdown_outline.specs.Outline.{entry_view};
-ghost use Rattle.markdown_json.specs.JsonParts.{entry_parts};
-ghost use Rattle.markdown_json.specs.OutlineJson.{entry_line, outline_lines};
+ghost use Rattle.markdown_text_json.specs.OutlineJson.{entry_line, entry_parts, outline_lines};
 
-use crate::pieces::{Piece, push_pieces};
 use itoa::Buffer;
+use markdown_json::{Piece, push_pieces};
 use markdown_outline::Entry;
 use std::alloc::AllocError;
 
