@@ -28,16 +28,16 @@ prefix-later old mid new first bytes e f =
 pub prefix-earlier : (old new bytes rest : List ℕ) → AppendsPrefix old new bytes → AppendsPrefix old new (bytes ++ rest)
 prefix-earlier old new bytes rest f = prefix-first old new bytes (bytes ++ rest) rest f refl
 
--- pieces put together are their bytes in turn
+-- the pieces, one by one, are the bytes of all of them
 pub spelled-flat_map : (pieces : List Piece) → flat_map piece_json pieces ≡ spelled pieces
 spelled-flat_map pieces = sym (flat_map-map (λ part. part) piece_json pieces) ∙ joined-flat_map (map piece_json pieces)
 
--- what may be missing, seen by its view
+-- a value that may be missing is written as its view
 optional_same : {A B : Type 0} (f : B → List ℕ) (g : A → B) (o : Option A) → optional f (option_map g o) ≡ optional (λ x. f (g x)) o
 optional_same f g None = refl
 optional_same f g (Some x) = refl
 
--- a list, seen by its items' views
+-- a list is written as that of its items' views
 array_same : {A B : Type 0} (f : B → List ℕ) (g : A → B) (xs : List A) → array f (map g xs) ≡ array (λ x. f (g x)) xs
 array_same f g [] = refl
 array_same f g (x ∷ xs) = rw (flat_map-map (further f) g xs) refl

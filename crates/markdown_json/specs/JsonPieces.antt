@@ -1,4 +1,4 @@
--- Pieces of JSON, written one after another: each as it is, or as a string.
+-- Pieces of JSON, one after another: each a text, written unchanged or as a string.
 use Rattle.std.specs.Prelude.{ℕ, List, map}
 use Rattle.markdown_out.specs.ByteLists.{joined}
 use Rattle.markdown_json.specs.Json.{string}

@@ -10,13 +10,13 @@ use std::alloc::AllocError;
 /// A piece of JSON.
 #[derive(Clone, Copy, Drop)]
 pub enum Piece<'x> {
-    /// A text as it is.
+    /// A text, written unchanged.
     Raw(&'x str),
-    /// A text as a string.
+    /// A text, written as a string.
     Text(&'x str),
 }
 
-/// Appends a text as it is.
+/// Appends a text unchanged.
 pub(crate) fn push_raw(s: &mut String, text: &str) -> Result<(), AllocError>
     ensures ok { OnOk result (Appends s.old s.new text.now) }
     ensures err { OnErr result (AppendsPart s.old s.new text.now) }
@@ -45,7 +45,7 @@ fn push_piece(s: &mut String, piece: Piece<'_>) -> Result<(), AllocError>
     }
 }
 
-/// Appends pieces, one after another. If an allocation is refused, a prefix of their bytes was appended.
+/// Appends pieces, one after another. Where an allocation is refused, a prefix of their bytes has been appended.
 pub fn push_pieces(s: &mut String, pieces: &[Piece<'_>]) -> Result<(), AllocError>
     ensures ok { OnOk result (Appends s.old s.new (spelled pieces.now)) }
     ensures err { OnErr result (AppendsPart s.old s.new (spelled pieces.now)) }

@@ -1,4 +1,4 @@
--- What a parser gives with ranges, up to its first None, is all that was left of it.
+-- What a parser returns with ranges, up to its first None, is all that was left of it.
 use Rattle.std.proofs.Common.{◌≡◌, ℕ, List, [], ◌∷◌, ◌++◌, map, Ok, Err, Option, Some, None, Result}
 use Rattle.std.proofs.Common.{ap, refl, sym, ◌∙◌, is_some, false}
 use Rattle.std.proofs.lemmas.List.Folds.{flat_map-map}
@@ -40,7 +40,7 @@ unasked step after (q ∷ questions) (a ∷ answers) asked = absurd asked
 abbrev ranged_line : Ranged → List ℕ
 ranged_line e = line_json e.0 e.1.start e.1.end
 
--- lines are those of what is seen of the events
+-- the lines of events are those of their views
 lines_seen : (given : List Placed) → lines_of given ≡ flat_map ranged_line (map ranged_view given)
 lines_seen given = sym (flat_map-map ranged_line ranged_view given)
 
@@ -62,7 +62,7 @@ module _ {F : Type 0} (step : F → Question → Option Answer → F → Type 0)
       → fault ≡ Memory
   stopped_by_memory o old new fault s = memory_alone o s.left s.events fault s.read
 
-  -- where nobody is asked, the events given are those of what was left
+  -- without a callback, the events returned are those of what was left
   drained : (o : OffsetIter F) (given : List Placed) → Drains Steps o (items given)
       → parser_callback (offset_parser o) ≡ None
       → (later : Answers) → ranged (events_of (elements (offset_parser o) later)) ≡ map ranged_view given

@@ -1,4 +1,4 @@
--- The JSON of a text: the lines of the events of its reading, and those of its headings.
+-- The JSON of a text: the lines of the events of its reading, or of its headings.
 use Rattle.std.specs.Prelude.{◌≡◌, ℕ, false, List}
 use Rattle.std.specs.List.{flat_map}
 use Rattle.std.specs.Str.{IsUtf8}
@@ -25,7 +25,8 @@ reading_lines elements = flat_map placed_line (events_of elements)
 abbrev pub heading_lines : List Element → List ℕ
 heading_lines elements = outline_lines (entries_of (ranged (events_of elements)))
 
--- the input is text, and these are the lines of a block result of it with these options, read with nobody to ask
+-- the input is UTF-8, and these are the lines of the reading of a block result of it with these options, without a
+-- callback
 pub record AreLinesOf (lines : List Element → List ℕ) (bytes : List ℕ) (options : Options)
     (json : List ℕ) : Type 0 where
   pub is_text : IsUtf8 bytes

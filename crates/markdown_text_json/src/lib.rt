@@ -1,5 +1,5 @@
-//! Text as JSON: a line for each event of its reading, with its range, or for each heading; and the program over any
-//! reader and two writers.
+//! Texts as JSON: a line for each event, with its range, or for each heading; the entries of an outline as JSON; and
+//! the program that prints events, over any reader and two writers.
 #![tactic(auto)]
 
 pub mod outline;

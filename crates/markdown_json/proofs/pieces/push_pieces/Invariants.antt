@@ -1,4 +1,4 @@
--- The pieces so far stand behind the old text.
+-- The old text is followed by the pieces so far.
 use Rattle.std.specs.String.{string_bytes}
 use Rattle.markdown_out.proofs.ByteListsLemmas.{StandsTo}
 use Rattle.markdown_json.specs.JsonPieces.{piece_json}

@@ -1,4 +1,4 @@
--- The lines so far stand behind the old text.
+-- The old text is followed by the lines so far.
 use Rattle.std.specs.String.{string_bytes}
 use Rattle.markdown_out.proofs.ByteListsLemmas.{StandsTo}
 use Rattle.markdown_text_json.proofs.OutlineJsonLemmas.{line_of_entry}
