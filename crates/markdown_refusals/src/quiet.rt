@@ -12,6 +12,7 @@ use markdown_defs::{
 };
 use markdown_inline::walk::Parser;
 use markdown_out::merge::{TextMergeStream, TextMergeWithOffset};
+use markdown_plain::misfits;
 use markdown_test_helpers::lists::is_nothing;
 use markdown_test_helpers::parts::{no_attributes, no_parts};
 use std::alloc::Global;
@@ -26,6 +27,20 @@ fn lists_the_definition(definitions: &RefDefs<'_>) -> bool {
         None => false,
     };
     first && is_nothing(items.next())
+}
+
+/// Returns whether each call that the block pass makes for a text fits.
+fn fits(alloc: Global, text: &str, options: Options) -> Result<bool, Fault> {
+    Ok(misfits(alloc, text, options)? == 0)
+}
+
+/// Returns whether each call that the block pass makes for the texts of this module fits.
+fn texts_fit(alloc: Global) -> Result<bool, Fault> {
+    Ok(
+        fits(alloc, "", Options::empty())?
+            && fits(alloc, DEFINING, Options::empty())?
+            && fits(alloc, DEFINING, Options::ENABLE_MATH)?,
+    )
 }
 
 /// What a new parser is asked, with ranges and without.
@@ -155,7 +170,8 @@ fn callbacks(calls: bool) -> bool {
 /// Whether all give what they should; memory is ample.
 fn all_give(alloc: Global, calls: bool) -> Result<bool, Fault> {
     Ok(
-        parsers(alloc, calls)?
+        texts_fit(alloc)?
+            && parsers(alloc, calls)?
             && ended_parsers(alloc, calls)?
             && merges(alloc, calls)?
             && blocks(alloc, calls)?
