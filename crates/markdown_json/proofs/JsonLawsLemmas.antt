@@ -1,5 +1,5 @@
 -- The string of a text reads back: the reader of JSON reads what a byte is written as.
-use Rattle.std.proofs.Common.{◌≡◌, ◌++◌, ◌∙◌, ◌∷◌, ℕ, List, [], Some, ap, refl, sym, append_assoc, inl, inr, drop}
+use Rattle.std.proofs.Common.{◌≡◌, ◌++◌, ◌∙◌, ◌∷◌, ℕ, List, [], Some, ap, refl, append_assoc, inl, inr, drop}
 use Rattle.std.specs.List.{flat_map}
 use Rattle.std.proofs.lemmas.Bool.{cases_eq, ne_eqb}
 use Rattle.json.specs.Print.{escape_byte, escape}

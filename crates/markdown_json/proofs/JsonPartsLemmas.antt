@@ -10,7 +10,7 @@ use Rattle.markdown_base.specs.Event.{EventView, attribute_view, code_block_view
 use Rattle.markdown_base.specs.declared.cow_str.CowStr.{CowStr}
 use Rattle.markdown_base.specs.declared.tag.CodeBlockKind.{CodeBlockKind}
 use Rattle.markdown_base.specs.declared.tag.CodeBlockKind.TheVariants as code_block
-use Rattle.markdown_out.specs.ByteLists.{AppendsPrefix, joined}
+use Rattle.markdown_out.specs.ByteLists.{AppendsPrefix}
 use Rattle.markdown_out.proofs.ByteListsLemmas.{append-more, prefix-after, prefix-first, joined-flat_map}
 use Rattle.markdown_json.specs.Json.{string, optional, array, further, attribute_json, heading_json, level_json, tag_json, variant, event_json, line_json}
 use Rattle.markdown_json.specs.JsonParts.{text_json, pair_json, heading_of, code_block_json, range_json}
