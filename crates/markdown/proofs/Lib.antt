@@ -1,2 +1,2 @@
--- Lemmas that callers cite, passed on from the crates below.
+-- Lemmas that callers cite, re-exported from the crates below.
 pub mod CallerLemmas

@@ -1,4 +1,4 @@
--- Words of clauses on block results, trees and items, passed on so that a caller names this crate alone.
+-- Definitions for clauses on block results, trees and items, re-exported so that a caller names this crate alone.
 
 -- a block result
 pub use Rattle.markdown_blocks.specs.Blocks.{block_text, block_options, block_tree, block_parts, IsOfText}
@@ -22,7 +22,7 @@ pub use Rattle.markdown_base.specs.declared.index.CowIndex.{CowIndex}
 pub use Rattle.markdown_base.specs.declared.index.LinkIndex.{LinkIndex}
 pub use Rattle.markdown_base.specs.declared.index.AlignmentIndex.{AlignmentIndex}
 pub use Rattle.markdown_base.specs.declared.index.HeadingIndex.{HeadingIndex}
--- the parts that items name
+-- the parts that items refer to
 pub use Rattle.markdown_base.specs.BlockParts.{DefinitionView, definition_view, HasShortTexts}
 pub use Rattle.markdown_base.specs.declared.block_parts.BlockParts.{BlockParts}
 pub use Rattle.markdown_base.specs.declared.block_parts.LinkDef.{LinkDef}

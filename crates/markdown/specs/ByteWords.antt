@@ -1,5 +1,4 @@
--- Words of clauses on the bytes of ASCII that markup is made of, by their names, passed on so that a caller names this
--- crate alone.
+-- The names of the ASCII bytes that markup is made of, re-exported so that a caller names this crate alone.
 pub use Rattle.markdown_base.specs.Bytes.{tab, line_feed, line_tabulation, form_feed, carriage_return, space}
 pub use Rattle.markdown_base.specs.Bytes.{exclamation_mark, double_quote, number_sign, dollar_sign, ampersand}
 pub use Rattle.markdown_base.specs.Bytes.{apostrophe, open_parenthesis, close_parenthesis, asterisk, plus_sign}

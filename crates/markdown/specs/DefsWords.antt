@@ -1,4 +1,5 @@
--- Words of clauses on definitions, footnotes and callbacks, passed on so that a caller names this crate alone.
+-- Definitions for clauses on link reference definitions, footnotes and callbacks, re-exported so that a caller names
+-- this crate alone.
 
 -- matching by case folding
 unfoldable pub use Rattle.markdown_defs.specs.Folding.{case_folding}
@@ -18,13 +19,13 @@ pub use Rattle.markdown_defs.specs.declared.footnotes.Absence.{Absence}
 pub use Rattle.markdown_defs.specs.LookUpLaws.{FindsFirstMatch, FindsNamed, MatchingKeysAgree}
 pub use Rattle.markdown_defs.specs.LookUpLaws.{MatchingNamesAgree, TestsMatching, IsFirstMatch, NoneMatches}
 pub use Rattle.markdown_defs.specs.LookUpLaws.{IsAmongNames}
--- what items name by number
+-- the parts that items refer to by number
 pub use Rattle.markdown_defs.specs.Allocations.{Allocated, LinkParts, HoldsParts}
 pub use Rattle.markdown_defs.specs.Allocations.{HasCow, HasLink, HasAlignment, HasHeading}
 pub use Rattle.markdown_defs.specs.Allocations.{with_cow, with_link, with_alignment, with_heading}
 pub use Rattle.markdown_defs.specs.Allocations.{LeavesEmptyCow, LeavesEmptyLink, LeavesEmptyAlignment}
 pub use Rattle.markdown_defs.specs.Allocations.{IsEmptyLink}
--- what a callback is asked, and what it answers
+-- the questions to a callback, and its answers
 pub use Rattle.markdown_base.specs.Questions.{Question, Answer, Answers}
 pub use Rattle.markdown_defs.specs.Callback.{question_of, answer_of, Asks}
 pub use Rattle.markdown_defs.specs.declared.callback.BrokenLink.{BrokenLink}

@@ -1,6 +1,6 @@
--- Words of clauses on texts, events, tags and faults, passed on so that a caller names this crate alone.
+-- Definitions for clauses on texts, events, tags and faults, re-exported so that a caller names this crate alone.
 
--- what is seen of a text, an event and a tag
+-- the views of a text, an event and a tag
 pub use Rattle.markdown_base.specs.CowText.{text_of, IsBorrowed, IsBoxed, IsInlined}
 pub use Rattle.markdown_base.specs.InlineText.{inline_text}
 pub use Rattle.markdown_base.specs.Event.{event_view, tag_view, code_block_view, attribute_view, end_of}
@@ -10,7 +10,7 @@ pub use Rattle.markdown_base.specs.FaultText.{fault_text}
 pub use Rattle.markdown_base.specs.Event.{EventView, start, end, text, code, inline_math, display_math, html}
 pub use Rattle.markdown_base.specs.Event.{inline_html, footnote_reference, soft_break, hard_break, rule}
 pub use Rattle.markdown_base.specs.Event.{task_list_marker}
--- what a Start opens
+-- the tag of a Start
 pub use Rattle.markdown_base.specs.Event.{TagView, paragraph, heading, block_quote, indented_code, fenced_code}
 pub use Rattle.markdown_base.specs.Event.{html_block, list, list_item, footnote_definition, definition_list}
 pub use Rattle.markdown_base.specs.Event.{definition_list_title, definition_list_definition, table, table_head}

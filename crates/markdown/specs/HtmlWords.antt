@@ -1,11 +1,11 @@
--- Words of clauses on HTML, passed on so that a caller names this crate alone.
+-- Definitions for clauses on HTML, re-exported so that a caller names this crate alone.
 
 -- the HTML of events
 pub use Rattle.markdown_out.specs.EventHtml.{html_of, open_html, bytes_after, closing_after}
 pub use Rattle.markdown_out.specs.ByteLists.{AppendsPrefix}
 pub use Rattle.markdown_out.specs.LookBacks.{IsTooDeep}
 pub use Rattle.markdown_out.specs.ImageHtml.{ImagesHaveParts, AreMatched, alt_text, image_events, image_html}
--- what `push_html` reads of an iterator, and what it leaves
+-- what `push_html` has read of an iterator, and what the string then holds
 pub use Rattle.markdown_out.specs.HtmlCorrect.{items, IsRendered, StopsAtError, IsOwnFault}
 pub use Rattle.markdown_out.specs.HtmlCorrect.{IsCutShort, IsCutAtEnd, GoesTooDeep}
 -- the HTML of a text, and of what is left of a parser

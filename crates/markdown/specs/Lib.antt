@@ -1,4 +1,4 @@
--- words of clauses, passed on from the crates below
+-- the definitions that clauses cite, re-exported from the crates that define them
 pub mod ByteWords
 pub mod EventWords
 pub mod OptionWords

@@ -1,4 +1,4 @@
--- Words of clauses on text merges, passed on so that a caller names this crate alone.
+-- Definitions for clauses on text merges, re-exported so that a caller names this crate alone.
 
 -- the merge of a list of events and errors
 pub use Rattle.markdown_out.specs.Merge.{Item, PlacedText, text_item, text_of_item, Run, runs, merged, merge_answers}

@@ -1,4 +1,4 @@
--- Words of clauses on options, passed on so that a caller names this crate alone.
+-- Definitions for clauses on options, re-exported so that a caller names this crate alone.
 pub use Rattle.markdown_base.specs.EnabledOptions.{no_options, both_options, is_on}
 pub use Rattle.markdown_base.specs.EnabledOptions.{footnotes_on, old_footnotes_on, gfm_footnotes_on}
 pub use Rattle.markdown_base.specs.EnabledOptions.{strikethrough_on, superscript_on, subscript_on}

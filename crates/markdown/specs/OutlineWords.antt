@@ -1,11 +1,11 @@
--- Words of clauses on outlines, passed on so that a caller names this crate alone.
+-- Definitions for clauses on outlines, re-exported so that a caller names this crate alone.
 
 -- the entries of a list of events
 pub use Rattle.markdown_base.specs.HeadingLevels.{level_number}
 pub use Rattle.markdown_outline.specs.Outline.{EntryView, entry_view, entries_of, opened_level, ends_heading}
 pub use Rattle.markdown_outline.specs.Outline.{text_added, joined_text, up_to_end}
 pub use Rattle.markdown_outline.specs.declared.entry.Entry.{Entry}
--- what is read of an iterator
+-- what `outline` has read of an iterator
 pub use Rattle.markdown_outline.specs.OutlineRead.{IsOutlineOfAll, MeetsError, NeedsMemory, entries_of_events}
 -- the entries of a block result
 pub use Rattle.markdown_outline.specs.TreeOutline.{AreEntriesOf, HeadingsApart, HeadingsOfTextsApart, tree_entries}

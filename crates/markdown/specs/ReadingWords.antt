@@ -1,4 +1,4 @@
--- Words of clauses on parsers and on what they read, passed on so that a caller names this crate alone.
+-- Definitions for clauses on parsers and on what they read, re-exported so that a caller names this crate alone.
 
 -- the reading of a block result
 pub use Rattle.markdown_inline.specs.Elements.{Element, question, event, Placed, events_of, questions_of}

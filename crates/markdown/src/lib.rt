@@ -1,8 +1,9 @@
 //! A Markdown parser with the names of pulldown-cmark: events with their source ranges, text merge and HTML. A caller
-//! names this crate alone, in `crates.txt`, in code and in clauses; the code stands in the crates below.
+//! names this crate alone, in `crates.txt`, in code and in clauses; the code is in the crates that it uses.
 #![tactic(auto)]
 
-/// Block results: a text with its tree of items and the parts that they name, checked or made of the text.
+/// Block results: a text with its tree of items and the parts that they refer to, passed in and checked, or made from a
+/// text.
 pub mod blocks {
     pub use markdown_base::block_parts::{BlockParts, HeadingAttributes, LinkDef};
     pub use markdown_base::index::{AlignmentIndex, CowIndex, HeadingIndex, LinkIndex};
@@ -12,7 +13,7 @@ pub mod blocks {
     pub use markdown_blocks::Blocks;
 }
 
-/// Link reference definitions and footnotes, what items name by number, and callbacks for broken links.
+/// Link reference definitions and footnotes, the parts that items refer to by number, and callbacks for broken links.
 pub mod defs {
     pub use markdown_base::block_parts::{BlockParts, HeadingAttributes, LinkDef};
     pub use markdown_defs::{
@@ -28,23 +29,23 @@ pub mod walk {
     pub use markdown_inline::walk::{OffsetIter, Parser};
 }
 
-/// Neighbouring texts as one.
+/// Iterators that merge neighbouring texts.
 pub mod merge {
     pub use markdown_out::merge::{TextMergeStream, TextMergeWithOffset};
 }
 
-/// Events as HTML, and whole texts.
+/// The HTML of events, and of texts.
 pub mod html {
     pub use markdown_out::html::push_html;
     pub use markdown_render::{merged_html, render};
 }
 
-/// Tables of headings, over events with their source ranges, and of block results.
+/// Tables of headings, of events with their source ranges and of block results.
 pub mod outline {
     pub use markdown_outline::{Entry, outline, outline_of};
 }
 
-/// Laws over the definitions that the contracts cite: functions without code, each of which is called for its clause.
+/// Laws of the definitions that the contracts cite: functions without code, each called for its clause.
 pub mod laws {
     pub use markdown_defs::laws::{
         a_key_finds_the_first_match, a_name_finds_what_matches, matching_keys_agree,

@@ -1,4 +1,4 @@
-//! Events made one by one, so that only what reads them takes memory.
+//! Events made one by one, so that only what reads them allocates.
 ghost use Rattle.std.specs.Iterator.{IsFinite};
 
 use crate::labels::{LabelKind, first_labels};
@@ -12,13 +12,13 @@ use markdown_test_helpers::events::{link, text};
 use markdown_test_helpers::lists::{Items, Listed};
 use std::alloc::Global;
 
-/// How many events a paragraph has.
+/// The number of events of a paragraph.
 const PARAGRAPH: usize = 12;
 
 const PROSE: &str =
     "Some words of prose, with an ampersand & and a comparison a < b in the middle.";
 
-/// The event at a place in a paragraph, from 0 on.
+/// Returns the event at a position of a paragraph, counted from 0.
 fn paragraph_event<'a>(place: usize, prose: &'a str) -> Event<'a> {
     match place {
         0 => Event::Start(Tag::Paragraph),
@@ -50,7 +50,7 @@ impl<'a> Listed for Paragraphs<'a> {
     }
 }
 
-/// How many bytes the HTML of so many paragraphs has.
+/// Returns the length of the HTML of `paragraphs` paragraphs in bytes.
 pub fn rendered_bytes(alloc: Global, paragraphs: usize) -> Option<usize> {
     let mut html = String::new(alloc);
     let count = paragraphs.checked_mul(PARAGRAPH)?;
@@ -59,7 +59,7 @@ pub fn rendered_bytes(alloc: Global, paragraphs: usize) -> Option<usize> {
     Some(html.as_str().len())
 }
 
-/// References to footnotes: to each name from the last to the first, and then to each once more.
+/// Footnote references: to each name from the last to the first, and then to each once more.
 #[derive(Drop)]
 struct References<'a> {
     names: &'a [String],
@@ -77,7 +77,7 @@ impl<'a> Listed for References<'a> {
     }
 }
 
-/// How many bytes the HTML has of two references to each of so many names.
+/// Returns the length in bytes of the HTML of two references to each of `size` names.
 pub fn footnote_bytes(alloc: Global, kind: LabelKind, size: usize) -> Option<usize> {
     let names = first_labels(alloc, kind, size)?;
     let mut html = String::new(alloc);
@@ -104,7 +104,7 @@ impl<'a> Listed for Letters<'a> {
     }
 }
 
-/// The bytes of a text; None of anything else.
+/// Returns the length of a text in bytes, or None for any other item.
 fn text_bytes(item: &Result<Event<'_>, Fault>) -> Option<usize> {
     match item {
         Ok(Event::Text(text)) => Some(text.as_str().len()),
@@ -112,7 +112,7 @@ fn text_bytes(item: &Result<Event<'_>, Fault>) -> Option<usize> {
     }
 }
 
-/// What the items come to in all; None where one of them comes to nothing.
+/// Returns the sum of what `size` returns for the items, or None where it returns None for one of them.
 fn sum_of<T: Drop, I: Iterator<Item = T> + Drop, F: Fn(&T) -> Option<usize> + Drop>(
     items: I,
     size: F,
@@ -128,7 +128,7 @@ fn sum_of<T: Drop, I: Iterator<Item = T> + Drop, F: Fn(&T) -> Option<usize> + Dr
     Some(sum)
 }
 
-/// How many bytes the texts have that so many texts of one byte are merged to.
+/// Returns the length in bytes of the merge of `texts` texts of one byte.
 pub fn merged_bytes(alloc: Global, texts: usize) -> Option<usize> {
     let letters = Items::of(Letters { letter: "a" }, texts);
     sum_of(TextMergeStream::new(alloc, letters), text_bytes)

@@ -1,10 +1,11 @@
-//! How many calls of the block pass do not fit: one that does not is a fault of the pass, and loses input.
+//! The number of calls of the block pass that do not fit: one that does not is a fault of the pass, and loses input.
 use crate::scans::Beginning;
 use markdown_base::options::Options;
 use markdown_plain::misfits;
 use std::alloc::Global;
 
-/// How many do not fit for a text, without footnotes and in either style; no other option changes a block.
+/// Returns the number for a text, without footnotes and with either style of footnotes; no other option changes a
+/// block.
 pub fn misfits_of(alloc: Global, text: &str) -> Option<usize> {
     let mut count = 0usize;
     for options in [
@@ -28,7 +29,7 @@ static BEGINNINGS: [Beginning; 7] = [
     Beginning::Entity,
 ];
 
-/// How many do not fit for the texts of all scans of this size.
+/// Returns the number for the texts of all scans of this size.
 pub fn misfits_of_scans(alloc: Global, times: usize) -> Option<usize> {
     let mut count = 0usize;
     for beginning in &BEGINNINGS {

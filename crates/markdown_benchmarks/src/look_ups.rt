@@ -5,7 +5,7 @@ use markdown_defs::Allocations;
 use markdown_test_helpers::parts::{link_to, no_parts};
 use std::alloc::Global;
 
-/// What defines links of these labels and footnotes of these names.
+/// Returns allocations with definitions of these labels and footnotes of these names.
 fn held(alloc: Global, labels: Vec<String>, names: Vec<String>) -> Option<Allocations<'static>> {
     let mut definitions = Vec::new(alloc);
     for label in labels {
@@ -21,7 +21,7 @@ fn held(alloc: Global, labels: Vec<String>, names: Vec<String>) -> Option<Alloca
     Allocations::new(alloc, parts).ok()
 }
 
-/// How many of so many definitions are found by their labels.
+/// Returns how many of `size` definitions are found by their labels.
 pub fn found(alloc: Global, kind: LabelKind, size: usize) -> Option<usize> {
     let held = held(alloc, first_labels(alloc, kind, size)?, Vec::new(alloc))?;
     let mut count = 0usize;
@@ -34,7 +34,7 @@ pub fn found(alloc: Global, kind: LabelKind, size: usize) -> Option<usize> {
     Some(count)
 }
 
-/// How many of so many footnotes are found by their names, as a use of each is counted.
+/// Returns how many of `size` footnotes are found by their names, when a use of each is counted.
 pub fn used(alloc: Global, kind: LabelKind, size: usize) -> Option<usize> {
     let mut held = held(alloc, Vec::new(alloc), first_labels(alloc, kind, size)?)?;
     let mut count = 0usize;

@@ -1,7 +1,8 @@
-//! Work that is measured: each line of standard input names a task and its size, `render 1000`, and is
-//! answered by how many bytes, events or finds the task came to.
+//! Work to be measured: each line of standard input names a task and its size, as `render 1000`. For each the program
+//! prints the number of bytes, events or finds of the task.
 //!
-//! With the word `fits` standard input is a document instead, and the status is 1 where a call that the block pass makes
+//! With the argument `fits` standard input is a document instead, and the status is 1 where a call that the block pass
+//! makes
 //! for it does not fit.
 #![tactic(auto)]
 
@@ -16,14 +17,14 @@ use std::env::{self, Env};
 use std::io::{self, Read};
 use std::process::ExitCode;
 
-/// The first word of the command line.
+/// Returns the first argument.
 fn first_word(rt: &(impl Env + AllocGlobal)) -> io::Result<Option<String>> {
     let mut args = env::args(rt)?;
     drop(args.next());
     Ok(args.next())
 }
 
-/// Whether the first word is `fits`; None where it can't be read.
+/// Returns whether the first argument is `fits`, or None where it cannot be read.
 fn is_document(rt: &(impl Env + AllocGlobal)) -> Option<bool> {
     match first_word(rt) {
         Ok(Some(word)) => Some(word.as_str() == "fits"),

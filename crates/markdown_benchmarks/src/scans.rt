@@ -1,4 +1,4 @@
-//! Scans at each place of a text where they may begin, and where nothing is found.
+//! Scans at each offset of a text where they may begin, and where nothing is found.
 use markdown_raw_html::html_tag::scan_html_tag;
 use markdown_raw_html::raw_html::RawHtmlScanner;
 use markdown_scan::entity::scan_entity;
@@ -6,7 +6,7 @@ use markdown_scan::label::scan_link_label;
 use markdown_scan::line_rule::NoPrefix;
 use std::alloc::Global;
 
-/// What begins and does not end.
+/// Markup that begins and does not end.
 #[derive(Clone, Copy, Drop)]
 pub enum Beginning {
     Comment,
@@ -31,7 +31,7 @@ impl Beginning {
         }
     }
 
-    /// So many of it.
+    /// Returns it, repeated `times` times.
     pub fn repeated(self, alloc: Global, times: usize) -> Option<String> {
         let mut all = String::new(alloc);
         for _ in 0..times {
@@ -41,7 +41,7 @@ impl Beginning {
     }
 }
 
-/// Whether something is found of which the first byte stands at `at`.
+/// Returns whether something is found whose first byte is at `at`.
 fn is_found(
     alloc: Global,
     scanner: &mut RawHtmlScanner<'_>,
@@ -73,7 +73,7 @@ fn is_found(
     }
 }
 
-/// How much is found in so many beginnings.
+/// Returns how many are found in `times` beginnings.
 pub fn found(alloc: Global, beginning: Beginning, times: usize) -> Option<usize> {
     let text = beginning.repeated(alloc, times)?;
     let mut scanner = RawHtmlScanner::new(text.as_str().as_bytes());

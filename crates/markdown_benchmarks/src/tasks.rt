@@ -4,7 +4,7 @@ use crate::scans::{self, Beginning};
 use crate::{events, fits, look_ups};
 use std::alloc::Global;
 
-/// The task that a line names, and its size.
+/// Returns the task that a line names, and its size.
 pub fn task_and_size(line: &str) -> Option<(&str, usize)> {
     let (task, size) = line.split_once(' ')?;
     match size.parse::<usize>() {
@@ -13,7 +13,7 @@ pub fn task_and_size(line: &str) -> Option<(&str, usize)> {
     }
 }
 
-/// What a task of this size came to; None where there is no such task, or memory was refused.
+/// Returns the result of a task of this size, or None where there is no such task, or an allocation was refused.
 pub fn run(alloc: Global, task: &str, size: usize) -> Option<usize> {
     match task {
         "render" => events::rendered_bytes(alloc, size),

@@ -1,5 +1,6 @@
-//! Tests of what no clause says of blocks: the HTML of each example of CommonMark 0.31.2 on them, and of texts in which
-//! the rules of the block pass meet. A module for a section or a few.
+//! Tests of what no clause says of blocks: the HTML of each of their examples in CommonMark 0.31.2, and of texts in
+//! which
+//! the rules of the block pass interact. A module for a section or a few.
 #![tactic(auto)]
 
 #[cfg(test)]

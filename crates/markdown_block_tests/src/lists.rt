@@ -181,7 +181,7 @@ fn lists(rt: HostRuntime) -> Result<(), Fail> {
     )
 }
 
-/// A list that ends with an empty item, a blank line, and what follows it in the item outside.
+/// A list that ends with an empty item and a blank line, and what follows it in the outer item.
 #[test]
 fn behind_empty_items(rt: HostRuntime) -> Result<(), Fail> {
     compare(
@@ -243,7 +243,8 @@ fn behind_empty_items(rt: HostRuntime) -> Result<(), Fail> {
     )
 }
 
-/// What makes no list loose: a blank line behind which nothing of it follows, or that is another block's, or none.
+/// Lists that are not loose: a blank line after which nothing of the list follows, one that belongs to another block,
+/// or none.
 #[test]
 fn tight_beside_empty_items(rt: HostRuntime) -> Result<(), Fail> {
     compare(

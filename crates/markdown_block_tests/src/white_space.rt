@@ -1,4 +1,4 @@
-//! Tabs (CommonMark 2.2), line endings (2.1), and that block structure goes before inline structure (3.1).
+//! Tabs (CommonMark 2.2), line endings (2.1), and the precedence of block structure over inline structure (3.1).
 use crate::rows::compare;
 use std::test::Fail;
 

@@ -1,2 +1,2 @@
--- What comes of a text.
+-- Lemmas on the outcomes of calls.
 pub mod OutcomeLemmas

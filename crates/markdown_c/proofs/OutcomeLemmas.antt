@@ -1,4 +1,4 @@
--- What the library gives of a text, as the outcome of its bytes.
+-- What the library returns for a text, as the outcome of its bytes.
 use Rattle.std.proofs.Common.{◌≡◌, ◌⊎◌, ℕ, List, Option, None, Ok, Err, inl, inr}
 use Rattle.std.specs.Str.{IsUtf8}
 use Rattle.markdown_base.specs.Questions.{Question, Answer}
@@ -15,7 +15,7 @@ module _ (text bytes : List ℕ) (options wanted : Options) (same : (text ≡ by
       → IsRenderingFor step None text options html → IsHtmlOutcome bytes wanted (Ok html)
   html_of_text step html r = rendering_alone step bytes html wanted same.1 (rw (same.0, is) at r)
 
-  -- rendering fails by memory, or where too many Starts are open
+  -- the errors of rendering are Memory, and Depth where too many Starts are open
   pub html_refused : {F : Type 0} (step : F → Question → Option Answer → F → Type 0) (f : Fault)
       → (f ≡ fault.Memory) ⊎ ((f ≡ fault.Depth) × IsTooDeepFor step None text options)
       → IsHtmlOutcome bytes wanted (Err (refusal_of f))
@@ -27,7 +27,7 @@ module _ (text bytes : List ℕ) (options wanted : Options) (same : (text ≡ by
       → IsLinesOutcome AreLines bytes wanted (Ok lines)
   lines_of_text AreLines lines r = rw (same.0, is) at r
 
-  -- making them fails by memory
+  -- the only error is Memory
   pub lines_refused : (AreLines : List ℕ → Options → List ℕ → Type 0) (f : Fault) → f ≡ fault.Memory
       → IsLinesOutcome AreLines bytes wanted (Err (refusal_of f))
   lines_refused AreLines f e = rw e tt

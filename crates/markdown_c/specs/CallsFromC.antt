@@ -1,4 +1,4 @@
--- What a call from C leaves: what came of the text, the number that is returned, and what stands in the buffer.
+-- A call from C: its outcome, the number that it returns, and what the buffer then holds.
 use Rattle.std.specs.Prelude.{ℕ, ℤ, pos, negsuc, nat_le, ◌++◌, List, length, drop, if◌then◌else◌}
 use Rattle.std.specs.Prelude.{Result, Ok, Err, String, string_bytes}
 use Rattle.std.specs.Str.{IsUtf8}
@@ -10,13 +10,13 @@ use Rattle.markdown_text_json.specs.TextJson.{IsJsonOf, IsOutlineJsonOf}
 use Rattle.markdown_c.specs.declared.readings.Refusal.{Refusal}
 use Rattle.markdown_c.specs.declared.readings.Refusal.TheVariants.{NotUtf8, Memory, Depth}
 
--- the refusal that stands for a fault of the library; no text has the fault Blocks
+-- the refusal for an error of the library; no text has the error Blocks
 abbrev pub refusal_of : Fault → Refusal
 refusal_of fault.Memory = Memory
 refusal_of fault.Depth = Depth
 refusal_of fault.Blocks = Memory
 
--- an outcome, by the bytes of the whole
+-- an outcome, with the bytes of the text to write
 abbrev pub bytes_of : {A : Type 0} → Result (String A) Refusal → Result (List ℕ) Refusal
 bytes_of (Ok whole) = Ok (string_bytes whole)
 bytes_of (Err refusal) = Err refusal
@@ -28,7 +28,7 @@ IsHtmlOutcome text options (Err NotUtf8) = IsUtf8 text → ⊥
 IsHtmlOutcome text options (Err Memory) = Unit {0}
 IsHtmlOutcome text options (Err Depth) = IsTooDeepOf text options
 
--- lines of JSON that are made of a text so, or why there are none
+-- the lines of a text, of one kind or another, or why there are none
 abbrev pub IsLinesOutcome : (AreLines : List ℕ → Options → List ℕ → Type 0) → (text : List ℕ) → Options
     → Result (List ℕ) Refusal → Type 0
 IsLinesOutcome AreLines text options (Ok lines) = AreLines text options lines
@@ -36,11 +36,11 @@ IsLinesOutcome AreLines text options (Err NotUtf8) = IsUtf8 text → ⊥
 IsLinesOutcome AreLines text options (Err Memory) = Unit {0}
 IsLinesOutcome AreLines text options (Err Depth) = ⊥
 
--- the lines of a text's events
+-- the lines of the events of a text, or why there are none
 abbrev pub IsJsonOutcome : (text : List ℕ) → Options → Result (List ℕ) Refusal → Type 0
 IsJsonOutcome text options outcome = IsLinesOutcome IsJsonOf text options outcome
 
--- the lines of its headings
+-- the lines of the headings of a text, or why there are none
 abbrev pub IsOutlineOutcome : (text : List ℕ) → Options → Result (List ℕ) Refusal → Type 0
 IsOutlineOutcome text options outcome = IsLinesOutcome IsOutlineJsonOf text options outcome
 
@@ -50,12 +50,12 @@ status_of NotUtf8 = negsuc 0
 status_of Memory = negsuc 1
 status_of Depth = negsuc 2
 
--- what is returned: how many bytes the whole has, or a status
+-- the number that is returned: the length of the text to write, or a status
 abbrev pub number_of : Result (List ℕ) Refusal → ℤ
 number_of (Ok whole) = pos (length whole)
 number_of (Err refusal) = status_of refusal
 
--- what stands in the buffer: the whole at its front, where it fits; else what stood there before
+-- what the buffer then holds: the text to write at the front, where it fits, and otherwise what it held before
 abbrev pub buffer_after : (old : List ℕ) → Result (List ℕ) Refusal → List ℕ
 buffer_after old (Ok whole) =
     if nat_le (length whole) (length old) then whole ++ drop (length whole) old else old

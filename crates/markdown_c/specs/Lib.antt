@@ -1,2 +1,2 @@
--- What a call from C leaves.
+-- What a call from C returns, and what it leaves in the buffer.
 pub mod CallsFromC

@@ -1,4 +1,4 @@
-//! What is written to the caller's buffer, and the number that is returned.
+//! The result of a call: what is written to the caller's buffer, and the number that is returned.
 ghost use Rattle.std.specs.Prelude.{◌≡◌, Ok, pos, length};
 ghost use Rattle.markdown_c.specs.CallsFromC.{bytes_of, number_of, buffer_after, status_of};
 
@@ -27,7 +27,7 @@ fn status(refusal: Refusal) -> i64
     }
 }
 
-/// Returns what a call returns by its outcome, and writes what it writes.
+/// Returns the number for an outcome, and writes the bytes to the front of `out`, if there are any and they fit.
 pub(crate) fn answer(outcome: Result<String, Refusal>, out: &mut [u8]) -> i64
     ensures number { result ≡ number_of (bytes_of outcome) }
     ensures buffer { out.new ≡ buffer_after out.old (bytes_of outcome) }

@@ -1,4 +1,4 @@
-//! The calls. A slice crosses as a pointer and a length, and the allocator as nothing.
+//! The functions that C calls. A slice is passed as a pointer and a length, and the allocator is not passed.
 ghost use Rattle.std.specs.Prelude.{◌≡◌, ℕ, List, Result};
 ghost use Rattle.markdown_render.specs.Words.{of_bits};
 ghost use Rattle.markdown_c.specs.CallsFromC.{IsHtmlOutcome, IsJsonOutcome, IsOutlineOutcome, number_of, buffer_after};
@@ -8,13 +8,13 @@ use crate::buffer::answer;
 use crate::readings::{html_of, json_of, outline_of};
 use std::alloc::Global;
 
-/// Renders a text as HTML. Returns how many bytes the HTML has, and writes it to the front of `out`, if it fits; else
-/// `out` stays as it was. Each bit of `options` enables an extension, as in `Options`.
+/// Renders a text as HTML. Returns the length of the HTML in bytes, and writes the HTML to the front of `out`, if it
+/// fits; otherwise `out` is unchanged. Each bit of `options` enables an extension, as in `Options`.
 ///
 /// # Errors
 ///
-/// Returns -1 if `text` is not UTF-8, -2 where an allocation is refused, and -3 where more than 2^64 - 1 Starts are
-/// open in one image. Then `out` stays as it was.
+/// Returns -1 if `text` is not UTF-8, -2 if an allocation is refused, and -3 if more than 2^64 - 1 Starts are open in
+/// one image. `out` is then unchanged.
 #[unsafe(no_mangle)]
 pub extern "C" fn markdown_to_html(alloc: Global, text: &[u8], options: u32, out: &mut [u8]) -> i64
     ensures { (outcome : Result (List ℕ) Refusal) × IsHtmlOutcome text.now (of_bits options) outcome
@@ -23,13 +23,13 @@ pub extern "C" fn markdown_to_html(alloc: Global, text: &[u8], options: u32, out
     answer(html_of(alloc, text, options), out)
 }
 
-/// Reads a text as events, as JSON: a line for each event with its range, which is byte offsets in `text`. Returns how
-/// many bytes the lines have, and writes them to the front of `out`, if they fit; else `out` stays as it was. Each bit
-/// of `options` enables an extension, as in `Options`.
+/// Writes the events of a text as JSON: a line for each event, with its range of byte offsets in `text`. Returns the
+/// length of the lines in bytes, and writes them to the front of `out`, if they fit; otherwise `out` is unchanged. Each
+/// bit of `options` enables an extension, as in `Options`.
 ///
 /// # Errors
 ///
-/// Returns -1 if `text` is not UTF-8, and -2 where an allocation is refused. Then `out` stays as it was.
+/// Returns -1 if `text` is not UTF-8, and -2 if an allocation is refused. `out` is then unchanged.
 #[unsafe(no_mangle)]
 pub extern "C" fn markdown_to_json(alloc: Global, text: &[u8], options: u32, out: &mut [u8]) -> i64
     ensures { (outcome : Result (List ℕ) Refusal) × IsJsonOutcome text.now (of_bits options) outcome
@@ -38,13 +38,13 @@ pub extern "C" fn markdown_to_json(alloc: Global, text: &[u8], options: u32, out
     answer(json_of(alloc, text, options), out)
 }
 
-/// Makes a table of a text's headings, as JSON: a line for each with its level, its text without markup, and its range,
-/// which is byte offsets in `text`. Returns how many bytes the lines have, and writes them to the front of `out`, if
-/// they fit; else `out` stays as it was. Each bit of `options` enables an extension, as in `Options`.
+/// Writes the headings of a text as JSON: a line for each, with its level, its text without markup, and its range of
+/// byte offsets in `text`. Returns the length of the lines in bytes, and writes them to the front of `out`, if they
+/// fit; otherwise `out` is unchanged. Each bit of `options` enables an extension, as in `Options`.
 ///
 /// # Errors
 ///
-/// Returns -1 if `text` is not UTF-8, and -2 where an allocation is refused. Then `out` stays as it was.
+/// Returns -1 if `text` is not UTF-8, and -2 if an allocation is refused. `out` is then unchanged.
 #[unsafe(no_mangle)]
 pub extern "C" fn markdown_to_outline(
     alloc: Global,

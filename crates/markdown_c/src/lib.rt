@@ -1,5 +1,5 @@
-//! The library for C and for all that calls C: the HTML, the events and the headings of a text. include/markdown.h
-//! declares the calls.
+//! The library for C and for everything that calls C: the HTML, the events and the headings of a text.
+//! include/markdown.h declares its functions.
 #![tactic(auto)]
 
 mod buffer;

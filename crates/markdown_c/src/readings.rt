@@ -1,4 +1,4 @@
-//! What is made of the bytes of a text, or why nothing is.
+//! The outcomes of calls: the HTML or the lines of a text, or the refusal.
 ghost use Rattle.std.specs.Prelude.{◌≡◌, IfOk, IfErr};
 ghost use Rattle.std.specs.Str.{IsUtf8};
 ghost use Rattle.markdown_render.specs.Words.{of_bits};
@@ -14,18 +14,18 @@ use markdown_text_json::{outline_json, text_json};
 use std::alloc::Global;
 use std::str;
 
-/// Why there is nothing to write.
+/// Why a call has nothing to write.
 #[derive(Clone, Copy, Drop)]
 pub enum Refusal {
     /// The bytes are not UTF-8.
     NotUtf8,
-    /// Memory was refused.
+    /// An allocation was refused.
     Memory,
-    /// Too many Starts are open in an image.
+    /// More than 2^64 - 1 Starts are open in one image.
     Depth,
 }
 
-/// The refusal that stands for a fault of the library. No text has the fault `Blocks`.
+/// Converts an error of the library. No text has the error `Blocks`.
 impl From<Fault> for Refusal {
     ghost use Rattle.std.specs.Prelude.{◌≡◌};
     ghost use Rattle.markdown_c.specs.CallsFromC.{refusal_of};
@@ -40,7 +40,7 @@ impl From<Fault> for Refusal {
     }
 }
 
-/// Returns the bytes as text.
+/// Returns the bytes as text, or `NotUtf8`.
 fn text_of(bytes: &[u8]) -> Result<&str, Refusal>
     ensures text { IfOk result (λ text. (text.now ≡ bytes.now) × IsUtf8 bytes.now) }
     ensures refused { IfErr result (λ refusal. (refusal ≡ Refusal.NotUtf8) × (IsUtf8 bytes.now → ⊥)) }
@@ -51,14 +51,14 @@ fn text_of(bytes: &[u8]) -> Result<&str, Refusal>
     }
 }
 
-/// Returns the options of these bits.
+/// Returns the options that these bits enable.
 fn options_of(bits: u32) -> Options
     ensures { result ≡ of_bits bits }
 {
     Options::from_bits_retain(bits)
 }
 
-/// Returns the HTML of a text.
+/// Returns the HTML of a text, without a callback.
 pub(crate) fn html_of(alloc: Global, bytes: &[u8], bits: u32) -> Result<String, Refusal>
     ensures { IsHtmlOutcome bytes.now (of_bits bits) (bytes_of result) }
 {

@@ -15,7 +15,7 @@ use markdown_test_parsers::parsers::{all_noted, ask_for, parser_of};
 use std::alloc::{AllocError, Global};
 use std::test::Fail;
 
-/// A text and the eight open bodies behind it, in a paragraph.
+/// A text followed by the eight open bodies, in a paragraph.
 const OPEN: &str = "x*'$`<[![]y";
 
 fn open_items(alloc: Global) -> Result<Tree<Item>, AllocError> {
@@ -36,7 +36,7 @@ fn open_items(alloc: Global) -> Result<Tree<Item>, AllocError> {
     Ok(tree)
 }
 
-/// A parser of the open items.
+/// Returns a parser of the open items.
 fn open_parser<'a>(alloc: Global) -> Result<Parser<'a>, Fail> {
     parser_of(
         alloc,
@@ -56,7 +56,7 @@ fn open_items_at_which_nothing_is_found(rt: HostRuntime) -> Result<(), Fail> {
     gives(OPEN, notes.as_str(), events)
 }
 
-/// How many items of resolved chains a parser has counted after so many calls of `next`.
+/// Returns the number of items of resolved chains that a parser has counted after `calls` calls of `next`.
 fn items_after(alloc: Global, calls: u64) -> Result<u128, Fail> {
     let mut parser = open_parser(alloc)?;
     ask_for(&mut parser, calls);
@@ -65,14 +65,14 @@ fn items_after(alloc: Global, calls: u64) -> Result<u128, Fail> {
 
 #[test]
 fn items_are_counted_once(rt: HostRuntime) -> Result<(), Fail> {
-    // the Start and the first Text stand before the chain's first open item
+    // the Start and the first Text come before the first open item of the chain
     for &(calls, items) in &[(0, 0), (2, 0), (3, 9), (4, 9), (12, 9), (14, 9)] {
         gives(calls, items_after(rt.alloc(), calls)?, items)?;
     }
     Ok(())
 }
 
-/// A text and one that stands behind it by its number, in a paragraph.
+/// Returns a tree with a paragraph of a text and of one that is referred to by its number.
 fn with_a_named_text(alloc: Global) -> Result<Tree<Item>, AllocError> {
     let mut tree = Tree::new(alloc)?;
     let inside = [
@@ -96,7 +96,7 @@ fn named_texts(rt: HostRuntime) -> Result<(), Fail> {
     )
 }
 
-/// A paragraph of two hundred thousand open brackets.
+/// Returns a tree with a paragraph of two hundred thousand open brackets.
 fn brackets(alloc: Global) -> Result<Tree<Item>, AllocError> {
     let mut tree = Tree::new(alloc)?;
     tree.append(item(0, 200_000, ItemBody::Paragraph))?;
@@ -107,7 +107,7 @@ fn brackets(alloc: Global) -> Result<Tree<Item>, AllocError> {
     Ok(tree)
 }
 
-/// Their events, each with its range: each is a text.
+/// Returns the events of the brackets, each with its range: each bracket is a text.
 fn events_of_brackets(alloc: Global) -> Result<String, AllocError> {
     let mut events = String::from_str(alloc, "<p>0..200000 ")?;
     for start in 0..200_000usize {
@@ -132,7 +132,7 @@ fn a_long_chain(rt: HostRuntime) -> Result<(), Fail> {
     )
 }
 
-/// Whether a label is defined.
+/// Returns whether a label is defined.
 fn is_defined(definitions: &RefDefs<'_>, label: &str) -> bool {
     matches!(definitions.get(label), Ok(Some(_)))
 }

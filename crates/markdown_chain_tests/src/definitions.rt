@@ -1,4 +1,4 @@
-//! The definitions of a text, as `reference_definitions` of its parser lends them.
+//! The definitions of a text, as `reference_definitions` of its parser returns them.
 use markdown_base::fault::Fault;
 use markdown_defs::RefDefs;
 use markdown_test_helpers::rows::gives;
@@ -6,7 +6,7 @@ use markdown_test_parsers::parsers::{ask_for, plain_parser};
 use std::alloc::{AllocError, Global};
 use std::test::Fail;
 
-/// Of each definition the label, the destination and the span, in order.
+/// Returns the label, the destination and the span of each definition, in order.
 fn listed(alloc: Global, definitions: &RefDefs<'_>) -> Result<String, AllocError> {
     let mut list = String::new(alloc);
     for (label, definition) in definitions.iter() {
@@ -20,7 +20,7 @@ fn listed(alloc: Global, definitions: &RefDefs<'_>) -> Result<String, AllocError
     Ok(list)
 }
 
-/// A text has these definitions.
+/// Checks the definitions of a text.
 fn defines(alloc: Global, source: &str, wanted: &str) -> Result<(), Fail> {
     let parser = plain_parser(alloc, source)?;
     let list = listed(alloc, parser.reference_definitions())?;
@@ -43,13 +43,13 @@ fn the_first_of_each_label_is_listed(rt: HostRuntime) -> Result<(), Fail> {
     Ok(())
 }
 
-/// The span of what a key finds.
+/// Returns the span of the definition that a key finds.
 fn span_of(definitions: &RefDefs<'_>, key: &str) -> Result<Option<(usize, usize)>, Fault> {
     let found = definitions.get(key)?;
     Ok(found.map(|definition| (definition.span.start, definition.span.end)))
 }
 
-/// A key finds a definition of a text over this span, after so many events.
+/// Checks that a key finds a definition of a text with this span, after this number of events.
 fn finds(
     alloc: Global,
     source: &str,

@@ -51,7 +51,7 @@ fn ranges(rt: HostRuntime) -> Result<(), Fail> {
                 "<p>0..22 [Testing this]0..12 [^1]12..16 [ out.]16..21 </p>0..22 \
                 <footnote (1)>23..38 <p>29..38 [Footnote.]29..38 </p>29..38 </footnote>23..38 ",
             ),
-            // what would begin an image is a text of its own
+            // an exclamation mark before a footnote reference is a text of its own
             (
                 "Testing this![^1] out.\n\n[^1]: Footnote.",
                 "<p>0..23 [Testing this]0..12 [!]12..13 [^1]13..17 [ out.]17..22 </p>0..23 \

@@ -1,4 +1,4 @@
-//! A text and the items of a paragraph over it, which grow together.
+//! A text and the items of a paragraph over it, which are built together.
 use crate::rows::{counted, tree_gives, tree_shows};
 use markdown_base::item::{Item, ItemBody};
 use markdown_base::tree::Tree;
@@ -7,14 +7,14 @@ use markdown_test_helpers::trees::{item, text};
 use std::alloc::{AllocError, Global};
 use std::test::Fail;
 
-/// One value, since each end of a scope at which both stood would let each of them go.
+/// One value, since each end of a scope with both would drop each of them.
 #[derive(Drop)]
 pub struct Grown {
     source: String,
     tree: Tree<Item>,
 }
 
-/// A paragraph over so many bytes, with nothing in it yet.
+/// Returns a tree with an empty paragraph over this number of bytes.
 fn paragraph_of(alloc: Global, bytes: usize) -> Result<Tree<Item>, AllocError> {
     let mut tree = Tree::new(alloc)?;
     tree.append(item(0, bytes, ItemBody::Paragraph))?;
@@ -23,7 +23,7 @@ fn paragraph_of(alloc: Global, bytes: usize) -> Result<Tree<Item>, AllocError> {
 }
 
 impl Grown {
-    /// No text yet, in a paragraph that will have so many bytes.
+    /// Returns an empty text, and a paragraph that will have this number of bytes.
     pub fn new(alloc: Global, bytes: usize) -> Result<Grown, AllocError> {
         let tree = paragraph_of(alloc, bytes)?;
         Ok(Grown {
@@ -48,19 +48,19 @@ impl Grown {
         Ok(())
     }
 
-    /// It gives this HTML.
+    /// Checks its HTML.
     pub fn shows(self, alloc: Global, row: &str, wanted: &str) -> Result<(), Fail> {
         let Grown { source, tree } = self;
         tree_shows(alloc, row, source.as_str(), tree, wanted)
     }
 
-    /// It gives these events, each with its range.
+    /// Checks its events, each with its range.
     pub fn gives(self, alloc: Global, row: &str, wanted: &str) -> Result<(), Fail> {
         let Grown { source, tree } = self;
         tree_gives(alloc, row, source.as_str(), tree, wanted)
     }
 
-    /// How many events it gives, and what is counted.
+    /// Returns the number of its events, and the counts of the work.
     pub fn counted(self, alloc: Global) -> Result<(usize, Work), Fail> {
         let Grown { source, tree } = self;
         counted(alloc, source.as_str(), tree)

@@ -50,7 +50,7 @@ fn destinations(rt: HostRuntime) -> Result<(), Fail> {
     compare_plain(
         rt.alloc(),
         &[
-            // no destination stands before the second line ending
+            // there is no destination before the second line ending
             "[a](\n\u{b}\n)",
             "[a](\n\u{c}\n)",
             "[a](\n\u{b}\n't')",
@@ -213,7 +213,7 @@ fn ranges(rt: HostRuntime) -> Result<(), Fail> {
                 "![a](c \"t\")",
                 "<p>0..11 <img Inline (c) (t) ()>0..11 [a]2..3 </img>0..11 </p>0..11 ",
             ),
-            // titles and destinations are slices of the text, but for those in which something is replaced
+            // titles and destinations are slices of the text, except where something is replaced
             (
                 "[a](b (t))",
                 "<p>0..10 <a Inline (b) (t) ()>0..10 [a]1..2 </a>0..10 </p>0..10 ",
@@ -230,7 +230,7 @@ fn ranges(rt: HostRuntime) -> Result<(), Fail> {
                 "[a](b\\* \"t\")",
                 "<p>0..12 <a Inline +(b*) (t) ()>0..12 [a]1..2 </a>0..12 </p>0..12 ",
             ),
-            // a title over two lines is owned, and this one is short enough to be held in place
+            // a title over two lines is owned, and this one is short enough to be stored inline
             (
                 "> [a](b \"x\n> y\")",
                 "<blockquote>0..16 <p>2..16 <a Inline (b) =(x\ny) ()>2..16 [a]3..4 </a>2..16 </p>2..16 \
@@ -240,7 +240,7 @@ fn ranges(rt: HostRuntime) -> Result<(), Fail> {
     )
 }
 
-/// A text in the one cell of a table, with a link over its first three bytes and a tail behind it, gives this HTML.
+/// Checks the HTML of a text in the one cell of a table, with a link over its first three bytes and a tail after it.
 fn cell_shows(alloc: Global, source: &str, wanted: &str) -> Result<(), Fail> {
     let end = source.len();
     let outline = [
@@ -272,7 +272,7 @@ fn titles_in_a_cell(rt: HostRuntime) -> Result<(), Fail> {
     Ok(())
 }
 
-/// A text between so many opening and as many closing characters.
+/// Returns a text between `times` opening and as many closing characters.
 fn between(
     alloc: Global,
     open: &str,
@@ -285,7 +285,7 @@ fn between(
     format!(in alloc; "{before}{text}{after}")
 }
 
-/// A link to `b` in so many parentheses.
+/// Returns a link to `b` in `times` parentheses.
 fn nested_link(alloc: Global, times: usize) -> Result<String, AllocError> {
     let inside = between(alloc, "(", "b", ")", times)?;
     format!(in alloc; "[a]({inside})")

@@ -218,7 +218,7 @@ fn options_that_add_marks(rt: HostRuntime) -> Result<(), Fail> {
         Options::ENABLE_STRIKETHROUGH,
         &[("hi ~~no~~", "hi <del>no</del>")],
     )?;
-    // two tildes that mark nothing are one text with all between them
+    // two unpaired tildes are one text with everything between them
     compare_events(
         rt.alloc(),
         Options::ENABLE_SUBSCRIPT,

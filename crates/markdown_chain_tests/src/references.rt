@@ -1,5 +1,5 @@
-//! References (CommonMark 6.3 and 6.4): what they find, what they expand to, and what is asked about those that are
-//! defined nowhere.
+//! References (CommonMark 6.3 and 6.4): what they find, what they expand to, and the questions for those without a
+//! definition.
 ghost use Rattle.std.specs.Prelude.{◌≡◌, ◌+◌, ◌%◌, ◌^◌};
 
 use crate::rows::{compare_events, compare_plain, compare_whole};
@@ -93,7 +93,7 @@ fn full_references(rt: HostRuntime) -> Result<(), Fail> {
     )
 }
 
-/// A paragraph over the first bytes of `[a]`, whose items go on to its end, gives these events, where `a` is defined.
+/// Checks the events of a paragraph over the first bytes of `[a]`, whose items extend to the end, where `a` is defined.
 fn block_gives(alloc: Global, end: usize, wanted: &str) -> Result<(), Fail> {
     let outline = [
         (0, item(0, end, ItemBody::Paragraph)),
@@ -221,7 +221,7 @@ fn each_bracket_asks_once(rt: HostRuntime) -> Result<(), Fail> {
     Ok(())
 }
 
-/// What a text gives with a callback that replies so: its events, and the questions.
+/// Returns the events of a text, and the questions, with a callback that has these answers.
 fn asked_of(alloc: Global, source: &str, reply: Reply) -> Result<(String, String), Fail> {
     let parser = parser_asking(alloc, source, Recording::replying(alloc, reply))?;
     let (events, callback) = all_noted(alloc, parser)?;
@@ -232,7 +232,7 @@ fn asked_of(alloc: Global, source: &str, reply: Reply) -> Result<(String, String
     Ok((events, questions))
 }
 
-/// A text gives these events with a callback that replies so, which is asked these questions.
+/// Checks the events of a text, and the questions, with a callback that has these answers.
 fn is_answered(
     alloc: Global,
     source: &str,
@@ -292,7 +292,7 @@ fn answers(rt: HostRuntime) -> Result<(), Fail> {
     Ok(())
 }
 
-/// A text is rendered as this with a callback.
+/// Checks the rendering of a text with a callback.
 fn is_rendered<'a, F: BrokenLinkCallback<'a>>(
     alloc: Global,
     source: &'a str,
@@ -307,7 +307,7 @@ fn is_rendered<'a, F: BrokenLinkCallback<'a>>(
     gives(source, html.as_str(), wanted)
 }
 
-/// A text is rendered as this with a boxed callback that replies so.
+/// Checks the rendering of a text with a boxed callback that has these answers.
 fn is_rendered_with(alloc: Global, source: &str, reply: Reply, wanted: &str) -> Result<(), Fail> {
     let boxed: Box<dyn BoxedCallback> = Box::new(alloc, Replying::new(alloc, reply))?;
     is_rendered(alloc, source, boxed, wanted)
@@ -346,8 +346,8 @@ fn html_with_a_closure_that_counts(rt: HostRuntime) -> Result<(), Fail> {
     gives("questions", asked, 2)
 }
 
-/// What a text gives with a callback that replies by so many bytes `x`: its events, in which `X` stands for
-/// those bytes, and the questions.
+/// Returns the events of a text, with `X` for the answer, and the questions, with a callback that answers with this
+/// number of bytes `x`.
 fn asked_by_bytes(alloc: Global, source: &str, bytes: usize) -> Result<(String, String), Fail> {
     let (events, questions) = asked_of(alloc, source, Reply::Bytes(bytes))?;
     let answer = "x".repeat(alloc, bytes)?;

@@ -1,4 +1,4 @@
-//! What tests of chains ask of a row: a text with its HTML or its events, a tree made by hand, counts of work.
+//! Checks for tests of chains: texts with their HTML or their events, trees made by hand, counts of work.
 use crate::walks::count_left;
 use markdown_base::item::{Item, ItemBody};
 use markdown_base::options::Options;
@@ -14,13 +14,13 @@ use markdown_test_parsers::parsers::{parser_gives, parser_of, plain_parser, text
 use std::alloc::Global;
 use std::test::Fail;
 
-/// The merge of a parser gives this HTML.
+/// Checks the HTML of the merge of a parser.
 fn merge_shows(alloc: Global, row: &str, parser: Parser<'_>, wanted: &str) -> Result<(), Fail> {
     let html = merged_html(alloc, parser)?;
     gives((row, "merged"), html.as_str(), wanted)
 }
 
-/// A text gives this HTML, merged and not.
+/// Checks the HTML of a text, merged and not.
 pub fn assert_html(
     alloc: Global,
     options: Options,
@@ -31,7 +31,7 @@ pub fn assert_html(
     merge_shows(alloc, source, text_parser(alloc, source, options)?, wanted)
 }
 
-/// Each text gives this HTML.
+/// Checks the HTML of each text.
 pub fn compare_whole(alloc: Global, options: Options, rows: &[(&str, &str)]) -> Result<(), Fail> {
     for (source, wanted) in rows {
         assert_html(alloc, options, source, wanted)?;
@@ -39,13 +39,13 @@ pub fn compare_whole(alloc: Global, options: Options, rows: &[(&str, &str)]) -> 
     Ok(())
 }
 
-/// A text is one paragraph with this inside.
+/// Checks that a text is one paragraph with this inside.
 fn assert_inside(alloc: Global, options: Options, source: &str, inside: &str) -> Result<(), Fail> {
     let wanted = format!(in alloc; "<p>{inside}</p>\n")?;
     assert_html(alloc, options, source, wanted.as_str())
 }
 
-/// Each text is one paragraph with this inside.
+/// Checks that each text is one paragraph with this inside.
 pub fn compare(alloc: Global, options: Options, rows: &[(&str, &str)]) -> Result<(), Fail> {
     for (source, inside) in rows {
         assert_inside(alloc, options, source, inside)?;
@@ -53,7 +53,7 @@ pub fn compare(alloc: Global, options: Options, rows: &[(&str, &str)]) -> Result
     Ok(())
 }
 
-/// Each text is one paragraph that shows the text as it stands.
+/// Checks that each text is one paragraph that shows the text unchanged.
 pub fn compare_plain(alloc: Global, rows: &[&str]) -> Result<(), Fail> {
     for source in rows {
         assert_inside(alloc, Options::empty(), source, source)?;
@@ -61,13 +61,13 @@ pub fn compare_plain(alloc: Global, rows: &[&str]) -> Result<(), Fail> {
     Ok(())
 }
 
-/// A text gives these events, each with its range.
+/// Checks the events of a text, each with its range.
 fn assert_events(alloc: Global, options: Options, source: &str, wanted: &str) -> Result<(), Fail> {
     let parser = text_parser(alloc, source, options)?;
     parser_gives(alloc, source, parser, wanted)
 }
 
-/// Each text gives these events, each with its range.
+/// Checks the events of each text, each with its range.
 pub fn compare_events(alloc: Global, options: Options, rows: &[(&str, &str)]) -> Result<(), Fail> {
     for (source, wanted) in rows {
         assert_events(alloc, options, source, wanted)?;
@@ -75,14 +75,15 @@ pub fn compare_events(alloc: Global, options: Options, rows: &[(&str, &str)]) ->
     Ok(())
 }
 
-/// What was counted when all events of a text were given.
+/// Returns the counts of the work for all events of a text.
 pub fn work_of(alloc: Global, source: &str) -> Result<Work, Fail> {
     let mut parser = plain_parser(alloc, source)?;
     count_left(&mut parser);
     Ok(parser.work())
 }
 
-/// A parser of a tree over a text; it may name one text, one list of alignments and the attributes of one heading.
+/// Returns a parser of a tree over a text, which may refer to one text, one list of alignments and the attributes of
+/// one heading.
 fn outlined<'a>(
     alloc: Global,
     source: &'a str,
@@ -93,7 +94,7 @@ fn outlined<'a>(
     parser_of(alloc, source, options, tree, one_of_each(alloc)?)
 }
 
-/// Such a tree over a text gives this HTML, merged and not.
+/// Checks the HTML of such a tree over a text, merged and not.
 pub fn outline_shows(
     alloc: Global,
     source: &str,
@@ -115,7 +116,7 @@ pub fn outline_shows(
     )
 }
 
-/// Such a tree over a text gives these events, each with its range.
+/// Checks the events of such a tree over a text, each with its range.
 pub fn outline_gives(
     alloc: Global,
     source: &str,
@@ -131,7 +132,7 @@ pub fn outline_gives(
     )
 }
 
-/// A parser of a paragraph of these items.
+/// Returns a parser of a paragraph of these items.
 fn paragraph<'a>(
     alloc: Global,
     source: &'a str,
@@ -143,7 +144,7 @@ fn paragraph<'a>(
     parser_of(alloc, source, options, tree, no_parts(alloc))
 }
 
-/// A paragraph of these items gives these events, each with its range.
+/// Checks the events of a paragraph of these items, each with its range.
 pub fn paragraph_gives(
     alloc: Global,
     source: &str,
@@ -155,7 +156,7 @@ pub fn paragraph_gives(
     parser_gives(alloc, source, parser, wanted)
 }
 
-/// A paragraph of these items gives this HTML, merged and not.
+/// Checks the HTML of a paragraph of these items, merged and not.
 pub fn paragraph_shows(
     alloc: Global,
     source: &str,
@@ -177,7 +178,7 @@ pub fn paragraph_shows(
     )
 }
 
-/// A tree over a text gives this HTML.
+/// Checks the HTML of a tree over a text.
 pub fn tree_shows(
     alloc: Global,
     row: &str,
@@ -189,7 +190,7 @@ pub fn tree_shows(
     parser_shows(alloc, row, parser, wanted)
 }
 
-/// A tree over a text gives these events, each with its range.
+/// Checks the events of a tree over a text, each with its range.
 pub fn tree_gives(
     alloc: Global,
     row: &str,
@@ -201,7 +202,7 @@ pub fn tree_gives(
     parser_gives(alloc, row, parser, wanted)
 }
 
-/// How many events a tree over a text gives, and what was counted.
+/// Returns the number of events of a tree over a text, and the counts of the work.
 pub fn counted(alloc: Global, source: &str, tree: Tree<Item>) -> Result<(usize, Work), Fail> {
     let mut parser = parser_of(alloc, source, Options::empty(), tree, no_parts(alloc))?;
     let events = count_left(&mut parser);

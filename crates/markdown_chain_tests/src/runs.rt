@@ -1,11 +1,11 @@
-//! Many delimiter runs in one chain, made by hand: their events with ranges, and what is counted.
+//! Many delimiter runs in one chain, made by hand: their events with ranges, and the counts of the work.
 use crate::grown::Grown;
 use markdown_base::item::ItemBody;
 use markdown_test_helpers::rows::gives;
 use std::alloc::{AllocError, Global};
 use std::test::Fail;
 
-/// Appends a run, and a text behind it.
+/// Appends a run, followed by a text.
 fn append_run(
     over: &mut Grown,
     mark: &str,
@@ -19,7 +19,7 @@ fn append_run(
     over.append_a()
 }
 
-/// A thousand runs of `*` and `_`, of one, two and three characters.
+/// Returns a thousand runs of `*` and `_`, of one, two and three characters.
 fn three_lengths(alloc: Global) -> Result<Grown, Fail> {
     // 1000 characters `a`, and 1999 of the runs
     let mut over = Grown::new(alloc, 2999)?;
@@ -30,8 +30,8 @@ fn three_lengths(alloc: Global) -> Result<Grown, Fail> {
     Ok(over)
 }
 
-/// What they are, paired by the rules with a search that begins afresh for each closer: each twelve runs but the first
-/// few and the last alike.
+/// Returns what they become, paired by the rules with a search that begins afresh for each closer: each twelve runs
+/// become the same, except the first few and the last.
 fn three_lengths_paired(alloc: Global) -> Result<String, AllocError> {
     let twelve = "**a<em>a**a</em><strong>a*a</strong>a\
         <em><strong>a_a</strong>a_<strong>a*a</strong>a</em>"
@@ -75,7 +75,7 @@ static TWELVE: [(&str, u8, u8); 30] = [
 
 /// Appends the events of twelve runs, with the ranges of those after `before` times twelve others.
 fn push_twelve(alloc: Global, events: &mut String, before: u8) -> Result<(), AllocError> {
-    // twelve runs and the texts behind them are 36 bytes
+    // twelve runs and the texts after them are 36 bytes
     let from = 36 * usize::from(before);
     for &(event, start, end) in &TWELVE {
         let placed = format!(in alloc;
@@ -88,7 +88,7 @@ fn push_twelve(alloc: Global, events: &mut String, before: u8) -> Result<(), All
     Ok(())
 }
 
-/// The events of the thousand runs, each with its range.
+/// Returns the events of the thousand runs, each with its range.
 fn three_lengths_given(alloc: Global) -> Result<String, AllocError> {
     let mut events = String::new(alloc);
     events.push_str("<p>0..2999 <em>0..6 [a]1..2 [_]2..3 [_]3..4 [a]4..5 </em>0..6 ")?;
@@ -123,7 +123,7 @@ fn a_thousand_runs_of_three_lengths_in_html(rt: HostRuntime) -> Result<(), Fail>
     three_lengths(rt.alloc())?.shows(rt.alloc(), "a thousand runs", wanted.as_str())
 }
 
-/// So many runs `_` that can only open, and then as many `*` that can only close, in a text of so many bytes.
+/// Returns `runs` runs `_` that can only open, and then as many `*` that can only close, in a text of `bytes` bytes.
 fn apart(alloc: Global, runs: usize, bytes: usize) -> Result<Grown, AllocError> {
     let mut over = Grown::new(alloc, bytes)?;
     for _ in 0..runs {
@@ -135,7 +135,7 @@ fn apart(alloc: Global, runs: usize, bytes: usize) -> Result<Grown, AllocError> 
     Ok(over)
 }
 
-/// Their events, each with its range: each run is a text.
+/// Returns their events, each with its range: each run is a text.
 fn apart_given(alloc: Global, bytes: usize) -> Result<String, AllocError> {
     let mut events = format!(in alloc; "<p>0..{bytes} ")?;
     for run in 0..bytes / 2 {
@@ -154,8 +154,9 @@ fn apart_given(alloc: Global, bytes: usize) -> Result<String, AllocError> {
     Ok(events)
 }
 
-/// So many runs of each kind, in a text of so many bytes, stay texts; and so much is counted, and no more than this
-/// examined.
+/// Checks that `runs` runs of each kind, in a text of `bytes` bytes, stay texts, and checks the counts of the work and
+/// a
+/// bound on the comparisons.
 fn stay_apart(
     alloc: Global,
     runs: usize,

@@ -265,14 +265,14 @@ fn code_in_a_cell(rt: HostRuntime) -> Result<(), Fail> {
     outline_gives(rt.alloc(), source, Options::ENABLE_TABLES, &outline, wanted)
 }
 
-/// Appends a run of backticks, and a text behind it.
+/// Appends a run of backticks, followed by a text.
 fn append_backticks(alloc: Global, over: &mut Grown, count: usize) -> Result<(), AllocError> {
     let mark = "`".repeat(alloc, count)?;
     over.append(mark.as_str(), ItemBody::MaybeCode(count, false))?;
     over.append_a()
 }
 
-/// How many events runs of 1 up to 100 backticks give, and what is counted.
+/// Returns the number of events of runs of 1 up to 100 backticks, and the counts of the work.
 fn counted_of_backticks(alloc: Global) -> Result<(usize, Work), Fail> {
     // 5050 backticks and 100 characters `a`
     let mut over = Grown::new(alloc, 5150)?;
@@ -293,13 +293,13 @@ fn backticks_of_rising_lengths(rt: HostRuntime) -> Result<(), Fail> {
     )
 }
 
-/// Appends a dollar, and a text behind it.
+/// Appends a dollar, followed by a text.
 fn append_dollar(over: &mut Grown, context: u8) -> Result<(), AllocError> {
     over.append("$", ItemBody::MaybeMath(true, true, context))?;
     over.append_a()
 }
 
-/// How many events a hundred dollars give, each in braces of its own, and what is counted.
+/// Returns the number of events of a hundred dollars, each in braces of its own, and the counts of the work.
 fn counted_of_dollars(alloc: Global) -> Result<(usize, Work), Fail> {
     let mut over = Grown::new(alloc, 200)?;
     for context in 0..100 {

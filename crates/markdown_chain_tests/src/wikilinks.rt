@@ -1,4 +1,4 @@
-//! Wikilinks, with a pipe and without, and what they share with links.
+//! Wikilinks, with a pipe and without, and rules that they share with links.
 use crate::rows::{compare, compare_events};
 use crate::walks::count_left;
 use markdown_base::item::ItemBody;
@@ -61,7 +61,7 @@ fn ranges(rt: HostRuntime) -> Result<(), Fail> {
     )
 }
 
-/// A paragraph over the first bytes of `[[a|b]]`, whose items go on to its end, gives these events.
+/// Checks the events of a paragraph over the first bytes of `[[a|b]]`, whose items extend to the end.
 fn block_gives(alloc: Global, end: usize, wanted: &str) -> Result<(), Fail> {
     let outline = [
         (0, item(0, end, ItemBody::Paragraph)),
@@ -91,7 +91,7 @@ fn pipes_end_in_their_block(rt: HostRuntime) -> Result<(), Fail> {
     )
 }
 
-/// How many events a text gives.
+/// Returns the number of events of a text.
 fn events_of(alloc: Global, source: &str) -> Result<usize, Fail> {
     let mut parser = text_parser(alloc, source, Options::ENABLE_WIKILINKS)?;
     Ok(count_left(&mut parser))

@@ -13,7 +13,7 @@ use markdown_test_parsers::parsers::{all_noted, parser_of};
 use std::alloc::{AllocError, Global};
 use std::test::Fail;
 
-/// The events of a tree over a text, written down.
+/// Returns the events of a tree over a text, as a text.
 fn events_of<'a>(
     alloc: Global,
     source: &'a str,
@@ -27,7 +27,7 @@ fn events_of<'a>(
     Ok(events)
 }
 
-/// A tree over `abc` gives these events; it may name one text.
+/// Checks the events of a tree over `abc`, which may refer to one text.
 fn tree_gives(
     alloc: Global,
     outline: Outline<'_>,
@@ -38,14 +38,14 @@ fn tree_gives(
     gives(row, events.as_str(), wanted)
 }
 
-/// A body with a text in it gives this Start and this End.
+/// Checks the Start and the End of a body that contains a text.
 fn block_gives(alloc: Global, body: ItemBody, start: &str, end: &str) -> Result<(), Fail> {
     let outline = [(0, item(0, 3, body)), (1, text(1, 2))];
     let wanted = format!(in alloc; "<{start}>0..3 [b]1..2 </{end}>0..3 ")?;
     tree_gives(alloc, &outline, body, wanted.as_str())
 }
 
-/// A body in an item gives this event.
+/// Checks the event of a body in an item.
 fn leaf_gives(alloc: Global, body: ItemBody, name: &str) -> Result<(), Fail> {
     let outline = [
         (0, item(0, 3, ItemBody::ListItem(2))),
@@ -127,7 +127,7 @@ fn single_events(rt: HostRuntime) -> Result<(), Fail> {
     Ok(())
 }
 
-/// Parts with the alignments of two columns.
+/// Returns parts with the alignments of two columns.
 fn two_columns(alloc: Global) -> Result<BlockParts<'static>, AllocError> {
     let alignments = vec![in alloc; Alignment::None, Alignment::Right]?;
     let mut parts = no_parts(alloc);
@@ -153,7 +153,7 @@ fn a_table(rt: HostRuntime) -> Result<(), Fail> {
     gives("a table", found.as_str(), events)
 }
 
-/// Attributes with an identifier, a class, a name with a value and one without.
+/// Returns attributes with an id, a class, a name with a value and one without.
 fn attributes(alloc: Global) -> Result<HeadingAttributes<'static>, AllocError> {
     let classes = vec![in alloc; CowStr::Borrowed("c")]?;
     let attrs = vec![in alloc;
@@ -167,7 +167,7 @@ fn attributes(alloc: Global) -> Result<HeadingAttributes<'static>, AllocError> {
     })
 }
 
-/// Parts with these attributes.
+/// Returns parts with these attributes.
 fn attributed(alloc: Global) -> Result<BlockParts<'static>, AllocError> {
     let held = attributes(alloc)?;
     let mut parts = no_parts(alloc);

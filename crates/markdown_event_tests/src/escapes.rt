@@ -1,4 +1,4 @@
-//! What stands in HTML for each byte that can stand in a text.
+//! What each byte of a text is written as in HTML.
 use crate::signs::{Sign, items_of};
 use markdown_base::tag::LinkType;
 use markdown_test_helpers::rows::gives;
@@ -13,7 +13,7 @@ fn push_code(all: &mut String, code: u32) -> Result<(), AllocError> {
     Ok(())
 }
 
-/// Each character of one byte, and one with each first byte and each later byte that UTF-8 has.
+/// Returns each character of one byte, and one with each first byte and each later byte of UTF-8.
 fn all_bytes(alloc: Global) -> Result<String, AllocError> {
     let mut all = String::new(alloc);
     for code in 0u32..192 {
@@ -33,7 +33,8 @@ fn all_bytes(alloc: Global) -> Result<String, AllocError> {
     Ok(all)
 }
 
-/// What stands for a byte of a text, by the table, where another text does; for a quote this.
+/// Returns what a byte of a text is written as, by the table, if it is not written unchanged; a quote is written as
+/// `quote`.
 fn escaped(byte: u8, quote: &str) -> Option<&str> {
     match byte {
         b'&' => Some("&amp;"),
@@ -44,7 +45,7 @@ fn escaped(byte: u8, quote: &str) -> Option<&str> {
     }
 }
 
-/// Appends what stands for the bytes of a text, with this for a quote.
+/// Appends what a text is written as, with `quote` for a quote.
 fn push_escaped(expected: &mut Vec<u8>, text: &str, quote: &str) -> Result<(), AllocError> {
     for byte in text.as_bytes() {
         match escaped(*byte, quote) {
@@ -59,7 +60,7 @@ fn push_escaped(expected: &mut Vec<u8>, text: &str, quote: &str) -> Result<(), A
 const KEPT: &str =
     "ABCDEFGHIJKLMNOPQRSTUVWXYZabcdefghijklmnopqrstuvwxyz0123456789!#$%()*+,-./:;=?@_~";
 
-/// `%` and two digits.
+/// Appends `%` and two digits.
 fn push_percent(expected: &mut Vec<u8>, byte: u8) -> Result<(), AllocError> {
     let digits = "0123456789ABCDEF".as_bytes();
     expected.push(b'%')?;
@@ -71,7 +72,7 @@ fn push_percent(expected: &mut Vec<u8>, byte: u8) -> Result<(), AllocError> {
     Ok(())
 }
 
-/// Appends what stands for a byte of a destination, by the table.
+/// Appends what a byte of a destination is written as, by the table.
 fn push_destination(expected: &mut Vec<u8>, byte: u8) -> Result<(), AllocError> {
     match byte {
         b'&' => expected.extend_from_slice("&amp;".as_bytes())?,
@@ -82,7 +83,7 @@ fn push_destination(expected: &mut Vec<u8>, byte: u8) -> Result<(), AllocError> 
     Ok(())
 }
 
-/// Appends what stands for the bytes of a destination.
+/// Appends what a destination is written as.
 fn push_destinations(expected: &mut Vec<u8>, text: &str) -> Result<(), AllocError> {
     for byte in text.as_bytes() {
         push_destination(expected, *byte)?;
@@ -90,7 +91,7 @@ fn push_destinations(expected: &mut Vec<u8>, text: &str) -> Result<(), AllocErro
     Ok(())
 }
 
-/// What stands for a text, with this for a quote, between two others.
+/// Returns what a text is written as, with this for a quote, between two others.
 fn between(
     alloc: Global,
     before: &str,
@@ -105,7 +106,7 @@ fn between(
     Ok(expected)
 }
 
-/// What stands for the Start of a link there.
+/// Returns the HTML of the Start of a link with this destination.
 fn link_to(alloc: Global, destination: &str) -> Result<Vec<u8>, AllocError> {
     let mut expected = Vec::new(alloc);
     expected.extend_from_slice("<a href=\"".as_bytes())?;
@@ -114,7 +115,7 @@ fn link_to(alloc: Global, destination: &str) -> Result<Vec<u8>, AllocError> {
     Ok(expected)
 }
 
-/// The HTML of these events is that.
+/// Checks the HTML of events.
 fn is_written<'s>(
     alloc: Global,
     row: &str,

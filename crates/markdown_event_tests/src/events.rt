@@ -1,4 +1,4 @@
-//! Events made by hand, and what tests ask about events.
+//! Events made by hand, and functions of events for tests.
 use markdown_base::cow_str::CowStr;
 use markdown_base::event::Event;
 use markdown_base::fault::Fault;
@@ -19,12 +19,12 @@ pub fn reference<'a>(name: &'a str) -> Item<'a> {
     Ok(Event::FootnoteReference(CowStr::Borrowed(name)))
 }
 
-/// Whether it is a soft break.
+/// Returns whether an event is a soft break.
 pub fn is_soft_break(event: &Event<'_>) -> bool {
     matches!(event, Event::SoftBreak)
 }
 
-/// A soft break as a hard one, and all else as it is.
+/// Returns a hard break for a soft break, and any other item unchanged.
 pub fn harden<'a>(item: Item<'a>) -> Item<'a> {
     let event = item?;
     if is_soft_break(&event) {

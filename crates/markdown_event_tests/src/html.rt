@@ -1,4 +1,4 @@
-//! What `push_html` writes, with ample memory.
+//! What `push_html` writes, where no allocation is refused.
 ghost use Rattle.std.specs.Iterator.{IsFinite};
 
 use crate::events::{Item, harden};
@@ -14,7 +14,7 @@ use markdown_test_parsers::html::html_of;
 use std::alloc::{AllocError, Global};
 use std::test::Fail;
 
-/// What `push_html` answers, and what it appends to a string that holds `old `.
+/// Returns what `push_html` returns, and what it appends to the string `old `.
 fn written<'a, I: Iterator<Item = Item<'a>>>(
     alloc: Global,
     events: I,
@@ -29,7 +29,7 @@ fn written<'a, I: Iterator<Item = Item<'a>>>(
     Ok((fault, html))
 }
 
-/// The events that signs stand for append this HTML, and the call ends so.
+/// Checks the HTML that the events of these signs append, and the result of the call.
 fn ends_with<'s>(
     alloc: Global,
     signs: &'s [Sign<'s>],
@@ -44,7 +44,7 @@ fn ends_with<'s>(
     )
 }
 
-/// They append this HTML.
+/// Checks the HTML that the events of these signs append.
 fn writes<'s>(alloc: Global, signs: &'s [Sign<'s>], html: &str) -> Result<(), Fail> {
     ends_with(alloc, signs, html, None)
 }
@@ -233,7 +233,7 @@ static IMAGE: [Sign<'static>; 10] = [
     Sign::SoftBreak,
 ];
 
-/// What stands in an image without belonging there: a Start that nothing ends, and Ends of what was never begun.
+/// Events in an image without their counterparts: a Start that has no End, and Ends that have no Start.
 static ANYTHING: [Sign<'static>; 11] = [
     Sign::Image("u", ""),
     Sign::Table(&[]),
@@ -348,7 +348,7 @@ fn errors(rt: HostRuntime) -> Result<(), Fail> {
     Ok(())
 }
 
-/// The merge of the events appends this HTML, and the call ends so.
+/// Checks the HTML that the merge of the events appends, and the result of the call.
 fn merged_ends_with<'s>(
     alloc: Global,
     signs: &'s [Sign<'s>],

@@ -1,4 +1,4 @@
-//! Parsers under merges and adapters, and what is written of them.
+//! Parsers under merges and adapters, and their HTML.
 use crate::events::{harden, is_soft_break};
 use markdown_base::cow_str::CowStr;
 use markdown_base::event::Event;
@@ -37,7 +37,7 @@ fn html_of_a_merge(rt: HostRuntime) -> Result<(), Fail> {
     gives("a\nb", html.as_str(), "<p>a\nb</p>\n")
 }
 
-/// A soft break as a text of one space, and all else as it is.
+/// Returns a text of one space for a soft break, and any other item unchanged.
 fn soften<'a>(placed: Placed<'a>) -> Placed<'a> {
     let (event, range) = placed?;
     if is_soft_break(&event) {
@@ -58,7 +58,7 @@ fn ranges_of_a_merged_map(rt: HostRuntime) -> Result<(), Fail> {
     gives("a\nb", notes.as_str(), "<p>0..3 +[a b]0..3 </p>0..3 ")
 }
 
-/// The merge of a text's events is this, each with its range.
+/// Checks the merge of the events of a text, each with its range.
 fn merge_gives(alloc: Global, source: &str, wanted: &str) -> Result<(), Fail> {
     let iter = plain_parser(alloc, source)?.into_offset_iter();
     let notes = notes_of(alloc, TextMergeWithOffset::new(alloc, iter))?;

@@ -1,4 +1,4 @@
-//! What the merges give, with ample memory.
+//! The results of the merges, where no allocation is refused.
 use crate::events::Item;
 use crate::signs::{Sign, item_of, items_of};
 use markdown_base::event::Event;
@@ -12,7 +12,7 @@ use std::alloc::{AllocError, Global};
 use std::ops::Range;
 use std::test::Fail;
 
-/// An item written down: a text in brackets, a rule as a dash, an error as `!`.
+/// Returns an item as a text: a text in brackets, a rule as a dash, an error as `!`.
 fn say_item(alloc: Global, item: &Item<'_>) -> Result<String, AllocError> {
     match item {
         Ok(Event::Text(text)) => format!(in alloc; "[{}]", text.as_str()),
@@ -21,13 +21,13 @@ fn say_item(alloc: Global, item: &Item<'_>) -> Result<String, AllocError> {
     }
 }
 
-/// The merge of these items up to its first None, written down.
+/// Returns the merge of these items up to its first None, as a text.
 fn merged<'s>(alloc: Global, signs: &'s [Sign<'s>]) -> Result<String, Fail> {
     let merge = TextMergeStream::new(alloc, items_of(alloc, signs));
     said_of(alloc, merge, say_item)
 }
 
-/// The merge of these items is that.
+/// Checks the merge of these items.
 fn merge_gives<'s>(alloc: Global, signs: &'s [Sign<'s>], wanted: &str) -> Result<(), Fail> {
     let notes = merged(alloc, signs)?;
     gives(wanted, notes.as_str(), wanted)
@@ -46,13 +46,13 @@ fn runs(rt: HostRuntime) -> Result<(), Fail> {
 
 type Ranged<'a> = Result<(Event<'a>, Range<usize>), Fault>;
 
-/// An item with its range.
+/// Returns an item with its range.
 fn ranged<'a>(item: Item<'a>, range: Range<usize>) -> Ranged<'a> {
     let event = item?;
     Ok((event, range))
 }
 
-/// The items that signs stand for, with their ranges.
+/// The items of signs, with their ranges.
 #[derive(Drop)]
 struct SignedRanged<'s> {
     alloc: Global,
@@ -68,7 +68,7 @@ impl<'s> Listed for SignedRanged<'s> {
     }
 }
 
-/// An item written down as `say_item` does, and then its range.
+/// Returns an item as a text, as `say_item` does, and then its range.
 fn say_ranged(alloc: Global, item: &Ranged<'_>) -> Result<String, AllocError> {
     match item {
         Ok((Event::Text(text), range)) => {
@@ -79,7 +79,7 @@ fn say_ranged(alloc: Global, item: &Ranged<'_>) -> Result<String, AllocError> {
     }
 }
 
-/// The merge of these items up to its first None, written down, each with its range.
+/// Returns the merge of these items up to its first None, as a text, each with its range.
 fn merged_ranges<'s>(alloc: Global, rows: &'s [(Sign<'s>, usize, usize)]) -> Result<String, Fail> {
     let items = Items::of(SignedRanged { alloc, rows }, rows.len());
     said_of(alloc, TextMergeWithOffset::new(alloc, items), say_ranged)
@@ -98,13 +98,13 @@ fn runs_with_ranges(rt: HostRuntime) -> Result<(), Fail> {
     gives("code", notes.as_str(), wanted)
 }
 
-/// Answers that are None in the middle: a text for a letter, and None for any other sign.
+/// An iterator that returns None in between: a text for a letter, and None for any other sign.
 #[derive(Drop)]
 struct Answers<'a> {
     signs: &'a [u8],
 }
 
-/// The answer for a sign.
+/// Returns the result for a sign.
 fn answer_of<'a>(sign: u8) -> Option<Item<'a>> {
     match sign {
         b'a' => Some(Ok(text("a"))),
@@ -122,7 +122,7 @@ impl<'a> Listed for Answers<'a> {
     }
 }
 
-/// Whether an answer is this text.
+/// Returns whether a result is this text.
 fn is_text<'a>(answer: Option<Item<'a>>, words: &str) -> bool {
     let is = matches!(&answer, Some(Ok(Event::Text(text))) if text.as_str() == words);
     drop(answer);

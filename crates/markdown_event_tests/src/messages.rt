@@ -1,4 +1,4 @@
-//! What each of the programs says where something fails, and its status.
+//! The message of each of the programs where something fails, and its status.
 use crate::runs::{Command, Failing, Program, words_of};
 use markdown_test_helpers::rows::gives;
 use std::alloc::Global;
@@ -7,7 +7,7 @@ use std::test::Fail;
 
 static PROGRAMS: [Program; 2] = [Program::Html, Program::Events];
 
-/// A program without words.
+/// Returns the command of a program without arguments.
 fn bare(program: Program) -> Command<'static> {
     Command {
         program,
@@ -15,7 +15,7 @@ fn bare(program: Program) -> Command<'static> {
     }
 }
 
-/// A run of each program without words says this, prints nothing and has this status.
+/// Checks the message and the status of each program without arguments, and that it prints nothing.
 fn each_says<R: Read>(alloc: Global, input: &mut R, wanted: &str) -> Result<(), Fail> {
     for program in &PROGRAMS {
         let found = bare(*program).printed(alloc, input)?;
@@ -46,7 +46,7 @@ fn says_that_a_read_was_refused_memory(rt: HostRuntime) -> Result<(), Fail> {
     each_says(rt.alloc(), &mut input, "1 out of memory\n")
 }
 
-/// A run of each program says this, where each write fails so, and has this status.
+/// Checks the message and the status of each program where each write fails with this kind of error.
 fn each_says_of_a_write(alloc: Global, kind: ErrorKind, wanted: &str) -> Result<(), Fail> {
     for program in &PROGRAMS {
         let mut out = Failing(kind);
@@ -62,7 +62,7 @@ fn says_that_a_write_failed(rt: HostRuntime) -> Result<(), Fail> {
     each_says_of_a_write(rt.alloc(), ErrorKind::OutOfMemory, "1 out of memory\n")
 }
 
-/// Of two words the second is unknown.
+/// Two arguments, of which the second is unknown.
 const UNKNOWN: [&str; 2] = ["tables", "nosuch"];
 
 #[test]
@@ -80,7 +80,7 @@ fn says_that_a_word_is_unknown(rt: HostRuntime) -> Result<(), Fail> {
     Ok(())
 }
 
-/// The status of a run that can say nothing, and how many bytes it prints.
+/// Returns the status of a run that can write no message, and how many bytes it prints.
 fn silent<R: Read>(alloc: Global, command: Command<'_>, input: &mut R) -> (u8, usize) {
     let mut out = Vec::new(alloc);
     let mut err = Failing(ErrorKind::BrokenPipe);

@@ -1,5 +1,6 @@
-//! Texts that have broken parsers, and documents of random pieces: each walk ends, its events are sound, and what is
-//! rendered of it is the HTML of its events.
+//! Texts that have broken parsers, and documents of random pieces: each walk ends, its events are sound, and the
+//! rendering
+//! is the HTML of its events.
 use markdown_base::options::Options;
 use markdown_defs::DefaultBrokenLinkCallback;
 use markdown_render::render;
@@ -38,7 +39,7 @@ static TEXTS: [&str; 24] = [
     "[[[[^(\n|]]]]=]]]]]]]]\n",
 ];
 
-/// The options of a parser with many extensions, in one set.
+/// Returns the options of a parser with many extensions.
 fn extensions() -> Options {
     Options::ENABLE_TABLES
         .union(Options::ENABLE_FOOTNOTES)
@@ -48,7 +49,7 @@ fn extensions() -> Options {
         .union(Options::ENABLE_TASKLISTS)
 }
 
-/// Each option that changes what is made of a text, and those of the extensions.
+/// Returns each option that changes how a text is read, and those of the extensions.
 fn all_options() -> Options {
     extensions()
         .union(Options::ENABLE_SMART_PUNCTUATION)
@@ -59,7 +60,7 @@ fn all_options() -> Options {
         .union(Options::ENABLE_WIKILINKS)
 }
 
-/// The events of a text are sound, and it is rendered as they are.
+/// Checks that the events of a text are sound, and that it is rendered as they are.
 fn is_read(alloc: Global, source: &str, options: Options) -> Result<(), Fail> {
     gives((source, "sound"), is_sound(alloc, source, options)?, true)?;
     let html = html_of(alloc, text_parser(alloc, source, options)?)?;
@@ -67,7 +68,7 @@ fn is_read(alloc: Global, source: &str, options: Options) -> Result<(), Fail> {
     gives(source, rendered.as_str(), html.as_str())
 }
 
-/// They are, with no option, with some and with all.
+/// Checks the same with no option, with some and with all.
 fn is_read_with_options(alloc: Global, source: &str) -> Result<(), Fail> {
     let tasks = Options::ENABLE_TASKLISTS.union(Options::ENABLE_STRIKETHROUGH);
     for options in [Options::empty(), tasks, extensions(), all_options()] {

@@ -1,4 +1,4 @@
-//! What parsers give, with ample memory.
+//! The events of parsers, where no allocation is refused.
 use markdown_base::event::Event;
 use markdown_base::fault::Fault;
 use markdown_base::item::ItemBody;
@@ -18,7 +18,7 @@ use std::alloc::{AllocError, Global};
 use std::ops::Range;
 use std::test::Fail;
 
-/// A text gives these events, each with its range.
+/// Checks the events of a text, each with its range.
 fn text_gives(alloc: Global, source: &str, events: &str) -> Result<(), Fail> {
     let parser = text_parser(alloc, source, Options::ENABLE_GFM)?;
     parser_gives(alloc, source, parser, events)
@@ -53,7 +53,7 @@ fn texts(rt: HostRuntime) -> Result<(), Fail> {
     Ok(())
 }
 
-/// A tree over a text gives these events, each with its range.
+/// Checks the events of a tree over a text, each with its range.
 fn tree_gives(alloc: Global, source: &str, outline: Outline<'_>, events: &str) -> Result<(), Fail> {
     let tree = tree_of(alloc, outline)?;
     let parser = parser_of(alloc, source, Options::empty(), tree, no_parts(alloc))?;
@@ -80,7 +80,7 @@ fn trees_made_by_hand(rt: HostRuntime) -> Result<(), Fail> {
     tree_gives(rt.alloc(), "ab", &tight, events)
 }
 
-/// The events of so many paragraphs of one byte, each in the one before it, with their ranges.
+/// Returns the events of `count` paragraphs of one byte, each in the one before it, with their ranges.
 fn events_of_nested(alloc: Global, count: usize) -> Result<String, AllocError> {
     let starts = "<p>0..1 ".repeat(alloc, count)?;
     let ends = "</p>0..1 ".repeat(alloc, count)?;
@@ -158,10 +158,10 @@ fn all_at_once_with_ranges(rt: HostRuntime) -> Result<(), Fail> {
     )
 }
 
-/// A label that is defined nowhere, and its events where nobody answers.
+/// A link label without a definition, and its events where no callback answers.
 const UNKNOWN: (&str, &str) = ("[a]", "<p>0..3 [[]0..1 [a]1..2 []]2..3 </p>0..3 ");
 
-/// It stays text with a callback.
+/// Checks that it stays text with a callback.
 fn stays_with<'a, F: BrokenLinkCallback<'a>>(
     alloc: Global,
     row: &str,

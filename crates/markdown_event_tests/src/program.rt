@@ -1,4 +1,4 @@
-//! What the two programs print of texts, with words and without.
+//! What the two programs print for texts, with arguments and without.
 use crate::runs::{Command, Program, words_of};
 use markdown_render::words::options_of;
 use markdown_test_helpers::rows::gives;
@@ -6,7 +6,7 @@ use markdown_test_parsers::fits::fits;
 use std::alloc::Global;
 use std::test::Fail;
 
-/// Each call of the block pass fits for a text, with the options of these words.
+/// Checks that each call of the block pass fits for a text, with the options of these words.
 fn fits_with(alloc: Global, words: &[String], input: &str) -> Result<(), Fail> {
     match options_of(words) {
         Ok(options) => fits(alloc, input, options),
@@ -14,7 +14,7 @@ fn fits_with(alloc: Global, words: &[String], input: &str) -> Result<(), Fail> {
     }
 }
 
-/// What a program prints of a text, with these words.
+/// Returns what a program prints for a text, with these arguments.
 fn printed(alloc: Global, program: Program, words: &[&str], input: &str) -> Result<String, Fail> {
     let words = words_of(alloc, words)?;
     fits_with(alloc, &words, input)?;
@@ -25,7 +25,7 @@ fn printed(alloc: Global, program: Program, words: &[&str], input: &str) -> Resu
     command.printed(alloc, &mut input.as_bytes())
 }
 
-/// This is printed of a text, with no words.
+/// Checks what a program prints for a text without arguments.
 fn prints(alloc: Global, program: Program, input: &str, wanted: &str) -> Result<(), Fail> {
     let found = printed(alloc, program, &[], input)?;
     gives(input, found.as_str(), wanted)
@@ -78,13 +78,13 @@ fn prints_events(rt: HostRuntime) -> Result<(), Fail> {
     Ok(())
 }
 
-/// This is printed as HTML of a text with one word.
+/// Checks the HTML that is printed for a text with one argument.
 fn word_prints(alloc: Global, word: &str, input: &str, wanted: &str) -> Result<(), Fail> {
     let found = printed(alloc, Program::Html, &[word], input)?;
     gives(word, found.as_str(), wanted)
 }
 
-/// Something else is printed of a text with no words.
+/// Checks that something else is printed for a text without arguments.
 fn needs_a_word(alloc: Global, word: &str, input: &str, wanted: &str) -> Result<(), Fail> {
     let plain = printed(alloc, Program::Html, &[], input)?;
     gives((word, "alone"), plain.as_str() == wanted, false)
@@ -127,7 +127,7 @@ fn words_turn_options_on(rt: HostRuntime) -> Result<(), Fail> {
     Ok(())
 }
 
-/// These options are read, and no item is made of them.
+/// These options are accepted, and no item depends on them.
 #[test]
 fn words_that_change_no_text(rt: HostRuntime) -> Result<(), Fail> {
     let rows = &[

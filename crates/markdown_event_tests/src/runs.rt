@@ -1,11 +1,11 @@
-//! Runs of the two programs over any reader and writer.
+//! Runs of the two programs, over any reader and writers.
 use markdown_render::run::run as run_html;
 use markdown_text_json::run::run as run_events;
 use std::alloc::{AllocError, Global};
 use std::io::{self, ErrorKind, Read, Write};
 use std::test::Fail;
 
-/// Reads and takes nothing but an error of this kind.
+/// A reader and writer of which each call fails with an error of this kind.
 #[derive(Drop)]
 pub struct Failing(pub ErrorKind);
 
@@ -34,7 +34,7 @@ pub enum Program {
     Events,
 }
 
-/// A program and its words.
+/// A program and its arguments.
 #[derive(Clone, Copy, Drop)]
 pub struct Command<'w> {
     pub program: Program,
@@ -42,7 +42,7 @@ pub struct Command<'w> {
 }
 
 impl Command<'_> {
-    /// A run: its status.
+    /// Runs the program, and returns its status.
     pub fn run<R: Read, W: Write, E: Write>(
         self,
         alloc: Global,
@@ -56,7 +56,7 @@ impl Command<'_> {
         }
     }
 
-    /// A run: its status, and what was said.
+    /// Runs the program, and returns its status and its message.
     pub fn said<R: Read, W: Write>(
         self,
         alloc: Global,
@@ -69,7 +69,7 @@ impl Command<'_> {
         Ok(format!(in alloc; "{status} {text}")?)
     }
 
-    /// The same, and then what was printed.
+    /// Returns the same, and then what was printed.
     pub fn printed<R: Read>(self, alloc: Global, input: &mut R) -> Result<String, Fail> {
         let mut out = Vec::new(alloc);
         let status = self.said(alloc, input, &mut out)?;
@@ -78,7 +78,7 @@ impl Command<'_> {
     }
 }
 
-/// Words of a program.
+/// Returns the arguments of a program.
 pub fn words_of(alloc: Global, list: &[&str]) -> Result<Vec<String>, AllocError> {
     let mut words = Vec::new(alloc);
     for word in list {

@@ -1,5 +1,6 @@
-//! Events of tests, each by a sign that can be copied, so that lists of them are constants. An event is made when it is
-//! asked for: no list of events goes at the end of a scope, for which a proof takes many seconds.
+//! Events for tests, each by a sign that can be copied, so that lists of them are constants. An event is made on
+//! demand: no
+//! list of events is dropped at the end of a scope, for which a proof takes many seconds.
 use crate::events::{Item, end, reference, start};
 use markdown_base::cow_str::CowStr;
 use markdown_base::event::Event;
@@ -12,8 +13,9 @@ use std::alloc::{AllocError, Global};
 /// An event, or an error.
 #[derive(Clone, Copy, Drop)]
 pub enum Sign<'s> {
-    /// The Start that holds least of what this ends: a heading without attributes, an indented code block, a list that
-    /// begins with 1 or has bullets.
+    /// The simplest Start with this end: of a heading without attributes, an indented code block, a bullet list or a
+    /// list
+    /// that begins with 1.
     Open(TagEnd),
     Close(TagEnd),
     Ordered(u64),
@@ -34,11 +36,11 @@ pub enum Sign<'s> {
     Task(bool),
     Refused(Fault),
     Table(&'s [Alignment]),
-    /// The Start of a heading with an identifier, two classes, an attribute with a value and one without.
+    /// The Start of a heading with an id, two classes, an attribute with a value and one without.
     FullHeading,
 }
 
-/// The tag of a Start that holds least.
+/// Returns the tag of the simplest Start with this end.
 fn tag_of<'a>(alloc: Global, tag: TagEnd) -> Tag<'a> {
     match tag {
         TagEnd::Paragraph => Tag::Paragraph,
@@ -72,17 +74,17 @@ fn tag_of<'a>(alloc: Global, tag: TagEnd) -> Tag<'a> {
     }
 }
 
-/// The Start of a table.
+/// Returns the Start of a table.
 fn table<'a>(alloc: Global, alignments: &[Alignment]) -> Item<'a> {
     start(Tag::Table(alignments.to_vec(alloc)?))
 }
 
-/// Two classes.
+/// Returns two classes.
 fn classes<'a>(alloc: Global) -> Result<Vec<CowStr<'a>>, AllocError> {
     Ok(vec![in alloc; CowStr::Borrowed("a"), CowStr::Borrowed("b\"")]?)
 }
 
-/// An attribute with a value and one without.
+/// Returns an attribute with a value and one without.
 fn attributes<'a>(alloc: Global) -> Result<Vec<(CowStr<'a>, Option<CowStr<'a>>)>, AllocError> {
     Ok(vec![in alloc;
         (CowStr::Borrowed("k"), Some(CowStr::Borrowed("v"))),
@@ -90,7 +92,7 @@ fn attributes<'a>(alloc: Global) -> Result<Vec<(CowStr<'a>, Option<CowStr<'a>>)>
     ]?)
 }
 
-/// The Start of a heading with all of these.
+/// Returns the Start of a heading with all of these.
 fn full_heading<'a>(alloc: Global) -> Item<'a> {
     let classes = classes(alloc)?;
     let attrs = attributes(alloc)?;
@@ -102,7 +104,7 @@ fn full_heading<'a>(alloc: Global) -> Item<'a> {
     })
 }
 
-/// The item that a sign stands for.
+/// Returns the item of a sign.
 pub fn item_of<'s>(alloc: Global, sign: Sign<'s>) -> Item<'s> {
     match sign {
         Sign::Open(tag) => start(tag_of(alloc, tag)),
@@ -129,7 +131,7 @@ pub fn item_of<'s>(alloc: Global, sign: Sign<'s>) -> Item<'s> {
     }
 }
 
-/// The items that signs stand for.
+/// The items of signs, as a list.
 #[derive(Drop)]
 pub struct Signed<'s> {
     alloc: Global,
@@ -145,7 +147,7 @@ impl<'s> Listed for Signed<'s> {
     }
 }
 
-/// The items that signs stand for, in order.
+/// Returns an iterator over the items of signs, in order.
 pub fn items_of<'s>(alloc: Global, signs: &'s [Sign<'s>]) -> Items<Signed<'s>> {
     Items::of(Signed { alloc, signs }, signs.len())
 }

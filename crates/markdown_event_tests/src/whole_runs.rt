@@ -1,4 +1,4 @@
-//! Whole runs with a callback: the HTML of a text, all events in a list, and what became of the callback.
+//! Whole runs with a callback: the HTML of a text, all events in a list, and the callback that is returned.
 use markdown_base::options::Options;
 use markdown_defs::{BrokenLinkCallback, DefaultBrokenLinkCallback};
 use markdown_render::{merged_html, render};
@@ -9,7 +9,7 @@ use markdown_test_parsers::parsers::{all_noted, parser_asking};
 use std::alloc::Global;
 use std::test::Fail;
 
-/// A text is rendered as this, with nobody to ask.
+/// Checks the rendering of a text, without a callback.
 fn is_rendered(alloc: Global, source: &str, wanted: &str) -> Result<(), Fail> {
     let options = Options::ENABLE_SUBSCRIPT;
     fits(alloc, source, options)?;
@@ -30,7 +30,7 @@ fn html_of_texts(rt: HostRuntime) -> Result<(), Fail> {
     Ok(())
 }
 
-/// A text with a label that is defined nowhere, and its HTML where that is answered.
+/// A text with a link label without a definition, and its HTML where a callback answers.
 const ASKING: (&str, &str) = (
     "Hello world, check out [my website][].",
     "<p>Hello world, check out <a href=\"http://example.com\" title=\"my example website\">my website</a>.</p>\n",
@@ -55,7 +55,7 @@ fn merged_html_with_a_callback(rt: HostRuntime) -> Result<(), Fail> {
     gives(source, html.as_str(), wanted)
 }
 
-/// The HTML of a text, merged, with a callback.
+/// Returns the HTML of the merge of a text, with a callback.
 fn merged_with<'a, F: BrokenLinkCallback<'a>>(
     alloc: Global,
     source: &'a str,
@@ -66,7 +66,7 @@ fn merged_with<'a, F: BrokenLinkCallback<'a>>(
     Ok(merged_html(alloc, parser_asking(alloc, source, callback)?)?)
 }
 
-/// The events of a text, and how often a callback that answers was asked, if it comes back.
+/// Returns the events of a text, and the number of questions to a callback that answers, if it is returned.
 fn given_and_asked(alloc: Global, source: &str) -> Result<(String, Option<u64>), Fail> {
     let callback = Recording::replying(alloc, Reply::Target("YOLO", "SWAG"));
     let (events, callback) = all_noted(alloc, parser_asking(alloc, source, callback)?)?;

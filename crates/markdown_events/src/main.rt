@@ -1,4 +1,4 @@
-//! Markdown on standard input, the lines of its events as JSON on standard output.
+//! The program: reads Markdown from standard input, and writes its events to standard output, as lines of JSON.
 #![tactic(auto)]
 
 use markdown_render::command::command_words;

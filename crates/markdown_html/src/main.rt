@@ -1,4 +1,4 @@
-//! Markdown on standard input, HTML on standard output.
+//! The program: reads Markdown from standard input, and writes its HTML to standard output.
 #![tactic(auto)]
 
 use markdown_render::command::command_words;

@@ -1,5 +1,5 @@
--- A string reads back: what stands for each byte is what the reader of JSON undoes.
-use Rattle.std.proofs.Common.{◌≡◌, ◌++◌, ◌∙◌, ◌∷◌, ℕ, List, [], Some, ap, refl, sym, append_assoc, inl, inr, drop}
+-- The string of a text reads back: the reader of JSON reads what a byte is written as.
+use Rattle.std.proofs.Common.{◌≡◌, ◌++◌, ◌∙◌, ◌∷◌, ℕ, List, [], Some, ap, refl, append_assoc, inl, inr, drop}
 use Rattle.std.specs.List.{flat_map}
 use Rattle.std.proofs.lemmas.Bool.{cases_eq, ne_eqb}
 use Rattle.json.specs.Print.{escape_byte, escape}
@@ -7,7 +7,7 @@ use Rattle.json.specs.Text.{content, plain}
 use Rattle.json.proofs.Printed.Strings.{content-escape}
 use Rattle.markdown_json.specs.Json.{string_byte, string}
 
--- what stands for a byte is what a writer of JSON gives for it
+-- a byte is written as the kit's writer of JSON writes it
 byte_same : (b : ℕ) → string_byte b ≡ escape_byte b
 unfolding escape_byte
 byte_same b = elim (cases_eq b 34) [

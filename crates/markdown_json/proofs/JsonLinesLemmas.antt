@@ -1,6 +1,6 @@
 -- What the loop over the events keeps, and what follows from it where the loop is left.
 use Rattle.std.proofs.Common.{◌≡◌, ◌++◌, List, ℕ, [], ◌∷◌, Result, Ok, Err, Option, Some, None}
-use Rattle.std.proofs.Common.{refl, sym, ap, subst, ◌∙◌, append_assoc, append-nil}
+use Rattle.std.proofs.Common.{refl, sym, ap, subst, ◌∙◌, append-nil}
 use Rattle.std.proofs.lemmas.List.{map-append, flat_map_more}
 use Rattle.std.proofs.iter.Next.{Yields-more}
 use Rattle.std.specs.Iterator.{Yields}

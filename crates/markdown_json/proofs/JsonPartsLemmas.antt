@@ -10,13 +10,11 @@ use Rattle.markdown_base.specs.Event.{EventView, attribute_view, code_block_view
 use Rattle.markdown_base.specs.declared.cow_str.CowStr.{CowStr}
 use Rattle.markdown_base.specs.declared.tag.CodeBlockKind.{CodeBlockKind}
 use Rattle.markdown_base.specs.declared.tag.CodeBlockKind.TheVariants as code_block
-use Rattle.markdown_out.specs.ByteLists.{AppendsPrefix, joined}
+use Rattle.markdown_out.specs.ByteLists.{AppendsPrefix}
 use Rattle.markdown_out.proofs.ByteListsLemmas.{append-more, prefix-after, prefix-first, joined-flat_map}
-use Rattle.markdown_outline.specs.Outline.{entry_view}
-use Rattle.markdown_outline.specs.declared.entry.Entry.{Entry}
 use Rattle.markdown_json.specs.Json.{string, optional, array, further, attribute_json, heading_json, level_json, tag_json, variant, event_json, line_json}
-use Rattle.markdown_json.specs.JsonParts.{piece_json, spelled, text_json, pair_json, heading_of, code_block_json, range_json}
-use Rattle.markdown_json.specs.OutlineJson.{entry_line, outline_lines}
+use Rattle.markdown_json.specs.JsonParts.{text_json, pair_json, heading_of, code_block_json, range_json}
+use Rattle.markdown_json.specs.JsonPieces.{piece_json, spelled}
 use Rattle.markdown_json.specs.declared.heading.Heading.{Heading}
 use Rattle.markdown_json.specs.declared.pieces.Piece.{Piece}
 
@@ -30,16 +28,16 @@ prefix-later old mid new first bytes e f =
 pub prefix-earlier : (old new bytes rest : List ℕ) → AppendsPrefix old new bytes → AppendsPrefix old new (bytes ++ rest)
 prefix-earlier old new bytes rest f = prefix-first old new bytes (bytes ++ rest) rest f refl
 
--- pieces put together are their bytes in turn
+-- the pieces, one by one, are the bytes of all of them
 pub spelled-flat_map : (pieces : List Piece) → flat_map piece_json pieces ≡ spelled pieces
 spelled-flat_map pieces = sym (flat_map-map (λ part. part) piece_json pieces) ∙ joined-flat_map (map piece_json pieces)
 
--- what may be missing, seen by its view
+-- a value that may be missing is written as its view
 optional_same : {A B : Type 0} (f : B → List ℕ) (g : A → B) (o : Option A) → optional f (option_map g o) ≡ optional (λ x. f (g x)) o
 optional_same f g None = refl
 optional_same f g (Some x) = refl
 
--- a list, seen by its items' views
+-- a list is written as that of its items' views
 array_same : {A B : Type 0} (f : B → List ℕ) (g : A → B) (xs : List A) → array f (map g xs) ≡ array (λ x. f (g x)) xs
 array_same f g [] = refl
 array_same f g (x ∷ xs) = rw (flat_map-map (further f) g xs) refl
@@ -98,10 +96,3 @@ pub line_appended : (old mid new : List ℕ) (e : EventView) (start end : ℕ) �
     → new ≡ mid ++ range_json (decimal start) (decimal end) → new ≡ old ++ line_json e start end
 line_appended old mid new e start end event range =
     append-more old mid new (codes "[" ++ event_json e) (range_json (decimal start) (decimal end)) event range
-
--- the line of an entry, by its view, and the lines of entries
-abbrev pub line_of_entry : Entry → List ℕ
-line_of_entry e = entry_line (entry_view e)
-
-pub lines_of_entries : (entries : List Entry) → flat_map line_of_entry entries ≡ outline_lines (map entry_view entries)
-lines_of_entries entries = sym (flat_map-map entry_line entry_view entries)

@@ -1,4 +1,3 @@
 pub mod JsonPartsLemmas
-pub mod JsonEscapeLemmas
 pub mod JsonLinesLemmas
 pub mod JsonLawsLemmas

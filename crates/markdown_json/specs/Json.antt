@@ -1,6 +1,6 @@
 -- Events in JSON (RFC 8259), as serde's derive writes the types of pulldown-cmark: a variant without a value is a
 -- string, one with a value an object of one member, and a record an object of its fields.
-use Rattle.std.specs.Prelude.{ℕ, ◌/◌, ◌%◌, Bool, true, false, List, [], ◌∷◌, ◌++◌, ◌==◌, codes, map}
+use Rattle.std.specs.Prelude.{ℕ, ◌/◌, ◌%◌, Bool, true, false, List, [], ◌∷◌, ◌++◌, ◌==◌, codes}
 use Rattle.std.specs.Prelude.{if◌then◌else◌, nat_lt, Option, Some, None}
 use Rattle.std.specs.Char.{digit_char}
 use Rattle.std.specs.Fmt.{decimal}
@@ -23,7 +23,7 @@ use Rattle.markdown_base.specs.declared.tag.TagEnd.{TagEnd}
 use Rattle.markdown_base.specs.declared.tag.TagEnd.TheVariants as closes
 use Rattle.markdown_out.specs.ByteLists.{joined}
 
--- what stands in a string for a control: a letter behind a backslash, or four hexadecimal digits
+-- what a control is written as in a string: a letter after a backslash, or four hexadecimal digits
 abbrev pub control_bytes : ℕ → List ℕ
 control_bytes b =
     if b == 8 then codes "\\b"
@@ -33,7 +33,7 @@ control_bytes b =
     else if b == carriage_return then codes "\\r"
     else codes "\\u00" ++ (digit_char (b / 16) ∷ digit_char (b % 16) ∷ [])
 
--- what stands in a string for a byte
+-- what a byte is written as in a string
 abbrev pub string_byte : ℕ → List ℕ
 string_byte b =
     if b == double_quote then codes "\\\""
@@ -41,7 +41,7 @@ string_byte b =
     else if nat_lt b space then control_bytes b
     else b ∷ []
 
--- a text
+-- a text as a string
 abbrev pub string : List ℕ → List ℕ
 string text = joined (codes "\"" ∷ flat_map string_byte text ∷ codes "\"" ∷ [])
 
@@ -49,16 +49,16 @@ string text = joined (codes "\"" ∷ flat_map string_byte text ∷ codes "\"" �
 abbrev pub variant : List ℕ → List ℕ → List ℕ
 variant name value = joined (codes "{\"" ∷ name ∷ codes "\":" ∷ value ∷ codes "}" ∷ [])
 
--- what may be missing
+-- a value that may be missing
 abbrev pub optional : {A : Type 0} → (A → List ℕ) → Option A → List ℕ
 optional of_value None = codes "null"
 optional of_value (Some value) = of_value value
 
--- a value behind a comma
+-- a value after a comma
 abbrev pub further : {A : Type 0} → (A → List ℕ) → A → List ℕ
 further of_value value = codes "," ++ of_value value
 
--- a list
+-- a list of values, as an array
 abbrev pub array : {A : Type 0} → (A → List ℕ) → List A → List ℕ
 array of_value [] = codes "[]"
 array of_value (first ∷ others) =
@@ -189,7 +189,7 @@ event_json event.hard_break = codes "\"HardBreak\""
 event_json event.rule = codes "\"Rule\""
 event_json (event.task_list_marker done) = variant (codes "TaskListMarker") (boolean done)
 
--- the line of an event that stands from one byte of the source to another
+-- the line of an event whose range is from one byte offset of the source to another
 abbrev pub line_json : EventView → ℕ → ℕ → List ℕ
 line_json e start end = joined (codes "[" ∷ event_json e
     ∷ codes ",{\"start\":" ∷ decimal start ∷ codes ",\"end\":" ∷ decimal end ∷ codes "}]\n" ∷ [])

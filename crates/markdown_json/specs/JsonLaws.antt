@@ -1,8 +1,9 @@
--- The statement of the law: a string reads back as the text.
+-- The statement of the law that the string of a text reads back as that text.
 use Rattle.std.specs.Prelude.{◌≡◌, List, ℕ, Some, ◌++◌, drop}
 use Rattle.json.specs.Text.{content, plain}
 use Rattle.markdown_json.specs.Json.{string}
 
--- behind its first quote, up to the next one that is not escaped, a text's string reads as that text, whatever follows
+-- after its first quote, up to the next one that is not escaped, the string of a text reads as that text,
+-- whatever follows
 abbrev pub ReadsBack : Type 0
 ReadsBack = (text rest : List ℕ) → content plain (drop 1 (string text) ++ rest) ≡ Some text

@@ -1,5 +1,5 @@
--- What `push_json` read of an iterator and what it left in the string: at its end, at an error among the items, and
--- where it was refused memory itself.
+-- What `push_json` has read of an iterator and what the string then holds: at the end, at an error among the items, and
+-- where an allocation of its own was refused.
 use Rattle.std.specs.Prelude.{◌≡◌, ℕ, List, [], ◌∷◌, ◌++◌, map, Ok, Err, Result, Option}
 use Rattle.std.specs.Iterator.{Yields, Drains}
 use Rattle.std.specs.List.{flat_map}
@@ -28,20 +28,21 @@ items events = map (λ e. Ok e) events
 
 module _ {S : Type 0} (steps : S → Option (Result Placed Fault) → S → Type 0)
     (it : S) (old new : List ℕ) where
-  -- these are all events up to the first None, and their lines stand behind the old text
+  -- these are all events up to the first None, and the old text is followed by their lines
   pub record IsWritten : Type 0 where
     pub events : List Placed
     pub read : Drains steps it (items events)
     pub stands : new ≡ old ++ lines_of events
 
-  -- the item after these events is this error, and their lines stand behind the old text
+  -- the item after these events is this error, and the old text is followed by their lines
   pub record StopsAtError (fault : Fault) : Type 0 where
     pub events : List Placed
     pub left : S
     pub read : Yields steps it (items events ++ Err fault ∷ []) left
     pub stands : new ≡ old ++ lines_of events
 
-  -- memory was refused at the last event read: the lines of those before it stand, and behind them a prefix of its own
+  -- an allocation was refused at the last event read: the old text is followed by the lines of the events before
+  -- it, and then by a prefix of its own line
   pub record IsCutShort : Type 0 where
     pub events : List Placed
     pub last : Placed

@@ -1,4 +1,4 @@
--- What calls of the writer speak of. Only private clauses cite this.
+-- The JSON of the types of the code, by way of the views of their texts. Only private clauses cite this.
 use Rattle.std.specs.Prelude.{ℕ, List, [], ◌∷◌, Option, map, codes}
 use Rattle.std.specs.Option.{option_map}
 use Rattle.markdown_base.specs.CowText.{text_of}
@@ -13,42 +13,26 @@ use Rattle.markdown_out.specs.ByteLists.{joined}
 use Rattle.markdown_json.specs.Json.{string, variant, attribute_json}
 use Rattle.markdown_json.specs.declared.heading.Heading.{Heading}
 use Rattle.markdown_json.specs.declared.link.Link.{Link}
-use Rattle.markdown_json.specs.declared.pieces.Piece.{Piece}
-use Rattle.markdown_json.specs.declared.pieces.Piece.TheVariants as piece
 
--- the bytes of a piece
-abbrev pub piece_json : Piece → List ℕ
-piece_json (piece.Raw s) = s.now
-piece_json (piece.Text s) = string s.now
-
--- the bytes of pieces, one after another
-abbrev pub spelled : List Piece → List ℕ
-spelled pieces = joined (map piece_json pieces)
-
--- a range, by its digits, up to the end of its line
+-- a range, from the digits of its ends, and the end of the line
 abbrev pub range_json : List ℕ → List ℕ → List ℕ
 range_json start end =
     joined (codes ",{\"start\":" ∷ start ∷ codes ",\"end\":" ∷ end ∷ codes "}]\n" ∷ [])
 
--- the line of an entry, by the digits of its numbers
-abbrev pub entry_parts : (level text start end : List ℕ) → List ℕ
-entry_parts level text start end = joined (codes "{\"level\":" ∷ level ∷ codes ",\"text\":" ∷ string text
-    ∷ codes ",\"range\":{\"start\":" ∷ start ∷ codes ",\"end\":" ∷ end ∷ codes "}}\n" ∷ [])
-
--- a text, wherever it is held
+-- a text in any of its forms
 abbrev pub text_json : CowStr → List ℕ
 text_json text = string (text_of text)
 
--- an attribute of a heading, by its texts
+-- an attribute of a heading
 abbrev pub pair_json : CowStr × Option CowStr → List ℕ
 pair_json attribute = attribute_json (attribute_view attribute)
 
--- what a code block's tag holds
+-- the value of a code block's tag
 abbrev pub code_block_json : CodeBlockKind → List ℕ
 code_block_json code_block.Indented = codes "\"Indented\""
 code_block_json (code_block.Fenced info) = variant (codes "Fenced") (text_json info)
 
--- a heading, by its texts
+-- the fields of a heading, with the bytes of their texts
 abbrev pub heading_of : Heading → HeadingView
 heading_of h = record {
   level = h.level;
@@ -57,7 +41,7 @@ heading_of h = record {
   attributes = map attribute_view h.attributes.now.items;
 }
 
--- a link, by its texts
+-- the fields of a link, with the bytes of their texts
 abbrev pub link_of : Link → LinkView
 link_of l = record {
   kind = l.link_type;
@@ -66,7 +50,7 @@ link_of l = record {
   label = l.id.now;
 }
 
--- a tag that holds nothing
+-- a tag without a value
 abbrev pub IsFixed : TagView → Type 0
 IsFixed (event.heading h) = ⊥
 IsFixed (event.block_quote kind) = ⊥
@@ -80,7 +64,7 @@ IsFixed (event.image i) = ⊥
 IsFixed (event.metadata_block kind) = ⊥
 IsFixed tag = Unit {0}
 
--- an End that holds nothing
+-- an end without a value
 abbrev pub IsFixedEnd : TagEnd → Type 0
 IsFixedEnd (closes.Heading level) = ⊥
 IsFixedEnd (closes.BlockQuote kind) = ⊥

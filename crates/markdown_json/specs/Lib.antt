@@ -1,13 +1,11 @@
--- What stands for an event in JSON, and what `push_json` leaves.
+-- Events in JSON, what `push_json` leaves in the string, and pieces of JSON.
 pub mod Json
 pub mod JsonLines
 pub mod JsonLaws
--- What stands for an outline.
-pub mod OutlineJson
--- For private clauses.
+pub mod JsonPieces
+-- the terms of private clauses
 pub mod JsonParts
--- Words of other crates that the clauses stand on.
+-- Definitions of other crates that the clauses cite.
 pub use Rattle.markdown_base.specs.Event
 pub use Rattle.markdown_out.specs.ByteLists
-pub use Rattle.markdown_outline.specs.Outline
 pub use Rattle.json.specs.Text

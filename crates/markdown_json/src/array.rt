@@ -1,4 +1,4 @@
-//! Lists.
+//! Lists as JSON.
 ghost use Rattle.std.specs.Prelude.{OnOk, OnErr};
 ghost use Rattle.std.specs.List.{flat_map};
 ghost use Rattle.markdown_out.specs.ByteLists.{Appends, AppendsPart};
@@ -8,7 +8,7 @@ use crate::pieces::push_raw;
 use crate::value::{Value, push_field};
 use std::alloc::AllocError;
 
-/// Appends values, each behind a comma.
+/// Appends values, each after a comma.
 fn push_others<T: Value>(s: &mut String, values: &[T]) -> Result<(), AllocError>
     ensures ok { OnOk result (Appends s.old s.new (flat_map (further T.json) values.now)) }
     ensures err { OnErr result (AppendsPart s.old s.new (flat_map (further T.json) values.now)) }
@@ -19,7 +19,7 @@ fn push_others<T: Value>(s: &mut String, values: &[T]) -> Result<(), AllocError>
     Ok(())
 }
 
-/// Appends a list of values.
+/// Appends values as an array.
 pub(crate) fn push_array<T: Value>(s: &mut String, values: &[T]) -> Result<(), AllocError>
     ensures ok { OnOk result (Appends s.old s.new (array T.json values.now)) }
     ensures err { OnErr result (AppendsPart s.old s.new (array T.json values.now)) }

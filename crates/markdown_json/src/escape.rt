@@ -1,4 +1,4 @@
-//! What stands in the strings of JSON.
+//! The escapes of JSON strings.
 ghost use Rattle.std.specs.Prelude.{◌≡◌, ◌++◌, ◌<◌, OnOk, OnErr, MatchOption, [], ◌∷◌};
 ghost use Rattle.std.specs.List.{flat_map};
 ghost use Rattle.std.specs.String.{string_bytes};
@@ -7,7 +7,7 @@ ghost use Rattle.markdown_json.specs.Json.{control_bytes, string_byte};
 
 use std::alloc::AllocError;
 
-/// Appends a text as it is, where there is any.
+/// Appends a text unchanged. Where an allocation is refused, nothing is appended.
 pub(crate) fn push_any(out: &mut String, text: &str) -> Result<(), AllocError>
     ensures ok { OnOk result (Appends out.old out.new text.now) }
     ensures err { OnErr result (string_bytes out.new ≡ string_bytes out.old) }
@@ -18,7 +18,7 @@ pub(crate) fn push_any(out: &mut String, text: &str) -> Result<(), AllocError>
     out.push_str(text)
 }
 
-/// What stands for a control.
+/// Returns the escape of a control.
 fn control(byte: u8) -> &'static str
     requires { byte < 32 }
     ensures { result.now ≡ control_bytes byte }
@@ -59,7 +59,7 @@ fn control(byte: u8) -> &'static str
     }
 }
 
-/// What stands for a byte, where it is not the byte itself.
+/// Returns the escape of a byte, or None for a byte that is written unchanged.
 #[inline(always)]
 fn escape_of(byte: u8) -> Option<&'static str>
     ensures { MatchOption result (string_byte byte ≡ byte ∷ [])
@@ -73,7 +73,7 @@ fn escape_of(byte: u8) -> Option<&'static str>
     }
 }
 
-/// Appends a text, escaped. Where memory runs out, a prefix of it was appended.
+/// Appends a text, escaped. Where an allocation is refused, a prefix of it has been appended.
 pub(crate) fn push_escaped(out: &mut String, text: &str) -> Result<(), AllocError>
     ensures ok { OnOk result (Appends out.old out.new (flat_map string_byte text.now)) }
     ensures err { OnErr result (AppendsPart out.old out.new (flat_map string_byte text.now)) }

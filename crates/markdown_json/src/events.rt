@@ -1,4 +1,4 @@
-//! An event.
+//! Events as JSON.
 ghost use Rattle.markdown_base.specs.Event.{event_view};
 ghost use Rattle.markdown_json.specs.Json.{event_json};
 

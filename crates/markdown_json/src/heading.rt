@@ -1,4 +1,4 @@
-//! A heading, with what stands in braces behind it.
+//! The Starts of headings as JSON, with their ids, classes and attributes.
 ghost use Rattle.std.specs.Prelude.{OnOk, OnErr};
 ghost use Rattle.markdown_out.specs.ByteLists.{Appends, AppendsPart};
 ghost use Rattle.markdown_json.specs.Json.{heading_json};
@@ -10,7 +10,7 @@ use markdown_base::cow_str::CowStr;
 use markdown_base::tag::HeadingLevel;
 use std::alloc::AllocError;
 
-/// Appends an attribute: its name and its value.
+/// Appends an attribute, as an array of its name and its value.
 fn push_attribute(
     s: &mut String,
     attribute: &(CowStr<'_>, Option<CowStr<'_>>),
@@ -31,7 +31,7 @@ impl Value for (CowStr<'_>, Option<CowStr<'_>>) {
     }
 }
 
-/// What a heading's Start holds.
+/// The fields of a heading's Start.
 #[derive(Clone, Copy, Drop)]
 pub(crate) struct Heading<'x, 'a> {
     pub level: HeadingLevel,
@@ -40,7 +40,7 @@ pub(crate) struct Heading<'x, 'a> {
     pub attributes: &'x Vec<(CowStr<'a>, Option<CowStr<'a>>)>,
 }
 
-/// Appends what a heading's Start holds, field by field.
+/// Appends the fields of a heading's Start, as an object.
 fn push_heading(s: &mut String, heading: &Heading<'_, '_>) -> Result<(), AllocError>
     ensures ok { OnOk result (Appends s.old s.new (heading_json (heading_of heading.now))) }
     ensures err { OnErr result (AppendsPart s.old s.new (heading_json (heading_of heading.now))) }

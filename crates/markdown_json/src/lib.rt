@@ -1,5 +1,4 @@
-//! Events as JSON, a line for each with its range: what `serde` writes for the types of `pulldown_cmark`; and outlines, a
-//! line for each entry.
+//! Events as JSON, a line for each with its range: what `serde` writes for the types of `pulldown_cmark`.
 #![tactic(auto)]
 
 mod array;
@@ -8,13 +7,12 @@ mod events;
 mod heading;
 pub mod laws;
 mod link;
-pub mod outline;
-mod pieces;
+pub mod pieces;
 pub mod push;
 mod tag_ends;
 mod tags;
 mod value;
 mod words;
 
-pub use outline::push_outline;
+pub use pieces::{Piece, push_pieces};
 pub use push::push_json;

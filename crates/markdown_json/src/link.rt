@@ -1,4 +1,4 @@
-//! Where a link or an image leads.
+//! The Starts of links and images as JSON.
 use crate::pieces::{Piece, push_pieces};
 use crate::value::Value;
 use crate::words::link_type_text;
@@ -6,7 +6,7 @@ use markdown_base::cow_str::CowStr;
 use markdown_base::tag::LinkType;
 use std::alloc::AllocError;
 
-/// What the Start of a link or of an image holds.
+/// The fields of the Start of a link or an image.
 #[derive(Clone, Copy, Drop)]
 pub(crate) struct Link<'x> {
     pub link_type: LinkType,
@@ -20,7 +20,7 @@ impl<'x> Link<'x> {
     ghost use Rattle.markdown_base.specs.CowText.{text_of};
     ghost use Rattle.markdown_json.specs.JsonParts.{link_of};
 
-    /// Returns what such a Start holds, by its texts.
+    /// Borrows the texts of the Start of a link or an image.
     pub fn new(
         link_type: LinkType,
         dest_url: &'x CowStr<'_>,

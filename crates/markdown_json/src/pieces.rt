@@ -2,19 +2,21 @@
 ghost use Rattle.std.specs.Prelude.{OnOk, OnErr};
 ghost use Rattle.markdown_out.specs.ByteLists.{Appends, AppendsPart};
 ghost use Rattle.markdown_json.specs.Json.{string};
-ghost use Rattle.markdown_json.specs.JsonParts.{piece_json, spelled};
+ghost use Rattle.markdown_json.specs.JsonPieces.{piece_json, spelled};
 
 use crate::escape::{push_any, push_escaped};
 use std::alloc::AllocError;
 
-/// A part of what is written: as it is, or as a string.
+/// A piece of JSON.
 #[derive(Clone, Copy, Drop)]
-pub(crate) enum Piece<'x> {
+pub enum Piece<'x> {
+    /// A text, written unchanged.
     Raw(&'x str),
+    /// A text, written as a string.
     Text(&'x str),
 }
 
-/// Appends a text as it is.
+/// Appends a text unchanged.
 pub(crate) fn push_raw(s: &mut String, text: &str) -> Result<(), AllocError>
     ensures ok { OnOk result (Appends s.old s.new text.now) }
     ensures err { OnErr result (AppendsPart s.old s.new text.now) }
@@ -43,8 +45,8 @@ fn push_piece(s: &mut String, piece: Piece<'_>) -> Result<(), AllocError>
     }
 }
 
-/// Appends the pieces.
-pub(crate) fn push_pieces(s: &mut String, pieces: &[Piece<'_>]) -> Result<(), AllocError>
+/// Appends pieces, one after another. Where an allocation is refused, a prefix of their bytes has been appended.
+pub fn push_pieces(s: &mut String, pieces: &[Piece<'_>]) -> Result<(), AllocError>
     ensures ok { OnOk result (Appends s.old s.new (spelled pieces.now)) }
     ensures err { OnErr result (AppendsPart s.old s.new (spelled pieces.now)) }
 {

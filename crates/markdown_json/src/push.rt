@@ -1,4 +1,4 @@
-//! The whole: events up to the first `None`, a line for each.
+//! `push_json`, which writes the events of an iterator up to its first `None`, a line for each.
 ghost use Rattle.std.specs.Prelude.{◌≡◌, ◌⊎◌, OnOk, OnErr, IfErr};
 ghost use Rattle.std.specs.Iterator.{IsFinite};
 ghost use Rattle.std.specs.String.{string_bytes};
@@ -17,7 +17,7 @@ use markdown_base::fault::Fault;
 use std::alloc::{AllocError, Global};
 use std::ops::Range;
 
-/// Appends a range, by its digits, and what closes a line.
+/// Appends a range, from the digits of its ends, and the end of the line.
 fn push_range<'x>(s: &mut String, start: &'x str, end: &'x str) -> Result<(), AllocError>
     ensures ok { OnOk result (Appends s.old s.new (range_json start.now end.now)) }
     ensures err { OnErr result (AppendsPart s.old s.new (range_json start.now end.now)) }
@@ -34,7 +34,7 @@ fn push_range<'x>(s: &mut String, start: &'x str, end: &'x str) -> Result<(), Al
     )
 }
 
-/// Appends the line of an event that stands from `start` to `end`.
+/// Appends the line of an event whose range is from `start` to `end`.
 fn push_line(s: &mut String, event: &Event<'_>, start: usize, end: usize) -> Result<(), AllocError>
     ensures ok { OnOk result (Appends s.old s.new (line_json (event_view event.now) start end)) }
     ensures err { OnErr result (AppendsPart s.old s.new (line_json (event_view event.now) start end)) }
@@ -45,7 +45,7 @@ fn push_line(s: &mut String, event: &Event<'_>, start: usize, end: usize) -> Res
     push_range(s, first.format(start), last.format(end))
 }
 
-/// Appends the line of an event with its range, which goes.
+/// Appends the line of an event with its range, and drops the event.
 fn push_placed<'a>(s: &mut String, placed: (Event<'a>, Range<usize>)) -> Result<(), AllocError>
     ensures ok { OnOk result (Appends s.old s.new (line_of placed.entry)) }
     ensures err { OnErr result (AppendsPart s.old s.new (line_of placed.entry)) }
@@ -56,7 +56,7 @@ fn push_placed<'a>(s: &mut String, placed: (Event<'a>, Range<usize>)) -> Result<
     done
 }
 
-/// Appends a line of JSON for each event up to the first `None`, with its range, whatever the string holds.
+/// Appends a line of JSON for each event up to the first `None`, with its range, and nothing else.
 ///
 /// ```
 /// let mut json = String::new(alloc);
@@ -68,19 +68,19 @@ fn push_placed<'a>(s: &mut String, placed: (Event<'a>, Range<usize>)) -> Result<
 ///
 /// # Errors
 ///
-/// - The fault of an item that is one: the lines of the events before it stand appended.
-/// - `Memory`, where an allocation is refused: the same, of the events before the one that was being written, and a
-///   prefix of its line.
+/// - The error of the first item that is one: the lines of the events before it have been appended.
+/// - `Memory`, where an allocation is refused: the lines of the events before the one that was being written have been
+///   appended, and a prefix of its line.
 pub fn push_json<'a, I>(alloc: Global, s: &mut String, iter: I) -> Result<(), Fault>
 where
     I: Iterator<Item = Result<(Event<'a>, Range<usize>), Fault>>,
     requires can { I.can_next iter }
     requires ends { IsFinite (I.remaining iter) }
-    // The old text, and then the lines of all events.
+    // The old text is followed by the lines of all events.
     ensures ok { OnOk result
         (IsWritten I.next_gives iter (string_bytes s.old) (string_bytes s.new)) }
 
-    // The first item that is an error, or a refusal of the call's own.
+    // The first item that is an error, or an error of this function's own.
     ensures err { IfErr result (λ fault.
         StopsAtError I.next_gives iter (string_bytes s.old) (string_bytes s.new) fault
         ⊎ ((fault ≡ Memory) × IsCutShort I.next_gives iter (string_bytes s.old) (string_bytes s.new))) }

@@ -1,4 +1,4 @@
-//! What an End closes.
+//! The ends of tags as JSON.
 ghost use Rattle.std.specs.Prelude.{◌≡◌};
 ghost use Rattle.markdown_json.specs.Json.{tag_end_json};
 ghost use Rattle.markdown_json.specs.JsonParts.{IsFixedEnd};
@@ -8,7 +8,7 @@ use crate::value::{Value, push_variant};
 use markdown_base::tag::TagEnd;
 use std::alloc::AllocError;
 
-/// The JSON of an End that holds nothing.
+/// Returns the JSON of an end without a value.
 fn fixed_end_text(tag: TagEnd) -> &'static str
     requires { IsFixedEnd tag }
     ensures { result.now ≡ tag_end_json tag }

@@ -1,4 +1,4 @@
-//! What a Start opens.
+//! Tags as JSON.
 ghost use Rattle.std.specs.Prelude.{◌≡◌};
 ghost use Rattle.markdown_base.specs.Event.{tag_view};
 ghost use Rattle.markdown_json.specs.Json.{tag_json};
@@ -11,7 +11,7 @@ use crate::value::{Value, push_variant};
 use markdown_base::tag::{CodeBlockKind, Tag};
 use std::alloc::AllocError;
 
-/// An info string, of a code block that is fenced.
+/// A fenced code block has a value, its info string.
 impl Value for CodeBlockKind<'_> {
     ghost use Rattle.markdown_json.specs.JsonParts.{code_block_json};
 
@@ -25,7 +25,7 @@ impl Value for CodeBlockKind<'_> {
     }
 }
 
-/// The JSON of a tag that holds nothing.
+/// Returns the JSON of a tag without a value.
 fn fixed_text(tag: &Tag<'_>) -> &'static str
     requires { IsFixed (tag_view tag.now) }
     ensures { result.now ≡ tag_json (tag_view tag.now) }

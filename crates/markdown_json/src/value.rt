@@ -1,4 +1,4 @@
-//! Values, each with its JSON.
+//! `Value`, the trait of what is written as JSON, and the values that are texts or may be missing.
 ghost use Rattle.std.specs.Prelude.{◌++◌, OnOk, OnErr};
 ghost use Rattle.markdown_out.specs.ByteLists.{Appends, AppendsPart};
 ghost use Rattle.markdown_json.specs.Json.{variant};
@@ -7,20 +7,20 @@ use crate::pieces::{Piece, push_pieces, push_raw};
 use markdown_base::cow_str::CowStr;
 use std::alloc::AllocError;
 
-/// What is written as JSON.
+/// A value that is written as JSON.
 pub(crate) trait Value {
     ghost use Rattle.std.specs.Prelude.{ℕ, List};
 
-    /// Its JSON.
+    /// The bytes of its JSON.
     ghost json: { Self → List ℕ };
 
-    /// Appends its JSON. Where memory runs out, a prefix of it was appended.
+    /// Appends its JSON. Where an allocation is refused, a prefix of it has been appended.
     fn push(&self, s: &mut String) -> Result<(), AllocError>
         ensures ok { OnOk result (Appends s.old s.new (json self.now)) }
         ensures err { OnErr result (AppendsPart s.old s.new (json self.now)) };
 }
 
-/// Appends what stands before a value, and the value.
+/// Appends `lead`, and then a value.
 pub(crate) fn push_field<T: Value>(s: &mut String, lead: &str, value: &T) -> Result<(), AllocError>
     ensures ok { OnOk result (Appends s.old s.new (lead.now ++ T.json value.now)) }
     ensures err { OnErr result (AppendsPart s.old s.new (lead.now ++ T.json value.now)) }
@@ -29,7 +29,7 @@ pub(crate) fn push_field<T: Value>(s: &mut String, lead: &str, value: &T) -> Res
     value.push(s)
 }
 
-/// Appends a variant with a value.
+/// Appends a variant with a value, as an object of one member.
 pub(crate) fn push_variant<T: Value>(
     s: &mut String,
     name: &str,

@@ -1,4 +1,4 @@
-//! Values that are one word, and numbers.
+//! Values that are one word or one number.
 ghost use Rattle.std.specs.Prelude.{◌≡◌};
 ghost use Rattle.markdown_json.specs.Json.{link_type_json};
 
@@ -94,7 +94,7 @@ impl Value for MetadataBlockKind {
     }
 }
 
-/// The JSON of a link's type.
+/// Returns the JSON of a link type.
 pub(crate) fn link_type_text(kind: LinkType) -> &'static str
     ensures { result.now ≡ link_type_json kind }
 {

@@ -1,4 +1,4 @@
--- The outline of what a merge gives is that of what its iterator gives.
+-- The outline of what a merge returns is that of what its iterator returns.
 use Rattle.std.proofs.Common.{◌≡◌, ◌⊎◌, ℕ, Bool, true, false, ◌||◌, List, [], ◌∷◌, ◌++◌, map, Ok, Err, Result, Option, Some, None}
 use Rattle.std.proofs.Common.{refl, sym, ap, subst, ◌∙◌, inl, inr}
 use Rattle.std.specs.Bool.{MatchBool}
@@ -96,7 +96,7 @@ module _ {S M : Type 0} (steps : S → Option Raw → S → Type 0) (can : S →
   abbrev calls : M → Option Raw → M → Type 0
   calls = merge_steps through_ranges view steps can rest state
 
-  -- where a merge that is not over gives no error, it goes on
+  -- where a merge that is not over returns no error, it continues
   goes-on : (m t : M) (r : Option Raw) → (r ≡ Some (Err Memory) → ⊥) → (state m).over ≡ false → calls m r t → (state t).over ≡ false
   goes-on m t r passes o c = by_kind (subst (λ (b : Bool). MatchBool b ((r ≡ None) × ((state t).over ≡ true))
       (PassesOn through_ranges view steps (state m) r (state t) ⊎ ((r ≡ Some (Err Memory)) × ((state t).over ≡ true)))) o c.gives)

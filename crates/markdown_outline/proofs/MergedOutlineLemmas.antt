@@ -21,7 +21,7 @@ abbrev item_events : Item R → List Ranged
 item_events (Ok placed) = placed ∷ []
 item_events (Err fault) = []
 
--- the text that these events add to the heading that they stand in
+-- the text that these events add to the heading that they are in
 abbrev text_before_end : List Ranged → List ℕ
 text_before_end events = joined_text (up_to_end events)
 
@@ -33,7 +33,7 @@ record IsSameOutline (xs ys : List Ranged) : Type 0 where
 same-refl : (xs : List Ranged) → IsSameOutline xs xs
 same-refl xs = record { text = refl; entries = λ inside. refl }
 
--- so they have behind the same event
+-- so they have after the same event
 same-cons : (e : Ranged) (xs ys : List Ranged) → IsSameOutline xs ys → IsSameOutline (e ∷ xs) (e ∷ ys)
 same-cons e xs ys same = record { text = by_end (ends_heading e.0); entries = by_place }
   where
@@ -70,7 +70,7 @@ texts-entries [] xs inside = refl
 texts-entries (u ∷ us) xs true = texts-entries us xs true
 texts-entries (u ∷ us) xs false = texts-entries us xs false
 
--- and so does the Text that stands for it, or nothing where that is empty
+-- and so does the Text that it becomes, or nothing where that is empty
 given-text : (bytes : List ℕ) (p : R) (xs : List (Item R))
     → text_before_end (flat_map item_events (unless_empty bytes p ++ xs)) ≡ bytes ++ text_before_end (flat_map item_events xs)
 given-text [] p xs = refl
@@ -87,7 +87,7 @@ abbrev run_events : Run R → List Ranged
 run_events (alone x) = item_events x
 run_events (texts t us) = map text_event (t ∷ us)
 
--- so what a run of two Texts or more gives has the outline of its events
+-- so what a run of two Texts or more becomes has the outline of its events
 same-run : (t u : PlacedText R) (us : List (PlacedText R)) (given : List (Item R)) (events : List Ranged)
     → IsSameOutline (flat_map item_events given) events
     → IsSameOutline (flat_map item_events (run_items through_ranges (texts t (u ∷ us)) ++ given)) (run_events (texts t (u ∷ us)) ++ events)
@@ -102,7 +102,7 @@ same-run t u us given events rest = record {
     p : R
     p = through_ranges t.place (last_text u us).place
 
--- what runs give has the outline of their events
+-- what runs become has the outline of their events
 same-runs : (rs : List (Run R)) → IsSameOutline (flat_map item_events (flat_map (run_items through_ranges) rs)) (flat_map run_events rs)
 same-runs [] = same-refl []
 same-runs (alone (Ok x) ∷ rs) =

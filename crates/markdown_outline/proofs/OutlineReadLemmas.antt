@@ -16,13 +16,13 @@ use Rattle.markdown_outline.proofs.OutlineSoFarLemmas.{open-has_entry}
 abbrev Placed : Type 0
 Placed = Event × Range ℕ
 
--- these events were read, and whatever comes, their outline is what the entries so far make of it
+-- these events were read, and whatever events follow, the outline of all is that of the entries so far with those
 pub record TookIn (state : EntriesView) (yielded : List (Result Placed Fault)) : Type 0 where
   pub events : List Placed
   pub read : yielded ≡ event_items events
   pub makes : (later : List Ranged) → entries_from false (map ranged_view events ++ later) ≡ all_entries state later
 
--- no event was read yet
+-- before the first event
 pub TookIn-none : (state : EntriesView) (yielded : List (Result Placed Fault)) → state ≡ record { ended = []; open_entry = None }
     → yielded ≡ [] → TookIn state yielded
 TookIn-none state yielded none read = record {
@@ -44,7 +44,7 @@ views-more events e later =
     ap (λ (es : List Ranged). es ++ later) (map-append ranged_view events (e ∷ []))
     ∙ append_assoc (map ranged_view events) (ranged_view e ∷ []) later
 
--- one more event was taken in
+-- after one more event
 pub TookIn-more : {state state' : EntriesView} {yielded : List (Result Placed Fault)} {item : Result Placed Fault} (e : Placed)
     → TookIn state yielded → item ≡ Ok e
     → ((later : List Ranged) → all_entries state (ranged_view e ∷ later) ≡ all_entries state' later)
@@ -72,7 +72,7 @@ module _ {S : Type 0} (steps : S → Option (Result Placed Fault) → S → Type
         (Yields-more steps it yielded s item u y step);
   }
 
-  -- memory was refused at an event inside a heading
+  -- an allocation was refused at an event inside a heading
   pub NeedsMemory-event : (it s u : S) {state : EntriesView} {yielded : List (Result Placed Fault)} {item : Result Placed Fault}
       (e : Placed) → Yields steps it yielded s → steps s (Some item) u → item ≡ Ok e → TookIn state yielded
       → IsSome state.open_entry → NeedsMemory steps it
@@ -92,7 +92,7 @@ module _ {S : Type 0} (steps : S → Option (Result Placed Fault) → S → Type
       → entries_of_events t.events ≡ all_entries state []
   all-read t = ap (λ (es : List Ranged). entries_from false es) (sym (append-nil (map ranged_view t.events))) ∙ t.makes []
 
-  -- memory was refused at the end, where a heading has no End
+  -- an allocation was refused at the end, where a heading has no End
   pub NeedsMemory-end : (it s : S) {state : EntriesView} {yielded : List (Result Placed Fault)} → Yields steps it yielded s
       → TookIn state yielded → IsSome state.open_entry → NeedsMemory steps it
   NeedsMemory-end it s {state} y t inside = record {
@@ -102,7 +102,7 @@ module _ {S : Type 0} (steps : S → Option (Result Placed Fault) → S → Type
     has_entry = subst (λ (es : List EntryView). 0 < length es) (sym (all-read t)) (open-has_entry state inside []);
   }
 
-  -- all events were taken in
+  -- all events were read
   pub IsOutlineOfAll-from : (it s u : S) {state : EntriesView} {yielded : List (Result Placed Fault)} {entries : List EntryView}
       → Yields steps it yielded s → steps s None u → TookIn state yielded → entries ≡ all_entries state []
       → IsOutlineOfAll steps it entries

@@ -1,4 +1,4 @@
--- What an open entry is.
+-- Facts on the open entry.
 use Rattle.std.proofs.Common.{◌≡◌, ◌<◌, ◌+◌, List, ◌++◌, Option, Some, None, length, refl, length-append, arith}
 use Rattle.std.specs.Prelude.{is_some, IsSome}
 use Rattle.std.specs.Option.{option_map}
@@ -6,12 +6,12 @@ use Rattle.markdown_outline.specs.Outline.{Ranged, EntryView, entry_view}
 use Rattle.markdown_outline.specs.declared.entry.Entry.{Entry}
 use Rattle.markdown_outline.specs.OutlineSoFar.{EntriesView, later_entries, all_entries}
 
--- it is seen where it is there
+-- the view has an open entry where there is one
 pub some-view : (o : Option Entry) → IsSome o → IsSome (option_map entry_view o)
 some-view None is = is
 some-view (Some entry) is = refl
 
--- where an entry is open, there is one, whatever comes
+-- where an entry is open, there is at least one, whatever events follow
 pub open-has_entry : (state : EntriesView) → IsSome state.open_entry → (later : List Ranged)
     → 0 < length (all_entries state later)
 open-has_entry state is later = by_entry state.open_entry is

@@ -1,4 +1,4 @@
--- The outline of what a parser gives with its ranges is that of its reading, and so has the entries of the tree read.
+-- The outline of what a parser returns with its ranges is that of its reading, and so has the entries of the tree read.
 use Rattle.std.proofs.Common.{◌≡◌, ℕ, false, List, [], ◌∷◌, ◌++◌, map, Err, Option, Some, None, Result, refl, sym, ap, subst, ◌∙◌}
 use Rattle.std.proofs.Common.{append_assoc, append-nil}
 use Rattle.std.specs.Prelude.{is_some}
@@ -34,7 +34,7 @@ views source (e ∷ given) [] a = absurd a
 views source (e ∷ given) (placed ∷ events) a = rw (a.0.is_event.view, a.0.range, views source given events a.1) refl
 
 module _ {F : Type 0} (step : F → Question → Option Answer → F → Type 0) where
-  -- calls of `next`, and the first events that they gave
+  -- calls of `next`, and the first events that they returned
   abbrev Steps : OffsetIter F → Option (Result (Event × Range ℕ) Fault) → OffsetIter F → Type 0
   Steps o r t = NextGives step IsPlacedOf (offset_parser o) r (offset_parser t)
 
@@ -50,7 +50,7 @@ module _ {F : Type 0} (step : F → Question → Option Answer → F → Type 0)
       subst (Gave o t) (append_assoc given (e ∷ []) more)
       (then_more o j t (given ++ e ∷ []) more (gave_more step IsPlacedOf offset_parser o q j given e g h) y)
 
-  -- a run without an error gave all that was left
+  -- a run without an error returned all that was left
   drained : (o : OffsetIter F) (given : List (Event × Range ℕ)) → Drains Steps o (event_items given)
       → (after : Option F) × GaveRest IsPlacedOf step (offset_parser o) given after
   drained o given (u, (t, y, z)) = (
@@ -64,7 +64,7 @@ module _ {F : Type 0} (step : F → Question → Option Answer → F → Type 0)
   memory_alone o left [] fault (j, h, y) = h.gives.memory
   memory_alone o left (e ∷ given) fault (j, h, y) = memory_alone j left given fault y
 
-  -- where nobody is asked, nothing is answered
+  -- without a callback there is no answer
   unasked : (old : Option F) (questions : List Question) (answers : Answers) (after : Option F) → old ≡ None
       → Asks step old questions answers after → answers ≡ []
   unasked old [] [] after n a = refl
@@ -73,7 +73,7 @@ module _ {F : Type 0} (step : F → Question → Option Answer → F → Type 0)
   unasked None (q ∷ questions) (x ∷ answers) after n a = absurd a
   unasked (Some c) (q ∷ questions) (x ∷ answers) after n a = cc n
 
-  -- so the outline is that of the reading of a block result, whatever would be answered
+  -- so the outline is that of the reading of a block result, for any answers
   outline_reads : (blocks : Blocks) (o : OffsetIter F) (entries : List EntryView) → ReadsBlocks blocks (offset_parser o)
       → parser_callback (offset_parser o) ≡ None → IsOutlineOfAll Steps o entries
       → (answers : Answers) → entries ≡ entries_of (ranged (events_of (reading_of blocks false answers)))

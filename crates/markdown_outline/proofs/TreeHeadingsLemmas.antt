@@ -1,4 +1,5 @@
--- Resolving makes no heading: where no heading of a block result holds another, none does in its tree with chains resolved.
+-- Resolving makes no heading: where no heading of a block result contains another, none does in its tree with chains
+-- resolved.
 use Rattle.std.proofs.Common.{◌≡◌, ℕ, Bool, true, false, List, ◌||◌, ◌&&◌, refl, sym, ap, subst, ◌∙◌}
 use Rattle.std.specs.Prelude.{IsTrue, is_some, not, slice_range}
 use Rattle.markdown_base.specs.BlockTree.{Numbered, tree_of}
@@ -78,7 +79,7 @@ none_apart nil n = tt
 none_apart (node a below after) n =
     (record { in_heading = λ h. n.1; unread = λ h. n.1 }, none_apart below n.1, none_apart after n.2)
 
--- before its chains are resolved a heading holds no other, and an open chain holds none
+-- before its chains are resolved a heading contains no other, and an open chain contains none
 record KeptApart (a : Plain) (below after : Forest Plain) : Type 0 where
   in_heading : not_heading a.part.shape ≡ false → NoHeading below
   in_chain : is_unresolved a.part.shape ≡ true → NoHeading (node a below after)
@@ -123,7 +124,7 @@ document_apart s above (node a below after) p known =
 
 -- ---- the tree of a block result
 
--- no heading stands among these items, at any depth
+-- no heading is among these items, at any depth
 abbrev NoHeadingBlock : Forest Numbered → Type 0
 NoHeadingBlock f = Each (λ (b : Numbered). is_heading_block b.item.body ≡ false) f
 
@@ -171,7 +172,7 @@ module _ (source : List ℕ) (tables : Tables) (counts : PartCounts) where
   labels_none nil n = tt
   labels_none (node a below after) n = (body_none tables _ a.item.body n.0, labels_none below n.1, labels_none after n.2)
 
-  -- an inline chain holds no heading
+  -- an inline chain contains no heading
   chain_of_inline : (f : Forest Numbered) → AllKeepRules source counts f → all_inline f ≡ true → NoHeadingBlock f
   chain_of_inline nil k h = tt
   chain_of_inline (node a below after) k h =

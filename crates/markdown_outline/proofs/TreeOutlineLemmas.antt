@@ -1,4 +1,4 @@
--- The outline of the events of trees has the entries of their headings, where none of these holds another.
+-- The outline of the events of trees has the entries of their headings, where none of these contains another.
 use Rattle.std.proofs.Common.{◌≡◌, ℕ, Bool, true, false, List, [], ◌∷◌, ◌++◌, map, Option, Some, None, refl, sym, ap, ◌∙◌}
 use Rattle.std.proofs.Common.{append_assoc, append-nil}
 use Rattle.std.specs.Prelude.{IsTrue, is_some, not, if◌then◌else◌}
@@ -28,7 +28,7 @@ reads_below (enclosed tag) = true
 reads_below plain = true
 reads_below other = false
 
--- a heading holds no other, nor is there one where it is not read
+-- a heading contains no other, nor is there one where it is not read
 pub record Apart {A : Type 0} (a : Label A) (below : Forest (Label A)) : Type 0 where
   pub in_heading : not_heading a.part.shape ≡ false → NoHeading below
   pub unread : reads_below a.part.shape ≡ false → NoHeading below
@@ -40,7 +40,7 @@ AllApart {A} f = Throughout (λ (a : Label A) (below after : Forest (Label A)). 
 abbrev pub AllGiveBoth : {A : Type 0} → Forest (Label A) → Type 0
 AllGiveBoth {A} f = Each (λ (a : Label A). GivesBoth a.part.shape) f
 
--- a level that there is not
+-- a tag without a level is not a heading
 no_level : (o : Option ℕ) → not (is_some o) ≡ true → o ≡ None
 no_level None h = refl
 no_level (Some l) h = cc h
@@ -54,7 +54,7 @@ ends_none : (tag : TagView) → tag_level tag ≡ None → is_heading (end_of ta
 ends_none (heading h) e = cc e
 ends_none other e = refl
 
--- an event that stands for itself begins and ends no heading
+-- an event that is neither a Start nor an End begins and ends no heading
 lone_ends_none : (e : EventView) → IsLone e → ends_heading e ≡ false
 lone_ends_none (start tag) h = absurd h
 lone_ends_none (end tag) h = absurd h
@@ -71,7 +71,7 @@ parted first others rest =
     ap (λ (es : List Ranged). es ++ rest) (map-append (λ (e : Placed). (e.0, e.1)) first others)
     ∙ append_assoc (ranged first) (ranged others) rest
 
--- what is read up to the first End of a heading goes on behind these events
+-- what is read up to the first End of a heading continues after these events
 abbrev Stays : List Placed → Type 0
 Stays events = (rest : List Ranged) → up_to_end (ranged events ++ rest) ≡ ranged events ++ up_to_end rest
 

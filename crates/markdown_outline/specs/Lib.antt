@@ -1,7 +1,7 @@
--- What the outline of a list of events is, what `outline` reads and gives, and what `outline_of` gives of a block result.
+-- The outline of a list of events, what `outline` reads and returns, and what `outline_of` returns.
 pub mod Outline
 pub mod OutlineRead
 pub mod OutlineLaws
 pub mod TreeOutline
--- For private clauses.
+-- the terms of private clauses
 pub mod OutlineSoFar

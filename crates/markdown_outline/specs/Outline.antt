@@ -14,14 +14,14 @@ use Rattle.markdown_outline.specs.declared.entry.Entry.{Entry}
 abbrev pub Ranged : Type 0
 Ranged = EventView × Range ℕ
 
--- an entry, with the bytes of its text
+-- an entry, with its text as bytes
 pub record EntryView : Type 0 where
   -- from 1 to 6
   pub level : ℕ
   pub text : List ℕ
   pub range : Range ℕ
 
--- an entry, by the bytes of its text
+-- the view of an entry
 abbrev pub entry_view : Entry → EntryView
 entry_view e = record { level = e.level; text = string_bytes e.text; range = e.range }
 
@@ -35,18 +35,17 @@ abbrev pub opened_level : EventView → Option ℕ
 opened_level (start tag) = tag_level tag
 opened_level other = None
 
--- a tag ends a heading, of whatever level
+-- whether a tag is that of a heading, of any level
 abbrev pub is_heading : TagEnd → Bool
 is_heading (closes.Heading l) = true
 is_heading other = false
 
--- an event is the End of a heading
+-- whether an event is the End of a heading
 abbrev pub ends_heading : EventView → Bool
 ends_heading (end tag) = is_heading tag
 ends_heading other = false
 
--- what an event adds to the text of the heading that it stands in: texts, code and math stand as they are, and a space
--- stands for a line's end
+-- what an event adds to the text of the heading that it is in: texts, code and math unchanged, and a space for a break
 abbrev pub text_added : EventView → List ℕ
 text_added (text t) = t
 text_added (code t) = t
@@ -56,23 +55,23 @@ text_added soft_break = codes " "
 text_added hard_break = codes " "
 text_added other = []
 
--- what these events add
+-- the text that these events add
 abbrev pub joined_text : List Ranged → List ℕ
 joined_text events = flat_map (λ (e : Ranged). text_added e.0) events
 
--- of the events after the Start of a heading those that stand in it: up to the first End of a heading, or to the last
+-- of the events after the Start of a heading, those inside it: up to the first End of a heading, or to the last event
 abbrev pub up_to_end : List Ranged → List Ranged
 up_to_end [] = []
 up_to_end (e ∷ events) = if ends_heading e.0 then [] else e ∷ up_to_end events
 
--- the entry that a Start over this range opens, where it is that of a heading, before these events
+-- the entry that a Start with this range opens, where it is that of a heading, from the events that follow
 abbrev pub opened_entry : Option ℕ → Range ℕ → List Ranged → List EntryView
 opened_entry None range events = []
 opened_entry (Some l) range events =
     record { level = l; text = joined_text (up_to_end events); range = range } ∷ []
 
--- the entries that begin among these events, of which the first stands inside a heading or outside. Outside a Start of
--- a heading opens one; inside nothing does, up to the first End of a heading.
+-- the entries that begin among these events, of which the first is inside a heading or outside. Outside, the Start of a
+-- heading opens an entry; inside, no event does, up to the first End of a heading.
 abbrev pub entries_from : (inside : Bool) → List Ranged → List EntryView
 entries_from inside [] = []
 entries_from true (e ∷ events) = entries_from (not (ends_heading e.0)) events

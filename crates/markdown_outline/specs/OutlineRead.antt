@@ -1,4 +1,4 @@
--- What `outline` reads of an iterator, at its end, at an error among the items and where memory is refused.
+-- What `outline` has read of an iterator: at the end, at an error among the items, and where an allocation is refused.
 use Rattle.std.specs.Prelude.{◌≡◌, ◌<◌, ℕ, List, [], ◌∷◌, ◌++◌, length, map, Ok, Err, Result, Option}
 use Rattle.std.specs.Iterator.{Yields, Drains}
 use Rattle.std.specs.declared.ops.Range.{Range}
@@ -7,7 +7,7 @@ use Rattle.markdown_base.specs.declared.event.Event.{Event}
 use Rattle.markdown_base.specs.declared.fault.Fault.{Fault}
 use Rattle.markdown_outline.specs.Outline.{Ranged, EntryView, entries_of}
 
--- an event with its range, by its texts
+-- the view of an event, with its range
 abbrev pub ranged_view : Event × Range ℕ → Ranged
 ranged_view e = (event_view e.0, e.1)
 
@@ -26,13 +26,13 @@ module _ {S : Type 0} (steps : S → Option (Result (Event × Range ℕ) Fault) 
     pub read : Drains steps it (event_items events)
     pub are : entries ≡ entries_of_events events
 
-  -- events were read, and then this error
+  -- some events were read, and the next item is this error
   pub record MeetsError (fault : Fault) : Type 0 where
     pub events : List (Event × Range ℕ)
     pub left : S
     pub read : Yields steps it (event_items events ++ Err fault ∷ []) left
 
-  -- events were read that have an entry, so that memory was needed
+  -- the events read have an entry, so that memory was needed
   pub record NeedsMemory : Type 0 where
     pub events : List (Event × Range ℕ)
     pub left : S

@@ -15,12 +15,12 @@ use Rattle.markdown_inline.specs.ResolvedDocument.{resolved_blocks}
 use Rattle.markdown_inline.specs.TreeReading.{events_in}
 use Rattle.markdown_outline.specs.Outline.{EntryView, tag_level, joined_text}
 
--- the level of a tree that is a heading; others have none
+-- the level of a heading; other shapes have none
 abbrev pub tree_level : Shape → Option ℕ
 tree_level (enclosed tag) = tag_level tag
 tree_level other = None
 
--- the entry of a tree over a range, if it is a heading
+-- the entry of a tree with this range, if it is a heading
 abbrev pub own_entry : {A : Type 0} → Option ℕ → Range ℕ → (below : Forest (Label A)) → List EntryView
 own_entry None range below = []
 own_entry (Some l) range below =
@@ -32,18 +32,18 @@ tree_entries nil = []
 tree_entries (node a below after) =
     own_entry (tree_level a.part.shape) a.part.range below ++ (tree_entries below ++ tree_entries after)
 
--- no heading of a block result holds another, at any depth
+-- no heading of a block result contains another, at any depth
 abbrev pub HeadingsApart : Blocks → Type 0
 HeadingsApart blocks = Throughout (λ a below after. IsTrue (is_heading_block a.item.body)
     → Each (λ b. is_heading_block b.item.body ≡ false) below) (tree_of (block_tree blocks).nodes)
 
--- these are the entries of the tree of a block result, with its chains resolved; nobody is asked, so it is the same
--- tree whatever would be answered
+-- these are the entries of the tree of a block result, with its chains resolved without a callback, so that the tree
+-- does not depend on the answers
 abbrev pub AreEntriesOf : Blocks → List EntryView → Type 0
 AreEntriesOf blocks entries = (answers : Answers)
     → entries ≡ tree_entries (resolved_blocks blocks false answers).trees
 
--- in the block result of a text no heading holds another
+-- in the block result of a text no heading contains another
 abbrev pub HeadingsOfTextsApart : Type 0
 HeadingsOfTextsApart = (text : List ℕ) (options : Options) (blocks : Blocks) → IsOfText text options blocks
     → HeadingsApart blocks

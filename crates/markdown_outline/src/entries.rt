@@ -1,4 +1,4 @@
-//! The entries of the events read so far.
+//! `Entries`, the entries of the events read so far.
 ghost use Rattle.std.specs.Prelude.{◌≡◌, ◌∷◌, [], None, List, IfOk, IfErr, IsSome, OnOk, map};
 ghost use Rattle.std.specs.Option.{option_map};
 ghost use Rattle.markdown_base.specs.Event.{event_view};
@@ -16,13 +16,13 @@ use std::ops::Range;
 /// The entries of the events read so far.
 #[derive(Drop)]
 pub struct Entries {
-    /// Those whose heading has ended.
+    /// The entries whose headings have ended.
     pub ended: Vec<Entry>,
-    /// That of the heading in which the next event stands.
+    /// The entry of the heading that the next event is in, if it is in one.
     pub open_entry: Option<Entry>,
 }
 
-/// Returns the entry that an event over a range opens, without text yet.
+/// Returns the entry that an event with this range opens, if it opens one. Its text is empty.
 fn opened_entry(alloc: Global, event: &Event<'_>, range: Range<usize>) -> Option<Entry>
     ensures { option_map entry_view result
         ≡ option_map (begun range) (opened_level (event_view event.now)) }
@@ -48,7 +48,7 @@ impl Entries {
         }
     }
 
-    /// Takes in the next event, which stays. After a refusal nothing is said of the entries.
+    /// Reads the next event. Nothing is promised of the entries after an error.
     fn read(&mut self, alloc: Global, event: &Event<'_>, range: Range<usize>) -> Result<(), Fault>
         ensures ok { OnOk result ((later : List Ranged)
             → all_entries (entries_view self.old) ((event_view event.now, range) ∷ later)
@@ -72,7 +72,7 @@ impl Entries {
         }
     }
 
-    /// Takes in the next event, as `read` does, and drops it.
+    /// Reads the next event, as `read` does, and drops it.
     pub fn take_in(
         &mut self,
         alloc: Global,
@@ -89,7 +89,7 @@ impl Entries {
         taken
     }
 
-    /// Returns all entries; that of a heading without an End has the text up to here.
+    /// Returns all entries. The entry of a heading without an End has the text read so far.
     pub fn finish(self) -> Result<Vec<Entry>, Fault>
         ensures all { IfOk result (λ entries.
             map entry_view entries.items ≡ all_entries (entries_view self) []) }

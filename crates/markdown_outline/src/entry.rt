@@ -1,13 +1,13 @@
-//! An entry of an outline.
+//! `Entry`, an entry of an outline.
 use std::ops::Range;
 
 /// A heading of a document.
 #[derive(Debug, Drop)]
 pub struct Entry {
-    /// From 1 to 6.
+    /// The level, from 1 to 6.
     pub level: u8,
-    /// Its text without markup: texts, code and math, and a space for each line break.
+    /// The text without markup: texts, code and math, and a space for each break.
     pub text: String,
-    /// The bytes of the source that it spans.
+    /// The source range.
     pub range: Range<usize>,
 }

@@ -1,4 +1,4 @@
-//! What an event says of headings.
+//! What an event means for an outline: whether a heading begins or ends with it, and the text that it adds to one.
 ghost use Rattle.std.specs.Prelude.{◌≡◌};
 ghost use Rattle.markdown_base.specs.Event.{event_view};
 ghost use Rattle.markdown_base.specs.HeadingLevels.{level_number};
@@ -7,7 +7,7 @@ ghost use Rattle.markdown_outline.specs.Outline.{ends_heading, opened_level, tex
 use markdown_base::event::Event;
 use markdown_base::tag::{HeadingLevel, Tag, TagEnd};
 
-/// Returns a level as a number.
+/// Returns the number of a level.
 fn level_number(level: HeadingLevel) -> u8
     ensures { result ≡ level_number level }
 {
@@ -21,7 +21,7 @@ fn level_number(level: HeadingLevel) -> u8
     }
 }
 
-/// Returns the level of the heading that begins with an event.
+/// Returns the level of the heading that begins with an event, if one does.
 pub fn opened_level(event: &Event<'_>) -> Option<u8>
     ensures { result ≡ opened_level (event_view event.now) }
 {
@@ -38,7 +38,7 @@ pub fn ends_heading(event: &Event<'_>) -> bool
     matches!(event, Event::End(TagEnd::Heading(_)))
 }
 
-/// Returns what an event adds to the text of the heading that it stands in.
+/// Returns what an event adds to the text of the heading that it is in.
 pub fn text_added<'x>(event: &'x Event<'_>) -> &'x str
     ensures { result.now ≡ text_added (event_view event.now) }
 {

@@ -1,4 +1,4 @@
-//! Laws of outlines: functions without code, whose clauses say them.
+//! Laws of outlines: functions without code, whose clauses state them.
 ghost use Rattle.std.specs.Prelude.{List};
 ghost use Rattle.markdown_out.specs.MergeNext.{item_view};
 ghost use Rattle.markdown_out.specs.MergeState.{offset_state};
@@ -14,13 +14,12 @@ use markdown_base::fault::Fault;
 use markdown_out::merge::TextMergeWithOffset;
 use std::ops::Range;
 
-/// The outline of merged events is that of the events.
+/// States that the outline of merged events is that of the events.
 pub fn merging_keeps_the_outline()
     ensures { MergingKeepsOutline }
 {}
 
-/// What `outline` gives of a merge that nothing was read for yet, over an iterator that stays ended: the outline of
-/// what the iterator gives.
+/// States that over an iterator that stays ended the outline of a new merge is that of the iterator.
 pub fn outline_of_a_merge_is_that_of_the_events<
     'a,
     I: Iterator<Item = Result<(Event<'a>, Range<usize>), Fault>>,
@@ -32,7 +31,8 @@ pub fn outline_of_a_merge_is_that_of_the_events<
         → IsOutlineOfAll I.next_gives (offset_state merge.now).iter entries }
 {}
 
-/// No heading of the block result of a text holds another, so that `outline_of` has an entry for each of them.
+/// States that no heading of the block result of a text contains another, so that `outline_of` returns an entry for
+/// each of them.
 pub fn headings_of_texts_are_apart()
     ensures { HeadingsOfTextsApart }
 {}

@@ -1,4 +1,5 @@
-//! A table of a document's headings, over its events: for each heading its level, its text and its range.
+//! Outlines: tables of the headings of a document, of its events or of its block result, each heading with its level,
+//! its text and its range.
 #![tactic(auto)]
 
 mod entries;

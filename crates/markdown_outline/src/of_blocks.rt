@@ -1,4 +1,4 @@
-//! The outline of a block result.
+//! `outline_of`: the outline of a block result.
 ghost use Rattle.std.specs.Prelude.{◌≡◌, IfOk, IfErr, map};
 ghost use Rattle.markdown_base.specs.declared.fault.Fault.TheVariants.{Memory};
 ghost use Rattle.markdown_outline.specs.Outline.{entry_view};
@@ -14,8 +14,8 @@ use std::alloc::Global;
 
 /// Returns an entry for each heading of a block result, in the order of their Starts.
 ///
-/// That of a text has no heading within another, as `laws::headings_of_texts_are_apart` says. References that are
-/// defined nowhere stay text: nobody is asked about them.
+/// In the block result of a text no heading contains another, as `laws::headings_of_texts_are_apart` states. There is
+/// no callback: a link label without a reference definition stays text.
 ///
 /// ```
 /// let blocks = Blocks::of_text(alloc, "# A *b*", Options::empty())?;
@@ -25,7 +25,7 @@ use std::alloc::Global;
 ///
 /// # Errors
 ///
-/// `Memory` where an allocation is refused. There is no list then.
+/// `Memory` where an allocation is refused; there is no other error.
 pub fn outline_of(alloc: Global, blocks: Blocks<'_>) -> Result<Vec<Entry>, Fault>
     ensures entries { IfOk result (λ entries.
         HeadingsApart blocks.entry → AreEntriesOf blocks.entry (map entry_view entries.items)) }

@@ -1,4 +1,4 @@
-//! The outline of what an iterator gives.
+//! `outline`: the outline of the events of an iterator.
 ghost use Rattle.std.specs.Prelude.{◌≡◌, ◌⊎◌, IfOk, IfErr, map};
 ghost use Rattle.std.specs.Iterator.{IsFinite};
 ghost use Rattle.markdown_base.specs.declared.fault.Fault.TheVariants.{Memory};
@@ -14,8 +14,8 @@ use std::ops::Range;
 
 /// Returns an entry for each heading among the events up to the first `None`.
 ///
-/// A Start of a heading opens an entry, whose text is that of the events up to the first End of a heading of any
-/// level, or up to the last event. A Start of a heading inside a heading opens none.
+/// The Start of a heading opens an entry, whose text is that of the events up to the first End of a heading of any
+/// level, or up to the last event. The Start of a heading inside a heading opens none.
 ///
 /// ```
 /// let entries = outline(alloc, Parser::new(alloc, "# A *b*")?.into_offset_iter())?;
@@ -24,7 +24,7 @@ use std::ops::Range;
 ///
 /// # Errors
 ///
-/// The fault of the first item that is one, and `Memory` where an allocation is refused. There is no list then.
+/// The error of the first item that is one, and `Memory` where an allocation is refused.
 pub fn outline<'a, I>(alloc: Global, iter: I) -> Result<Vec<Entry>, Fault>
 where
     I: Iterator<Item = Result<(Event<'a>, Range<usize>), Fault>>,

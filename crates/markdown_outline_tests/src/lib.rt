@@ -1,5 +1,5 @@
-//! Tests of what no clause says of outlines: a module for each topic. They stand apart from the library, so that it is
-//! not proved a second time with its tests.
+//! Tests of what no clause says of outlines: a module for each topic. They are in a crate of their own, so that the
+//! library is not proved a second time with its tests.
 #![tactic(auto)]
 
 #[cfg(test)]

@@ -1,4 +1,4 @@
-//! The outlines of events made by hand, with ample memory.
+//! The outlines of events made by hand, where no allocation is refused.
 use crate::notes::said_of;
 use markdown_base::cow_str::CowStr;
 use markdown_base::event::Event;
@@ -12,7 +12,7 @@ use std::alloc::Global;
 use std::ops::Range;
 use std::test::Fail;
 
-/// What an iterator gives, by a sign that can be copied, so that lists of them are constants.
+/// An item of an iterator, by a sign that can be copied, so that lists of them are constants.
 #[derive(Clone, Copy, Drop)]
 enum Sign {
     Open(HeadingLevel),
@@ -32,7 +32,7 @@ enum Sign {
     Nothing,
 }
 
-/// The Start of a heading without attributes.
+/// Returns the Start of a heading without attributes.
 fn heading<'s>(alloc: Global, level: HeadingLevel) -> Event<'s> {
     Event::Start(Tag::Heading {
         level,
@@ -42,7 +42,7 @@ fn heading<'s>(alloc: Global, level: HeadingLevel) -> Event<'s> {
     })
 }
 
-/// What a sign stands for.
+/// Returns the item of a sign.
 fn item_of<'s>(alloc: Global, sign: Sign) -> Option<Result<Event<'s>, Fault>> {
     match sign {
         Sign::Open(level) => Some(Ok(heading(alloc, level))),
@@ -73,7 +73,7 @@ fn placed<'s>(item: Result<Event<'s>, Fault>, range: Range<usize>) -> Placed<'s>
     Ok((event, range))
 }
 
-/// What signs stand for, each event with its range.
+/// The items of signs, each event with its range.
 #[derive(Drop)]
 struct Signed<'s> {
     alloc: Global,
@@ -90,7 +90,7 @@ impl<'s> Listed for Signed<'s> {
     }
 }
 
-/// These events have that outline, or that fault.
+/// Checks the outline of events, or the error.
 fn events_have<'s>(alloc: Global, row: &str, rows: &'s [Row], wanted: &str) -> Result<(), Fail> {
     let events = Items::of(Signed { alloc, rows }, rows.len());
     let notes = said_of(alloc, outline(alloc, events))?;

@@ -1,9 +1,9 @@
-//! Outlines written down: the level of each entry, its text in brackets and its range; or the fault.
+//! Outlines as texts: the level of each entry, its text in brackets and its range; or the error.
 use markdown_base::fault::Fault;
 use markdown_outline::Entry;
 use std::alloc::{AllocError, Global};
 
-/// Writes entries down, one after another.
+/// Returns entries as a text, one after another.
 fn notes_of(alloc: Global, entries: &[Entry]) -> Result<String, AllocError> {
     let mut notes = String::new(alloc);
     for entry in entries {
@@ -19,7 +19,7 @@ fn notes_of(alloc: Global, entries: &[Entry]) -> Result<String, AllocError> {
     Ok(notes)
 }
 
-/// Writes an outline down, or the fault.
+/// Returns an outline as a text, or the error.
 pub fn said_of(alloc: Global, outline: Result<Vec<Entry>, Fault>) -> Result<String, AllocError> {
     match outline {
         Ok(entries) => notes_of(alloc, entries.as_slice()),

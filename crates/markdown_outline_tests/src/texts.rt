@@ -1,4 +1,4 @@
-//! The headings of texts, with ample memory.
+//! The headings of texts, where no allocation is refused.
 use crate::notes::said_of;
 use markdown_base::options::Options;
 use markdown_blocks::Blocks;
@@ -8,27 +8,27 @@ use markdown_test_parsers::parsers::text_parser;
 use std::alloc::Global;
 use std::test::Fail;
 
-/// The events of a text have these headings.
+/// Checks the headings of the events of a text.
 fn events_have(alloc: Global, source: &str, options: Options, wanted: &str) -> Result<(), Fail> {
     let parser = text_parser(alloc, source, options)?;
     let notes = said_of(alloc, outline(alloc, parser.into_offset_iter()))?;
     gives(source, notes.as_str(), wanted)
 }
 
-/// So has its block result.
+/// Checks the headings of the block result of a text.
 fn blocks_have(alloc: Global, source: &str, options: Options, wanted: &str) -> Result<(), Fail> {
     let blocks = Blocks::of_text(alloc, source, options)?;
     let notes = said_of(alloc, outline_of(alloc, blocks))?;
     gives(source, notes.as_str(), wanted)
 }
 
-/// A text has these headings.
+/// Checks the headings of a text.
 fn text_has(alloc: Global, source: &str, options: Options, wanted: &str) -> Result<(), Fail> {
     events_have(alloc, source, options, wanted)?;
     blocks_have(alloc, source, options, wanted)
 }
 
-/// Each of these texts has the headings beside it.
+/// Checks the headings of each text.
 fn texts_have(alloc: Global, options: Options, rows: &[(&str, &str)]) -> Result<(), Fail> {
     for &(source, wanted) in rows {
         text_has(alloc, source, options, wanted)?;

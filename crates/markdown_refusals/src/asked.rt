@@ -1,4 +1,4 @@
-//! Texts to be read, each with its options and with what a callback is asked about it.
+//! The texts that are read, each with its options and its questions to a callback.
 use markdown_base::cow_str::CowStr;
 use markdown_base::fault::Fault;
 use markdown_base::options::Options;
@@ -7,7 +7,7 @@ use markdown_defs::{BrokenLink, BrokenLinkCallback};
 use markdown_inline::walk::Parser;
 use std::alloc::Global;
 
-/// A question: its span, its form and its label.
+/// A question: its span, its link type and its label.
 #[derive(Clone, Copy, Drop)]
 pub struct Question {
     start: usize,
@@ -16,7 +16,7 @@ pub struct Question {
     label: &'static str,
 }
 
-/// A text, and the questions that are asked about it, in order.
+/// A text, and its questions to a callback, in order.
 #[derive(Clone, Copy, Drop)]
 pub struct Source {
     pub text: &'static str,
@@ -62,7 +62,7 @@ static THREE: [Question; 3] = [
     },
 ];
 
-/// The texts.
+/// Returns the texts.
 pub fn sources() -> [Source; 12] {
     [
         plain("a  \nb\n\nc", Options::empty()),
@@ -91,7 +91,7 @@ pub fn sources() -> [Source; 12] {
     ]
 }
 
-/// A callback that answers each question without memory, and keeps whether each was the one that comes next.
+/// A callback that answers each question without allocating, and records whether each was the expected one.
 #[derive(Drop)]
 pub struct Asked {
     questions: &'static [Question],
@@ -100,18 +100,18 @@ pub struct Asked {
 }
 
 impl Asked {
-    /// Whether the questions so far are a beginning of those of the text.
+    /// Returns whether the questions so far are a prefix of those of the text.
     pub fn is_beginning(&self) -> bool {
         self.in_order && self.asked <= self.questions.len()
     }
 
-    /// Whether they are all of them.
+    /// Returns whether the questions so far are all of those of the text.
     pub fn is_whole(&self) -> bool {
         self.in_order && self.asked == self.questions.len()
     }
 }
 
-/// Whether a broken link is what a question asks about.
+/// Returns whether a broken link is that of a question.
 fn is_about(link: &BrokenLink<'_>, question: &Question) -> bool {
     link.span.start == question.start
         && link.span.end == question.end
@@ -142,7 +142,7 @@ impl<'input> BrokenLinkCallback<'input> for Asked {
     }
 }
 
-/// A callback that has been asked nothing yet.
+/// Returns a callback that has not been called yet.
 pub fn callback_for(source: Source) -> Asked {
     Asked {
         questions: source.questions,
@@ -151,7 +151,7 @@ pub fn callback_for(source: Source) -> Asked {
     }
 }
 
-/// A parser of a text with such a callback.
+/// Returns a parser of a text with such a callback.
 pub fn parser(alloc: Global, source: Source) -> Result<Parser<'static, Asked>, Fault> {
     let callback = Some(callback_for(source));
     Parser::new_with_broken_link_callback(alloc, source.text, source.options, callback)

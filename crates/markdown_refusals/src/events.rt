@@ -1,4 +1,4 @@
-//! Copies and `'static` forms of events and of the tags in them: the same event, or memory was refused.
+//! Copies and `'static` forms of events and their tags: the same event, or an allocation was refused.
 use crate::texts::{LONG, boxed};
 use markdown_base::cow_str::CowStr;
 use markdown_base::event::Event;
@@ -10,7 +10,7 @@ fn slice() -> CowStr<'static> {
     CowStr::Borrowed(LONG)
 }
 
-/// A heading with an identifier, two classes, an attribute with a value and one without.
+/// Returns a heading with an id, two classes, an attribute with a value and one without.
 fn heading(alloc: Global) -> Result<Tag<'static>, AllocError> {
     let id = boxed(alloc)?;
     let classes = vec![in alloc; slice(), boxed(alloc)?]?;
@@ -41,7 +41,7 @@ fn image(alloc: Global) -> Result<Tag<'static>, AllocError> {
     })
 }
 
-/// What holds a text, or several.
+/// The kinds of events that have texts.
 #[derive(Clone, Copy, Drop)]
 enum Kind {
     Slice,
@@ -65,7 +65,7 @@ static KINDS: [Kind; 8] = [
     Kind::Table,
 ];
 
-/// An event of a kind.
+/// Returns an event of a kind.
 fn event(alloc: Global, kind: Kind) -> Result<Event<'static>, AllocError> {
     match kind {
         Kind::Slice => Ok(Event::Text(slice())),
@@ -82,7 +82,7 @@ fn event(alloc: Global, kind: Kind) -> Result<Event<'static>, AllocError> {
     }
 }
 
-/// Whether this is what is wanted, or memory was refused.
+/// Returns whether this is what is wanted, or an allocation was refused.
 fn is_same_or_refused<T: PartialEq + Drop>(made: Result<T, Fault>, wanted: &T) -> bool {
     match made {
         Ok(made) => made == *wanted,
@@ -90,7 +90,7 @@ fn is_same_or_refused<T: PartialEq + Drop>(made: Result<T, Fault>, wanted: &T) -
     }
 }
 
-/// An event that was not copied is as before.
+/// Returns whether an event is copied, and unchanged where an allocation was refused.
 fn is_copied(alloc: Global, kind: Kind) -> bool {
     let (Ok(held), Ok(other)) = (event(alloc, kind), event(alloc, kind)) else {
         return true;

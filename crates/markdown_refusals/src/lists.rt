@@ -1,4 +1,4 @@
-//! What is merged and rendered of events made by hand: those that are given, and those that have to come.
+//! Lists of events made by hand, to be merged or rendered, and the lists that they have to become.
 use crate::tries::{gives, writes};
 use markdown_base::cow_str::CowStr;
 use markdown_base::event::Event;
@@ -50,7 +50,7 @@ impl Listed for RangedTexts {
     }
 }
 
-/// What they are merged to.
+/// The merge of `Texts`.
 #[derive(Drop)]
 struct Merged;
 
@@ -108,7 +108,7 @@ impl<'a> Listed for Mixed<'a> {
     }
 }
 
-/// The `count` items of a list.
+/// Returns an iterator over the `count` items of a list.
 fn given<L>(list: L, count: usize) -> Items<WithoutErrors<L>> {
     Items::of(WithoutErrors::of(list), count)
 }

@@ -1,9 +1,10 @@
-//! What stands after a refused allocation: run with each one refused in turn, it says for each call
-//! whether what stands is what is promised. It ends with status 1 where something else does.
+//! Checks the state after a refused allocation. The program is run with each allocation refused in turn, and checks for
+//! each call that what is promised holds; otherwise it exits with status 1.
 //!
-//! With the word `readings` it only reads texts, of which the same is promised where each later allocation is refused
-//! too. With the word `quiet` it makes the calls that take no memory instead, and with `still` only what they
-//! need: both take as many allocations.
+//! With the argument `readings` it only reads texts, for which the same is promised where each later allocation is
+//! refused
+//! too. With `quiet` it makes the calls that do not allocate instead, and with `still` only what these calls need: both
+//! runs make the same number of allocations.
 #![tactic(auto)]
 
 mod asked;
@@ -22,14 +23,14 @@ use std::env::{self, Env};
 use std::io;
 use std::process::ExitCode;
 
-/// The first word of the command line, if memory lasts to read it.
+/// Returns the first argument, or the error of an allocation.
 fn first_word(rt: &(impl Env + AllocGlobal)) -> io::Result<Option<String>> {
     let mut args = env::args(rt)?;
     drop(args.next());
     Ok(args.next())
 }
 
-/// The first promise that does not stand, and where.
+/// Returns the first promise that does not hold, and where.
 fn broken(alloc: Global) -> Option<(&'static str, &'static str)> {
     let all = rows::all(alloc);
     for (name, holds) in &all {
@@ -40,7 +41,7 @@ fn broken(alloc: Global) -> Option<(&'static str, &'static str)> {
     readings::broken(alloc)
 }
 
-/// The same, or with a word of the readings alone, or of the calls that take no memory.
+/// Returns the same, with an argument that of the readings alone, or of the calls that do not allocate.
 fn tried(alloc: Global, word: Option<String>) -> Option<(&'static str, &'static str)> {
     let Some(word) = word else {
         return broken(alloc);

@@ -1,5 +1,6 @@
-//! The calls that take no memory. Each function makes what it needs, and then makes the calls if it is told
-//! to: a run that makes them takes as much memory as one that does not.
+//! The calls that do not allocate. Each function makes what the calls need, and makes the calls if `calls` is true: a
+//! run
+//! that makes them allocates as often as one that does not.
 ghost use Rattle.std.specs.Prelude.{◌≡◌, None};
 
 use markdown_base::cow_str::CowStr;
@@ -12,13 +13,14 @@ use markdown_defs::{
 };
 use markdown_inline::walk::Parser;
 use markdown_out::merge::{TextMergeStream, TextMergeWithOffset};
+use markdown_plain::misfits;
 use markdown_test_helpers::lists::is_nothing;
 use markdown_test_helpers::parts::{no_attributes, no_parts};
 use std::alloc::Global;
 
 const DEFINING: &str = "a\n\n[b]: /u";
 
-/// Whether the one definition of the text is listed.
+/// Returns whether the one definition of the text is listed.
 fn lists_the_definition(definitions: &RefDefs<'_>) -> bool {
     let mut items = definitions.iter();
     let first = match items.next() {
@@ -28,7 +30,21 @@ fn lists_the_definition(definitions: &RefDefs<'_>) -> bool {
     first && is_nothing(items.next())
 }
 
-/// What a new parser is asked, with ranges and without.
+/// Returns whether each call that the block pass makes for a text fits.
+fn fits(alloc: Global, text: &str, options: Options) -> Result<bool, Fault> {
+    Ok(misfits(alloc, text, options)? == 0)
+}
+
+/// Returns whether each call that the block pass makes for the texts of this module fits.
+fn texts_fit(alloc: Global) -> Result<bool, Fault> {
+    Ok(
+        fits(alloc, "", Options::empty())?
+            && fits(alloc, DEFINING, Options::empty())?
+            && fits(alloc, DEFINING, Options::ENABLE_MATH)?,
+    )
+}
+
+/// Calls the accessors of a new parser, with ranges and without.
 fn parsers(alloc: Global, calls: bool) -> Result<bool, Fault> {
     let parser = Parser::new(alloc, DEFINING)?;
     if !calls {
@@ -39,7 +55,7 @@ fn parsers(alloc: Global, calls: bool) -> Result<bool, Fault> {
     Ok(first && lists_the_definition(iter.reference_definitions()) && iter.work().items == 0)
 }
 
-/// A parser that is over.
+/// Calls a parser whose walk is over.
 fn ended_parsers(alloc: Global, calls: bool) -> Result<bool, Fault> {
     let mut parser = Parser::new(alloc, DEFINING)?;
     for _ in 0..4 {
@@ -73,7 +89,7 @@ fn blocks(alloc: Global, calls: bool) -> Result<bool, Fault> {
     Ok(text == DEFINING && options == Options::ENABLE_MATH && tree.len() == 3 && definitions == 1)
 }
 
-/// What `take_cow` and indexing give.
+/// Calls `take_cow`, and indexes.
 fn texts(alloc: Global, calls: bool) -> Result<bool, Fault> {
     let mut held = Allocations::new(alloc, no_parts(alloc))?;
     let ix = held.allocate_cow(CowStr::Borrowed("a"))?;
@@ -87,7 +103,7 @@ fn texts(alloc: Global, calls: bool) -> Result<bool, Fault> {
     Ok(is_there && is_same && held[ix].as_str() == "")
 }
 
-/// What `take_link` and indexing give.
+/// Calls `take_link`, and indexes.
 fn links(alloc: Global, calls: bool) -> Result<bool, Fault> {
     let mut held = Allocations::new(alloc, no_parts(alloc))?;
     let ix = held.allocate_link(
@@ -106,7 +122,7 @@ fn links(alloc: Global, calls: bool) -> Result<bool, Fault> {
     Ok(is_there && is_same && held[ix].0 == LinkType::ShortcutUnknown)
 }
 
-/// What `take_alignment` and indexing give.
+/// Calls `take_alignment`, and indexes.
 fn alignments(alloc: Global, calls: bool) -> Result<bool, Fault> {
     let mut held = Allocations::new(alloc, no_parts(alloc))?;
     let ix = held.allocate_alignment(vec![in alloc; Alignment::Left]?)?;
@@ -126,7 +142,7 @@ fn headings(alloc: Global, calls: bool) -> Result<bool, Fault> {
     Ok(!calls || held[ix].classes.is_empty())
 }
 
-/// Whether a callback does not answer.
+/// Returns whether a callback returns None.
 fn is_silent<'input, C: BrokenLinkCallback<'input>>(callback: &mut C) -> bool
     requires { C.can_ask callback.old }
 {
@@ -152,10 +168,11 @@ fn callbacks(calls: bool) -> bool {
     is_silent(&mut closure) && is_silent(&mut none)
 }
 
-/// Whether all give what they should; memory is ample.
+/// Returns whether all calls return what they should; no allocation is refused.
 fn all_give(alloc: Global, calls: bool) -> Result<bool, Fault> {
     Ok(
-        parsers(alloc, calls)?
+        texts_fit(alloc)?
+            && parsers(alloc, calls)?
             && ended_parsers(alloc, calls)?
             && merges(alloc, calls)?
             && blocks(alloc, calls)?
@@ -167,7 +184,7 @@ fn all_give(alloc: Global, calls: bool) -> Result<bool, Fault> {
     )
 }
 
-/// Makes what the calls need, and then the calls if it is told to. Whether all give what they should.
+/// Makes what the calls need, and the calls if `calls` is true. Returns whether all of them return what they should.
 pub fn gives(alloc: Global, calls: bool) -> bool {
     all_give(alloc, calls) == Ok(true)
 }

@@ -1,4 +1,4 @@
-//! Each way to read a text, beside a full run of the same.
+//! Each way to read a text, compared with a run without refusals.
 use crate::asked::{Asked, Source, callback_for, parser, sources};
 use crate::tries::{Outcome, all_of, compared, is_made, walked, writes};
 use markdown_base::event::Event;
@@ -15,13 +15,13 @@ use std::ops::Range;
 
 type Placed = (Event<'static>, Range<usize>);
 
-/// A parser of the blocks of a text.
+/// Returns a parser of the block result of a text.
 fn of_blocks(alloc: Global, source: Source) -> Result<Parser<'static, Asked>, Fault> {
     let blocks = Blocks::of_text(alloc, source.text, source.options)?;
     Parser::from_blocks(alloc, blocks, Some(callback_for(source)))
 }
 
-/// Each maker makes a parser, or memory was refused.
+/// Returns whether each constructor returns a parser, or an allocation was refused.
 fn makes(alloc: Global, source: Source) -> bool {
     is_made(Blocks::of_text(alloc, source.text, source.options))
         && is_made(Parser::new(alloc, source.text))
@@ -30,12 +30,12 @@ fn makes(alloc: Global, source: Source) -> bool {
         && is_made(of_blocks(alloc, source))
 }
 
-/// The events of a text.
+/// Returns the events of a text.
 fn events_of(alloc: Global, source: Source) -> Option<Vec<Event<'static>>> {
     all_of(alloc, parser(alloc, source).ok()?)
 }
 
-/// Whether nothing is left of a walk that ended so, and its callback was asked what it should be.
+/// Returns whether nothing is left of a walk with this outcome, and its callback had the questions that it should.
 fn is_left(outcome: Outcome, left: Result<(Vec<Placed>, Option<Asked>), Fault>) -> bool {
     match left {
         Ok((events, callback)) => {
@@ -47,7 +47,7 @@ fn is_left(outcome: Outcome, left: Result<(Vec<Placed>, Option<Asked>), Fault>) 
     }
 }
 
-/// Whether a callback was asked all that a text asks, or a beginning of it where the walk was cut short.
+/// Returns whether a callback had all questions of a text, or a prefix of them where the walk was cut short.
 fn is_asked(outcome: Outcome, callback: Option<Asked>) -> bool {
     let Some(callback) = callback else {
         return false;
@@ -72,7 +72,7 @@ fn walks(alloc: Global, source: Source) -> bool {
     }
 }
 
-/// The events of a text, each with its range.
+/// Returns the events of a text, each with its range.
 fn placed_of(alloc: Global, source: Source) -> Option<Vec<Placed>> {
     all_of(alloc, parser(alloc, source).ok()?.into_offset_iter())
 }
@@ -91,7 +91,7 @@ fn walks_with_ranges(alloc: Global, source: Source) -> bool {
     }
 }
 
-/// The merged events of a text.
+/// Returns the merged events of a text.
 fn merged_of(alloc: Global, source: Source) -> Option<Vec<Event<'static>>> {
     all_of(
         alloc,
@@ -111,7 +111,7 @@ fn merges(alloc: Global, source: Source) -> bool {
     }
 }
 
-/// The merged events of a text, each with its range.
+/// Returns the merged events of a text, each with its range.
 fn placed_merged_of(alloc: Global, source: Source) -> Option<Vec<Placed>> {
     let events = parser(alloc, source).ok()?.into_offset_iter();
     all_of(alloc, TextMergeWithOffset::new(alloc, events))
@@ -130,12 +130,12 @@ fn merges_with_ranges(alloc: Global, source: Source) -> bool {
     }
 }
 
-/// Whether two lists hold the same.
+/// Returns whether two lists are equal.
 fn are_same<T: PartialEq + Drop>(given: Vec<T>, full: &[T]) -> bool {
     given.as_slice() == full
 }
 
-/// All events at once, and the callback, or neither.
+/// Returns whether all events are returned at once, with the callback, or neither.
 fn collects(alloc: Global, source: Source) -> bool {
     let Some(full) = placed_of(alloc, source) else {
         return true;
@@ -151,7 +151,7 @@ fn collects(alloc: Global, source: Source) -> bool {
     }
 }
 
-/// The HTML of a text.
+/// Returns the HTML of a text.
 fn html_of(alloc: Global, source: Source) -> Result<String, Fault> {
     render(
         alloc,
@@ -161,7 +161,7 @@ fn html_of(alloc: Global, source: Source) -> Result<String, Fault> {
     )
 }
 
-/// All of the HTML, or none.
+/// Returns whether all of the HTML is returned, or an allocation was refused.
 fn renders(alloc: Global, source: Source) -> bool {
     let Ok(full) = html_of(alloc, source) else {
         return true;
@@ -172,7 +172,7 @@ fn renders(alloc: Global, source: Source) -> bool {
     }
 }
 
-/// The old text and all of the HTML, or a beginning of it.
+/// Returns whether the old text is followed by all of the HTML, or by a prefix of it where an allocation was refused.
 fn pushes(alloc: Global, source: Source) -> bool {
     let Ok(full) = html_of(alloc, source) else {
         return true;
@@ -183,7 +183,7 @@ fn pushes(alloc: Global, source: Source) -> bool {
     }
 }
 
-/// Each call that the block pass makes fits where it comes, or memory was refused.
+/// Returns whether each call that the block pass makes fits, or an allocation was refused.
 fn fits(alloc: Global, source: Source) -> bool {
     match misfits(alloc, source.text, source.options) {
         Ok(count) => count == 0,
@@ -191,12 +191,12 @@ fn fits(alloc: Global, source: Source) -> bool {
     }
 }
 
-/// The headings of the events of a text.
+/// Returns the outline of the events of a text.
 fn outline_read(alloc: Global, source: Source) -> Result<Vec<Entry>, Fault> {
     outline(alloc, parser(alloc, source)?.into_offset_iter())
 }
 
-/// Those of its block result.
+/// Returns the outline of the block result of a text.
 fn outline_of_blocks(alloc: Global, source: Source) -> Result<Vec<Entry>, Fault> {
     let blocks = Blocks::of_text(alloc, source.text, source.options)?;
     outline_of(alloc, blocks)
@@ -208,7 +208,7 @@ fn is_same_entry(given: &Entry, full: &Entry) -> bool {
         && given.range == full.range
 }
 
-/// Whether two outlines have the same entries.
+/// Returns whether two outlines have the same entries.
 fn are_same_entries(given: &[Entry], full: &[Entry]) -> bool {
     if given.len() != full.len() {
         return false;
@@ -221,7 +221,7 @@ fn are_same_entries(given: &[Entry], full: &[Entry]) -> bool {
     true
 }
 
-/// All entries, or none.
+/// Returns whether all entries are returned, or an allocation was refused.
 fn is_outline(given: Result<Vec<Entry>, Fault>, full: &[Entry]) -> bool {
     match given {
         Ok(entries) => are_same_entries(entries.as_slice(), full),
@@ -273,7 +273,7 @@ static WAYS: [(&str, Way); 11] = [
     ("outline_of", Way::OutliningBlocks),
 ];
 
-/// Whether what is promised of a way to read a text stands.
+/// Returns whether what is promised for a way to read a text holds.
 fn stands(alloc: Global, way: Way, source: Source) -> bool {
     match way {
         Way::Fitting => fits(alloc, source),
@@ -290,7 +290,7 @@ fn stands(alloc: Global, way: Way, source: Source) -> bool {
     }
 }
 
-/// The first way of which what is promised does not stand.
+/// Returns the first way for which what is promised does not hold.
 fn broken_way(alloc: Global, source: Source) -> Option<&'static str> {
     for (name, way) in &WAYS {
         if !stands(alloc, *way, source) {
@@ -300,7 +300,7 @@ fn broken_way(alloc: Global, source: Source) -> Option<&'static str> {
     None
 }
 
-/// The first text of which it does not stand, and the way.
+/// Returns the first text for which it does not hold, and the way.
 pub fn broken(alloc: Global) -> Option<(&'static str, &'static str)> {
     for source in sources() {
         if let Some(name) = broken_way(alloc, source) {

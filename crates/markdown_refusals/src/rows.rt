@@ -1,4 +1,4 @@
-//! Each promise with whether it holds.
+//! The promises by name, each with whether it holds.
 use crate::tables::{Call, answers_again};
 use crate::{events, lists, tables, texts, trees};
 use std::alloc::Global;

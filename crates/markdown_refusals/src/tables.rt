@@ -1,4 +1,4 @@
-//! The promises of definitions, footnotes and allocations: the same call answers as ever after a refusal.
+//! The promises of definitions, footnotes and allocations: after a refusal the same call returns what it always does.
 use markdown_base::cow_str::CowStr;
 use markdown_base::fault::Fault;
 use markdown_base::tag::{Alignment, LinkType};
@@ -6,7 +6,7 @@ use markdown_defs::Allocations;
 use markdown_test_helpers::parts::{defining, no_attributes};
 use std::alloc::Global;
 
-/// What is asked for.
+/// The calls.
 #[derive(Clone, Copy, Drop)]
 pub enum Call {
     LookUp,
@@ -18,14 +18,14 @@ pub enum Call {
     PutAttributes,
 }
 
-/// Allocations over one definition and one footnote; None where memory was refused.
+/// Returns allocations over one definition and one footnote, or None where an allocation was refused.
 fn made(alloc: Global) -> Option<Allocations<'static>> {
     let mut parts = defining(alloc, &[("ß", "/u")]).ok()?;
     parts.footnotes.push(CowStr::Borrowed("n")).ok()?;
     Allocations::new(alloc, parts).ok()
 }
 
-/// Puts in a link: its number.
+/// Allocates a link, and returns its number.
 fn put_link(held: &mut Allocations<'static>) -> Result<usize, Fault> {
     let made = held.allocate_link(
         LinkType::Inline,
@@ -36,18 +36,18 @@ fn put_link(held: &mut Allocations<'static>) -> Result<usize, Fault> {
     Ok(made.0)
 }
 
-/// Puts in alignments: their number.
+/// Allocates alignments, and returns their number.
 fn put_alignments(alloc: Global, held: &mut Allocations<'static>) -> Result<usize, Fault> {
     let none: Vec<Alignment> = Vec::new(alloc);
     Ok(held.allocate_alignment(none)?.0)
 }
 
-/// Puts in a heading's attributes: their number.
+/// Allocates a heading's attributes, and returns their number.
 fn put_attributes(alloc: Global, held: &mut Allocations<'static>) -> Result<usize, Fault> {
     Ok(held.allocate_heading(no_attributes(alloc))?.0)
 }
 
-/// Whether a key finds the definition.
+/// Returns whether a key finds the definition.
 fn looks_up(held: &Allocations<'static>) -> Result<bool, Fault> {
     match held.refdefs.get("SS")? {
         Some(found) => Ok(found.dest.as_str() == "/u"),
@@ -55,7 +55,7 @@ fn looks_up(held: &Allocations<'static>) -> Result<bool, Fault> {
     }
 }
 
-/// Whether a name finds the footnote, which was used nowhere.
+/// Returns whether a name finds the footnote, which has not been used.
 fn is_unused(held: &mut Allocations<'static>) -> Result<bool, Fault> {
     match held.footdefs.get_mut(CowStr::Borrowed("N"))? {
         Some(footnote) => Ok(footnote.use_count == 0),
@@ -63,12 +63,12 @@ fn is_unused(held: &mut Allocations<'static>) -> Result<bool, Fault> {
     }
 }
 
-/// Whether the one definition is listed, and the footnote is unused.
+/// Returns whether the one definition is listed, and the footnote is unused.
 fn is_as_made(held: &mut Allocations<'static>) -> bool {
     lists_the_definition(held) && is_unused(held) == Ok(true)
 }
 
-/// Whether the one definition is listed.
+/// Returns whether the one definition is listed.
 fn lists_the_definition(held: &Allocations<'static>) -> bool {
     let mut listed = 0usize;
     for (label, definition) in held.refdefs.iter() {
@@ -80,7 +80,7 @@ fn lists_the_definition(held: &Allocations<'static>) -> bool {
     listed == 1
 }
 
-/// Whether a call finds what is there, or puts in what it is given under the first number.
+/// Returns whether a call finds what is there, or allocates its argument under the first number.
 fn answers(alloc: Global, held: &mut Allocations<'static>, call: Call) -> Result<bool, Fault> {
     match call {
         Call::LookUp => looks_up(held),
@@ -93,8 +93,8 @@ fn answers(alloc: Global, held: &mut Allocations<'static>, call: Call) -> Result
     }
 }
 
-/// Whether a call does so, or memory was refused and then it does: what was refused put nothing in, and all else is as
-/// it was.
+/// Returns whether a call does so, at once or after a refusal: a refused call allocates nothing, and changes nothing
+/// else.
 pub fn answers_again(alloc: Global, call: Call) -> bool {
     let Some(mut held) = made(alloc) else {
         return true;
@@ -109,7 +109,7 @@ pub fn answers_again(alloc: Global, call: Call) -> bool {
     }
 }
 
-/// How often the footnote was used; None where memory was refused.
+/// Returns how often the footnote has been used, or None where an allocation was refused.
 fn uses(held: &mut Allocations<'static>) -> Option<usize> {
     match held.footdefs.get_mut(CowStr::Borrowed("N")) {
         Ok(Some(footnote)) => Some(footnote.use_count),
@@ -118,7 +118,7 @@ fn uses(held: &mut Allocations<'static>) -> Option<usize> {
     }
 }
 
-/// A use is counted once, and not at all where memory was refused.
+/// Returns whether a use is counted once, and not at all where an allocation was refused.
 pub fn counts(alloc: Global) -> bool {
     let Some(mut held) = made(alloc) else {
         return true;

@@ -1,4 +1,4 @@
-//! Copies and `'static` forms: the same text, or memory was refused; where none is taken, the same text.
+//! Copies and `'static` forms of texts: the same text, or an allocation was refused; where none is made, the same text.
 use markdown_base::block_parts::LinkDef;
 use markdown_base::cow_str::CowStr;
 use markdown_base::fault::Fault;
@@ -6,7 +6,7 @@ use markdown_base::tag::LinkType;
 use markdown_defs::BrokenLink;
 use std::alloc::{AllocError, Global};
 
-/// More bytes than are held in place.
+/// A text of more bytes than are stored inline.
 pub const LONG: &str = "a text of more than 22 bytes";
 
 fn is_text(made: Result<CowStr<'_>, AllocError>) -> bool {
@@ -20,12 +20,12 @@ fn is_text_or_refused(made: Result<CowStr<'_>, AllocError>) -> bool {
     made.is_err() || is_text(made)
 }
 
-/// A text on the heap.
+/// Returns a boxed text.
 pub fn boxed(alloc: Global) -> Result<CowStr<'static>, AllocError> {
     Ok(CowStr::from(String::from_str(alloc, LONG)?))
 }
 
-/// The copy of a slice takes no memory.
+/// Returns whether the copy of a slice is made without allocating.
 pub fn copies_a_slice(alloc: Global) -> bool {
     is_text(CowStr::Borrowed(LONG).try_clone(alloc))
 }
@@ -34,7 +34,7 @@ pub fn frees_a_slice(alloc: Global) -> bool {
     is_text_or_refused(CowStr::Borrowed(LONG).into_static(alloc))
 }
 
-/// A text that was not copied is as before.
+/// Returns whether a boxed text is copied, and unchanged where an allocation was refused.
 pub fn copies_a_boxed_text(alloc: Global) -> bool {
     match boxed(alloc) {
         Ok(text) => is_text_or_refused(text.try_clone(alloc)) && text.as_str() == LONG,
@@ -42,7 +42,7 @@ pub fn copies_a_boxed_text(alloc: Global) -> bool {
     }
 }
 
-/// What is owned already takes no memory.
+/// Returns whether a text that is owned already becomes `'static` without allocating.
 pub fn frees_a_boxed_text(alloc: Global) -> bool {
     match boxed(alloc) {
         Ok(text) => is_text(text.into_static(alloc)),
@@ -72,7 +72,7 @@ fn is_definition_or_refused(made: Result<LinkDef<'_>, Fault>) -> bool {
     }
 }
 
-/// A definition that was not copied is as before.
+/// Returns whether a definition is copied, and unchanged where an allocation was refused.
 pub fn copies_a_definition(alloc: Global) -> bool {
     let (Ok(dest), Ok(title)) = (boxed(alloc), boxed(alloc)) else {
         return true;

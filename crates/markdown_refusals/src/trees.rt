@@ -11,14 +11,14 @@ use markdown_test_helpers::parts::{link_to, one_of_each};
 use markdown_test_helpers::trees::{Outline, delimiter, item, text, tree_of};
 use std::alloc::{AllocError, Global};
 
-/// A tree with a paragraph in focus.
+/// Returns a tree with its cursor at a paragraph.
 fn paragraph(alloc: Global) -> Result<Tree<Item>, AllocError> {
     let mut tree = Tree::new(alloc)?;
     tree.append(item(0, 8, ItemBody::Paragraph))?;
     Ok(tree)
 }
 
-/// A node more and the cursor at it, or all as before.
+/// Returns whether `append` adds a node and moves the cursor to it, or changes nothing.
 pub fn appends(alloc: Global) -> bool {
     let Ok(mut tree) = paragraph(alloc) else {
         return true;
@@ -30,7 +30,7 @@ pub fn appends(alloc: Global) -> bool {
     }
 }
 
-/// Gone into the paragraph, or all as before.
+/// Returns whether `push` enters the paragraph, or changes nothing.
 pub fn pushes(alloc: Global) -> bool {
     let Ok(mut tree) = paragraph(alloc) else {
         return true;
@@ -44,10 +44,11 @@ pub fn pushes(alloc: Global) -> bool {
     }
 }
 
-/// A text and the eight open bodies behind it.
+/// A text, followed by the eight open bodies.
 const OPEN: &str = "x*'$`<[![]y";
 
-/// What stands in a tree over it: a chain of them, a heading with attributes, and blocks that name a text and alignments.
+/// Returns the items of a tree over `OPEN`: a chain of the open items, a heading with attributes, and blocks that refer
+/// to a text and to alignments.
 fn all_kinds() -> [(usize, Item); 15] {
     let heading = ItemBody::Heading(HeadingLevel::H1, Some(HeadingIndex(1)));
     [
@@ -69,7 +70,7 @@ fn all_kinds() -> [(usize, Item); 15] {
     ]
 }
 
-/// What is checked, with a definition and a footnote among its parts.
+/// Returns the block result that is checked, with a definition and a footnote among its parts.
 fn checked(alloc: Global) -> Result<Blocks<'static>, Fault> {
     let tree = tree_of(alloc, &all_kinds())?;
     let mut parts = one_of_each(alloc)?;
@@ -100,7 +101,7 @@ static LINKS: [(Option<usize>, Option<usize>); 16] = [
     (None, None),
 ];
 
-/// Whether a tree has these items in preorder, from the root's first child on, and these links.
+/// Returns whether a tree has these items in preorder, from the root's first child on, and these links.
 fn is_tree(
     tree: &Tree<Item>,
     outline: Outline<'_>,
@@ -124,7 +125,8 @@ fn is_tree(
     tree.len() == links.len()
 }
 
-/// Whether these are one definition, one footnote, one text, one list of no alignments and a heading without attributes.
+/// Returns whether these are one definition, one footnote, one text, one empty list of alignments and a heading without
+/// attributes.
 fn is_one_of_each(parts: &BlockParts<'_>) -> bool {
     let is_defined = match parts.definitions.as_slice() {
         [(label, link)] => {
@@ -151,7 +153,7 @@ fn is_one_of_each(parts: &BlockParts<'_>) -> bool {
     is_defined && are_named && are_bare
 }
 
-/// A tree that keeps the rules passes and is held as it is, or memory was refused.
+/// Returns whether a tree that keeps the rules passes the check unchanged, or an allocation was refused.
 pub fn checks(alloc: Global) -> bool {
     match checked(alloc) {
         Ok(blocks) => {

@@ -1,5 +1,5 @@
-//! What is tried of each call of a kind: the items of iterators, which are compared with those of a full run
-//! or of a list, and the HTML behind an old text.
+//! What is checked for the calls of each kind: the items of iterators, compared with those of a run without refusals or
+//! of a list, and the HTML after an old text.
 ghost use Rattle.std.specs.Iterator.{IsFinite};
 
 use markdown_base::event::Event;
@@ -9,7 +9,7 @@ use markdown_test_helpers::lists::{Listed, is_nothing, is_same};
 use std::alloc::Global;
 use std::ops::Range;
 
-/// Whether a call made something, or memory was refused.
+/// Returns whether a call returned a value, or an allocation was refused.
 pub fn is_made<T: Drop>(made: Result<T, Fault>) -> bool {
     match made {
         Ok(made) => {
@@ -20,7 +20,7 @@ pub fn is_made<T: Drop>(made: Result<T, Fault>) -> bool {
     }
 }
 
-/// All items of an iterator in a list; None where memory was refused.
+/// Returns all items of an iterator in a list, or None where an allocation was refused.
 pub fn all_of<T: Drop, I: Iterator<Item = Result<T, Fault>> + Drop>(
     alloc: Global,
     items: I,
@@ -35,7 +35,7 @@ pub fn all_of<T: Drop, I: Iterator<Item = Result<T, Fault>> + Drop>(
     Some(all)
 }
 
-/// Whether an item stands there in a list.
+/// Returns whether an item is at this position of a list.
 fn stands_at<T: PartialEq + Drop>(full: &[T], at: usize, item: T) -> bool {
     match full.get(at) {
         Some(wanted) => *wanted == item,
@@ -43,12 +43,12 @@ fn stands_at<T: PartialEq + Drop>(full: &[T], at: usize, item: T) -> bool {
     }
 }
 
-/// How items are beside those of a full run.
+/// How items compare with those of a run without refusals.
 #[derive(Clone, Copy, PartialEq, Drop)]
 pub enum Outcome {
-    /// The same.
+    /// They are the same.
     Whole,
-    /// A beginning, then `Memory`, and then nothing.
+    /// They are a prefix, followed by `Memory` and then nothing.
     Cut,
     Wrong,
 }
@@ -59,7 +59,7 @@ fn right_if(is_so: bool, outcome: Outcome) -> Outcome {
 
 /// An item of a merge.
 pub trait Merged: PartialEq + Drop {
-    /// Whether this is a text with which the other begins: an error has ended its run.
+    /// Returns whether this is a text that the other begins with: an error has ended its run.
     fn begins(&self, whole: &Self) -> bool;
 }
 
@@ -78,7 +78,7 @@ impl Merged for (Event<'static>, Range<usize>) {
     }
 }
 
-/// How an item is beside the one in its place in a list.
+/// Returns how an item compares with the one at its position in a list.
 fn beside<T: Merged>(full: &[T], at: usize, item: T) -> Outcome {
     let Some(whole) = full.get(at) else {
         return Outcome::Wrong;
@@ -89,15 +89,16 @@ fn beside<T: Merged>(full: &[T], at: usize, item: T) -> Outcome {
     right_if(item.begins(whole), Outcome::Cut)
 }
 
-/// Whether None comes three times.
+/// Returns whether three calls return None.
 fn stays_over<T: Drop, I: Iterator<Item = T>>(items: &mut I) -> bool
     requires { (left : I) → I.can_next left }
 {
     is_nothing(items.next()) && is_nothing(items.next()) && is_nothing(items.next())
 }
 
-/// How the items of a merge are beside those of a full run, after which None has to come ever after. Of a beginning the
-/// last may be a text cut short.
+/// Returns how the items of a merge compare with those of a run without refusals. Only None may follow them. The last
+/// item
+/// of a prefix may be a text cut short.
 pub fn compared<T: Merged, I: Iterator<Item = Result<T, Fault>> + Drop>(
     items: I,
     full: &[T],
@@ -128,7 +129,8 @@ pub fn compared<T: Merged, I: Iterator<Item = Result<T, Fault>> + Drop>(
     Outcome::Wrong
 }
 
-/// How items are beside those of a full run, after which None has to come ever after; with the iterator as it is then.
+/// Returns how items compare with those of a run without refusals, and the iterator after them. Only None may follow
+/// them.
 pub fn walked<T: PartialEq + Drop, I: Iterator<Item = Result<T, Fault>> + Drop>(
     items: I,
     full: &[T],
@@ -157,8 +159,8 @@ pub fn walked<T: PartialEq + Drop, I: Iterator<Item = Result<T, Fault>> + Drop>(
     (Outcome::Wrong, items)
 }
 
-/// Whether the items of a list come in order, and then None ever after; or a beginning of them, `Memory`,
-/// and then None ever after.
+/// Returns whether an iterator returns the items of a list in order, and then only None; or a prefix of them, `Memory`,
+/// and then only None.
 pub fn gives<L: Listed, I: Iterator<Item = Result<L::Item, Fault>> + Drop>(
     items: I,
     list: L,
@@ -181,7 +183,7 @@ pub fn gives<L: Listed, I: Iterator<Item = Result<L::Item, Fault>> + Drop>(
     false
 }
 
-/// Whether the old text stands, and behind it all of the HTML; or a beginning of the HTML, and `Memory`.
+/// Returns whether the old text is followed by all of the HTML; or by a prefix of it, and the error is `Memory`.
 pub fn writes<'a, I: Iterator<Item = Result<Event<'a>, Fault>>>(
     alloc: Global,
     events: I,

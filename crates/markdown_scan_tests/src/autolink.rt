@@ -3,7 +3,7 @@ use markdown_scan::autolink::scan_uri_autolink;
 use markdown_test_helpers::rows::gives;
 use std::test::Fail;
 
-// What an autolink gives whose `<` is the first byte.
+// Returns the result for an autolink whose `<` is the first byte.
 fn autolink_of(text: &str) -> Option<(usize, &str)> {
     if text.is_char_boundary(1) {
         scan_uri_autolink(text, 1)

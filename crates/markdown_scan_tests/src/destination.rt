@@ -3,7 +3,7 @@ use markdown_scan::destination::scan_link_destination;
 use markdown_test_helpers::rows::gives;
 use std::test::Fail;
 
-// The destination that a text begins with.
+// Returns the destination that a text begins with.
 fn destination_of(text: &str, max_nesting: usize) -> Option<(usize, &str)> {
     if text.is_char_boundary(0) {
         scan_link_destination(text, 0, max_nesting)
@@ -27,7 +27,7 @@ fn destinations_in_angle_brackets() -> Result<(), Fail> {
     Ok(())
 }
 
-// The destination is the text's first bytes, as many as the row says.
+// The destination is the first bytes of the text, as many as the row says.
 #[test]
 fn destinations_in_no_brackets() -> Result<(), Fail> {
     for &(text, length) in &[

@@ -5,7 +5,7 @@ use markdown_test_helpers::rows::gives;
 use std::alloc::{AllocError, Global};
 use std::test::Fail;
 
-/// Lines begin with `> `, or with `>` alone.
+/// The rule that lines begin with `> `, or with `>` alone.
 struct Quoted;
 
 impl LineRule for Quoted {
@@ -26,7 +26,7 @@ impl LineRule for Quoted {
     }
 }
 
-// Whether a tag of this length stands there that is no copy.
+// Returns whether a text begins with a tag of this length, which is not copied.
 fn has_tag(alloc: Global, text: &str, length: usize) -> Result<bool, AllocError> {
     match scan_html_tag(alloc, text, 0, &NoPrefix)? {
         Some(tag) => Ok(tag.end == length && tag.without_prefixes.is_none()),
@@ -119,7 +119,7 @@ fn no_front_of_a_tag_is_one(rt: HostRuntime) -> Result<(), Fail> {
     Ok(())
 }
 
-/// The bytes as a text, which is empty for none.
+/// Returns the bytes as a text, which is empty for None.
 fn text_of(alloc: Global, bytes: Option<Vec<u8>>) -> Result<String, Fail> {
     match bytes {
         Some(bytes) => Ok(String::from_utf8(bytes)?),
@@ -127,7 +127,7 @@ fn text_of(alloc: Global, bytes: Option<Vec<u8>>) -> Result<String, Fail> {
     }
 }
 
-/// The end of the tag that begins at the third byte, and its bytes without the prefixes of its lines.
+/// Returns the end of the tag that begins at the third byte, and its bytes without the prefixes of its lines.
 fn tag_at_two<R: LineRule>(alloc: Global, text: &str, rule: &R) -> Result<String, Fail> {
     if text.as_bytes().len() < 2 {
         return Ok(String::from_str(alloc, "too short")?);

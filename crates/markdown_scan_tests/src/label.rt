@@ -6,13 +6,14 @@ use markdown_test_helpers::rows::gives;
 use std::alloc::{AllocError, Global};
 use std::test::Fail;
 
-// Whether a text is that, a slice of the source where this begins with it.
+// Returns whether a text is this one, and a slice of the source where the source begins with it.
 fn is_read(found: &CowStr<'_>, source: &str, text: &str) -> bool {
     let is_slice = matches!(found, CowStr::Borrowed(_));
     found.as_str() == text && is_slice == source.starts_with(text)
 }
 
-// Whether a label of this length and text is read there, a slice of the source where that begins with it.
+// Returns whether a label of this length and text is read, and is a slice of the source where the source begins with
+// it.
 fn has_label(
     alloc: Global,
     text: &str,
@@ -109,7 +110,7 @@ fn labels_of_999_characters(rt: HostRuntime) -> Result<(), Fail> {
         let text = format!(in rt.alloc(); "{}]", character.repeat(rt.alloc(), length)?)?;
         gives(length, has_no_label(rt.alloc(), text.as_str())?, is_none)?;
     }
-    // 997 letters, two backslashes and a pipe are 999 characters in a table, and else 1000.
+    // 997 letters, two backslashes and a pipe are 999 characters in a table, and otherwise 1000.
     let text = format!(in rt.alloc(); "{}\\\\|]", "a".repeat(rt.alloc(), 997)?)?;
     for &in_table in &[true, false] {
         let found = scan_link_label(rt.alloc(), text.as_str(), &NoPrefix, in_table)?;

@@ -24,7 +24,7 @@ fn line_endings() -> Result<(), Fail> {
     Ok(())
 }
 
-// At most so many columns of space of a line: how many, and the bytes scanned.
+// Scans at most `most` columns of space of a line. Returns their number, and the bytes scanned.
 fn space_of(line: &str, most: usize) -> (usize, usize) {
     let mut start = LineStart::new(line.as_bytes());
     let columns = start.scan_space_upto(most);
@@ -51,7 +51,7 @@ fn a_tab_goes_to_the_next_stop() -> Result<(), Fail> {
     Ok(())
 }
 
-// The bytes scanned, and the columns that the last tab owes.
+// Returns the bytes scanned, and the columns that remain of the last tab.
 fn state_of(start: &LineStart<'_>) -> (usize, usize) {
     (start.bytes_scanned(), start.remaining_space())
 }
@@ -81,7 +81,7 @@ fn a_marker_takes_one_column_of_a_tab() -> Result<(), Fail> {
     gives("up to 100", start.scan_space_upto(100), 2)
 }
 
-// Whether a block quote marker stands after so many columns of space, and the bytes scanned.
+// Returns whether there is a block quote marker after this number of columns of space, and the bytes scanned.
 fn marker_of(line: &str, spaces: usize) -> (bool, usize) {
     let mut start = LineStart::new(line.as_bytes());
     start.scan_space_upto(spaces);
@@ -107,7 +107,7 @@ fn markers() -> Result<(), Fail> {
     Ok(())
 }
 
-// Whether all the space of a line goes to its end; no column is owed then.
+// Returns whether the space of a line extends to its end, and then no column remains.
 fn is_blank(line: &str) -> bool {
     let mut start = LineStart::new(line.as_bytes());
     start.scan_all_space();

@@ -1,5 +1,5 @@
 //! Comments, CDATA sections, declarations and processing instructions: the examples of CommonMark
-//! 6.6 that one scan decides, each from its `<` on, with the length of what it begins with.
+//! 6.6 that one scan decides, each from its `<` on, with the length of the raw HTML.
 use markdown_raw_html::raw_html::RawHtmlScanner;
 use markdown_test_helpers::rows::gives;
 use std::test::Fail;
@@ -12,7 +12,7 @@ enum Kind {
     Instruction,
 }
 
-// Where what a text begins with ends, if it is of the kind. Two bytes begin each kind.
+// Returns the end of the raw HTML that a text begins with, if it is of this kind. Each kind begins with two bytes.
 fn end_of(kind: Kind, text: &str) -> Option<usize> {
     let mut scanner = RawHtmlScanner::new(text.as_bytes());
     if scanner.text.len() < 2 {

@@ -5,13 +5,13 @@ use markdown_test_helpers::rows::gives;
 use std::alloc::{AllocError, Global};
 use std::test::Fail;
 
-// Whether a text is that, a slice of the source where it should be.
+// Returns whether a text is this one, and a slice of the source where it should be.
 fn is_read(made: &CowStr<'_>, as_slice: bool, text: &str) -> bool {
     let is_slice = matches!(made, CowStr::Borrowed(_));
     made.as_str() == text && is_slice == as_slice
 }
 
-// Whether the text stands for this one, as a slice of the source where it is the same.
+// Returns whether the text is unescaped to this one, as a slice of the source where it is the same.
 fn stands_for(
     alloc: Global,
     text: &str,
@@ -59,7 +59,7 @@ fn entities(rt: HostRuntime) -> Result<(), Fail> {
         ("&#42;foo&#42;", "*foo*"),
         ("foo&#10;&#10;bar", "foo\n\nbar"),
         ("&#9;foo", "\tfoo"),
-        // what an entity stands for is not read again
+        // the replacement of an entity is not read again
         ("&amp;amp;", "&amp;"),
         ("&#92;*", "\\*"),
         ("é\\*é&lt;é", "é*é<é"),

@@ -1,7 +1,7 @@
-//! Documents of pieces that come in the same order on each run.
+//! Pseudorandom documents, the same on each run.
 use std::alloc::{AllocError, Global};
 
-/// The pieces of random documents: what begins blocks, goes on with them and ends them.
+/// The pieces of random documents: what begins, continues and ends blocks.
 const PIECES: [&str; 48] = [
     "\n",
     "\n",
@@ -53,13 +53,13 @@ const PIECES: [&str; 48] = [
     "*b*",
 ];
 
-/// The next of numbers that come in the same order on each run.
+/// Returns the next pseudorandom number, and advances the seed.
 fn next_number(seed: &mut u64) -> u64 {
     *seed = (*seed % 2147483648 * 1103515245 + 12345) % 2147483648;
     *seed / 65536
 }
 
-/// A document of 24 pieces; the seed goes on to that of the next.
+/// Returns a document of 24 pieces, and advances the seed.
 pub fn random_text(alloc: Global, seed: &mut u64) -> Result<String, AllocError> {
     let mut text = String::new(alloc);
     for _ in 0..24 {

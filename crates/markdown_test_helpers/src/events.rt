@@ -7,7 +7,7 @@ pub fn text<'a>(words: &'a str) -> Event<'a> {
     Event::Text(CowStr::Borrowed(words))
 }
 
-/// The Start of a link.
+/// Returns the Start of a link.
 pub fn link<'a>(link_type: LinkType, destination: &'a str, title: &'a str) -> Event<'a> {
     Event::Start(Tag::Link {
         link_type,
@@ -17,7 +17,7 @@ pub fn link<'a>(link_type: LinkType, destination: &'a str, title: &'a str) -> Ev
     })
 }
 
-/// The Start of an image.
+/// Returns the Start of an image.
 pub fn image<'a>(destination: &'a str, title: &'a str) -> Event<'a> {
     Event::Start(Tag::Image {
         link_type: LinkType::Inline,

@@ -1,5 +1,4 @@
-//! Iterators over lists whose items are made when they are asked for, and questions about the items
-//! of any iterator.
+//! Iterators over lists whose items are made on demand, and checks of the items of any iterator.
 //!
 //! The type of the items is a parameter everywhere: the proof of a function in which an event is
 //! dropped at the end of a scope takes seconds longer.
@@ -16,7 +15,7 @@ pub trait Listed: Drop {
     fn item(&self, at: usize) -> Option<Self::Item>;
 }
 
-/// An iterator over a list: what it gives at 0, 1 and so on.
+/// An iterator over a list.
 #[derive(Drop)]
 pub struct Items<L> {
     list: L,
@@ -25,8 +24,8 @@ pub struct Items<L> {
 }
 
 impl<L> Items<L> {
-    /// An iterator over the first `count` items of a list. It gives `None` for an item that the
-    /// list does not have.
+    /// Returns an iterator over the first `count` items of a list. It returns `None` for an item that
+    /// the list does not have.
     pub fn of(list: L, count: usize) -> Items<L> {
         Items {
             list,
@@ -61,7 +60,7 @@ impl<L: Listed> Iterator for Items<L> {
     }
 }
 
-/// A list of items that are no errors, for an iterator of results.
+/// A list of items, as a list of results without an error.
 #[derive(Drop)]
 pub struct WithoutErrors<L> {
     list: L,
@@ -82,12 +81,12 @@ impl<L: Listed> Listed for WithoutErrors<L> {
     }
 }
 
-/// Whether nothing was found.
+/// Returns whether nothing was found.
 pub fn is_nothing<T: Drop>(found: Option<T>) -> bool {
     found.is_none()
 }
 
-/// Whether what was found is what is wanted.
+/// Returns whether what was found is what is wanted.
 pub fn is_same<T: PartialEq + Drop>(wanted: Option<T>, found: T) -> bool {
     match wanted {
         Some(wanted) => wanted == found,
@@ -95,7 +94,7 @@ pub fn is_same<T: PartialEq + Drop>(wanted: Option<T>, found: T) -> bool {
     }
 }
 
-/// What `say` says of the items of an iterator, one after another.
+/// Returns the texts that `say` returns for the items of an iterator, one after another.
 pub fn said_of<
     T: Drop,
     I: Iterator<Item = T> + Drop,
@@ -113,7 +112,7 @@ pub fn said_of<
     Ok(all)
 }
 
-/// Takes at most `most` items of an iterator, up to the first error. Returns how many it took.
+/// Takes at most `most` items of an iterator, up to the first error. Returns the number of items taken.
 pub fn take_some<T: Drop, I: Iterator<Item = Result<T, Fault>> + Drop>(
     items: I,
     most: usize,

@@ -1,4 +1,4 @@
-//! Events written down, one after another, with all that they hold.
+//! Events as texts, one after another, with all of their fields.
 //!
 //! | Written | Is |
 //! |---|---|
@@ -12,8 +12,9 @@
 //! | `<a Inline (c) (t) (i)>`, `<img ..>` | the type, destination, title and id |
 //! | `</p>`, `</h2>`, `</blockquote Tip>`, `</ol>` | Ends |
 //!
-//! Before a text stands `+` where it is on the heap, `=` where it is held in place, and nothing where it is a
-//! slice of the source.
+//! A text is preceded by `+` where it is boxed, by `=` where it is stored inline, and by nothing where it is a slice of
+//! the
+//! source.
 ghost use Rattle.std.specs.Iterator.{IsFinite};
 
 use markdown_base::cow_str::CowStr;
@@ -26,7 +27,7 @@ use std::alloc::{AllocError, Global};
 use std::ops::Range;
 use std::test::Fail;
 
-/// The sign of a text's form.
+/// Returns the sign of a text's form.
 fn form_of(text: &CowStr<'_>) -> &'static str {
     match text {
         CowStr::Boxed(_) => "+",
@@ -35,7 +36,7 @@ fn form_of(text: &CowStr<'_>) -> &'static str {
     }
 }
 
-/// Notes a text between two marks, behind the sign of its form.
+/// Appends a text between two marks, after the sign of its form.
 fn push_text(
     notes: &mut String,
     before: &str,
@@ -48,7 +49,7 @@ fn push_text(
     notes.push_str(after)
 }
 
-/// Notes what a tag holds, behind a mark.
+/// Appends a field of a tag, after a mark.
 fn push_field(notes: &mut String, mark: &str, text: &CowStr<'_>) -> Result<(), AllocError> {
     notes.push_str(mark)?;
     push_text(notes, "(", text, ")")
@@ -83,7 +84,7 @@ fn metadata_name(kind: MetadataBlockKind) -> &'static str {
     }
 }
 
-/// The name of what an End closes, with all that the End says of it.
+/// Returns the name of a tag, with the fields of its End.
 fn name_of(tag: TagEnd) -> &'static str {
     match tag {
         TagEnd::Paragraph => "p",
@@ -129,7 +130,7 @@ fn link_name(link_type: LinkType) -> &'static str {
     }
 }
 
-/// Notes the type and the texts of a link or an image.
+/// Appends the type and the texts of a link or an image.
 fn push_link(
     notes: &mut String,
     link_type: LinkType,
@@ -143,7 +144,7 @@ fn push_link(
     push_field(notes, " ", id)
 }
 
-/// Notes an attribute of a heading.
+/// Appends an attribute of a heading.
 fn push_attribute(
     notes: &mut String,
     name: &CowStr<'_>,
@@ -156,7 +157,7 @@ fn push_attribute(
     }
 }
 
-/// Notes what stands in braces behind a heading.
+/// Appends the id, the classes and the attributes of a heading.
 fn push_attributes(
     notes: &mut String,
     id: &Option<CowStr<'_>>,
@@ -175,7 +176,7 @@ fn push_attributes(
     Ok(())
 }
 
-/// Notes what a Start holds and its End does not.
+/// Appends the fields of a Start that its End does not have.
 fn push_held(alloc: Global, notes: &mut String, tag: &Tag<'_>) -> Result<(), AllocError> {
     match tag {
         Tag::Heading {
@@ -217,7 +218,7 @@ fn push_end(notes: &mut String, tag: TagEnd) -> Result<(), AllocError> {
     notes.push_str(">")
 }
 
-/// The text of an event that holds nothing else, between its marks.
+/// Returns the text of an event that has no other field, and its marks.
 fn marked<'b, 'a>(event: &'b Event<'a>) -> Option<(&'static str, &'b CowStr<'a>, &'static str)> {
     match event {
         Event::Text(text) => Some(("[", text, "]")),
@@ -231,7 +232,7 @@ fn marked<'b, 'a>(event: &'b Event<'a>) -> Option<(&'static str, &'b CowStr<'a>,
     }
 }
 
-/// The sign of an event that holds no text and is no Start and no End.
+/// Returns the sign of an event that has no text and is neither a Start nor an End.
 fn sign_of(event: &Event<'_>) -> &'static str {
     match event {
         Event::SoftBreak => "/",
@@ -250,7 +251,7 @@ fn push_leaf(notes: &mut String, event: &Event<'_>) -> Result<(), AllocError> {
     }
 }
 
-/// Notes an event.
+/// Appends an event.
 fn push_event(alloc: Global, notes: &mut String, event: &Event<'_>) -> Result<(), AllocError> {
     match event {
         Event::Start(tag) => push_start(alloc, notes, tag),
@@ -259,7 +260,7 @@ fn push_event(alloc: Global, notes: &mut String, event: &Event<'_>) -> Result<()
     }
 }
 
-/// Notes an event, and then its range.
+/// Appends an event, and then its range.
 fn push_placed(
     alloc: Global,
     notes: &mut String,
@@ -271,7 +272,7 @@ fn push_placed(
     notes.push_str(place.as_str())
 }
 
-/// The events of an iterator, each with its range.
+/// Returns the events of an iterator as a text, each with its range.
 pub fn notes_of<'a, I: Iterator<Item = Result<(Event<'a>, Range<usize>), Fault>>>(
     alloc: Global,
     iter: I,
@@ -289,7 +290,7 @@ pub fn notes_of<'a, I: Iterator<Item = Result<(Event<'a>, Range<usize>), Fault>>
     Ok(notes)
 }
 
-/// The events of a list, each with its range.
+/// Returns the events of a list as a text, each with its range.
 pub fn notes_of_list(
     alloc: Global,
     events: &[(Event<'_>, Range<usize>)],

@@ -13,14 +13,14 @@ pub fn no_parts<'a>(alloc: Global) -> BlockParts<'a> {
     }
 }
 
-/// Parts with one text.
+/// Returns parts with one text.
 pub fn one_text(alloc: Global) -> Result<BlockParts<'static>, AllocError> {
     let mut parts = no_parts(alloc);
     parts.cows.push(CowStr::Borrowed("x"))?;
     Ok(parts)
 }
 
-/// Parts with one text, one list of alignments and the attributes of one heading.
+/// Returns parts with one text, one list of alignments and the attributes of one heading.
 pub fn one_of_each<'a>(alloc: Global) -> Result<BlockParts<'a>, AllocError> {
     let mut parts = no_parts(alloc);
     parts.cows.push(CowStr::Borrowed("x"))?;
@@ -29,7 +29,7 @@ pub fn one_of_each<'a>(alloc: Global) -> Result<BlockParts<'a>, AllocError> {
     Ok(parts)
 }
 
-/// The attributes of a heading that has none.
+/// Returns the attributes of a heading that has none.
 pub fn no_attributes<'a>(alloc: Global) -> HeadingAttributes<'a> {
     HeadingAttributes {
         id: None,
@@ -38,7 +38,7 @@ pub fn no_attributes<'a>(alloc: Global) -> HeadingAttributes<'a> {
     }
 }
 
-/// A link definition without a title.
+/// Returns a link definition without a title.
 pub fn link_to<'a>(destination: &'a str) -> LinkDef<'a> {
     LinkDef {
         dest: CowStr::Borrowed(destination),
@@ -47,7 +47,7 @@ pub fn link_to<'a>(destination: &'a str) -> LinkDef<'a> {
     }
 }
 
-/// Parts with link definitions, each a label and a destination.
+/// Returns parts with link definitions, each from a label and a destination.
 pub fn defining<'a>(
     alloc: Global,
     definitions: &[(&'a str, &'a str)],

@@ -1,10 +1,10 @@
-//! Rows of tables: a row that gives something else ends its test with an error that names the row
-//! and both values. An `assert_eq!` does so too, but its proof takes several times as long, in a
-//! loop thirty times.
+//! Rows of tables: a row with an unexpected value ends its test with an error that names the row and
+//! both values. `assert_eq!` does so too, but its proof takes several times as long, and thirty times
+//! in a loop.
 use std::fmt::Debug;
 use std::test::Fail;
 
-/// A row gives what is wanted.
+/// Checks that the value found for a row is the one wanted.
 pub fn gives<R: Debug + Drop, T: PartialEq + Debug + Drop>(
     row: R,
     found: T,

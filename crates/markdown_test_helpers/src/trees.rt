@@ -1,4 +1,4 @@
-//! Items and trees made by hand, and trees written down.
+//! Items and trees made by hand, and trees as texts.
 use markdown_base::item::{Item, ItemBody};
 use markdown_base::tree::Tree;
 use std::alloc::{AllocError, Global};
@@ -17,7 +17,7 @@ pub fn text(start: usize, end: usize) -> Item {
     )
 }
 
-/// A character of a delimiter run, which has `count` characters from this one on.
+/// Returns a character of a delimiter run, which has `count` characters from this one on.
 pub fn delimiter(start: usize, count: usize, opens: bool, closes: bool) -> Item {
     item(
         start,
@@ -29,7 +29,7 @@ pub fn delimiter(start: usize, count: usize, opens: bool, closes: bool) -> Item 
 /// Items in preorder, each with its depth below the root.
 pub type Outline<'x> = &'x [(usize, Item)];
 
-/// A tree of these items.
+/// Returns a tree of these items.
 pub fn tree_of(alloc: Global, outline: Outline<'_>) -> Result<Tree<Item>, AllocError> {
     let mut tree = Tree::new(alloc)?;
     let mut depth = 0;
@@ -48,7 +48,7 @@ pub fn tree_of(alloc: Global, outline: Outline<'_>) -> Result<Tree<Item>, AllocE
     Ok(tree)
 }
 
-/// A tree of `count` copies of an item, each in the one before it.
+/// Returns a tree of `count` copies of an item, each in the one before it.
 pub fn nested(alloc: Global, item: Item, count: usize) -> Result<Tree<Item>, AllocError> {
     let mut tree = Tree::new(alloc)?;
     for _ in 0..count {
@@ -69,8 +69,8 @@ pub fn append_block(tree: &mut Tree<Item>, block: Item, inside: &[Item]) -> Resu
     Ok(())
 }
 
-/// Appends the items of a tree in preorder, each with its depth, what `say` says of its body, and
-/// its range. The walk ends after 10,000 steps.
+/// Appends the items of a tree in preorder, each with its depth, the text that `say` returns for its
+/// body, and its range. The walk ends after 10,000 steps.
 pub fn push_items<F: Fn(Global, ItemBody) -> Result<String, AllocError> + Drop>(
     alloc: Global,
     list: &mut String,

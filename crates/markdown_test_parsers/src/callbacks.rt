@@ -1,4 +1,4 @@
-//! Callbacks that keep what they are asked.
+//! Callbacks that record their questions.
 ghost use Rattle.std.specs.Prelude.{◌≡◌, ◌+◌, ◌%◌, ◌^◌, None};
 
 use crate::parsers::parser_asking;
@@ -10,19 +10,19 @@ use std::alloc::{AllocError, Global};
 use std::ops::Range;
 use std::test::Fail;
 
-/// What a callback answers.
+/// The answers of a callback.
 #[derive(Clone, Copy, Drop)]
 pub enum Reply {
     Nothing,
-    /// Each question by this destination and this title.
+    /// This destination and this title for each question.
     Target(&'static str, &'static str),
-    /// The n-th question by `/n`, without a title.
+    /// `/n` for the n-th question, without a title.
     Number,
-    /// Each question by so many bytes `x`, without a title.
+    /// This number of bytes `x` for each question, without a title.
     Bytes(usize),
 }
 
-/// An answer by `/n`.
+/// Returns the answer `/n`, without a title.
 fn by_number<'a>(alloc: Global, number: u64) -> Option<(CowStr<'a>, CowStr<'a>)> {
     let destination = format!(in alloc; "/{number}").ok()?;
     Some((CowStr::from(destination), CowStr::Borrowed("")))
@@ -33,7 +33,7 @@ fn by_bytes<'a>(alloc: Global, bytes: usize) -> Option<(CowStr<'a>, CowStr<'a>)>
     Some((CowStr::from(destination), CowStr::Borrowed("")))
 }
 
-/// A callback that answers so, and counts the questions.
+/// A callback with these answers, which counts the questions.
 #[derive(Drop)]
 pub struct Replying {
     alloc: Global,
@@ -42,7 +42,7 @@ pub struct Replying {
 }
 
 impl Replying {
-    /// A callback that has been asked nothing yet.
+    /// Returns a callback that has not been called yet.
     pub fn new(alloc: Global, reply: Reply) -> Replying {
         Replying {
             alloc,
@@ -51,7 +51,7 @@ impl Replying {
         }
     }
 
-    /// Counts a question, and answers it.
+    /// Counts a question, and returns the answer.
     fn count<'a>(&mut self) -> Option<(CowStr<'a>, CowStr<'a>)> {
         self.asked = self.asked.wrapping_add(1);
         match self.reply {
@@ -76,7 +76,7 @@ impl BoxedCallback for Replying {
     }
 }
 
-/// The same, which also notes each question: its span, its form and its label.
+/// The same, which also records each question: its span, its link type and its label.
 #[derive(Drop)]
 pub struct Recording {
     pub replying: Replying,
@@ -84,7 +84,7 @@ pub struct Recording {
 }
 
 impl Recording {
-    /// A callback that has been asked nothing yet.
+    /// Returns a callback that has not been called yet.
     pub fn replying(alloc: Global, reply: Reply) -> Recording {
         Recording {
             replying: Replying::new(alloc, reply),
@@ -92,13 +92,13 @@ impl Recording {
         }
     }
 
-    /// The questions.
+    /// Returns the questions as a text.
     pub fn into_questions(self) -> String {
         let Recording { questions, .. } = self;
         questions
     }
 
-    /// Notes a question.
+    /// Records a question.
     fn note(
         &mut self,
         span: Range<usize>,
@@ -135,7 +135,7 @@ impl<'input> BrokenLinkCallback<'input> for Recording {
     }
 }
 
-/// Takes at most `most` events of a text with a callback. Returns how many it took.
+/// Takes at most `most` events of a text with a callback. Returns the number of events taken.
 pub fn take_events<'a, F: BrokenLinkCallback<'a>>(
     alloc: Global,
     source: &'a str,
@@ -147,8 +147,8 @@ pub fn take_events<'a, F: BrokenLinkCallback<'a>>(
     Ok(take_some(parser_asking(alloc, source, callback)?, most)?)
 }
 
-/// Takes at most `most` events of a text with a closure that answers no question. Returns how many
-/// it took, and how many questions were asked.
+/// Takes at most `most` events of a text with a closure that answers no question. Returns the number
+/// of events taken, and the number of questions.
 pub fn questions_in(alloc: Global, source: &str, most: usize) -> Result<(usize, u64), Fail> {
     let mut asked = 0u64;
     let counting = |link: BrokenLink| -> Option<(CowStr, CowStr)>

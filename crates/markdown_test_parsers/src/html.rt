@@ -9,7 +9,7 @@ use markdown_test_helpers::rows::gives;
 use std::alloc::Global;
 use std::test::Fail;
 
-/// The HTML of the events of an iterator.
+/// Returns the HTML of the events of an iterator.
 pub fn html_of<'a, I: Iterator<Item = Result<Event<'a>, Fault>>>(
     alloc: Global,
     iter: I,
@@ -22,7 +22,7 @@ pub fn html_of<'a, I: Iterator<Item = Result<Event<'a>, Fault>>>(
     Ok(html)
 }
 
-/// A parser gives this HTML.
+/// Checks the HTML of a parser.
 pub fn parser_shows(
     alloc: Global,
     row: &str,

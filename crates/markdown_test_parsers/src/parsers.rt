@@ -1,4 +1,4 @@
-//! Parsers of trees, of texts and with callbacks, and the events that they give. Each text has to fit.
+//! Parsers of trees, of texts and with callbacks, and their events. Each call of the block pass for a text has to fit.
 ghost use Rattle.std.specs.Prelude.{IfOk, IfSome};
 ghost use Rattle.markdown_inline.specs.ParserLeft.{parser_callback};
 
@@ -19,7 +19,7 @@ use std::alloc::Global;
 use std::ops::Range;
 use std::test::Fail;
 
-/// A parser of a tree over a text.
+/// Returns a parser of a tree over a text.
 pub fn parser_of<'a>(
     alloc: Global,
     source: &'a str,
@@ -31,7 +31,7 @@ pub fn parser_of<'a>(
     Ok(Parser::from_blocks(alloc, blocks, None)?)
 }
 
-/// A parser of a text with these options.
+/// Returns a parser of a text with these options.
 pub fn text_parser<'a>(
     alloc: Global,
     source: &'a str,
@@ -41,13 +41,13 @@ pub fn text_parser<'a>(
     Ok(Parser::new_ext(alloc, source, options)?)
 }
 
-/// A parser of a text with no options.
+/// Returns a parser of a text with no options.
 pub fn plain_parser<'a>(alloc: Global, source: &'a str) -> Result<Parser<'a>, Fail> {
     fits(alloc, source, Options::empty())?;
     Ok(Parser::new(alloc, source)?)
 }
 
-/// A parser of a text that asks a callback, with no options.
+/// Returns a parser of a text with a callback, with no options.
 pub fn parser_asking<'a, F: BrokenLinkCallback<'a>>(
     alloc: Global,
     source: &'a str,
@@ -61,7 +61,7 @@ pub fn parser_asking<'a, F: BrokenLinkCallback<'a>>(
     Ok(Parser::new_with_broken_link_callback(alloc, source, options, Some(callback))?)
 }
 
-/// All events of a parser, each with its range, and the callback.
+/// Returns all events of a parser, each with its range, and the callback.
 pub fn all_events<'a, F: BrokenLinkCallback<'a>>(
     parser: Parser<'a, F>,
 ) -> Result<(Vec<(Event<'a>, Range<usize>)>, Option<F>), Fault>
@@ -70,7 +70,7 @@ pub fn all_events<'a, F: BrokenLinkCallback<'a>>(
     parser.into_offset_iter().into_events()
 }
 
-/// The same, with the events written down.
+/// Returns the same, with the events as a text.
 pub fn all_noted<'a, F: BrokenLinkCallback<'a>>(
     alloc: Global,
     parser: Parser<'a, F>,
@@ -83,7 +83,7 @@ pub fn all_noted<'a, F: BrokenLinkCallback<'a>>(
     Ok((notes?, callback))
 }
 
-/// Calls `next` of a parser `calls` times. Returns how many events it gave.
+/// Calls `next` of a parser `calls` times. Returns the number of events that it returned.
 pub fn ask_for(parser: &mut Parser<'_>, calls: u64) -> u64 {
     let mut given = 0u64;
     for _ in 0..calls {
@@ -94,7 +94,7 @@ pub fn ask_for(parser: &mut Parser<'_>, calls: u64) -> u64 {
     given
 }
 
-/// A parser gives these events, each with its range.
+/// Checks the events of a parser, each with its range.
 pub fn parser_gives(
     alloc: Global,
     row: &str,

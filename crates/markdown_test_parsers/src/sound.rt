@@ -1,5 +1,5 @@
-//! What holds of the events of every text: each End closes the last Start that is open, no Start stays open, and each
-//! range lies in the text, between characters.
+//! Checks of what holds for the events of every text: each End closes the last Start that is open, no Start stays open,
+//! and each range is in the text, between characters.
 use crate::parsers::{all_events, text_parser};
 use markdown_base::event::Event;
 use markdown_base::options::Options;
@@ -8,7 +8,7 @@ use std::alloc::{AllocError, Global};
 use std::ops::Range;
 use std::test::Fail;
 
-/// Whether an event fits behind those that opened these tags, and opens or closes one.
+/// Returns whether an event may follow those that have opened these tags, and opens or closes its own.
 fn is_next(open: &mut Vec<TagEnd>, event: &Event<'_>) -> Result<bool, AllocError> {
     match event {
         Event::Start(tag) => {
@@ -20,7 +20,7 @@ fn is_next(open: &mut Vec<TagEnd>, event: &Event<'_>) -> Result<bool, AllocError
     }
 }
 
-/// Whether Starts and Ends belong together.
+/// Returns whether each End is that of its Start.
 fn are_balanced(alloc: Global, events: &[(Event<'_>, Range<usize>)]) -> Result<bool, AllocError> {
     let mut open = Vec::new(alloc);
     for (event, _) in events {
@@ -31,14 +31,14 @@ fn are_balanced(alloc: Global, events: &[(Event<'_>, Range<usize>)]) -> Result<b
     Ok(open.is_empty())
 }
 
-/// Whether a range lies in the text, between characters.
+/// Returns whether a range is in the text, between characters.
 fn lies_in(source: &str, range: &Range<usize>) -> bool {
     range.start <= range.end
         && source.is_char_boundary(range.start)
         && source.is_char_boundary(range.end)
 }
 
-/// Whether each range does.
+/// Returns whether the range of each event is in the text, between characters.
 fn all_lie_in(source: &str, events: &[(Event<'_>, Range<usize>)]) -> bool {
     for (_, range) in events {
         if !lies_in(source, range) {
@@ -48,7 +48,7 @@ fn all_lie_in(source: &str, events: &[(Event<'_>, Range<usize>)]) -> bool {
     true
 }
 
-/// Whether the walk of a text ends and its events are so.
+/// Returns whether the walk over a text ends and its events are sound.
 pub fn is_sound(alloc: Global, source: &str, options: Options) -> Result<bool, Fail> {
     let (events, callback) = all_events(text_parser(alloc, source, options)?)?;
     drop(callback);

@@ -1,4 +1,4 @@
-//! Each kind of number that items hold, handed out and taken.
+//! Each kind of number that items hold: allocated, looked up and taken.
 use markdown_base::block_parts::HeadingAttributes;
 use markdown_base::cow_str::CowStr;
 use markdown_base::fault::Fault;
@@ -17,7 +17,7 @@ fn heading<'a>(alloc: Global, id: &'a str) -> HeadingAttributes<'a> {
     }
 }
 
-/// Allocations with one text and one heading's attributes.
+/// Returns allocations with one text and one heading's attributes.
 fn one_of_each<'a>(alloc: Global) -> Result<Allocations<'a>, Fault> {
     let cows = vec![in alloc; CowStr::from("first")]?;
     let headings = vec![in alloc; heading(alloc, "h1")]?;
@@ -27,7 +27,7 @@ fn one_of_each<'a>(alloc: Global) -> Result<Allocations<'a>, Fault> {
     Allocations::new(alloc, parts)
 }
 
-/// Whether a text has these words.
+/// Returns whether a text is this one.
 fn reads(text: CowStr<'_>, words: &str) -> bool {
     let is_same = text.as_str() == words;
     drop(text);
@@ -46,7 +46,7 @@ fn texts_are_numbered(rt: HostRuntime) -> Result<(), Fail> {
     Ok(())
 }
 
-/// Whether a link has this type, and this destination, title and id.
+/// Returns whether a link has this type, and this destination, title and id.
 fn is_link(
     link: &(LinkType, CowStr<'_>, CowStr<'_>, CowStr<'_>),
     kind: LinkType,
@@ -97,7 +97,7 @@ fn alignments_are_numbered(rt: HostRuntime) -> Result<(), Fail> {
     Ok(())
 }
 
-/// Whether a heading's attributes have this id.
+/// Returns whether a heading's attributes have this id.
 fn has_id(attributes: &HeadingAttributes<'_>, id: &str) -> bool {
     match &attributes.id {
         Some(held) => held.as_str() == id,

@@ -15,14 +15,14 @@ use markdown_test_helpers::trees::{delimiter, text};
 use std::alloc::{AllocError, Global};
 use std::test::Fail;
 
-/// Closes so many blocks.
+/// Closes `count` blocks.
 fn close_blocks(builder: &mut Builder<'_>, count: u8) {
     for _ in 0..count {
         builder.close();
     }
 }
 
-/// Opens a tight list with an item in which a paragraph stands, up to the end of the text.
+/// Opens a tight list with an item that contains a paragraph, up to the end of the text.
 fn open_tight_list(builder: &mut Builder<'_>) -> Result<(), AllocError>
     requires outside { builder.old.leaf ≡ false }
     requires fresh { builder.old.at ≡ 0 }
@@ -76,7 +76,7 @@ fn a_paragraph_becomes_a_heading(rt: HostRuntime) -> Result<(), Fail> {
     Ok(())
 }
 
-/// The definitions, footnotes and texts of parts.
+/// Returns the definitions, footnotes and texts of parts.
 fn named(alloc: Global, parts: &BlockParts<'_>) -> Result<String, AllocError> {
     let mut list = String::new(alloc);
     for (label, link) in &parts.definitions {

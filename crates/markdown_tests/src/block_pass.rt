@@ -11,7 +11,7 @@ use markdown_test_helpers::trees::{push_items, text};
 use std::alloc::{AllocError, Global};
 use std::test::Fail;
 
-/// The name of a body that the block pass makes.
+/// Returns the name of a body that the block pass makes.
 fn name_of(alloc: Global, body: ItemBody) -> Result<String, AllocError> {
     let name = match body {
         ItemBody::Paragraph => "Paragraph",
@@ -24,14 +24,14 @@ fn name_of(alloc: Global, body: ItemBody) -> Result<String, AllocError> {
     String::from_str(alloc, name)
 }
 
-/// A text has blocks of these items.
+/// Checks the items of the blocks of a text.
 fn has_blocks(alloc: Global, text: &str, want: &str) -> Result<(), Fail> {
     fits(alloc, text, Options::ENABLE_GFM)?;
     let list = listed(alloc, text)?;
     gives(text, list.as_str(), want)
 }
 
-/// The items of a text's blocks.
+/// Returns the items of a text's blocks.
 fn listed(alloc: Global, text: &str) -> Result<String, AllocError> {
     let (mut tree, parts) = blocks(alloc, text, Options::ENABLE_GFM)?;
     let mut list = String::new(alloc);

@@ -11,7 +11,7 @@ use markdown_test_helpers::trees::{Outline, delimiter, item, text, tree_of};
 use std::alloc::{AllocError, Global};
 use std::test::Fail;
 
-/// Whether a tree is a well-formed block result over a text.
+/// Returns whether a tree is a well-formed block result over a text.
 pub fn is_well_formed(alloc: Global, over: &'static str, tree: Tree<Item>) -> Result<bool, Fault> {
     match Blocks::checked(alloc, over, Options::ENABLE_GFM, tree, one_of_each(alloc)?) {
         Ok(blocks) => {
@@ -23,7 +23,7 @@ pub fn is_well_formed(alloc: Global, over: &'static str, tree: Tree<Item>) -> Re
     }
 }
 
-/// A character of a delimiter run that can open and close.
+/// Returns a character of a delimiter run that can open and close.
 fn run(start: usize, count: usize) -> Item {
     delimiter(start, count, true, true)
 }
@@ -136,7 +136,7 @@ fn each_rule_is_tested(rt: HostRuntime) -> Result<(), Fail> {
 #[test]
 fn each_body_keeps_its_rules(rt: HostRuntime) -> Result<(), Fail> {
     let rows = [
-        // nothing resolved
+        // no item is resolved already
         ("a", ItemBody::Emphasis, false),
         ("a", ItemBody::Strong, false),
         ("a", ItemBody::Strikethrough, false),
@@ -147,7 +147,7 @@ fn each_body_keeps_its_rules(rt: HostRuntime) -> Result<(), Fail> {
         ("a", ItemBody::Link(LinkIndex(0)), false),
         ("a", ItemBody::Image(LinkIndex(0)), false),
         ("a", ItemBody::FootnoteReference(CowIndex(0)), false),
-        // markup is there
+        // the text has the markup
         ("$", ItemBody::MaybeMath(true, true, 0), true),
         ("a", ItemBody::MaybeMath(true, true, 0), false),
         ("$$", ItemBody::MaybeMath(true, true, 0), false),
@@ -174,7 +174,7 @@ fn each_body_keeps_its_rules(rt: HostRuntime) -> Result<(), Fail> {
         ("^", ItemBody::MaybeEmphasis(1, true, true), true),
         ("**", ItemBody::MaybeEmphasis(1, true, true), false),
         ("", ItemBody::MaybeEmphasis(1, true, true), false),
-        // parts are named
+        // the parts referred to exist
         ("a", ItemBody::SynthesizeText(CowIndex(0)), true),
         ("a", ItemBody::SynthesizeText(CowIndex(1)), false),
         ("a", ItemBody::OwnedInlineHtml(CowIndex(0)), true),
@@ -205,14 +205,14 @@ fn each_body_keeps_its_rules(rt: HostRuntime) -> Result<(), Fail> {
     Ok(())
 }
 
-/// Which link of a node is set.
+/// The link of a node that is set.
 #[derive(Clone, Copy, Drop)]
 enum Link {
     Child,
     Next,
 }
 
-/// Sets a link between two nodes, if both are there.
+/// Sets a link between two nodes, if both exist.
 fn set_link(tree: &mut Tree<Item>, from: usize, link: Link, to: Option<usize>) {
     if from >= tree.len() || to.is_some_and(|to| to >= tree.len()) {
         return;
@@ -223,7 +223,7 @@ fn set_link(tree: &mut Tree<Item>, from: usize, link: Link, to: Option<usize>) {
     }
 }
 
-/// A row: the rule, the text, the tree, and the links that are set in it then.
+/// A row: the rule, the text, the tree, and the links that are then set in it.
 type LinkedRow<'x> = (
     &'static str,
     &'static str,

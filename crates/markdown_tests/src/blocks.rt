@@ -1,4 +1,4 @@
-//! Block results: empty, large and deep ones; what comes back of one; and the blocks of a text.
+//! Block results: empty, large and deep ones; the parts of one; and the blocks of a text.
 use crate::block_rules::is_well_formed;
 use crate::rows::fits;
 use markdown_base::block_parts::BlockParts;
@@ -48,7 +48,7 @@ fn what_was_checked_comes_back(rt: HostRuntime) -> Result<(), Fail> {
     )
 }
 
-/// A body as it is printed.
+/// Returns a body as `Debug` prints it.
 fn printed(alloc: Global, body: ItemBody) -> Result<String, AllocError> {
     format!(in alloc; "{body:?}")
 }
@@ -62,7 +62,7 @@ fn push_texts(list: &mut String, texts: &[CowStr<'_>]) -> Result<(), AllocError>
     Ok(())
 }
 
-/// The items of a tree, and then the texts that they name.
+/// Returns the items of a tree, and then the texts that they refer to.
 fn listed(alloc: Global, tree: Tree<Item>, parts: BlockParts<'_>) -> Result<String, AllocError> {
     let mut tree = tree;
     let mut list = String::new(alloc);
@@ -75,7 +75,7 @@ fn listed(alloc: Global, tree: Tree<Item>, parts: BlockParts<'_>) -> Result<Stri
     Ok(list)
 }
 
-/// The blocks of a text are of these items, and the text and the options come back.
+/// Checks the items of the blocks of a text, and that the text and the options are returned.
 fn has_items(alloc: Global, source: &str, items: &str) -> Result<(), Fail> {
     fits(alloc, source, Options::ENABLE_MATH)?;
     let blocks = Blocks::of_text(alloc, source, Options::ENABLE_MATH)?;

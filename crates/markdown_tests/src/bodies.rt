@@ -13,7 +13,7 @@ use markdown_test_helpers::rows::gives;
 use std::alloc::AllocError;
 use std::test::Fail;
 
-/// Whether a tag has this end.
+/// Returns whether a tag has this end.
 fn ends_with(tag: Tag<'_>, end: TagEnd) -> bool {
     let found = tag.to_end();
     drop(tag);

@@ -1,5 +1,6 @@
-//! What a closing bracket finds: tails of inline links, labels and forms of references, look-ups with their questions,
-//! footnotes, wikilinks, and the openers that wait.
+//! What a closing bracket finds: tails of inline links, link labels and forms of references, look-ups with their
+//! questions,
+//! footnotes, wikilinks, and the waiting openers.
 ghost use Rattle.std.specs.Prelude.{◌≡◌, ◌+◌, ◌%◌, IfSome};
 
 use markdown_base::cow_str::CowStr;
@@ -22,7 +23,7 @@ use markdown_test_helpers::trees::{item, text};
 use std::alloc::{AllocError, Global};
 use std::test::Fail;
 
-/// Whether the text is a tail with this destination and title, each a slice of it where `are_slices` says so.
+/// Returns whether the text is a tail with this destination and title, each a slice of it if `are_slices` is true.
 fn is_tail(
     alloc: Global,
     text: &str,
@@ -61,7 +62,7 @@ fn tails_of_links(rt: HostRuntime) -> Result<(), Fail> {
         ("(c&amp;d '\\'')", false, "c&d", "'", false),
         ("(c '&#65;')", false, "c", "A", false),
         ("(c '\\a')", false, "c", "\\a", true),
-        // in a table two backslashes and a pipe are a pipe, and reading goes on after it
+        // in a table two backslashes and a pipe are a pipe, and reading continues after it
         ("(c 'a\\\\|*')", true, "c", "a|*", false),
         ("(c 'a\\\\|*')", false, "c", "a\\|*", false),
         // a line ending stays where no item follows
@@ -74,7 +75,7 @@ fn tails_of_links(rt: HostRuntime) -> Result<(), Fail> {
     Ok(())
 }
 
-/// Whether no tail of a link is read.
+/// Returns whether no tail of a link is read.
 fn is_no_tail(alloc: Global, text: &str) -> Result<bool, AllocError> {
     if !text.is_char_boundary(0) {
         return Ok(false);
@@ -100,7 +101,7 @@ fn no_tails_of_links(rt: HostRuntime) -> Result<(), Fail> {
     Ok(())
 }
 
-/// How the reference at the byte `at` is written: its label, and the byte after it.
+/// Returns the label of the reference at the byte offset `at`, and the offset after it.
 fn label_of(
     alloc: Global,
     source: &str,
@@ -141,7 +142,7 @@ fn forms_of_references(rt: HostRuntime) -> Result<(), Fail> {
             Some(text(10, 24)),
             Some((25, true)),
         ),
-        // an escaped bracket begins no label, and a footnote label is none
+        // no label begins with an escaped bracket, and a footnote label is not a link label
         ("[a]\\[b]", 3, Some(text(4, 5)), Some(text(5, 6)), None),
         ("[a][^b]", 3, open(3), Some(text(4, 6)), None),
         ("[a]", 3, None, None, None),
@@ -152,7 +153,7 @@ fn forms_of_references(rt: HostRuntime) -> Result<(), Fail> {
     Ok(())
 }
 
-/// What a label finds: the type of the link, where it leads and what is left of the limit.
+/// Returns what a label finds: the type of the link, its destination, and what is left of the limit.
 fn look_up<'a, F: BrokenLinkCallback<'a>>(
     alloc: Global,
     held: &Allocations<'a>,
@@ -196,7 +197,7 @@ fn look_ups_ask_while_the_limit_lasts(rt: HostRuntime) -> Result<(), Fail> {
     let defined = look_up(alloc, &held, &mut callback, &mut limit, "a")?;
     assert_eq!(rt; defined, Some((LinkType::Shortcut, CowStr::Borrowed("/u"))));
     assert_eq!(rt; limit, 3);
-    // an answer that is longer than what is left is taken, and the next label is not asked about
+    // an answer longer than what is left is accepted, and there is no question for the next label
     let answered = look_up(alloc, &held, &mut callback, &mut limit, "b")?;
     assert_eq!(rt;
         answered,
@@ -243,7 +244,7 @@ fn footnotes_are_references_by_their_style(rt: HostRuntime) -> Result<(), Fail> 
     Ok(())
 }
 
-/// What a wikilink with this body shows, and whether its name is this one.
+/// Returns the text of a wikilink with this body, and whether its name is this one.
 fn shown_by(source: &str, end: usize, name: &str) -> Option<(Shown, bool)> {
     if !source.is_char_boundary(2) || !source.is_char_boundary(end) {
         return None;
@@ -269,7 +270,7 @@ fn bodies_of_wikilinks(rt: HostRuntime) -> Result<(), Fail> {
     Ok(())
 }
 
-/// What is left to take after a link from the second opener, the first being a bracket's or an image's.
+/// The first opener is that of a bracket or of an image, and a link is made from the second.
 #[test]
 fn links_disable_earlier_brackets_and_images_do_not(rt: HostRuntime) -> Result<(), Fail> {
     let mut openers = ChainOpeners::new(rt.alloc());

@@ -1,4 +1,4 @@
-//! Each callback asked about a broken link, and a broken link freed from the source.
+//! Calls of each kind of callback, and the `'static` form of a broken link.
 ghost use Rattle.std.specs.Prelude.{◌≡◌, ◌+◌, ◌%◌};
 
 use markdown_base::cow_str::CowStr;
@@ -17,7 +17,7 @@ fn broken_link() -> BrokenLink<'static> {
     }
 }
 
-/// Whether a callback answers a question with this destination, or not at all where none is wanted.
+/// Returns whether a callback answers a question with this destination, or with None where none is wanted.
 fn answers<'input, C: BrokenLinkCallback<'input>>(callback: &mut C, wanted: Option<&str>) -> bool
     requires { C.can_ask callback.old }
     ensures { C.can_ask callback.new }
@@ -31,7 +31,7 @@ fn answers<'input, C: BrokenLinkCallback<'input>>(callback: &mut C, wanted: Opti
     is_so
 }
 
-/// Answers the second question, if it is about `a`.
+/// A callback that answers the second question, if its label is `a`.
 #[derive(Drop)]
 struct Second {
     asked: u8,

@@ -1,4 +1,4 @@
-//! Texts of code and math spans, and what stands after a `<`, in a paragraph directly under the document.
+//! Texts of code and math spans, and what begins at a `<`, in a paragraph directly under the document.
 use markdown_base::cow_str::CowStr;
 use markdown_base::tree::Tree;
 use markdown_raw_html::raw_html::RawHtmlScanner;
@@ -13,7 +13,7 @@ fn is_slice(text: &CowStr<'_>) -> bool {
     matches!(text, CowStr::Borrowed(_))
 }
 
-/// The text of a span, and whether it is a slice of the source.
+/// Returns the text of a span, and whether it is a slice of the source.
 fn shown(
     alloc: Global,
     text: &str,
@@ -27,7 +27,7 @@ fn shown(
     Ok((made.into_string(alloc)?, is_slice))
 }
 
-/// A span with this text shows that, as a slice of the source or not.
+/// Checks the text of a span with this source, and whether it is a slice of it.
 fn shows(
     alloc: Global,
     text: &str,
@@ -102,7 +102,7 @@ fn described(alloc: Global, found: Option<MarkupFound<'_>>) -> Result<String, Al
     }
 }
 
-/// What stands from the `<` at `start` on.
+/// Returns what begins at the `<` at `start`.
 fn markup(alloc: Global, text: &str, start: usize) -> Result<String, AllocError> {
     if start >= text.len() || !text.is_char_boundary(start) || !text.is_char_boundary(start + 1) {
         return String::from_str(alloc, "no character");
@@ -114,7 +114,7 @@ fn markup(alloc: Global, text: &str, start: usize) -> Result<String, AllocError>
     described(alloc, found)
 }
 
-/// This stands from the `<` at `start` on.
+/// Checks what begins at the `<` at `start`.
 fn has_markup(alloc: Global, text: &str, start: usize, expected: &str) -> Result<(), Fail> {
     let found = markup(alloc, text, start)?;
     gives(text, found.as_str(), expected)
@@ -134,7 +134,7 @@ fn markup_after_a_less_than_sign(rt: HostRuntime) -> Result<(), Fail> {
         ("< a", 0, "none"),
         ("<", 0, "none"),
         ("<a@b.c>", 0, "none"),
-        // a backslash stands between
+        // a backslash is between
         ("<\\!-- x -->", 0, "none"),
     ] {
         has_markup(rt.alloc(), text, start, expected)?;

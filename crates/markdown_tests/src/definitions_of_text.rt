@@ -1,5 +1,5 @@
-//! The link reference definitions that the block pass makes of small texts (CommonMark 4.7), and where the blocks around
-//! them end.
+//! The link reference definitions that the block pass makes of small texts (CommonMark 4.7), and where the blocks
+//! around them end.
 use crate::rows::compare;
 use std::test::Fail;
 
@@ -37,7 +37,7 @@ fn definitions(rt: HostRuntime) -> Result<(), Fail> {
     )
 }
 
-/// An item that ends with a definition ends with its last line, as a block quote does.
+/// An item that ends with a definition ends with the last line of the definition, as a block quote does.
 #[test]
 fn definitions_at_the_end_of_items(rt: HostRuntime) -> Result<(), Fail> {
     compare(

@@ -1,5 +1,5 @@
-//! Tests of what no clause says of block results and what stands below them: a module for each topic. They stand apart
-//! from the libraries, so that no library is proved a second time with its tests.
+//! Tests of what no clause says of block results and the crates below: a module for each topic. They are in a crate of
+//! their own, so that no library is proved a second time with its tests.
 #![tactic(auto)]
 
 #[cfg(test)]

@@ -12,7 +12,7 @@ use markdown_test_helpers::rows::gives;
 use std::alloc::{AllocError, Global};
 use std::test::Fail;
 
-/// An item and its range.
+/// Returns an item and its range.
 fn row_of(alloc: Global, item: Item) -> Result<String, AllocError> {
     match item.body {
         ItemBody::Text {
@@ -25,7 +25,7 @@ fn row_of(alloc: Global, item: Item) -> Result<String, AllocError> {
     }
 }
 
-/// The items of a tree from the third on, each with its range.
+/// Returns the items of a tree from the third on, each with its range.
 fn rows_of(alloc: Global, tree: &Tree<Item>) -> Result<String, AllocError> {
     let mut list = String::new(alloc);
     for ix in 2..tree.len() {
@@ -37,7 +37,7 @@ fn rows_of(alloc: Global, tree: &Tree<Item>) -> Result<String, AllocError> {
     Ok(list)
 }
 
-/// Places a paragraph over a text, with the items of the part from `start` up to `end`.
+/// Appends a paragraph over a text, with the items of the part from `start` up to `end`.
 fn place(
     builder: &mut Builder<'_>,
     start: usize,
@@ -59,7 +59,7 @@ fn place(
     Ok(())
 }
 
-/// The items of the part of a text from `start` up to `end`, each with its range.
+/// Returns the items of the part of a text from `start` up to `end`, each with its range.
 fn part_listed(
     alloc: Global,
     text: &str,
@@ -83,18 +83,18 @@ fn part_listed(
     rows
 }
 
-/// The items of a whole text as one line.
+/// Returns the items of a whole text as one line.
 fn listed(alloc: Global, text: &str, options: Options) -> Result<String, AllocError> {
     part_listed(alloc, text, 0, text.as_bytes().len(), options)
 }
 
-/// A text has these items.
+/// Checks the items of a text.
 fn has_items(alloc: Global, text: &str, options: Options, want: &str) -> Result<(), Fail> {
     let list = listed(alloc, text, options)?;
     gives(text, list.as_str(), want)
 }
 
-/// Each text has these items, with GFM's options.
+/// Checks the items of each text, with GFM's options.
 fn compare(alloc: Global, rows: &[(&str, &str)]) -> Result<(), Fail> {
     for (text, want) in rows {
         has_items(alloc, text, Options::ENABLE_GFM, want)?;
@@ -102,7 +102,7 @@ fn compare(alloc: Global, rows: &[(&str, &str)]) -> Result<(), Fail> {
     Ok(())
 }
 
-/// The part of a text from `start` up to `end` has these items, with GFM's options.
+/// Checks the items of the part of a text from `start` up to `end`, with GFM's options.
 fn part_has(alloc: Global, text: &str, start: usize, end: usize, want: &str) -> Result<(), Fail> {
     let list = part_listed(alloc, text, start, end, Options::ENABLE_GFM)?;
     gives(text, list.as_str(), want)
@@ -158,7 +158,7 @@ fn delimiter_runs(rt: HostRuntime) -> Result<(), Fail> {
                 "é*é",
                 "Text 0..2;MaybeEmphasis(1, true, true) 2..3;Text 3..5;",
             ),
-            // punctuation outside of ASCII is none
+            // a character outside ASCII does not count as punctuation
             (
                 "a*“",
                 "Text 0..1;MaybeEmphasis(1, true, true) 1..2;Text 2..5;",
@@ -277,7 +277,7 @@ fn a_line_is_read_alone(rt: HostRuntime) -> Result<(), Fail> {
             4,
             "MaybeEmphasis(1, true, false) 1..2;Text 2..3;MaybeEmphasis(1, false, true) 3..4;",
         ),
-        // the backslash of a hard break is the character behind the run
+        // the backslash of a hard break is the character after the run
         (
             "(_\\\nb_",
             0,

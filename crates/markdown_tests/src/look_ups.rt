@@ -1,4 +1,4 @@
-//! Definitions and footnotes looked up by the folding of their names, and uses of footnotes.
+//! Look-ups of definitions and footnotes by case folding, and uses of footnotes.
 use markdown_base::cow_str::CowStr;
 use markdown_base::fault::Fault;
 use markdown_defs::{Absence, Allocations, FootnoteDef};
@@ -7,7 +7,7 @@ use markdown_test_helpers::rows::gives;
 use std::alloc::Global;
 use std::test::Fail;
 
-/// Whether a key finds this destination among definitions, or None where it should find nothing.
+/// Returns whether a key finds this destination among definitions, or nothing for None.
 fn finds(
     alloc: Global,
     definitions: &[(&str, &str)],
@@ -48,7 +48,7 @@ fn keys_find_the_first_of_equal_folding(rt: HostRuntime) -> Result<(), Fail> {
     Ok(())
 }
 
-/// Whether each of two labels finds this destination under the other.
+/// Returns whether each of two labels finds this destination under the other.
 fn find_each_other(
     alloc: Global,
     one: &str,
@@ -104,7 +104,7 @@ fn foldings_are_unicodes(rt: HostRuntime) -> Result<(), Fail> {
     Ok(())
 }
 
-/// The labels and destinations that can be found, in order.
+/// Returns the labels and destinations that can be found, in order.
 fn listed(alloc: Global, definitions: &[(&str, &str)]) -> Result<String, Fault> {
     let held = Allocations::new(alloc, defining(alloc, definitions)?)?;
     let mut seen = String::new(alloc);
@@ -115,7 +115,7 @@ fn listed(alloc: Global, definitions: &[(&str, &str)]) -> Result<String, Fault> 
     Ok(seen)
 }
 
-/// These can be found.
+/// Checks the labels and destinations that can be found.
 fn are_listed(alloc: Global, definitions: &[(&str, &str)], wanted: &str) -> Result<(), Fail> {
     let seen = listed(alloc, definitions)?;
     gives(wanted, seen.as_str(), wanted)
@@ -135,7 +135,7 @@ fn definitions_are_listed_in_order(rt: HostRuntime) -> Result<(), Fail> {
     are_listed(rt.alloc(), &[], "")
 }
 
-/// Allocations with the footnotes `a` and `Straße`, the first of them named twice.
+/// Returns allocations with the footnotes `a` and `Straße`, the first of which is defined twice.
 fn footnotes<'a>(alloc: Global) -> Result<Allocations<'a>, Fault> {
     let mut names = Vec::new(alloc);
     for &name in &["a", "Straße", "A"] {
@@ -146,13 +146,14 @@ fn footnotes<'a>(alloc: Global) -> Result<Allocations<'a>, Fault> {
     Allocations::new(alloc, parts)
 }
 
-/// How often a footnote is used, if it is defined.
+/// Returns how often a footnote has been used, if it is defined.
 fn uses(held: &mut Allocations<'_>, name: &str) -> Result<Option<usize>, Fault> {
     let found = held.footdefs.get_mut(CowStr::from(name))?;
     Ok(found.map(|footnote| footnote.use_count))
 }
 
-/// How often a footnote is used, whether it is defined, whether one more use is counted, and how often it is used then.
+/// Returns how often a footnote has been used, whether it is defined, whether one more use is counted, and how often it
+/// has then been used.
 fn count_one_use(
     held: &mut Allocations<'_>,
     name: &str,
@@ -187,7 +188,7 @@ fn uses_of_footnotes_are_counted(rt: HostRuntime) -> Result<(), Fail> {
     Ok(())
 }
 
-/// Writes how often a footnote is used, or tells why there is none.
+/// Sets how often a footnote has been used, or returns why there is none.
 fn set_uses(held: &mut Allocations<'_>, name: &str, count: usize) -> Option<Absence> {
     match held.footdefs.find_mut(CowStr::from(name)) {
         Ok(footnote) => {

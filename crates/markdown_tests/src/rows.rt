@@ -1,4 +1,5 @@
-//! What tests of the block pass compare: small texts with their items and definitions. Each text also has to fit.
+//! Comparisons for tests of the block pass: small texts with their items and definitions. Each call of the block pass
+//! also has to fit.
 use markdown_base::block_parts::LinkDef;
 use markdown_base::cow_str::CowStr;
 use markdown_base::item::ItemBody;
@@ -9,12 +10,12 @@ use markdown_test_helpers::trees::push_items;
 use std::alloc::{AllocError, Global};
 use std::test::Fail;
 
-/// A body as it is printed.
+/// Returns a body as `Debug` prints it.
 fn printed(alloc: Global, body: ItemBody) -> Result<String, AllocError> {
     format!(in alloc; "{body:?}")
 }
 
-/// Lists a definition: its label, its destination, its title, and its range.
+/// Appends a definition: its label, its destination, its title, and its range.
 fn push_definition(
     alloc: Global,
     list: &mut String,
@@ -36,7 +37,7 @@ fn push_definition(
     list.push_str(row.as_str())
 }
 
-/// Lists definitions.
+/// Appends definitions.
 fn push_definitions(
     alloc: Global,
     list: &mut String,
@@ -48,7 +49,7 @@ fn push_definitions(
     Ok(())
 }
 
-/// The items of a text's blocks, and then the definitions.
+/// Returns the items of a text's blocks, and then the definitions.
 fn listed(alloc: Global, text: &str, options: Options) -> Result<String, AllocError> {
     let (mut tree, parts) = blocks(alloc, text, options)?;
     let mut list = String::new(alloc);
@@ -63,7 +64,7 @@ fn listed(alloc: Global, text: &str, options: Options) -> Result<String, AllocEr
 
 const TEXT: &str = "Text { backslash_escaped: false }";
 
-/// The same, in which `T` stands for a Text.
+/// Returns the same, with `T` for a Text.
 fn shown(alloc: Global, text: &str, options: Options) -> Result<String, AllocError> {
     let list = listed(alloc, text, options)?;
     let short = list.as_str().replace(alloc, TEXT, "T");
@@ -71,20 +72,20 @@ fn shown(alloc: Global, text: &str, options: Options) -> Result<String, AllocErr
     short
 }
 
-/// Each call that the block pass makes for a text fits where it comes.
+/// Checks that each call that the block pass makes for a text fits where it is made.
 pub fn fits(alloc: Global, text: &str, options: Options) -> Result<(), Fail> {
     let count = misfits(alloc, text, options)?;
     gives((text, "calls that do not fit"), count, 0)
 }
 
-/// A text is made into this.
+/// Checks the items and the definitions of a text.
 pub fn assert_made(alloc: Global, text: &str, options: Options, want: &str) -> Result<(), Fail> {
     fits(alloc, text, options)?;
     let made = shown(alloc, text, options)?;
     gives(text, made.as_str(), want)
 }
 
-/// Compares what is made of each text with its row.
+/// Checks the items and the definitions of each text.
 pub fn compare(alloc: Global, rows: &[(&str, &str)]) -> Result<(), Fail> {
     for (text, want) in rows {
         assert_made(alloc, text, Options::ENABLE_GFM, want)?;

@@ -1,4 +1,4 @@
-//! Texts in their three forms, and what holds texts: equality, copies, definitions.
+//! Texts in their three forms, and types that hold texts: equality, copies, definitions.
 use markdown_base::block_parts::LinkDef;
 use markdown_base::cow_str::CowStr;
 use markdown_base::event::Event;
@@ -30,7 +30,7 @@ fn boxed<'a>(alloc: Global, text: &str) -> Result<CowStr<'a>, AllocError> {
     Ok(CowStr::from(String::from_str(alloc, text)?))
 }
 
-/// One text in its three forms.
+/// Returns one text in its three forms.
 fn three_forms<'a>(alloc: Global) -> Result<Vec<CowStr<'a>>, AllocError> {
     let mut texts = Vec::new(alloc);
     texts.push(boxed(alloc, "é")?)?;
@@ -57,7 +57,7 @@ fn texts_are_equal_whatever_their_forms(rt: HostRuntime) -> Result<(), Fail> {
     Ok(())
 }
 
-/// Whether two are equal. Both go here.
+/// Returns whether two values are equal, and drops both.
 fn are_equal<T: PartialEq + Drop>(left: T, right: T) -> bool {
     let equal = left == right;
     drop(left);
@@ -73,7 +73,7 @@ fn events_are_equal_by_their_texts(rt: HostRuntime) {
     assert!(rt; !are_equal(Event::Start(Tag::Paragraph), Event::End(TagEnd::Paragraph)));
 }
 
-/// Whether it is this text in this form.
+/// Returns whether a text is this one, in this form.
 fn is_held(text: Result<CowStr<'_>, AllocError>, wanted: &str, form: &str) -> bool {
     match text {
         Ok(text) => {
@@ -85,7 +85,7 @@ fn is_held(text: Result<CowStr<'_>, AllocError>, wanted: &str, form: &str) -> bo
     }
 }
 
-/// Whether the copy and the `'static` form of a slice, and those of a text on the heap, have the right forms.
+/// Returns whether the copy and the `'static` form of a slice, and those of a boxed text, have the right forms.
 fn are_held(alloc: Global, text: &str, form: &str) -> Result<[bool; 4], AllocError> {
     Ok([
         is_held(CowStr::from(text).try_clone(alloc), text, "borrowed"),
@@ -122,12 +122,12 @@ fn texts_are_printed(rt: HostRuntime) -> Result<(), Fail> {
     gives("as a str", str_length(&CowStr::from("bc")), 2)
 }
 
-/// How many bytes a `str` has.
+/// Returns the length of a `str` in bytes.
 fn str_length(text: &str) -> usize {
     text.len()
 }
 
-/// How many bytes are lent.
+/// Returns the length in bytes of a value as a `str`.
 fn lent_bytes<T: AsStr>(text: &T) -> usize {
     text.as_str().len()
 }
@@ -163,7 +163,7 @@ fn levels_have_numbers_and_are_printed(rt: HostRuntime) -> Result<(), Fail> {
     gives("numbers", levels, [true; 3])
 }
 
-/// A link's Start that outlives the text from which it was made.
+/// Returns the Start of a link that outlives the text that it was made from.
 fn outliving_link(alloc: Global, destination: &str) -> Result<Event<'static>, Fault> {
     let source = String::from_str(alloc, destination)?;
     let link = Event::Start(Tag::Link {
@@ -175,7 +175,7 @@ fn outliving_link(alloc: Global, destination: &str) -> Result<Event<'static>, Fa
     link.into_static(alloc)
 }
 
-/// A heading's Start that outlives the text from which it was made.
+/// Returns the Start of a heading that outlives the text that it was made from.
 fn outliving_heading(alloc: Global, name: &str) -> Result<Event<'static>, Fault> {
     let source = String::from_str(alloc, name)?;
     let heading = Event::Start(Tag::Heading {
@@ -187,7 +187,7 @@ fn outliving_heading(alloc: Global, name: &str) -> Result<Event<'static>, Fault>
     heading.into_static(alloc)
 }
 
-/// An event and a copy of it, as they are printed.
+/// Returns an event and a copy of it as `Debug` prints them.
 fn printed_twice(alloc: Global, event: Result<Event<'static>, Fault>) -> Result<String, Fault> {
     let event = event?;
     let copy = event.try_clone(alloc)?;
@@ -197,7 +197,7 @@ fn printed_twice(alloc: Global, event: Result<Event<'static>, Fault>) -> Result<
     Ok(printed)
 }
 
-/// An event and a copy of it are printed so.
+/// Checks how an event and a copy of it are printed.
 fn outlives(alloc: Global, event: Result<Event<'static>, Fault>, start: &str) -> Result<(), Fail> {
     let printed = printed_twice(alloc, event)?;
     let twice = format!(in alloc; "{start}; {start}")?;
@@ -224,7 +224,7 @@ fn definition<'a>(alloc: Global) -> Result<LinkDef<'a>, AllocError> {
     })
 }
 
-/// What a definition holds, and the form of its destination.
+/// Returns the fields of a definition, and the form of its destination.
 fn parts<'b>(
     definition: &'b LinkDef<'_>,
 ) -> (&'b str, &'static str, Option<&'b str>, Range<usize>) {

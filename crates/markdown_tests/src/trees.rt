@@ -1,11 +1,12 @@
-//! A tree made, walked and written by its calls.
+//! Trees that are made, walked and changed by the calls of `Tree`.
 use markdown_base::item::{Item, ItemBody};
 use markdown_base::tree::Tree;
 use markdown_test_helpers::trees::{append_block, item};
 use std::alloc::{AllocError, Global};
 use std::test::Fail;
 
-/// A paragraph, node 1, with two breaks in it, nodes 2 and 3, and the paragraph in focus.
+/// Returns a tree with a paragraph, node 1, that contains two breaks, nodes 2 and 3, and with its cursor at the
+/// paragraph.
 fn two_breaks(alloc: Global) -> Result<Tree<Item>, AllocError> {
     let mut tree = Tree::new(alloc)?;
     let breaks = [

@@ -1,14 +1,11 @@
--- What a parser gives with ranges, up to its first None, is all that was left of it.
-use Rattle.std.proofs.Common.{◌≡◌, ℕ, List, [], ◌∷◌, ◌++◌, map, Ok, Err, Option, Some, None, Result}
+-- What a parser returns with ranges, up to its first None, is all that was left of it.
+use Rattle.std.proofs.Common.{◌≡◌, ℕ, List, [], ◌∷◌, ◌++◌, map, Err, Option, None, Result}
 use Rattle.std.proofs.Common.{ap, refl, sym, ◌∙◌, is_some, false}
 use Rattle.std.proofs.lemmas.List.Folds.{flat_map-map}
 use Rattle.std.specs.Iterator.{Drains, Yields}
 use Rattle.std.specs.List.{flat_map}
 use Rattle.std.specs.Str.{IsUtf8}
-use Rattle.std.specs.declared.ops.Range.{Range}
-use Rattle.markdown_base.specs.Event.{event_view}
 use Rattle.markdown_base.specs.Questions.{Question, Answer, Answers}
-use Rattle.markdown_base.specs.declared.event.Event.{Event}
 use Rattle.markdown_base.specs.declared.fault.Fault.{Fault}
 use Rattle.markdown_base.specs.declared.fault.Fault.TheVariants.{Memory}
 use Rattle.markdown_base.specs.declared.options.Options.{Options}
@@ -23,7 +20,7 @@ use Rattle.markdown_inline.specs.declared.walk.Parser.{Parser}
 use Rattle.markdown_inline.proofs.RunLemmas.{events_of-questions}
 use Rattle.markdown_json.specs.JsonLines.{Placed, IsWritten, StopsAtError, items, lines_of}
 use Rattle.markdown_json.specs.Json.{line_json}
-use Rattle.markdown_json.specs.OutlineJson.{outline_lines}
+use Rattle.markdown_text_json.specs.OutlineJson.{outline_lines}
 use Rattle.markdown_outline.specs.Outline.{EntryView, Ranged, entries_of}
 use Rattle.markdown_outline.specs.OutlineRead.{IsOutlineOfAll, ranged_view}
 use Rattle.markdown_text_json.specs.TextJson.{IsJsonOf, IsOutlineJsonOf, placed_line}
@@ -40,7 +37,7 @@ unasked step after (q ∷ questions) (a ∷ answers) asked = absurd asked
 abbrev ranged_line : Ranged → List ℕ
 ranged_line e = line_json e.0 e.1.start e.1.end
 
--- lines are those of what is seen of the events
+-- the lines of events are those of their views
 lines_seen : (given : List Placed) → lines_of given ≡ flat_map ranged_line (map ranged_view given)
 lines_seen given = sym (flat_map-map ranged_line ranged_view given)
 
@@ -62,7 +59,7 @@ module _ {F : Type 0} (step : F → Question → Option Answer → F → Type 0)
       → fault ≡ Memory
   stopped_by_memory o old new fault s = memory_alone o s.left s.events fault s.read
 
-  -- where nobody is asked, the events given are those of what was left
+  -- without a callback, the events returned are those of what was left
   drained : (o : OffsetIter F) (given : List Placed) → Drains Steps o (items given)
       → parser_callback (offset_parser o) ≡ None
       → (later : Answers) → ranged (events_of (elements (offset_parser o) later)) ≡ map ranged_view given

@@ -1,3 +1,4 @@
--- What contracts speak of: the lines of a text, and what a run of the program leaves.
+-- The lines of a text, those of an outline, and what a run of the program has read and written.
+pub mod OutlineJson
 pub mod TextJson
 pub mod JsonOutcome

@@ -1,4 +1,4 @@
--- The JSON of a text: the lines of the events of its reading, and those of its headings.
+-- The JSON of a text: the lines of the events of its reading, or of its headings.
 use Rattle.std.specs.Prelude.{◌≡◌, ℕ, false, List}
 use Rattle.std.specs.List.{flat_map}
 use Rattle.std.specs.Str.{IsUtf8}
@@ -10,8 +10,8 @@ use Rattle.markdown_inline.specs.Balanced.{ranged}
 use Rattle.markdown_inline.specs.Elements.{Element, Placed, events_of}
 use Rattle.markdown_inline.specs.ParserLeft.{reading_of}
 use Rattle.markdown_json.specs.Json.{line_json}
-use Rattle.markdown_json.specs.OutlineJson.{outline_lines}
-use Rattle.markdown_outline.specs.Outline.{EntryView, entries_of}
+use Rattle.markdown_text_json.specs.OutlineJson.{outline_lines}
+use Rattle.markdown_outline.specs.Outline.{entries_of}
 
 -- the line of an event of a reading, with its range
 abbrev pub placed_line : Placed → List ℕ
@@ -21,22 +21,23 @@ placed_line placed = line_json placed.0 placed.1.start placed.1.end
 abbrev pub reading_lines : List Element → List ℕ
 reading_lines elements = flat_map placed_line (events_of elements)
 
--- the input is text, and these are the lines of the events of a block result of it with these options, read with nobody
--- to ask
-pub record IsJsonOf (bytes : List ℕ) (options : Options) (json : List ℕ) : Type 0 where
+-- the lines of the headings among the events of these elements
+abbrev pub heading_lines : List Element → List ℕ
+heading_lines elements = outline_lines (entries_of (ranged (events_of elements)))
+
+-- the input is UTF-8, and these are the lines of the reading of a block result of it with these options, without a
+-- callback
+pub record AreLinesOf (lines : List Element → List ℕ) (bytes : List ℕ) (options : Options)
+    (json : List ℕ) : Type 0 where
   pub is_text : IsUtf8 bytes
   pub blocks : Blocks
   pub of_text : IsOfText bytes options blocks
-  pub written : (answers : Answers) → json ≡ reading_lines (reading_of blocks false answers)
+  pub written : (answers : Answers) → json ≡ lines (reading_of blocks false answers)
 
--- the entries of the headings among the events of these elements
-abbrev pub reading_entries : List Element → List EntryView
-reading_entries elements = entries_of (ranged (events_of elements))
+-- these are the lines of the events of a text
+abbrev pub IsJsonOf : (bytes : List ℕ) → Options → (json : List ℕ) → Type 0
+IsJsonOf bytes options json = AreLinesOf reading_lines bytes options json
 
--- the input is text, and these are the lines of the headings of a block result of it with these options, read with nobody
--- to ask
-pub record IsOutlineJsonOf (bytes : List ℕ) (options : Options) (json : List ℕ) : Type 0 where
-  pub is_text : IsUtf8 bytes
-  pub blocks : Blocks
-  pub of_text : IsOfText bytes options blocks
-  pub written : (answers : Answers) → json ≡ outline_lines (reading_entries (reading_of blocks false answers))
+-- these are the lines of the headings of a text
+abbrev pub IsOutlineJsonOf : (bytes : List ℕ) → Options → (json : List ℕ) → Type 0
+IsOutlineJsonOf bytes options json = AreLinesOf heading_lines bytes options json

@@ -1,10 +1,12 @@
-//! Text as JSON: a line for each event of its reading, with its range, or for each heading; and the program over any
-//! reader and two writers.
+//! Texts as JSON: a line for each event, with its range, or for each heading; the entries of an outline as JSON; and
+//! the program that prints events, over any reader and two writers.
 #![tactic(auto)]
 
 pub mod outline;
+pub mod outline_lines;
 pub mod run;
 pub mod text;
 
 pub use outline::outline_json;
+pub use outline_lines::push_outline;
 pub use text::text_json;

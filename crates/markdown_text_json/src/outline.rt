@@ -1,16 +1,16 @@
-//! The headings of a text, as JSON: the lines of what a new parser of it gives.
+//! `outline_json`: the headings of a text as JSON.
 ghost use Rattle.std.specs.Prelude.{◌≡◌, IfOk, IfErr, string_bytes};
 ghost use Rattle.markdown_text_json.specs.TextJson.{IsOutlineJsonOf};
 
+use crate::outline_lines::push_outline;
 use markdown_base::fault::Fault;
 use markdown_base::options::Options;
 use markdown_inline::walk::Parser;
-use markdown_json::push_outline;
 use markdown_outline::outline;
 use std::alloc::Global;
 
-/// Returns a line of JSON for each heading of a text: its level, its text without markup, and its range, which is byte
-/// offsets in the text. Nobody is asked about a link label that is defined nowhere.
+/// Returns a line of JSON for each heading of a text: its level, its text without markup, and its range of byte offsets
+/// in the text. There is no callback: a link label without a reference definition stays text.
 ///
 /// # Errors
 ///

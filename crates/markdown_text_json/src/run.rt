@@ -1,4 +1,4 @@
-//! The program, over any reader and two writers.
+//! The program that prints events, over any reader and two writers.
 ghost use Rattle.std.specs.Prelude.{◌≡◌, ◌≢◌, ◌≤◌, ℕ, List, map, None, string_bytes};
 ghost use Rattle.std.specs.Prelude.{Result, IfOk, IfErr, IfSome};
 ghost use Rattle.std.specs.Str.{IsUtf8};
@@ -18,7 +18,7 @@ use markdown_render::words::options_of;
 use std::alloc::Global;
 use std::io::{Read, Write};
 
-/// The lines of a text with these options.
+/// Returns the lines of the events of a text with these options.
 fn lines(alloc: Global, text: &str, options: Options) -> Result<String, Failure>
     ensures json { IfOk result (λ json. IsJsonOf text.now options (string_bytes json)) }
     ensures refused { IfErr result (λ failure. failure ≡ Failure.Fault Memory) }
@@ -30,7 +30,7 @@ fn lines(alloc: Global, text: &str, options: Options) -> Result<String, Failure>
 ///
 /// # Errors
 ///
-/// What failed first. Where writing failed, a prefix of the lines was written; where it had not begun, nothing.
+/// What failed first. Where writing failed, a prefix of the lines has been written; where it had not begun, nothing.
 pub fn convert<R: Read, W: Write>(
     alloc: Global,
     options: Options,
@@ -47,10 +47,10 @@ pub fn convert<R: Read, W: Write>(
     print(out, json.as_str())
 }
 
-/// Reads all of `input` as Markdown and writes the lines of its events to `out`: what `convert` does, whose outcome
-/// `report` tells. Each word turns on an option. Returns the exit status: 0 where all was written; 2 where a word is
-/// unknown, and nothing is read or written then; else 1. What failed is said on `err`, in one line. Where that can't be
-/// written the status is the same.
+/// Reads all of `input` as Markdown and writes the lines of its events to `out`, as `convert` does. Each word enables an
+/// option. Writes to `err`, in one line, what failed, and returns the exit status, whether or not that line can be
+/// written: 0 where everything was written; 2 where a word is unknown, and then `input` and `out` are not used;
+/// otherwise 1.
 pub fn run<R: Read, W: Write, E: Write>(
     alloc: Global,
     words: &[String],
@@ -62,8 +62,8 @@ pub fn run<R: Read, W: Write, E: Write>(
     ensures words { turned_on (map string_bytes words.now) no_options ≡ None
         → (result ≡ 2) × (out.new ≡ out.old) × (input.new ≡ input.old) }
 
-    // Without one the status follows from what came of reading, parsing and writing; and nothing was written but a
-    // prefix of the lines, and that only where all was read.
+    // Without one, the status follows from the outcome of reading, parsing and writing; and nothing is written but a
+    // prefix of the lines, and that only where everything was read.
     ensures outcome { IfSome (turned_on (map string_bytes words.now) no_options)
         (λ options. (outcome : Result (Unit {0}) Failure)
         × (result ≡ status_of outcome)

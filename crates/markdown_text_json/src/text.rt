@@ -1,4 +1,4 @@
-//! The JSON of a text: the lines of what a new parser of it gives.
+//! `text_json`: the events of a text as JSON.
 ghost use Rattle.std.specs.Prelude.{◌≡◌, IfOk, IfErr, string_bytes};
 ghost use Rattle.markdown_text_json.specs.TextJson.{IsJsonOf};
 
@@ -8,8 +8,8 @@ use markdown_inline::walk::Parser;
 use markdown_json::push_json;
 use std::alloc::Global;
 
-/// Returns a line of JSON for each event of a text, with its range, which is byte offsets in the text. Nobody is asked
-/// about a link label that is defined nowhere.
+/// Returns a line of JSON for each event of a text, with its range of byte offsets in the text. There is no callback:
+/// a link label without a reference definition stays text.
 ///
 /// # Errors
 ///

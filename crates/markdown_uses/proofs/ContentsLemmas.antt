@@ -15,7 +15,7 @@ written-more f text rest c utf8 parts = ap (flat_map f) (chars_past_char text re
 pub written-none : (f : ℕ → List ℕ) (text : List ℕ) → length text ≡ 0 → flat_map f (chars text) ≡ []
 written-none f text none = ap (λ t. flat_map f (chars t)) (nil_from_length text none) ∙ ap (flat_map f) chars-nil
 
--- the same two, behind what was written before
+-- the same two, after what was written before
 pub written-on : (f : ℕ → List ℕ) (written written' text rest whole : List ℕ) (c : ℕ) → IsUtf8 text → text ≡ encode_utf8 c ++ rest
     → written' ≡ written ++ f c → written ++ flat_map f (chars text) ≡ whole → written' ++ flat_map f (chars rest) ≡ whole
 written-on f written written' text rest whole c utf8 parts more so_far =
@@ -29,7 +29,7 @@ pub indent-more : (depth : ℕ) → indent (depth + 1) ≡ indent depth ++ codes
 indent-more zero = refl
 indent-more (suc depth) = ap indent (add-one (suc depth)) ∙ ap (λ i. codes "  " ++ i) (ap indent (sym (add-one depth)) ∙ indent-more depth)
 
--- the line of a heading behind others, where each part is what it is to be
+-- the line of a heading after others, where each part is as defined
 pub line-made : (before : List EntryView) (e : EntryView) (deep times : ℕ) (anchor : List ℕ)
     → deep ≡ depth e.level (reverse (map (λ (b : EntryView). b.level) before))
     → times ≡ count_by (λ other. bytes_eq other (plain_anchor e.text)) (map plain_anchor (map (λ (b : EntryView). b.text) before))
@@ -52,7 +52,7 @@ module _ (entries : List Entry) (at : ℕ) (e : Entry) (l : at < length entries)
       ∙ ap (λ (before : List EntryView). line_after (map entry_view (take at entries)) (entry_view e)
       ++ lines_after before (map entry_view (drop (at + 1) entries))) (sym one_taken)
 
-  -- behind the lines before
+  -- after the lines before
   pub lines-on : (list list' whole : List ℕ) → list' ≡ list ++ line_after (map entry_view (take at entries)) (entry_view e)
       → list ++ lines_after (map entry_view (take at entries)) (map entry_view (drop at entries)) ≡ whole
       → list' ++ lines_after (map entry_view (take (at + 1) entries)) (map entry_view (drop (at + 1) entries)) ≡ whole

@@ -1,4 +1,4 @@
--- What one more heading leaves of the open levels, and how often its anchor stood.
+-- What one more heading leaves of the open levels, and how often its anchor has occurred.
 use Rattle.std.proofs.Common.{◌≡◌, ℕ, ◌+◌, ◌<◌, ◌≤◌, Bool, true, false, cond, List, [], ◌∷◌, ◌++◌, map, reverse, length, get_or, take, Some}
 use Rattle.std.proofs.Common.{inl, inr, refl, sym, ap, ◌∙◌, subst, arith, BTreeMap, String, bytes_eq, unwrap_or}
 use Rattle.std.specs.BTreeMap.{IsEmpty, get_by_text}
@@ -11,7 +11,7 @@ use Rattle.markdown.specs.OutlineWords.{EntryView}
 use Rattle.markdown_uses.specs.Contents.{depth, plain_anchor}
 use Rattle.markdown_uses.specs.ContentsSoFar.{AreOpen, AreReadyAfter, Counts, CountsOneMore, IsStair, lower_from, times_of}
 
--- a level stands above where it is lower, and beside where it is not
+-- a level is above where it is lower, and otherwise it is not
 depth-above : (level nearest : ℕ) (others : List ℕ) → nearest < level → depth level (nearest ∷ others) ≡ depth nearest others + 1
 depth-above level nearest others l = sym (cond_below nearest level (depth nearest others + 1) (depth level others) l)
 
@@ -35,7 +35,7 @@ stair-lower level (nearest ∷ others) stair = elim (cases_lt nearest level) [
   | inr l ↦ subst IsStair (sym (lower-others level nearest others l)) (stair-lower level others stair.1)
 ]
 
--- as many as stand above the level
+-- as many as are above the level
 depth-lower : (level : ℕ) (levels : List ℕ) → IsStair levels → depth level levels ≡ length (lower_from level levels)
 depth-lower level [] stair = refl
 depth-lower level (nearest ∷ others) stair = elim (cases_lt nearest level) [
@@ -51,7 +51,7 @@ stair-top level (nearest ∷ others) stair = elim (cases_lt nearest level) [
   | inr l ↦ rw (lower-others level nearest others l) (stair-top level others stair.1)
 ]
 
--- behind the level a nearer one that is no lower counts no more
+-- after the level a nearer one that is not lower no longer counts
 depth-hidden : (any level nearest : ℕ) (others : List ℕ) → level ≤ nearest
     → depth any (level ∷ nearest ∷ others) ≡ depth any (level ∷ others)
 depth-hidden any level nearest others l = elim (cases_lt level any) [
@@ -84,7 +84,7 @@ module _ (level : ℕ) (open_levels levels : List ℕ) (are : AreOpen open_level
     same = λ any. depth-kept any level open_levels ∙ same-behind any;
   }
 
--- at the end of a list of levels stands the nearest
+-- the nearest level is at the end of the list
 pub nearest-last : (levels : List ℕ) (above : ℕ) (nearest : ℕ) → above < length levels → nearest ≡ get_or levels above nearest
     → reverse (take (above + 1) levels) ≡ nearest ∷ reverse (take above levels)
 nearest-last levels above nearest l is =
@@ -104,7 +104,7 @@ above-made above level open_old within lower =
     sym (length-take-le above open_old within) ∙ sym (length-reverse (take above open_old)) ∙ ap length lower
 
 module _ {Y : Type 0} where
-  -- an anchor whose count was set to one more stood once more
+  -- an anchor whose count was set to one more has occurred once more
   pub counts-set : (old new : BTreeMap (String Y) ℕ) (anchor : List ℕ)
       → ((other : List ℕ) → get_by_text new other ≡ update bytes_eq (get_by_text old) anchor (Some (times_of old anchor + 1)) other)
       → CountsOneMore old new anchor
@@ -116,7 +116,7 @@ module _ {Y : Type 0} where
       now true e = rw e (ap (λ a. times_of old a + 1) ((bytes_decides anchor other).0 e))
       now false e = rw e (omega arith)
 
-  -- so each stood as often as it is among all, with this one
+  -- so each has occurred as often as it is among all, with this one
   pub counts-more : (old new : BTreeMap (String Y) ℕ) (anchors : List (List ℕ)) (anchor : List ℕ) → Counts old anchors
       → CountsOneMore old new anchor → Counts new (anchors ++ anchor ∷ [])
   counts-more old new anchors anchor counts more other =
@@ -128,7 +128,7 @@ module _ {Y : Type 0} where
       → times_of times anchor ≤ length anchors
   counts-few times anchors anchor counts = omega (arith, counts anchor, count_by-le-length (λ other. bytes_eq other anchor) anchors)
 
-  -- with no heading nothing is open, and no anchor stood
+  -- before the first heading no level is open, and no anchor has occurred
   pub ready-first : (open_levels : List ℕ) (times : BTreeMap (String Y) ℕ) → open_levels ≡ [] → IsEmpty times
       → AreReadyAfter open_levels times []
   ready-first open_levels times none empty = record {

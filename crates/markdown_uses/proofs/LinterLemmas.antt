@@ -1,4 +1,4 @@
--- What one more byte makes of the place behind it.
+-- The place after one more byte.
 use Rattle.std.proofs.Common.{◌≡◌, ℕ, suc, ◌+◌, ◌<◌, ◌∙◌, cond, List, [], ◌∷◌, ◌++◌, Bool, true, false, add-one, ap, append-nil, arith, get_or, length, map, refl, sym, take}
 use Rattle.std.specs.Prelude.{filter}
 use Rattle.std.specs.declared.ops.Range.{Range}
@@ -9,7 +9,7 @@ use Rattle.markdown.specs.ReadingWords.{Ranged, viewed}
 use Rattle.markdown_uses.specs.Linter.{bytes_before, ends_line, html_places, is_html, lines_before, offsets_before, place_at}
 use Rattle.markdown_uses.specs.declared.linter.Place.{Place}
 
--- the place behind a byte, by how many lines end before it, and how many bytes of its line stand there
+-- the place after a byte, from the number of lines that end before it, and of the bytes of its line before it
 pub record ComesTo (text : List ℕ) (at line column : ℕ) : Type 0 where
   pub lines : lines_before text (at + 1) ≡ line
   pub bytes : bytes_before text (at + 1) ≡ column
@@ -26,7 +26,7 @@ line_ended text at ends = record {
   bytes = rw (add-one at, ends) refl;
 }
 
--- else the same line goes on
+-- otherwise the same line continues
 pub line_continued : (text : List ℕ) (at : ℕ) → ends_line text at ≡ false
     → ComesTo text at (lines_before text at) (bytes_before text at + 1)
 line_continued text at goes_on = record {
@@ -34,7 +34,7 @@ line_continued text at goes_on = record {
   bytes = rw (add-one at, goes_on) (omega arith);
 }
 
--- the places of one more event stand behind those of the others
+-- the places of one more event follow those of the others
 html_if : (text : List ℕ) (es : List Ranged) (e x : Ranged) (b : Bool)
     → html_places text (es ++ e ∷ []) ≡ html_places text es ++ html_places text (e ∷ [])
     → map (λ (y : Ranged). place_at text y.1.start)
@@ -49,12 +49,12 @@ html_more : (text : List ℕ) (es : List Ranged) (e : Ranged)
 html_more text [] e = refl
 html_more text (x ∷ es) e = html_if text es e x (is_html x.0) (html_more text es e)
 
--- an event has one place, if it is raw HTML, and else none
+-- an event has one place if it is raw HTML, and otherwise none
 html_one : (text : List ℕ) (e : Ranged) (b : Bool) → b ≡ is_html e.0
     → html_places text (e ∷ []) ≡ map (λ (y : Ranged). place_at text y.1.start) (cond b (e ∷ []) [])
 html_one text e b h = ap (λ (b : Bool). map (λ (y : Ranged). place_at text y.1.start) (cond b (e ∷ []) [])) (sym h)
 
--- an event as it is seen, with its range
+-- the view of an event, with its range
 abbrev see : Event × Range ℕ → Ranged
 see e = (event_view e.0, e.1)
 

@@ -1,4 +1,4 @@
--- What is written of a mapped parser: the events of the parser, as they stand on a page.
+-- What is written of a mapped parser: the events of the parser, as a page has them.
 use Rattle.std.proofs.Common.{◌≡◌, ℕ, List, [], ◌∷◌, map, Ok, Err, Option, Some, None, Result, false, ap, refl, subst, sym, ◌∙◌}
 use Rattle.std.specs.Iterator.{Drains}
 use Rattle.std.specs.Prelude.{is_some}
@@ -11,12 +11,12 @@ use Rattle.markdown.specs.ReadingWords.{reading_of}
 use Rattle.markdown.proofs.CallerLemmas.{drained_unasked}
 use Rattle.markdown_uses.specs.SiteGenerator.{IsItemOnPage, IsPageOf, event_on_page}
 
--- what an iterator of events gives
+-- what an iterator of events returns
 abbrev Item : Type 0
 Item = Result Event Fault
 
 module _ {S : Type 0} (reads : S → Option Item → S → Type 0) where
-  -- these events are all that an iterator gives, as they stand on a page
+  -- these events are all that an iterator returns, as a page has them
   abbrev pub AreOnPage : S → List Event → Type 0
   AreOnPage s given = (read : List Event) × Drains reads s (items read)
       × (map event_view given ≡ map event_on_page (map event_view read))
@@ -38,8 +38,8 @@ module _ {S : Type 0} (reads : S → Option Item → S → Type 0) where
         let x = maps m j (Ok e) h in
         before (source m) (source j) x.0 e given x.1 x.2 (all_on_page j given (u, (t, y, z)))
 
-  -- where an iterator gives each item of its source as it stands on a page, and None at None, so are the events that
-  -- were written those of the source
+  -- where an iterator returns each item of its source as a page has it, and None at None, the events written are those
+  -- of the source
   pub on_page : {M : Type 0} {steps : M → Option Item → M → Type 0} {m : M} {old html : List ℕ} (r : IsRendered steps m old html)
       (source : M → S) → ((s t : M) → steps s None t → reads (source s) None (source t))
       → ((s t : M) (y : Item) → steps s (Some y) t

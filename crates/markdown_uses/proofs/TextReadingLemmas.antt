@@ -1,4 +1,4 @@
--- What a new parser of a text gives is the reading of the text.
+-- What a new parser of a text returns is the reading of the text.
 use Rattle.std.proofs.Common.{◌≡◌, ℕ, List, [], ◌∷◌, ◌++◌, map, Ok, Err, Result, Option, None, Some, false, true, refl, ap, subst, sym, ◌∙◌}
 use Rattle.std.specs.Iterator.{Drains, Yields}
 use Rattle.std.specs.Prelude.{is_some}
@@ -12,7 +12,7 @@ use Rattle.markdown.specs.ReadingWords.{questions_of, ranged, reading_of, viewed
 use Rattle.markdown.proofs.CallerLemmas.{events_of-questions}
 use Rattle.markdown_uses.specs.TextReading.{AreEventsOf, AreQuestionsOf}
 
--- events are seen as those of the reading that they are
+-- the views of events are those of the reading's events
 viewed-placed : (source : List ℕ) (given : List (Event × Range ℕ)) (events : List Placed)
     → AreOf IsPlacedOf source given events → viewed given ≡ ranged events
 viewed-placed source [] [] are = refl
@@ -22,7 +22,7 @@ viewed-placed source (e ∷ given) (placed ∷ events) are =
     rw (are.0.is_event.view, are.0.range, viewed-placed source given events are.1) refl
 
 module _ {F : Type 0} (step : F → Question → Option Answer → F → Type 0) where
-  -- where nobody is asked, nothing is answered
+  -- without a callback there is no answer
   unasked : (questions : List Question) (answers : Answers) (after : Option F) → Asks step None questions answers after
       → answers ≡ []
   unasked [] [] after asks = refl
@@ -30,7 +30,7 @@ module _ {F : Type 0} (step : F → Question → Option Answer → F → Type 0)
   unasked (q ∷ questions) [] after asks = absurd asks
   unasked (q ∷ questions) (answer ∷ answers) after asks = absurd asks
 
-  -- so what a parser without a callback gives are the events of its text, whatever would be answered
+  -- so what a parser without a callback returns are the events of its text, for any answers
   pub are_events : (text : List ℕ) (p : Parser F) (o : OffsetIter F) (given : List (Event × Range ℕ)) (after : Option F)
       → ReadsText text no_options p → parser_callback p ≡ None → offset_parser o ≡ p
       → GaveRest IsPlacedOf step (offset_parser o) given after → AreEventsOf text (viewed given)
@@ -50,7 +50,7 @@ module _ {F : Type 0} (step : F → Question → Option Answer → F → Type 0)
             viewed-placed (parser_text p) given rest.events rest.are ∙ ap ranged (sym left ∙ ap events_of read);
       }
 
-  -- nor is there a callback afterwards
+  -- and there is no callback afterwards
   nobody_after : (questions : List Question) (answers : Answers) (after : Option F) → Asks step None questions answers after
       → after ≡ None
   nobody_after [] [] after asks = sym asks
@@ -62,7 +62,7 @@ module _ {F : Type 0} (step : F → Question → Option Answer → F → Type 0)
   abbrev pub OffsetSteps : OffsetIter F → Option (Result (Event × Range ℕ) Fault) → OffsetIter F → Type 0
   OffsetSteps o r t = NextGives step IsPlacedOf (offset_parser o) r (offset_parser t)
 
-  -- what such an iterator gives without a callback, up to its None, is what was left
+  -- what such an iterator returns without a callback, up to its None, is what was left
   all-given : (o : OffsetIter F) (given : List (Event × Range ℕ)) → Drains OffsetSteps o (map (λ e. Ok e) given)
       → parser_callback (offset_parser o) ≡ None → (later : Answers)
       → ranged (events_of (elements (offset_parser o) later)) ≡ viewed given
@@ -79,7 +79,7 @@ module _ {F : Type 0} (step : F → Question → Option Answer → F → Type 0)
       let rest = all-given j given (u, (t, y, z)) (nobody_after g.questions g.answers (parser_callback (offset_parser j)) asked) later in
       rw (first, g.is_item.is_event.view, g.is_item.range, rest) refl
 
-  -- so these are the events of the text, whatever would be answered
+  -- so these are the events of the text, for any answers
   pub are_events_given : (text : List ℕ) (p : Parser F) (o : OffsetIter F) (given : List (Event × Range ℕ))
       → ReadsText text no_options p → parser_callback p ≡ None → offset_parser o ≡ p
       → Drains OffsetSteps o (map (λ e. Ok e) given) → AreEventsOf text (viewed given)
@@ -94,7 +94,7 @@ module _ {F : Type 0} (step : F → Question → Option Answer → F → Type 0)
         ∙ ap (λ es. ranged (events_of es)) read;
   }
 
-  -- an error of such an iterator is one of memory
+  -- the only error of such an iterator is Memory
   pub only_memory : (o left : OffsetIter F) (given : List (Event × Range ℕ)) (fault : Fault)
       → Yields OffsetSteps o (map (λ e. Ok e) given ++ Err fault ∷ []) left → fault ≡ Fault.Memory
   only_memory o left [] fault (j, h, y) = h.gives.memory

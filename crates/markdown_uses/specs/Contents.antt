@@ -11,32 +11,33 @@ use Rattle.markdown.specs.OutlineWords.{EntryView, entries_of}
 use Rattle.markdown.specs.ReadingWords.{Ranged}
 use Rattle.markdown_uses.specs.TextReading.{AreEventsOf}
 
--- letters and digits of every script, `-` and `_` stand in an anchor
+-- whether an anchor keeps a character: it is a letter or a digit of any script, `-` or `_`
 abbrev pub stays_in_anchor : ℕ → Bool
 stays_in_anchor c = ((c == hyphen) || (c == underscore)) || (is_alphabetic c || is_numeric c)
 
--- what stands in an anchor for a character: `-` for a space, and nothing for those that do not stay
+-- what a character becomes in an anchor: `-` for a space, and nothing for one that an anchor does not keep
 abbrev pub anchor_char : ℕ → List ℕ
 anchor_char c = if c == space then codes "-" else if stays_in_anchor c then encode_utf8 c else []
 
--- the anchor of a heading's text, without a number: what stands for its characters in lower case
+-- the anchor of a heading's text, without a number: what its characters in lower case become
 abbrev pub plain_anchor : List ℕ → List ℕ
 plain_anchor text = flat_map anchor_char (chars (str_to_lowercase text))
 
--- an anchor that stood so many times before has that number behind it
+-- an anchor that has occurred this number of times before: followed by that number, unless it is 0
 abbrev pub numbered : List ℕ → ℕ → List ℕ
 numbered anchor times = if times == 0 then anchor else anchor ++ codes "-" ++ decimal times
 
--- the anchor of a heading's text, behind headings with these texts
+-- the anchor of a heading's text, after headings with these texts
 abbrev pub anchor_of : (before : List (List ℕ)) → List ℕ → List ℕ
 anchor_of before text =
     numbered (plain_anchor text) (count_by (λ other. bytes_eq other (plain_anchor text)) (map plain_anchor before))
 
--- what may be markup in the text of a link
+-- whether a character may be markup in the text of a link
 abbrev pub is_markup : ℕ → Bool
 is_markup c = list_any (λ mark. c == mark) (codes "\\[]*_`<&")
 
--- what stands in a link's text for a character: a reference for a line ending, and a backslash before what may be markup
+-- what a character is written as in a link's text: a numeric reference for a line ending, and after a backslash
+-- where it may be markup
 abbrev pub escaped_char : ℕ → List ℕ
 escaped_char c =
     if c == line_feed then codes "&#10;"
@@ -44,17 +45,17 @@ escaped_char c =
     else if is_markup c then codes "\\" ++ encode_utf8 c
     else encode_utf8 c
 
--- what stands in a link's text for a text
+-- what a text is written as in a link's text
 abbrev pub escaped : List ℕ → List ℕ
 escaped text = flat_map escaped_char (chars text)
 
--- how many headings stand above one of this level, behind headings of these levels, the last of them first: the nearest
--- of a lower level, and those above that
+-- the number of headings above one of this level, after headings of these levels, of which the latest is first: the
+-- nearest of a lower level, and those above that
 abbrev pub depth : ℕ → List ℕ → ℕ
 depth level [] = 0
 depth level (nearest ∷ others) = if nat_lt nearest level then depth nearest others + 1 else depth level others
 
--- two spaces for each
+-- two spaces for each heading above
 abbrev pub indent : ℕ → List ℕ
 indent zero = []
 indent (suc depth) = codes "  " ++ indent depth
@@ -63,12 +64,12 @@ indent (suc depth) = codes "  " ++ indent depth
 abbrev pub line : (depth : ℕ) (text anchor : List ℕ) → List ℕ
 line depth text anchor = indent depth ++ codes "- [" ++ escaped text ++ codes "](#" ++ anchor ++ codes ")\n"
 
--- the line of a heading behind others
+-- the line of a heading after these headings
 abbrev pub line_after : List EntryView → EntryView → List ℕ
 line_after before e =
     line (depth e.level (reverse (map (λ b. b.level) before))) e.text (anchor_of (map (λ b. b.text) before) e.text)
 
--- the lines of headings behind others
+-- the lines of headings after these headings
 abbrev pub lines_after : List EntryView → List EntryView → List ℕ
 lines_after before [] = []
 lines_after before (e ∷ entries) = line_after before e ++ lines_after (before ++ e ∷ []) entries

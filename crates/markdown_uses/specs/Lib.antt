@@ -1,8 +1,8 @@
--- what contracts speak of, a use each, and what three of them read of a text
+-- definitions for each use, and the reading of a text, for three of them
 pub mod SiteGenerator
 pub mod TextReading
 pub mod LinkChecker
 pub mod Linter
 pub mod Contents
--- For private clauses.
+-- the terms of private clauses
 pub mod ContentsSoFar

@@ -1,5 +1,5 @@
--- What a link checker reports of a text: the destinations of its links and images, and the number
--- of undefined labels.
+-- What a link checker reports: the destinations of a text's links and images, and the number of its
+-- undefined link labels.
 use Rattle.std.specs.Prelude.{◌≡◌, ℕ, ◌+◌, ◌-◌, ◌^◌, min, List, length, Option, Some, None}
 use Rattle.std.specs.List.{filter_map}
 use Rattle.std.specs.Option.{option_map}
@@ -48,12 +48,12 @@ pub record AreLinksOf (text : List ℕ) (targets : List Target) : Type 0 where
 abbrev pub greatest_count : ℕ
 greatest_count = 2 ^ 64 - 1
 
--- a question is counted, up to the greatest count, and gets no answer
+-- a question is counted, up to the greatest count, and the answer is None
 abbrev pub CountsQuestion : UndefinedLabels → Question → Option Answer → UndefinedLabels → Type 0
 CountsQuestion old question answer new =
     (answer ≡ None) × (new.count ≡ min (old.count + 1) greatest_count)
 
--- this is the number of questions that are asked about a text, up to the greatest count
+-- this is the number of questions of the reading of a text, up to the greatest count
 pub record CountsQuestions (text : List ℕ) (count : ℕ) : Type 0 where
   pub questions : List Question
   pub asked : AreQuestionsOf text questions

@@ -8,8 +8,8 @@ use Rattle.markdown.specs.ReadingWords.{Ranged}
 use Rattle.markdown_uses.specs.TextReading.{AreEventsOf}
 use Rattle.markdown_uses.specs.declared.linter.Place.{Place}
 
--- a line ends with the byte at an offset: a line feed, or a carriage return with no line feed after
--- it
+-- whether a line ends with the byte at an offset: a line feed, or a carriage return with no line feed
+-- after it
 abbrev pub ends_line : List ℕ → ℕ → Bool
 ends_line text at =
     (slice_index text at == line_feed)
@@ -20,11 +20,11 @@ abbrev pub offsets_before : ℕ → List ℕ
 offsets_before zero = []
 offsets_before (suc at) = at ∷ offsets_before at
 
--- how many lines end before an offset
+-- the number of lines that end before an offset
 abbrev pub lines_before : List ℕ → ℕ → ℕ
 lines_before text at = count_by (ends_line text) (offsets_before at)
 
--- how many bytes of its own line come before an offset
+-- the number of bytes between the start of its line and an offset
 abbrev pub bytes_before : List ℕ → ℕ → ℕ
 bytes_before text at = prefix_len (λ k. not (ends_line text k)) (offsets_before at)
 
@@ -36,13 +36,13 @@ place_within text at = record { line = lines_before text at + 1; column = bytes_
 abbrev pub place_at : List ℕ → ℕ → Place
 place_at text offset = place_within text (min offset (length text))
 
--- an event is raw HTML: a tag or comment in a paragraph, or a line of an HTML block
+-- whether an event is raw HTML: a tag or comment in a paragraph, or a line of an HTML block
 abbrev pub is_html : EventView → Bool
 is_html (html bytes) = true
 is_html (inline_html bytes) = true
 is_html other = false
 
--- where the raw HTML among some events begins, in order
+-- the places where the raw HTML among these events begins, in order
 abbrev pub html_places : List ℕ → List Ranged → List Place
 html_places text events = map (λ e. place_at text e.1.start) (filter (λ e. is_html e.0) events)
 

@@ -1,4 +1,4 @@
--- What a page is: the HTML of the events of a text, where soft breaks are hard and headings are one level down.
+-- A page: the HTML of the events of a text, where soft breaks are hard and headings are one level down.
 use Rattle.std.specs.Prelude.{◌≡◌, ℕ, false, List, map, Result, Ok, Err}
 use Rattle.markdown.specs.BlockWords.{Blocks, IsOfText}
 use Rattle.markdown.specs.DefsWords.{Answers}
@@ -8,7 +8,7 @@ use Rattle.markdown.specs.HtmlWords.{html_of, views_of}
 use Rattle.markdown.specs.OptionWords.{Options}
 use Rattle.markdown.specs.ReadingWords.{reading_of}
 
--- one level down; level 6 stays
+-- the level below a level; level 6 for level 6
 abbrev pub one_below : HeadingLevel → HeadingLevel
 one_below HeadingLevel.H1 = HeadingLevel.H2
 one_below HeadingLevel.H2 = HeadingLevel.H3
@@ -17,20 +17,20 @@ one_below HeadingLevel.H4 = HeadingLevel.H5
 one_below HeadingLevel.H5 = HeadingLevel.H6
 one_below HeadingLevel.H6 = HeadingLevel.H6
 
--- an event as it stands on a page
+-- an event as a page has it
 abbrev pub event_on_page : EventView → EventView
 event_on_page soft_break = hard_break
 event_on_page (start (heading h)) = start (heading (record h { level = one_below h.level }))
 event_on_page (end (TagEnd.Heading level)) = end (TagEnd.Heading (one_below level))
 event_on_page other = other
 
--- the second item has the event of the first as it stands on a page; an error stays
+-- the second item is the first, with its event as a page has it
 abbrev pub IsItemOnPage : Result Event Fault → Result Event Fault → Type 0
 IsItemOnPage (Ok e) (Ok made) = event_view made ≡ event_on_page (event_view e)
 IsItemOnPage (Ok e) (Err fault) = ⊥
 IsItemOnPage (Err fault) made = made ≡ Err fault
 
--- this is the HTML of the events of a block result of the text with these options, each as it stands on a page
+-- this is the HTML of the events of a block result of the text with these options, each as a page has it
 pub record IsPageOf (text : List ℕ) (options : Options) (html : List ℕ) : Type 0 where
   pub blocks : Blocks
   pub of_text : IsOfText text options blocks

@@ -12,14 +12,14 @@ use markdown::{Fault, Parser};
 use std::alloc::Global;
 use std::collections::BTreeMap;
 
-/// Returns whether a character stands in an anchor: letters and digits of every script, `-` and `_`.
+/// Returns whether an anchor keeps a character: it is a letter or a digit of any script, `-` or `_`.
 fn stays_in_anchor(c: char) -> bool
     ensures { result ≡ stays_in_anchor c }
 {
     c == '-' || c == '_' || c.is_alphanumeric()
 }
 
-/// Appends what stands in an anchor for a character: `-` for a space, and nothing for those that do not stay.
+/// Appends what a character becomes in an anchor: `-` for a space, and nothing for one that is not kept.
 fn push_anchor_char(anchor: &mut String, c: char) -> Result<(), Fault>
     ensures ok { OnOk result (string_bytes anchor.new ≡ string_bytes anchor.old ++ anchor_char c) }
     ensures refused { IfErr result (λ fault. fault ≡ Fault.Memory) }
@@ -47,7 +47,7 @@ fn plain_anchor(alloc: Global, text: &str) -> Result<String, Fault>
     Ok(anchor)
 }
 
-/// Returns an anchor that stood so many times before: with that number behind it, if it did.
+/// Returns an anchor that has occurred `times` times before: followed by that number, unless it is 0.
 fn numbered(alloc: Global, anchor: &str, times: usize) -> Result<String, Fault>
     ensures anchor { IfOk result (λ made. string_bytes made ≡ numbered anchor.now times) }
     ensures refused { IfErr result (λ fault. fault ≡ Fault.Memory) }
@@ -58,7 +58,7 @@ fn numbered(alloc: Global, anchor: &str, times: usize) -> Result<String, Fault>
     Ok(format!(in alloc; "{anchor}-{times}")?)
 }
 
-/// Returns the anchor of a heading's text, with a number behind it if it stood before, and counts it once more.
+/// Returns the anchor of a heading's text, followed by a number if it has occurred before, and counts it once more.
 fn next_anchor(
     alloc: Global,
     times: &mut BTreeMap<String, usize>,
@@ -77,7 +77,7 @@ fn next_anchor(
     Ok(anchor)
 }
 
-/// Returns how many of the open levels a heading of this level stands below: all but those at the end that are no lower.
+/// Returns the number of open levels above a heading of this level: all but those at the end that are not lower.
 fn count_above(open_levels: &[u8], level: u8) -> usize
     ensures within { result ≤ length open_levels.now }
     ensures lower { reverse (take result open_levels.now) ≡ lower_from level (reverse open_levels.now) }
@@ -89,8 +89,8 @@ fn count_above(open_levels: &[u8], level: u8) -> usize
     above
 }
 
-/// Returns how many headings stand above the next one, which is of this level. From then on it is open, and of the levels
-/// before only those above it, so that each is taken off once.
+/// Returns the number of headings above the next heading, which has this level. Its level is then open, and of the
+/// levels before it only those above it, so that each is removed once.
 fn next_depth(open_levels: &mut Vec<u8>, level: u8) -> Result<usize, Fault>
     ensures depth { IfOk result (λ above. (levels : List ℕ)
         → AreOpen (reverse open_levels.old.items) levels → above ≡ depth level levels) }
@@ -112,7 +112,7 @@ fn is_markup(c: char) -> bool
     matches!(c, '\\' | '[' | ']' | '*' | '_' | '`' | '<' | '&')
 }
 
-/// Appends a character of a link's text, so that it is read back as that character.
+/// Appends a character of a link's text, escaped so that it is parsed as that character.
 fn push_escaped_char(list: &mut String, c: char) -> Result<(), Fault>
     ensures ok { OnOk result (string_bytes list.new ≡ string_bytes list.old ++ escaped_char c) }
     ensures refused { IfErr result (λ fault. fault ≡ Fault.Memory) }
@@ -129,8 +129,8 @@ fn push_escaped_char(list: &mut String, c: char) -> Result<(), Fault>
     Ok(list.push(c)?)
 }
 
-/// Appends the text of a link. A backslash comes before `\`, `[`, `]`, `*`, `_`, `` ` ``, `<` and `&`, and a line ending is
-/// a numeric reference, so that the text is read back where no extension is enabled.
+/// Appends the text of a link. `\`, `[`, `]`, `*`, `_`, `` ` ``, `<` and `&` are escaped by a backslash, and a line
+/// ending is a numeric reference, so that a parser without extensions reads the same text.
 fn push_escaped(list: &mut String, text: &str) -> Result<(), Fault>
     ensures ok { OnOk result (string_bytes list.new ≡ string_bytes list.old ++ escaped text.now) }
     ensures refused { IfErr result (λ fault. fault ≡ Fault.Memory) }
@@ -167,7 +167,7 @@ fn push_line(list: &mut String, depth: usize, text: &str, anchor: &str) -> Resul
     Ok(())
 }
 
-/// Returns the table of contents of these headings, in a time that grows as their number by its logarithm.
+/// Returns the table of contents of these headings. For `n` of them it takes time in O(n log n).
 fn list_of(alloc: Global, headings: &[Entry]) -> Result<String, Fault>
     ensures list { IfOk result (λ list.
         string_bytes list ≡ contents_of (map entry_view headings.now)) }
@@ -198,7 +198,8 @@ pub fn headings(alloc: Global, source: &str) -> Result<Vec<Entry>, Fault>
 
 /// Returns the table of contents of a text: a line for each heading, below the nearest heading of a lower level, with a
 /// link to its anchor. The anchor is GitHub's: the heading's text in lower case, with `-` for each space, without
-/// punctuation but `-` and `_`, and with `-1`, `-2` and so on where it stood before. The only error is `Fault::Memory`.
+/// punctuation but `-` and `_`, and with `-1`, `-2` and so on where it has occurred before. The only error is
+/// `Fault::Memory`.
 pub fn contents(alloc: Global, source: &str) -> Result<String, Fault>
     ensures contents { IfOk result (λ list. IsContentsOf source.now (string_bytes list)) }
     ensures refused { IfErr result (λ fault. fault ≡ Fault.Memory) }

@@ -1,5 +1,5 @@
-//! A link checker: the destinations of a text's links and images, and how many of its labels are
-//! undefined.
+//! A link checker: the destinations of a text's links and images, and the number of its undefined link
+//! labels.
 ghost use Rattle.std.specs.Prelude.{◌≡◌, IfOk, IfErr, map};
 ghost use Rattle.std.specs.Option.{option_map};
 ghost use Rattle.markdown.specs.EventWords.{event_view, tag_view, text_of};
@@ -14,11 +14,11 @@ use std::ops::Range;
 #[derive(Debug, Drop)]
 pub struct Link<'a> {
     pub destination: CowStr<'a>,
-    /// The bytes of the text that it spans.
+    /// The source range.
     pub range: Range<usize>,
 }
 
-/// Returns the destination of a link or an image.
+/// Returns the destination of a tag, if it is a link or an image.
 fn destination_of<'a>(tag: Tag<'a>) -> Option<CowStr<'a>>
     ensures { option_map text_of result ≡ tag_destination (tag_view tag.entry) }
 {
@@ -29,7 +29,7 @@ fn destination_of<'a>(tag: Tag<'a>) -> Option<CowStr<'a>>
     }
 }
 
-/// Returns the link or image that begins with an event.
+/// Returns the link or image that begins with an event, if one does.
 fn link_at<'a>(event: Event<'a>, range: Range<usize>) -> Option<Link<'a>>
     ensures { option_map link_target result ≡ event_target (event_view event.entry, range) }
 {
@@ -61,7 +61,7 @@ pub fn links<'a>(alloc: Global, source: &'a str) -> Result<Vec<Link<'a>>, Fault>
     Ok(links)
 }
 
-/// A callback that counts the undefined labels and supplies no destination for any of them.
+/// A callback that counts the undefined link labels and returns no destination for any of them.
 #[derive(Drop)]
 struct UndefinedLabels {
     count: u64,
@@ -81,7 +81,7 @@ impl<'a> BrokenLinkCallback<'a> for UndefinedLabels {
     }
 }
 
-/// Returns how many references of a text have an undefined label. The only error is
+/// Returns the number of references of a text that have an undefined link label. The only error is
 /// `Fault::Memory`.
 pub fn count_undefined(alloc: Global, source: &str) -> Result<u64, Fault>
     ensures count { IfOk result (λ count. CountsQuestions source.now count) }
@@ -101,7 +101,7 @@ pub fn count_undefined(alloc: Global, source: &str) -> Result<u64, Fault>
     }
 }
 
-/// Returns one line of text for each link and image, and then the number of undefined labels.
+/// Returns a line for each link and image, and then the number of undefined link labels.
 pub fn report(alloc: Global, source: &str) -> Result<String, Fault> {
     let mut lines = String::new(alloc);
     for link in &links(alloc, source)? {

@@ -1,4 +1,4 @@
-//! A linter that reports the line and column of each piece of raw HTML in a text.
+//! A linter: the line and column of each piece of raw HTML in a text.
 ghost use Rattle.std.specs.Prelude.{◌≡◌, ◌<◌, IfOk, IfErr, length};
 ghost use Rattle.markdown.specs.EventWords.{event_view};
 ghost use Rattle.markdown_uses.specs.Linter.{AreHtmlPlacesOf, ends_line, is_html, place_at};
@@ -72,7 +72,7 @@ pub fn raw_html(alloc: Global, source: &str) -> Result<Vec<Place>, Fault>
     Ok(places)
 }
 
-/// Returns one line of text for each piece of raw HTML.
+/// Returns a line for each piece of raw HTML.
 pub fn report(alloc: Global, source: &str) -> Result<String, Fault> {
     let mut lines = String::new(alloc);
     for place in &raw_html(alloc, source)? {

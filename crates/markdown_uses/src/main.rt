@@ -1,4 +1,4 @@
-//! Uses of the library, each on one page of Markdown.
+//! Uses of the library, each run on a page of Markdown.
 #![tactic(auto)]
 
 mod contents;
@@ -10,7 +10,7 @@ use markdown::{Fault, Options};
 use std::alloc::Global;
 use std::process::ExitCode;
 
-/// The page that is read.
+/// The page of every use but the table of contents.
 const PAGE: &str = "\
 # Bread
 Flour and water,
@@ -23,7 +23,7 @@ A <b>sourdough</b> takes longer.
 <hr>
 ";
 
-/// The page of which the table of contents is made.
+/// The page of the table of contents.
 const CHAPTERS: &str = "\
 # Baking
 ## Bread, with *yeast*
@@ -34,7 +34,7 @@ Glaze & fruit
 -------------
 ";
 
-/// What each use says of a page.
+/// Returns the output of each use, one after another.
 fn report(alloc: Global, source: &str) -> Result<String, Fault> {
     let mut notes = String::new(alloc);
     let html = site_generator::page_html(alloc, source, Options::empty())?;

@@ -1,4 +1,4 @@
-//! A site generator: lines end where they do in the text, and headings stand below the title of the site.
+//! A site generator: lines break where they do in the source, and headings move down below the title of the site.
 ghost use Rattle.std.specs.Prelude.{◌≡◌, IfOk, string_bytes};
 ghost use Rattle.markdown.specs.EventWords.{event_view};
 ghost use Rattle.markdown_uses.specs.SiteGenerator.{IsItemOnPage, IsPageOf, event_on_page, one_below};
@@ -7,7 +7,7 @@ use markdown::html::push_html;
 use markdown::{Event, Fault, HeadingLevel, Options, Parser, Tag, TagEnd};
 use std::alloc::Global;
 
-/// The HTML of a page.
+/// Returns the HTML of a page.
 ///
 /// # Errors
 ///
@@ -21,14 +21,14 @@ pub fn page_html(alloc: Global, source: &str, options: Options) -> Result<String
     Ok(html)
 }
 
-/// An item of a parser, with its event as it stands on a page; an error stays.
+/// Changes the event of an item by `page_event`, and returns an error unchanged.
 fn page_item<'a>(item: Result<Event<'a>, Fault>) -> Result<Event<'a>, Fault>
     ensures { IsItemOnPage item.entry result }
 {
     Ok(page_event(item?))
 }
 
-/// An event as it stands on a page: soft breaks are hard, and headings are one level down.
+/// Returns an event as a page has it: soft breaks become hard breaks, and headings move one level down.
 pub fn page_event<'a>(event: Event<'a>) -> Event<'a>
     ensures { event_view result ≡ event_on_page (event_view event.entry) }
 {
@@ -52,7 +52,7 @@ pub fn page_event<'a>(event: Event<'a>) -> Event<'a>
     }
 }
 
-/// One level down; level 6 stays.
+/// Returns the level below a level, or level 6 for level 6.
 fn one_below(level: HeadingLevel) -> HeadingLevel
     ensures { result ≡ one_below level }
 {

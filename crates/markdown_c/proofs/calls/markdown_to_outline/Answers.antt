@@ -1,4 +1,4 @@
--- The outcome is that of the library, and the number crosses as it is.
+-- The outcome is that of the library, and the number is returned unchanged.
 use Rattle.std.proofs.Common.{◌∙◌, rules, to_z-of_z, w64, SFits}
 use Rattle.markdown_c.specs.CallsFromC.{bytes_of}
 use Rattle.markdown_c.proofs.calls.markdown_to_outline.Goals as goal

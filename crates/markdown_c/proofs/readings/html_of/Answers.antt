@@ -1,4 +1,4 @@
--- The rendering with nobody to ask, of bytes that are text.
+-- The rendering without a callback, of bytes that are text.
 use Rattle.std.proofs.lemmas.Result.{err_from_is_err_and}
 use Rattle.markdown_c.proofs.OutcomeLemmas.{html_of_text, html_refused}
 use Rattle.markdown_c.proofs.readings.html_of.Goals as goal

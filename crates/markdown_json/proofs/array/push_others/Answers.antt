@@ -1,8 +1,8 @@
-use Rattle.std.proofs.Common.{◌++◌, get_or}
+use Rattle.std.proofs.Common.{get_or}
 use Rattle.std.specs.String.{string_bytes}
 use Rattle.std.proofs.lemmas.Result.{err_from_is_err_and}
 use Rattle.markdown_out.specs.ByteLists.{AppendsPrefix}
-use Rattle.markdown_out.proofs.ByteListsLemmas.{StandsTo-none, StandsTo-more, StandsTo-all, StandsTo-prefix}
+use Rattle.markdown_out.proofs.ByteListsLemmas.{StandsTo-none, StandsTo-all, StandsTo-prefix}
 use Rattle.markdown_json.specs.Json.{further}
 use Rattle.markdown_json.proofs.array.push_others.Goals as goal
 

@@ -1,4 +1,4 @@
--- The values so far stand behind the old text.
+-- The old text is followed by the values so far.
 use Rattle.std.specs.String.{string_bytes}
 use Rattle.markdown_out.proofs.ByteListsLemmas.{StandsTo}
 use Rattle.markdown_json.specs.Json.{further}

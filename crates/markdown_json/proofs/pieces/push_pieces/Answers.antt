@@ -2,7 +2,7 @@ use Rattle.std.proofs.Common.{◌++◌, ap, ◌∙◌}
 use Rattle.std.specs.String.{string_bytes}
 use Rattle.std.proofs.lemmas.Result.{err_from_is_err_and}
 use Rattle.markdown_out.proofs.ByteListsLemmas.{StandsTo-none, StandsTo-more, StandsTo-all, StandsTo-prefix}
-use Rattle.markdown_json.specs.JsonParts.{piece_json}
+use Rattle.markdown_json.specs.JsonPieces.{piece_json}
 use Rattle.markdown_json.proofs.JsonPartsLemmas.{spelled-flat_map}
 use Rattle.markdown_json.proofs.pieces.push_pieces.Goals as goal
 

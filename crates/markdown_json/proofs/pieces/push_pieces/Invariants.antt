@@ -1,7 +1,7 @@
--- The pieces so far stand behind the old text.
+-- The old text is followed by the pieces so far.
 use Rattle.std.specs.String.{string_bytes}
 use Rattle.markdown_out.proofs.ByteListsLemmas.{StandsTo}
-use Rattle.markdown_json.specs.JsonParts.{piece_json}
+use Rattle.markdown_json.specs.JsonPieces.{piece_json}
 use Rattle.markdown_json.proofs.pieces.push_pieces.Given as goal
 
 abbrev pub invariant-loop-piece : goal.invariant-loop-piece

@@ -1,4 +1,4 @@
--- The quotes, and what stands between them.
+-- The quotes, and what is between them.
 use Rattle.std.proofs.lemmas.Result.{err_from_is_err_and, on_err_weaker}
 use Rattle.markdown_json.proofs.JsonPartsLemmas.{prefix-earlier, prefix-later}
 use Rattle.markdown_json.proofs.pieces.push_string.Goals as goal

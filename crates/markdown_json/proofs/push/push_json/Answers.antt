@@ -1,5 +1,5 @@
 -- Where the loop is left: at an error item, at a refusal of its own, and at the end.
-use Rattle.std.proofs.Common.{refl, inl, inr}
+use Rattle.std.proofs.Common.{inl, inr}
 use Rattle.std.proofs.lemmas.Result.{err_from_is_err_and}
 use Rattle.markdown_json.proofs.JsonLinesLemmas.{Wrote-none, Wrote-more, stops, cut_short, all_written}
 use Rattle.markdown_json.proofs.push.push_json.Goals as goal

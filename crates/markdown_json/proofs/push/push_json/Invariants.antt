@@ -1,4 +1,4 @@
--- The items so far are events, and their lines stand behind the old text.
+-- The items so far are events, and the old text is followed by their lines.
 use Rattle.std.specs.String.{string_bytes}
 use Rattle.markdown_json.proofs.JsonLinesLemmas.{Wrote}
 use Rattle.markdown_json.proofs.push.push_json.Given as goal

@@ -1,4 +1,4 @@
--- The event, and the range behind it.
+-- The event, and the range after it.
 use Rattle.std.proofs.Common.{◌≡◌}
 use Rattle.std.specs.Fmt.{decimal}
 use Rattle.std.proofs.lemmas.Result.{err_from_is_err_and, on_err_weaker, on_ok_weaker}

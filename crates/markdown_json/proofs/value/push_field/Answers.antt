@@ -1,4 +1,4 @@
--- What stands before the value, and the value.
+-- The lead, and the value.
 use Rattle.std.proofs.lemmas.Result.{err_from_is_err_and, on_err_weaker}
 use Rattle.markdown_json.proofs.JsonPartsLemmas.{prefix-earlier, prefix-later}
 use Rattle.markdown_json.proofs.value.push_field.Goals as goal

@@ -1,4 +1,4 @@
--- Where the loop is left: at an error item, at a refusal, and at the end.
+-- Where the loop is left: at an error item, at a refused allocation, and at the end.
 use Rattle.std.proofs.Common.{refl, inl, inr}
 use Rattle.std.proofs.lemmas.Result.{err_from_is_err_and, IfOk-weaker, IfErr-weaker}
 use Rattle.markdown_outline.proofs.OutlineReadLemmas.{TookIn-none, TookIn-more, MeetsError-from, NeedsMemory-event, NeedsMemory-end}

@@ -1,4 +1,4 @@
--- The items so far are events, and they were taken in.
+-- The items so far are events, and they have been read.
 use Rattle.markdown_outline.specs.OutlineSoFar.{entries_view}
 use Rattle.markdown_outline.proofs.OutlineReadLemmas.{TookIn}
 use Rattle.markdown_outline.proofs.read.outline.Given as goal

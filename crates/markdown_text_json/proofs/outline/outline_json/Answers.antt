@@ -1,5 +1,5 @@
--- The lines written are those of the headings of all that was left of a new parser; an error is the parser's, or one of
--- taking memory.
+-- The lines written are those of the headings of all that was left of a new parser; an error is the parser's, or a
+-- refused allocation.
 use Rattle.std.proofs.Common.{⊎_elim, map}
 use Rattle.std.proofs.lemmas.Result.{err_from_is_err_and}
 use Rattle.markdown_outline.specs.Outline.{entry_view}

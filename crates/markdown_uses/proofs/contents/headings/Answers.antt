@@ -1,4 +1,4 @@
--- The headings are those of the events of the text, and an error of its parser is one of memory.
+-- The headings are those of the events of the text, and the only error of its parser is Memory.
 use Rattle.std.proofs.Common.{◌≡◌, ◌⊎◌, None, Option, inl, inr, map}
 use Rattle.std.proofs.lemmas.Result.{IfErr-weaker, IfOk-weaker}
 use Rattle.markdown.specs.DefsWords.{Answer, Question}
@@ -9,7 +9,7 @@ use Rattle.markdown_uses.specs.Contents.{AreHeadingsOf}
 use Rattle.markdown_uses.proofs.TextReadingLemmas.{OffsetSteps, are_events_given, only_memory}
 use Rattle.markdown_uses.proofs.contents.headings.Goals as goal
 
--- the step of a callback that gives no answer
+-- the step of a callback that returns None
 abbrev silent : {F : Type 0} → F → Question → Option Answer → F → Type 0
 silent old question answer new = (answer ≡ None) × (old ≡ new)
 

@@ -1,4 +1,4 @@
--- What is taken off is what stands at the front of the levels, the nearest first.
+-- What is removed is the front of the levels, the nearest first.
 use Rattle.std.proofs.Common.{◌∙◌, ◌++◌, ◌∷◌, [], ap, reverse, subst, sym}
 use Rattle.markdown_uses.specs.ContentsSoFar.{AreOpen}
 use Rattle.markdown_uses.proofs.ContentsSoFarLemmas.{above-made, depth-open, open-made, open-next}

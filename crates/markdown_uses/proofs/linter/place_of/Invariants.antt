@@ -2,7 +2,7 @@ use Rattle.std.proofs.Common.{◌≡◌, ◌+◌, ◌≤◌}
 use Rattle.markdown_uses.specs.Linter.{bytes_before, lines_before}
 use Rattle.markdown_uses.proofs.linter.place_of.Given as goal
 
--- how many lines have ended, and where the one at hand begins
+-- how many lines have ended, and where the current line begins
 abbrev pub invariant-loop-at : goal.invariant-loop-at
 invariant-loop-at l = record {
   lines : l.line ≡ lines_before l.bytes l.at + 1;

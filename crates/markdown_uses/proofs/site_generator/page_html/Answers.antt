@@ -1,4 +1,4 @@
--- What is written are the events of the parser, as they stand on a page.
+-- What is written are the events of the parser, as a page has them.
 use Rattle.std.proofs.Common.{rules}
 use Rattle.std.specs.Iterator.Adapters.{map_source}
 use Rattle.markdown.specs.ReadingWords.{IsEventOf, NextGives}

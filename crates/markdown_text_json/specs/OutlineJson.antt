@@ -6,11 +6,14 @@ use Rattle.markdown_out.specs.ByteLists.{joined}
 use Rattle.markdown_outline.specs.Outline.{EntryView}
 use Rattle.markdown_json.specs.Json.{string}
 
+-- the line of an entry, by its text and the digits of its numbers
+abbrev pub entry_parts : (level text start end : List ℕ) → List ℕ
+entry_parts level text start end = joined (codes "{\"level\":" ∷ level ∷ codes ",\"text\":" ∷ string text
+    ∷ codes ",\"range\":{\"start\":" ∷ start ∷ codes ",\"end\":" ∷ end ∷ codes "}}\n" ∷ [])
+
 -- the line of an entry
 abbrev pub entry_line : EntryView → List ℕ
-entry_line e = joined (codes "{\"level\":" ∷ decimal e.level ∷ codes ",\"text\":" ∷ string e.text
-    ∷ codes ",\"range\":{\"start\":" ∷ decimal e.range.start ∷ codes ",\"end\":" ∷ decimal e.range.end
-    ∷ codes "}}\n" ∷ [])
+entry_line e = entry_parts (decimal e.level) e.text (decimal e.range.start) (decimal e.range.end)
 
 -- the lines of entries, one after another
 abbrev pub outline_lines : List EntryView → List ℕ

@@ -1,16 +1,15 @@
-//! The entries of an outline, a line for each.
+//! `push_outline`: the entries of an outline as JSON, a line for each.
 ghost use Rattle.std.specs.Prelude.{OnOk, OnErr, map};
 ghost use Rattle.markdown_out.specs.ByteLists.{Appends, AppendsPart};
 ghost use Rattle.markdown_outline.specs.Outline.{entry_view};
-ghost use Rattle.markdown_json.specs.JsonParts.{entry_parts};
-ghost use Rattle.markdown_json.specs.OutlineJson.{entry_line, outline_lines};
+ghost use Rattle.markdown_text_json.specs.OutlineJson.{entry_line, entry_parts, outline_lines};
 
-use crate::pieces::{Piece, push_pieces};
 use itoa::Buffer;
+use markdown_json::{Piece, push_pieces};
 use markdown_outline::Entry;
 use std::alloc::AllocError;
 
-/// Appends the line of an entry, of which the numbers are given by their digits.
+/// Appends the line of an entry, from its text and the digits of its numbers.
 fn push_parts<'x>(
     s: &mut String,
     level: &'x str,
@@ -54,8 +53,8 @@ fn push_entry(s: &mut String, entry: &Entry) -> Result<(), AllocError>
     )
 }
 
-/// Appends a line of JSON for each entry of an outline: its level, its text and its range. Where memory runs out, a
-/// prefix of the lines was appended.
+/// Appends a line of JSON for each entry of an outline: its level, its text and its range. Where an allocation is
+/// refused, a prefix of the lines has been appended.
 ///
 /// ```
 /// let mut json = String::new(alloc);

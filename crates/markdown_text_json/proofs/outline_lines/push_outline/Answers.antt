@@ -3,8 +3,8 @@ use Rattle.std.specs.String.{string_bytes}
 use Rattle.std.proofs.lemmas.Result.{err_from_is_err_and}
 use Rattle.markdown_out.specs.ByteLists.{AppendsPrefix}
 use Rattle.markdown_out.proofs.ByteListsLemmas.{StandsTo-none, StandsTo-more, StandsTo-all, StandsTo-prefix}
-use Rattle.markdown_json.proofs.JsonPartsLemmas.{line_of_entry, lines_of_entries}
-use Rattle.markdown_json.proofs.outline.push_outline.Goals as goal
+use Rattle.markdown_text_json.proofs.OutlineJsonLemmas.{line_of_entry, lines_of_entries}
+use Rattle.markdown_text_json.proofs.outline_lines.push_outline.Goals as goal
 
 pub loop-entry-init : goal.loop-entry-init
 loop-entry-init c = StandsTo-none _ _ _

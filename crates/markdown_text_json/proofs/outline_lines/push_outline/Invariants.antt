@@ -1,8 +1,8 @@
--- The lines so far stand behind the old text.
+-- The old text is followed by the lines so far.
 use Rattle.std.specs.String.{string_bytes}
 use Rattle.markdown_out.proofs.ByteListsLemmas.{StandsTo}
-use Rattle.markdown_json.proofs.JsonPartsLemmas.{line_of_entry}
-use Rattle.markdown_json.proofs.outline.push_outline.Given as goal
+use Rattle.markdown_text_json.proofs.OutlineJsonLemmas.{line_of_entry}
+use Rattle.markdown_text_json.proofs.outline_lines.push_outline.Given as goal
 
 abbrev pub invariant-loop-entry : goal.invariant-loop-entry
 invariant-loop-entry l = StandsTo line_of_entry (string_bytes l.s) (string_bytes l.initial.s) l.entries l.entry-index
