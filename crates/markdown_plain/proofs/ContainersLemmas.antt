@@ -135,7 +135,7 @@ next_ends old empty stop blocks number or reach more container none =
     container (innermost_at blocks number more) none
 
 -- it continues
-container_goes_on : (old empty last : Bool) (stop : ℕ) (block : OpenBlock) (blocks : List OpenBlock) (reach : Reach)
+pub container_goes_on : (old empty last : Bool) (stop : ℕ) (block : OpenBlock) (blocks : List OpenBlock) (reach : Reach)
     (left : LineLeft) → is_container block.body ≡ true → is_innermost blocks ≡ last
     → past_container old (last && empty) (nat_le stop reach.content) block.body reach.left ≡ Some left
     → reach_from old empty stop (block ∷ blocks) reach
