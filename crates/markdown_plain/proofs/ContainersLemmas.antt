@@ -74,7 +74,7 @@ marker_behind_is text before columns place after stop read c left few marker pas
     rw (test, begins) (ap (λ (l : LineLeft). Some l) behind)
 
 -- open blocks from a number on are the block with it, and those inside that
-inside_of : (blocks : List OpenBlock) (number : ℕ) (or : OpenBlock) → number < length blocks
+pub inside_of : (blocks : List OpenBlock) (number : ℕ) (or : OpenBlock) → number < length blocks
     → drop number blocks ≡ get_or blocks number or ∷ drop (number + 1) blocks
 inside_of blocks number or more =
     let next : suc number ≡ number + 1 = omega arith in

@@ -3,7 +3,7 @@ use Rattle.std.proofs.Common.{◌≡◌, ℕ, zero, suc, ◌+◌, ◌-◌, ◌<�
 use Rattle.std.proofs.Common.{Some, length, take, drop, get_or, refl, sym, ap, ◌∙◌, subst, arith, nat_le}
 use Rattle.std.specs.Prelude.{not, if◌then◌else◌}
 use Rattle.std.proofs.lemmas.Bool.Decides.{nat_tests}
-use Rattle.std.proofs.lemmas.List.{append-nil, length-append}
+use Rattle.std.proofs.lemmas.List.{drop-drop, length-append, length-drop}
 use Rattle.std.proofs.Math.Seq.{take-append_seam}
 use Rattle.markdown_base.specs.declared.item.ItemBody.{ItemBody}
 use Rattle.markdown_base.specs.declared.item.ItemBody.TheVariants as body
@@ -15,7 +15,7 @@ use Rattle.markdown_plain.specs.declared.stretches.Taking.TheVariants as takes
 use Rattle.markdown_plain.specs.OpenBlocks.{outer_of}
 use Rattle.markdown_plain.specs.Containers.{Reach, is_container, past_container, past_indent, reach_behind, reach_from}
 use Rattle.markdown_plain.specs.Stretches.{IsOf, TakesNothing, are_alike, begins_stretch, is_same, next_of, starts, starts_behind, taken_by}
-use Rattle.markdown_plain.proofs.ContainersLemmas.{container_goes_on}
+use Rattle.markdown_plain.proofs.ContainersLemmas.{container_goes_on, inside_of}
 use Rattle.markdown_plain.proofs.OpenBlocksLemmas.{outer_of_these}
 
 -- blocks that take the same are of one kind
@@ -330,3 +330,71 @@ past_stretch old empty stop number block inner (next ∷ blocks) reach takes all
     past_next old empty stop number block inner next blocks reach (are_alike old block.body inner.body) refl takes all
     (λ takes_too. past_stretch old empty stop (number + 1) inner next blocks (record reach { depth = reach.depth + 1 })
     takes_too all)
+
+-- What is reached past the stretch of the block with the number `number`, before the block with the number `next`.
+pub record AtNextStretch (old empty : Bool) (stop number : ℕ) (blocks : List OpenBlock) (reach : Reach) (numbers : List ℕ)
+    (next : ℕ) : Type 0 where
+  pub more : number < next
+  pub within : next < length blocks
+  pub ahead : starts_behind next numbers ≡ starts old next (outer_of (drop next blocks))
+  pub reached : reach_from old empty stop (drop number blocks) reach
+      ≡ reach_from old empty stop (drop next blocks) (record reach { depth = next })
+
+at_next : (old empty : Bool) (stop number next : ℕ) (blocks inside : List OpenBlock) (reach : Reach) (numbers : List ℕ)
+    → drop number blocks ≡ inside → number + length inside ≡ length blocks
+    → numbers ≡ starts old number (outer_of inside) → reach.depth ≡ number
+    → PastStretch old empty stop number inside reach next
+    → AtNextStretch old empty stop number blocks reach numbers next
+at_next old empty stop number next blocks inside reach numbers are n ahead depth past =
+    let there : drop past.skipped inside ≡ drop next blocks =
+    ap (λ (b : List OpenBlock). drop past.skipped b) (sym are)
+    ∙ (drop-drop past.skipped number blocks ∙ ap (λ k. drop k blocks) (sym past.is)) in
+    let some = past.some in
+    let is = past.is in
+    let fewer = past.fewer in
+    let at : reach.depth + past.skipped ≡ next = omega (arith, depth, is) in
+    record {
+      more = omega (arith, is, some);
+      within = omega (arith, is, fewer, n);
+      ahead = ap (λ (l : List ℕ). starts_behind next l) ahead
+          ∙ (past.ahead ∙ ap (λ (b : List OpenBlock). starts old next (outer_of b)) there);
+      reached = ap (λ (b : List OpenBlock). reach_from old empty stop b reach) are
+          ∙ (past.reached
+          ∙ (ap (λ (b : List OpenBlock). reach_from old empty stop b (record reach { depth = reach.depth + past.skipped })) there
+          ∙ ap (λ d. reach_from old empty stop (drop next blocks) (record reach { depth = d })) at));
+    }
+
+-- where a block that is not the innermost takes nothing, the line goes past its stretch
+pub past_stretch_at : (old empty : Bool) (stop number last : ℕ) (blocks : List OpenBlock) (or : OpenBlock) (reach : Reach)
+    (numbers : List ℕ) → number < last → last + 1 ≡ length blocks
+    → TakesNothing (nat_le stop reach.content) reach.left (taken_by old (get_or blocks number or).body) → reach.all ≡ true
+    → reach.depth ≡ number → numbers ≡ starts old number (outer_of (drop number blocks))
+    → AtNextStretch old empty stop number blocks reach numbers (next_of last numbers)
+past_stretch_at old empty stop number last blocks or reach numbers more n takes all depth ahead =
+    let block = get_or blocks number or in
+    let inner = get_or blocks (number + 1) or in
+    let rest = drop ((number + 1) + 1) blocks in
+    let left = length-drop ((number + 1) + 1) blocks in
+    let count : suc (length rest) ≡ last - number = omega (arith, left, n, more) in
+    let inside : drop number blocks ≡ block ∷ inner ∷ rest =
+    inside_of blocks number or (omega (arith, more, n))
+    ∙ ap (λ (b : List OpenBlock). block ∷ b) (inside_of blocks (number + 1) or (omega (arith, more, n))) in
+    let numbers_are = ahead ∙ ap (λ (b : List OpenBlock). starts old number (outer_of b)) inside in
+    let last_is : number + suc (length rest) ≡ last = omega (arith, count, more) in
+    let past = past_stretch old empty stop number block inner rest reach takes all in
+    at_next old empty stop number (next_of last numbers) blocks (block ∷ inner ∷ rest) reach numbers inside
+    (omega (arith, count, more, n)) numbers_are depth
+    (subst (λ (k : ℕ). PastStretch old empty stop number (block ∷ inner ∷ rest) reach k)
+    (ap (λ k. next_of k (starts old number (outer_of (block ∷ inner ∷ rest)))) last_is
+    ∙ ap (λ (l : List ℕ). next_of last l) (sym numbers_are)) past)
+
+-- past a block with a number are the stretches of those inside it
+pub starts_past_at : (old : Bool) (number : ℕ) (blocks : List OpenBlock) (numbers : List ℕ)
+    → number < length blocks → numbers ≡ starts old number (outer_of (drop number blocks))
+    → starts_behind (number + 1) numbers ≡ starts old (number + 1) (outer_of (drop (number + 1) blocks))
+starts_past_at old number blocks numbers more ahead =
+    let none : OpenBlock = record { start = 0; body = body.Root } in
+    let inside = inside_of blocks number none more in
+    ap (λ (l : List ℕ). starts_behind (number + 1) l)
+    (ahead ∙ ap (λ (b : List OpenBlock). starts old number (outer_of b)) inside)
+    ∙ starts_past old number (get_or blocks number none) (drop (number + 1) blocks)

@@ -179,8 +179,8 @@ fn reach_blocks(
     item_is_empty: bool,
     line: Line,
 ) -> Reached
-    requires { stretches.entry.known ≡ true
-        → stretches.entry.starts.now ≡ starts stretches.entry.old_notes 0 (outer_of blocks.now) }
+    requires { stretches.known ≡ true
+        → stretches.starts.now ≡ starts stretches.old_notes 0 (outer_of blocks.now) }
     ensures { spec.reach_of text.now line.stop result
         ≡ spec.reach_from stretches.entry.old_notes item_is_empty line.stop blocks.now
         (spec.reach_start (spec.whole_line text.now line)) }
@@ -207,7 +207,7 @@ fn reach_blocks(
             starts = starts_behind(starts, reached.depth);
             continue;
         }
-        let empty = (reached.depth == last) & item_is_empty;
+        let empty = (reached.depth + 1 == blocks.len()) & item_is_empty;
         match past_container(text, body, stretches.old_notes, empty, line, reached) {
             Some(place) => {
                 reached = behind_container(text, body, place, line, reached);
