@@ -307,7 +307,7 @@ past_next old empty stop number block inner next blocks reach true alike takes a
     let same = starts_alike old number block inner next blocks alike in
     let last : (number + 1) + suc (length blocks) ≡ number + suc (suc (length blocks)) = omega arith in
     let takes_too = subst (λ (t : Taking). TakesNothing (nat_le stop reach.content) reach.left t)
-        (same_taking (taken_by old block.body) (taken_by old inner.body) alike) takes in
+    (same_taking (taken_by old block.body) (taken_by old inner.body) alike) takes in
     subst (λ (n : List ℕ). PastStretch old empty stop number (block ∷ inner ∷ next ∷ blocks) reach
     (next_of (number + suc (suc (length blocks))) n)) (sym same)
     (subst (λ (n : ℕ). PastStretch old empty stop number (block ∷ inner ∷ next ∷ blocks) reach
@@ -398,3 +398,8 @@ starts_past_at old number blocks numbers more ahead =
     ap (λ (l : List ℕ). starts_behind (number + 1) l)
     (ahead ∙ ap (λ (b : List OpenBlock). starts old number (outer_of b)) inside)
     ∙ starts_past old number (get_or blocks number none) (drop (number + 1) blocks)
+
+-- none are open, so none are around the innermost
+pub stretches_of_none : (now : Stretches) (blocks : List OpenBlock) → blocks ≡ [] → IsOf now [] → IsOf now (outer_of blocks)
+unfolding outer_of
+stretches_of_none now blocks none known = subst (λ (b : List OpenBlock). IsOf now (outer_of b)) (sym none) known
