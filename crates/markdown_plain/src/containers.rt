@@ -161,6 +161,9 @@ fn is_skipped(body: ItemBody, old: bool, line: Line, reached: Reached) -> bool
         (left_from text reached.place line.stop) (taken_by old body) }
 {
     let blank = reached.content >= line.stop;
+    if !blank && !old {
+        return false;
+    }
     match taken_by(body, old) {
         Taking::NothingOfBlank => {
             blank && reached.place.owed == 0 && reached.place.at >= line.stop

@@ -1,6 +1,6 @@
 //! Stretches of open blocks that take nothing of a line, so that no line examines each block of one. Functions that
 //! return a `Result` fail only where memory is refused.
-ghost use Rattle.std.specs.Prelude.{◌≡◌, true, List, [], IfOk, IfErr};
+ghost use Rattle.std.specs.Prelude.{◌≡◌, ◌++◌, ◌∷◌, true, List, [], IfOk, IfErr};
 ghost use Rattle.markdown_builder.specs.declared.open_block.OpenBlock.{OpenBlock};
 ghost use Rattle.markdown_plain.specs.OpenBlocks.{outer_of};
 ghost use Rattle.markdown_plain.specs.Stretches.{IsOf, are_alike, begins_stretch, next_of, starts, starts_behind, taken_by};
@@ -55,6 +55,16 @@ fn begins_stretch(blocks: &[OpenBlock], old: bool) -> bool
     !are_alike(blocks[last - 1].body, blocks[last].body, old)
 }
 
+/// Adds the number of a block that begins a stretch. Few do, so this is apart from the calls that open blocks.
+#[inline(never)]
+fn push_start(starts: &mut Vec<usize>, number: usize) -> Result<(), AllocError>
+    ensures begun { IfOk result (λ _. starts.new.items ≡ starts.old.items ++ number ∷ []) }
+    ensures refused { IfErr result (λ _. starts.new.items ≡ starts.old.items) }
+{
+    starts.push(number)?;
+    Ok(())
+}
+
 /// Where stretches of open blocks begin: each is of blocks that take the same. The innermost open block is in none.
 #[derive(Drop)]
 pub struct Stretches {
@@ -85,7 +95,7 @@ impl Stretches {
         ensures refused { IfErr result (λ _. (outer : List OpenBlock) → IsOf self.old outer → IsOf self.new outer) }
     {
         if begins_stretch(blocks, self.old_notes) {
-            self.starts.push(blocks.len() - 1)?;
+            push_start(&mut self.starts, blocks.len() - 1)?;
         }
         Ok(())
     }
