@@ -1,4 +1,10 @@
-"""Hostile texts for benchmarks, the same on each run: `hostile.py KIND BYTES` prints one of about so many bytes."""
+"""Hostile texts for benchmarks, the same on each run: `hostile.py KIND BYTES` prints one of about so many bytes.
+
+`hostile.py --beside PROGRAM MD4C KIND ..` runs the program, `cmark`, `pulldown-cmark` and `md4c` (`md4c.c`, compiled) on
+20,000 and on 40,000 bytes of each kind, and prints a table of the instructions, counted by valgrind.
+"""
+import re
+import subprocess
 import sys
 
 
@@ -18,6 +24,12 @@ def rising(size):
         text += "`" * count + "a"
         count += 1
     return text
+
+
+def below(container, times, content, line, size):
+    """A line of nested containers with content, and then equal lines, as many as are left."""
+    text = container * times + content + "\n"
+    return text + line * ((size - len(text)) // len(line))
 
 
 REPEATED = {
@@ -96,6 +108,26 @@ OTHERS = {
     "fenced-blank": lambda size: "    a\n" + "\n" * size,
     "failing-closers": lambda size: "*a " * (size // 6) + "a~ a~~ a^ " * (size // 20),
     "fence": lambda size: "- ```\n" + "a\n" * (size // 2),
+    "fences-in-items": lambda size: "- ```\n" * (size // 6),
+    "blank-below-items": lambda size: below("- ", size // 4, "a", "\n", size),
+    "white-below-items": lambda size: below("- ", size // 4, "a", "  \n", size),
+    "lazy-below-items": lambda size: below("- ", size // 4, "a", "a\n", size),
+    "blank-in-fence": lambda size: below("- ", size // 4, "```", "\n", size),
+    "lists-in-quotes": lambda size: "> " + below("- ", size // 4, "a", ">\n", size),
+    "quotes-in-lists": lambda size: "- > " + below("- ", size // 4, "a", "  >\n", size),
+    "quotes-and-lists": lambda size: below("- > ", size // 8, "a", "\n", size),
+    "blank-in-footnotes": lambda size: below("[^a]: ", size // 12, "a", "\n", size),
+    "old-footnotes": lambda size: below("[^a]: ", size // 12, "a", "a\n", size),
+    "old-footnotes-and-quotes": lambda size: below("[^a]: ", size // 12, "> - a", "> a\n", size),
+    "old-footnotes-and-lists": lambda size: below("- [^a]: ", size // 16, "a", "\n", size),
+}
+
+# the extensions that a kind needs, as the program and `pulldown-cmark` name them; the others have none of them
+EXTENSIONS = {
+    "blank-in-footnotes": ("footnotes", "-F"),
+    "old-footnotes": ("old-footnotes", "-F"),
+    "old-footnotes-and-quotes": ("old-footnotes", "-F"),
+    "old-footnotes-and-lists": ("old-footnotes", "-F"),
 }
 
 
@@ -103,5 +135,30 @@ def text(kind, size):
     return OTHERS[kind](size) if kind in OTHERS else REPEATED[kind] * (size // len(REPEATED[kind]))
 
 
+def instructions(command, text):
+    """How many instructions the command takes for a text, by valgrind."""
+    counted = ["valgrind", "--tool=callgrind", "--callgrind-out-file=/dev/null", *command]
+    said = subprocess.run(counted, input=text.encode(), stdout=subprocess.DEVNULL, stderr=subprocess.PIPE, check=True)
+    return int(re.search(rb"Collected : (\d+)", said.stderr)[1])
+
+
+def beside(program, md4c, kinds):
+    print("| Text | 20,000 bytes | 40,000 bytes | Ratio | `cmark` | Ratio | `pulldown-cmark` | Ratio | `md4c` | Ratio |")
+    print("|---|---|---|---|---|---|---|---|---|---|")
+    for kind in kinds:
+        ours, pulldown = EXTENSIONS.get(kind, ("", ""))
+        commands = [[program, ours], ["cmark", "--unsafe"], ["pulldown-cmark", pulldown], [md4c]]
+        cells = [f"`{kind}`"]
+        for number, command in enumerate(commands):
+            words = [word for word in command if word]
+            once, twice = (instructions(words, text(kind, size)) for size in (20000, 40000))
+            shown = [f"{once / 1e6:.1f}", f"{twice / 1e6:.1f}"]
+            cells += [*(shown if number == 0 else shown[1:]), f"{twice / once:.2f}"]
+        print(f"| {' | '.join(cells)} |", flush=True)
+
+
 if __name__ == "__main__":
-    sys.stdout.write(text(sys.argv[1], int(sys.argv[2])))
+    if sys.argv[1] == "--beside":
+        beside(sys.argv[2], sys.argv[3], sys.argv[4:])
+    else:
+        sys.stdout.write(text(sys.argv[1], int(sys.argv[2])))

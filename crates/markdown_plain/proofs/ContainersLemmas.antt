@@ -74,7 +74,7 @@ marker_behind_is text before columns place after stop read c left few marker pas
     rw (test, begins) (ap (λ (l : LineLeft). Some l) behind)
 
 -- open blocks from a number on are the block with it, and those inside that
-inside_of : (blocks : List OpenBlock) (number : ℕ) (or : OpenBlock) → number < length blocks
+pub inside_of : (blocks : List OpenBlock) (number : ℕ) (or : OpenBlock) → number < length blocks
     → drop number blocks ≡ get_or blocks number or ∷ drop (number + 1) blocks
 inside_of blocks number or more =
     let next : suc number ≡ number + 1 = omega arith in
@@ -135,7 +135,7 @@ next_ends old empty stop blocks number or reach more container none =
     container (innermost_at blocks number more) none
 
 -- it continues
-container_goes_on : (old empty last : Bool) (stop : ℕ) (block : OpenBlock) (blocks : List OpenBlock) (reach : Reach)
+pub container_goes_on : (old empty last : Bool) (stop : ℕ) (block : OpenBlock) (blocks : List OpenBlock) (reach : Reach)
     (left : LineLeft) → is_container block.body ≡ true → is_innermost blocks ≡ last
     → past_container old (last && empty) (nat_le stop reach.content) block.body reach.left ≡ Some left
     → reach_from old empty stop (block ∷ blocks) reach

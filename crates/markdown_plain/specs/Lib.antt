@@ -5,5 +5,6 @@ pub mod Fitting
 -- what the pass keeps between lines
 pub mod ListLooseness
 pub mod Paragraphs
+pub mod Stretches
 pub mod Containers
 pub mod NewContainers

@@ -401,7 +401,9 @@ pub fn blocks<'a>(
     let Placing {
         builder,
         misfits: _,
+        stretches,
     } = place_all(alloc, text, options)?;
+    drop(stretches);
     Ok(builder.finish())
 }
 

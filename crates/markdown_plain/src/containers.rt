@@ -11,10 +11,12 @@ ghost use Rattle.markdown_scan.specs.LineStart.{past_marker};
 ghost use Rattle.markdown_plain.specs.Containers as spec;
 ghost use Rattle.markdown_plain.specs.NewContainers as opening;
 ghost use Rattle.markdown_plain.specs.Fitting.{IfFitted, opened};
-ghost use Rattle.markdown_plain.specs.OpenBlocks.{room_in, without_leaf};
+ghost use Rattle.markdown_plain.specs.OpenBlocks.{outer_of, room_in, without_leaf};
+ghost use Rattle.markdown_plain.specs.Stretches.{TakesNothing, starts, taken_by};
 ghost use Rattle.markdown_base.specs.declared.item.ItemBody.TheVariants as body;
 
 use crate::pass::{Pass, innermost};
+use crate::stretches::{Ahead, Taking, next_start, starts_behind, taken_by};
 use markdown_base::cow_str::CowStr;
 use markdown_base::item::ItemBody;
 use markdown_base::options::Options;
@@ -152,18 +154,41 @@ fn behind_container(
     }
 }
 
-/// Returns how far open blocks continue in a line. `old` is whether footnote definitions are those of the old style,
-/// and `item_is_empty`, whether the item that was opened last is empty so far.
+/// Returns whether an open block with this body, which is not the innermost, takes nothing of the rest of a line and
+/// continues in it.
+fn is_skipped(body: ItemBody, old: bool, line: Line, reached: Reached) -> bool
+    ensures { result ≡ true → (text : List ℕ) → TakesNothing (nat_le line.stop reached.content)
+        (left_from text reached.place line.stop) (taken_by old body) }
+{
+    let blank = reached.content >= line.stop;
+    if !blank && !old {
+        return false;
+    }
+    match taken_by(body, old) {
+        Taking::NothingOfBlank => {
+            blank && reached.place.owed == 0 && reached.place.at >= line.stop
+        }
+        Taking::NothingOfFilled => !blank,
+        Taking::Something => false,
+    }
+}
+
+/// Returns how far open blocks continue in a line. `stretches` are those of the blocks, and `item_is_empty` is whether
+/// the item that was opened last is empty so far.
 fn reach_blocks(
     text: &str,
     blocks: &[OpenBlock],
-    old: bool,
+    stretches: Ahead<'_>,
     item_is_empty: bool,
     line: Line,
 ) -> Reached
-    ensures { spec.reach_of text.now line.stop result ≡ spec.reach_from old item_is_empty line.stop blocks.now
+    requires { stretches.known ≡ true
+        → stretches.starts.now ≡ starts stretches.old_notes 0 (outer_of blocks.now) }
+    ensures { spec.reach_of text.now line.stop result
+        ≡ spec.reach_from stretches.entry.old_notes item_is_empty line.stop blocks.now
         (spec.reach_start (spec.whole_line text.now line)) }
 {
+    let mut starts = stretches.starts;
     let mut reached = Reached {
         depth: 0,
         all: true,
@@ -171,24 +196,29 @@ fn reach_blocks(
         content: content_start(text, line.start, line.stop),
         quoted: 0,
     };
-    'blocks: for number in 0..blocks.len() {
-        let body = blocks[number].body;
+    'blocks: while reached.depth < blocks.len() {
+        let body = blocks[reached.depth].body;
         if !is_container(body) {
             return reached;
         }
-        let empty = (number + 1 == blocks.len()) & item_is_empty;
-        match past_container(text, body, old, empty, line, reached) {
+        let last = blocks.len() - 1;
+        if reached.depth < last
+            && stretches.known
+            && is_skipped(body, stretches.old_notes, line, reached)
+        {
+            reached.depth = next_start(starts, last);
+            starts = starts_behind(starts, reached.depth);
+            continue;
+        }
+        let empty = (reached.depth + 1 == blocks.len()) & item_is_empty;
+        match past_container(text, body, stretches.old_notes, empty, line, reached) {
             Some(place) => {
                 reached = behind_container(text, body, place, line, reached);
+                starts = starts_behind(starts, reached.depth);
             }
             None => {
-                return Reached {
-                    depth: reached.depth,
-                    all: false,
-                    place: reached.place,
-                    content: reached.content,
-                    quoted: reached.quoted,
-                };
+                reached.all = false;
+                return reached;
             }
         }
     }
@@ -204,7 +234,8 @@ pub fn reach(pass: &Pass<'_>, line: Line) -> Reached
     reach_blocks(
         pass.placing.text(),
         pass.placing.open_blocks(),
-        pass.options.contains(Options::ENABLE_OLD_FOOTNOTES),
+        pass.placing
+            .ahead(pass.options.contains(Options::ENABLE_OLD_FOOTNOTES)),
         pass.looseness.is_item_empty(),
         line,
     )

@@ -8,5 +8,6 @@ mod looseness;
 mod paragraph;
 mod pass;
 mod placing;
+mod stretches;
 
 pub use block_pass::{blocks, misfits};

@@ -54,10 +54,11 @@ impl<'a> Pass<'a> {
         ensures lines { IfOk result (λ made. made.lines.items ≡ []) }
         ensures placed { IfOk result (λ made. made.placed ≡ 0) }
     {
+        let old = options.contains(Options::ENABLE_OLD_FOOTNOTES);
         Ok(Pass {
             alloc,
             options,
-            placing: Placing::new(alloc, text)?,
+            placing: Placing::new(alloc, text, old)?,
             lines: Vec::new(alloc),
             leaf: LeafKind::Indented,
             looseness: Looseness::new(alloc),

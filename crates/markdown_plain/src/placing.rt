@@ -3,7 +3,10 @@
 //! counted, and makes nothing; the tests show that there is none. Functions that return a `Result` fail only where
 //! memory is refused.
 ghost use Rattle.std.specs.Prelude.{◌≡◌};
+ghost use Rattle.markdown_plain.specs.OpenBlocks.{outer_of};
+ghost use Rattle.markdown_plain.specs.Stretches.{IsOf};
 
+use crate::stretches::{Ahead, Stretches};
 use markdown_base::cow_str::CowStr;
 use markdown_base::item::ItemBody;
 use markdown_base::options::Options;
@@ -14,11 +17,13 @@ use markdown_lines::definition::Definition;
 use markdown_lines::line::next_content;
 use std::alloc::{AllocError, Global};
 
-/// A builder, and the number of calls that did not fit.
+/// A builder, the number of calls that did not fit, and the stretches of the open blocks.
 #[derive(Drop)]
 pub struct Placing<'a> {
     pub builder: Builder<'a>,
     pub misfits: usize,
+    pub stretches: Stretches,
+    ghost stretched: { IsOf stretches (outer_of builder.blocks) },
 }
 
 impl<'a> Placing<'a> {
@@ -28,6 +33,8 @@ impl<'a> Placing<'a> {
     ghost use Rattle.markdown_base.specs.declared.item.ItemBody.TheVariants as body;
     ghost use Rattle.markdown_base.specs.CowText.{text_of};
     ghost use Rattle.markdown_plain.specs.CodeLines.{owed_spaces};
+    ghost use Rattle.markdown_plain.specs.OpenBlocks.{outer_of};
+    ghost use Rattle.markdown_plain.specs.Stretches.{starts};
     ghost use Rattle.markdown_builder.specs.Bodies.{is_leaf, is_plain_block, is_settled};
     ghost use Rattle.markdown_builder.specs.BuilderView.{IsWhite, innermost_block, nothing_made, Opens, OpensNaming};
     ghost use Rattle.markdown_lines.specs.Lines.{IsNextContent};
@@ -35,13 +42,14 @@ impl<'a> Placing<'a> {
     ghost use Rattle.markdown_plain.specs.Fitting.{BeginsAtContent, GoesOn, HasBody, closed, extended, stepped};
 
     /// Returns a builder that has made nothing yet.
-    pub fn new(alloc: Global, text: &'a str) -> Result<Placing<'a>, AllocError>
+    pub fn new(alloc: Global, text: &'a str, old: bool) -> Result<Placing<'a>, AllocError>
         ensures made { IfOk result (λ made. made.builder ≡ nothing_made text.now) }
         ensures fitted { IfOk result (λ made. AllFitted made) }
     {
         Ok(Placing {
             builder: Builder::new(alloc, text)?,
             misfits: 0,
+            stretches: Stretches::new(alloc, old),
         })
     }
 
@@ -57,6 +65,16 @@ impl<'a> Placing<'a> {
         ensures { result.now ≡ self.now.builder.blocks }
     {
         self.builder.open_blocks()
+    }
+
+    /// Returns the stretches of open blocks that are ahead of a line. `old` is whether footnote definitions are those of
+    /// the old style.
+    pub fn ahead(&self, old: bool) -> Ahead<'_>
+        ensures notes { result.old_notes ≡ old }
+        ensures ahead { result.known ≡ true
+            → result.starts.now ≡ starts old 0 (outer_of self.now.builder.blocks) }
+    {
+        self.stretches.ahead(old)
     }
 
     /// Returns whether the innermost open block is a leaf.
@@ -118,8 +136,14 @@ impl<'a> Placing<'a> {
             self.miss();
             return Ok(());
         }
-        self.builder.open(body)?;
-        Ok(())
+        self.stretches.enter(self.builder.open_blocks())?;
+        match self.builder.open(body) {
+            Ok(()) => Ok(()),
+            Err(error) => {
+                self.stretches.forget();
+                Err(error)
+            }
+        }
     }
 
     /// Opens a fenced code block at the current byte offset.
@@ -135,8 +159,14 @@ impl<'a> Placing<'a> {
             drop(info);
             return Ok(());
         }
-        self.builder.open_fenced(info)?;
-        Ok(())
+        self.stretches.enter(self.builder.open_blocks())?;
+        match self.builder.open_fenced(info) {
+            Ok(()) => Ok(()),
+            Err(error) => {
+                self.stretches.forget();
+                Err(error)
+            }
+        }
     }
 
     /// Opens a footnote definition at the current byte offset.
@@ -154,8 +184,14 @@ impl<'a> Placing<'a> {
             drop(listed);
             return Ok(());
         }
-        self.builder.open_footnote(name, listed)?;
-        Ok(())
+        self.stretches.enter(self.builder.open_blocks())?;
+        match self.builder.open_footnote(name, listed) {
+            Ok(()) => Ok(()),
+            Err(error) => {
+                self.stretches.forget();
+                Err(error)
+            }
+        }
     }
 
     /// Returns the byte offset at which the content of the innermost open block begins, if that is not after the
@@ -221,8 +257,13 @@ impl<'a> Placing<'a> {
             self.miss();
             return Ok(());
         }
-        self.builder.inline(body, end)?;
-        Ok(())
+        match self.builder.inline(body, end) {
+            Ok(()) => Ok(()),
+            Err(error) => {
+                self.stretches.forget();
+                Err(error)
+            }
+        }
     }
 
     /// Appends the columns that a partly read tab owes, as spaces.
@@ -245,8 +286,13 @@ impl<'a> Placing<'a> {
             return Ok(());
         }
         let here = self.builder.at();
-        self.builder.synthesize(CowStr::Borrowed(spaces), here)?;
-        Ok(())
+        match self.builder.synthesize(CowStr::Borrowed(spaces), here) {
+            Ok(()) => Ok(()),
+            Err(error) => {
+                self.stretches.forget();
+                Err(error)
+            }
+        }
     }
 
     /// Appends the inline items of a line's content up to byte offset `end`.
@@ -261,8 +307,13 @@ impl<'a> Placing<'a> {
             self.miss();
             return Ok(());
         }
-        items(&mut self.builder, end, options)?;
-        Ok(())
+        match items(&mut self.builder, end, options) {
+            Ok(()) => Ok(()),
+            Err(error) => {
+                self.stretches.forget();
+                Err(error)
+            }
+        }
     }
 
     /// Appends a thematic break up to byte offset `end`.
@@ -277,8 +328,13 @@ impl<'a> Placing<'a> {
             self.miss();
             return Ok(());
         }
-        self.builder.rule(end)?;
-        Ok(())
+        match self.builder.rule(end) {
+            Ok(()) => Ok(()),
+            Err(error) => {
+                self.stretches.forget();
+                Err(error)
+            }
+        }
     }
 
     /// Returns whether the byte at the current offset is a `[`.
@@ -314,8 +370,13 @@ impl<'a> Placing<'a> {
             drop(title);
             return Ok(());
         }
-        self.builder.define(label, destination, title, end)?;
-        Ok(())
+        match self.builder.define(label, destination, title, end) {
+            Ok(()) => Ok(()),
+            Err(error) => {
+                self.stretches.forget();
+                Err(error)
+            }
+        }
     }
 
     /// Closes the innermost open block, which ends at the current byte offset.
@@ -327,7 +388,9 @@ impl<'a> Placing<'a> {
     {
         if self.builder.close().is_none() {
             self.miss();
+            return;
         }
+        self.stretches.leave(self.builder.open_blocks());
     }
 
     /// Closes all open blocks, each of which counts as a call that does not fit.
@@ -338,6 +401,7 @@ impl<'a> Placing<'a> {
         ensures none { self.old.builder.blocks ≡ [] → self.new ≡ self.old }
     {
         'blocks: while !self.builder.open_blocks().is_empty() {
+            self.stretches.forget();
             self.builder.close();
             self.miss();
         }
@@ -360,6 +424,7 @@ impl<'a> Placing<'a> {
         }
         // every line was placed, so nothing else is left
         self.miss();
+        self.stretches.forget();
         if self.builder.is_in_leaf() {
             self.builder.inline(ItemBody::Html, end)
         } else {

@@ -3,6 +3,7 @@ use Rattle.std.proofs.Common.{◌∙◌, ap}
 use Rattle.markdown_builder.specs.BuilderView.{innermost_block}
 use Rattle.markdown_plain.specs.OpenBlocks.{outer_of}
 use Rattle.markdown_plain.proofs.OpenBlocksLemmas.{innermost_of_opened, last_apart}
+use Rattle.markdown_plain.proofs.StretchesLemmas.{stretches_replaced}
 use Rattle.markdown_plain.proofs.placing.Placing.begin_at_content.Goals as goal
 
 pub returns-in-Some-clause-begins : goal.returns-in-Some-clause-begins
@@ -19,3 +20,12 @@ returns-in-Some-clause-begins c = λ fitted.
         content = rw (ap innermost_block p.is ∙ innermost_of_opened (outer_of c.args.self.now.builder.blocks) p.block) at c.in-Some.ensures.next;
       },
     )
+
+pub invariant_of-self : goal.invariant_of-self
+invariant_of-self c =
+    let p = last_apart c.args.self.now.builder.blocks c.in-Some.ensures.open in
+    record {
+      stretched = stretches_replaced c.args.self.now.stretches _ _ _
+          (c.begin_later.ensures.begins (outer_of c.args.self.now.builder.blocks) p.block p.is)
+          c.args.self.now.stretched;
+    }
